@@ -1,0 +1,24 @@
+# `make` proves what the program needs and builds bin/aerodrome; `make test` is the whole gate.
+# Both need the kit's command rt on the path.
+PREFIX ?= /usr/local
+SOURCES := HANDLES crates.txt $(shell find crates -name out -prune -o -type f -print)
+
+.PHONY: all test install clean
+
+all: bin/aerodrome
+
+# `rt run` proves the program and the crates below it, builds out/aerodrome, and runs it, here on
+# an empty source.
+bin/aerodrome: $(SOURCES)
+	cd crates/aerodrome && rt run < /dev/null > /dev/null
+	mkdir -p bin
+	cp crates/aerodrome/out/aerodrome bin/aerodrome
+
+test:
+	rt ci
+
+install: bin/aerodrome
+	install -D -m 755 bin/aerodrome $(DESTDIR)$(PREFIX)/bin/aerodrome
+
+clean:
+	rm -rf bin crates/*/out

@@ -1,0 +1,13 @@
+pub mod Blocks
+pub mod Cycle
+pub mod Counts
+pub mod Graph
+pub mod Laws
+pub mod LimitNumbers
+pub mod Lines
+pub mod Named
+pub mod Names
+pub mod Numbering
+pub mod Serial
+pub mod Shape
+pub mod Tally

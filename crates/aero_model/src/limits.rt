@@ -1,0 +1,71 @@
+ghost use Rattle.std.specs.Prelude.{◌≡◌, ◌<◌, ◌≤◌, ◌^◌, ◌↔◌, IsSome, IfSome};
+ghost use Rattle.aero_model.specs.LimitNumbers.{AreLimits};
+
+/// How many bytes and lines a source may have, and how many threads, variables and locks a trace.
+/// Each number is at least 1. `names` bounds the variables and the locks, each for itself.
+#[derive(Clone, Copy, Debug, PartialEq, Eq)]
+pub struct Limits {
+    pub bytes: u32,
+    pub lines: u32,
+    pub threads: u32,
+    pub names: u32,
+    ghost some_bytes: { 0 < bytes },
+    ghost most_bytes: { bytes ≤ 2 ^ 30 },
+    ghost some_lines: { 0 < lines },
+    ghost most_lines: { lines ≤ 2 ^ 24 },
+    ghost some_threads: { 0 < threads },
+    ghost most_threads: { threads ≤ 1024 },
+    ghost some_names: { 0 < names },
+    ghost most_names: { names ≤ 2 ^ 20 },
+}
+
+const MOST_BYTES: u32 = 1 << 30;
+
+const MOST_LINES: u32 = 1 << 24;
+
+const MOST_THREADS: u32 = 1024;
+
+const MOST_NAMES: u32 = 1 << 20;
+
+impl Limits {
+    /// These limits, or `None` where a number is 0 or above the greatest of its kind: 2^30 bytes,
+    /// 2^24 lines, 1,024 threads, 2^20 names.
+    pub fn new(bytes: u32, lines: u32, threads: u32, names: u32) -> Option<Limits>
+        ensures within { IsSome result ↔ AreLimits bytes lines threads names }
+        ensures bytes { IfSome result (λ limits. limits.bytes ≡ bytes) }
+        ensures lines { IfSome result (λ limits. limits.lines ≡ lines) }
+        ensures threads { IfSome result (λ limits. limits.threads ≡ threads) }
+        ensures names { IfSome result (λ limits. limits.names ≡ names) }
+    {
+        if bytes == 0 || lines == 0 || threads == 0 || names == 0 {
+            return None;
+        }
+        if bytes > MOST_BYTES || lines > MOST_LINES {
+            return None;
+        }
+        if threads > MOST_THREADS || names > MOST_NAMES {
+            return None;
+        }
+        Some(Limits {
+            bytes,
+            lines,
+            threads,
+            names,
+        })
+    }
+
+    /// The greatest limits: 2^30 bytes, 2^24 lines, 1,024 threads, 2^20 names.
+    pub fn greatest() -> Limits
+        ensures bytes { result.bytes ≡ 2 ^ 30 }
+        ensures lines { result.lines ≡ 2 ^ 24 }
+        ensures threads { result.threads ≡ 1024 }
+        ensures names { result.names ≡ 2 ^ 20 }
+    {
+        Limits {
+            bytes: MOST_BYTES,
+            lines: MOST_LINES,
+            threads: MOST_THREADS,
+            names: MOST_NAMES,
+        }
+    }
+}

@@ -1,0 +1,88 @@
+use thiserror::Error;
+
+/// Why a line has no event, in the order of the checks.
+#[derive(Clone, Copy, Debug, PartialEq, Eq, Error)]
+pub enum LineFault {
+    #[error("the line has more than 4096 bytes")]
+    TooLong,
+    #[error("the line has a control byte")]
+    BadByte,
+    #[error("the line has no `|`, and so no operation")]
+    NoOperation,
+    #[error("the thread's field is empty")]
+    EmptyThread,
+    #[error("the operation is not known")]
+    UnknownOperation,
+    #[error("the operation has a `(` and does not end in `)`")]
+    BadParenthesis,
+    #[error("the operation has no target")]
+    MissingTarget,
+    #[error("a name has more than 255 bytes")]
+    NameTooLong,
+    #[error("the source has too many lines")]
+    TooManyLines,
+    #[error("out of memory")]
+    Memory,
+}
+
+/// Why a trace isn't well-formed at an event, in the order of the checks.
+#[derive(Clone, Copy, Debug, PartialEq, Eq, Error)]
+pub enum ShapeFault {
+    #[error("the trace has too many threads")]
+    TooManyThreads,
+    #[error("the trace has too many variables or locks")]
+    TooManyNames,
+    #[error("the thread was joined before")]
+    ThreadJoined,
+    #[error("another thread holds the lock")]
+    LockHeldByOther,
+    #[error("the thread does not hold the lock")]
+    LockNotHeld,
+    #[error("the thread forks itself")]
+    ForkSelf,
+    #[error("the forked thread has started before")]
+    ForkStarted,
+    #[error("the thread joins itself")]
+    JoinSelf,
+    #[error("no block of the thread is open")]
+    EndWithoutBegin,
+    #[error("out of memory")]
+    Memory,
+}
+
+/// What is said of a trace. Line numbers count from 1.
+#[derive(Clone, Copy, Debug, PartialEq, Eq)]
+pub enum Verdict {
+    /// Every line and every event is in order. `blocks` counts the outermost begins.
+    WellFormed { events: u32, blocks: u32 },
+    /// The first malformed line stands before any ill-formed event. Its fault is not `Memory`.
+    Malformed { line: u32, fault: LineFault },
+    /// The first ill-formed event stands on this line. Its fault is not `Memory`.
+    IllFormed { line: u32, fault: ShapeFault },
+}
+
+/// How the reading of a source ended.
+#[derive(Clone, Copy, Debug, PartialEq, Eq)]
+pub enum Ending {
+    Whole,
+    Broken,
+    TooLarge,
+}
+
+/// What is said of a source: the verdict on its trace, or how many bytes came before a read failed,
+/// or that there were too many.
+#[derive(Drop)]
+pub enum Finding {
+    Judged(Verdict),
+    Broken(u64),
+    TooLarge,
+}
+
+/// How many sources were found to be what.
+#[derive(Clone, Copy, Debug, PartialEq, Eq)]
+pub struct Counts {
+    pub serializable: u64,
+    pub pending: u64,
+    pub violations: u64,
+    pub faults: u64,
+}
