@@ -1,0 +1,100 @@
+-- The reading of a text, a line at a time.
+use Rattle.std.proofs.Common.{◌≡◌, ◌<◌, ◌+◌, ◌==◌, ℕ, zero, suc, true, false, List, [], ◌∷◌, ◌++◌, length, take, drop, get_or, map, Some, None, Err, refl, sym, ◌∙◌, ap, arith}
+use Rattle.std.specs.List.{slice_split}
+use Rattle.std.proofs.lemmas.List.{append-nil}
+use Rattle.std.proofs.lemmas.List.Splits.{length-slice_split}
+use Rattle.std.proofs.lemmas.Bool.{ne_eqb, eqb-true, eq-eqb}
+use Rattle.memchr.specs.Find.{Nowhere, NoneBefore, Passes, is_byte}
+use Rattle.aero_model.specs.declared.verdict.LineFault.{LineFault}
+use Rattle.aero_model.specs.declared.verdict.LineFault.TheVariants.{Memory}
+use Rattle.aero_model.specs.Lines.{is_line_end, without_empty_last, lines_of}
+use Rattle.aero_model.specs.Named.{Named}
+use Rattle.aero_grammar.specs.Meaning.{Meaning, Blank, Means, Faulty, TellsMeaning, meaning}
+use Rattle.aero_grammar.specs.Reading.{Reading, followed_by, whole_reading, line_reading, reading_of}
+use Rattle.aero_grammar.proofs.Joined.{reading, followed_by_assoc, followed_by_nothing}
+
+-- no byte before the place n is 10
+EndsNowhere : ℕ → List ℕ → Type 0
+EndsNowhere n text = (k : ℕ) → k < n → get_or text k 0 ≡ 10 → ⊥
+
+EndsNowhere-tail : (n x : ℕ) (text : List ℕ) → EndsNowhere (suc n) (x ∷ text) → EndsNowhere n text
+unfolding EndsNowhere
+EndsNowhere-tail n x text none k lt = none (suc k) (omega (arith, lt))
+
+head_stays : (n x : ℕ) (text : List ℕ) → EndsNowhere (suc n) (x ∷ text) → (x == 10) ≡ false
+unfolding EndsNowhere
+head_stays n x text none = ne_eqb x 10 (none 0 (omega arith))
+
+-- the text is cut at its first byte 10
+split_at_end : (n : ℕ) (text : List ℕ) → n < length text → EndsNowhere n text → get_or text n 0 ≡ 10 →
+    slice_split is_line_end text ≡ take n text ∷ slice_split is_line_end (drop (suc n) text)
+split_at_end n [] below none ends = absurd (omega arith)
+split_at_end zero (x ∷ text) below none ends = let here : (x == 10) ≡ true = eq-eqb x 10 ends in rw here refl
+split_at_end (suc n) (x ∷ text) below none ends =
+    let here : (x == 10) ≡ false = head_stays n x text none in
+    let later : slice_split is_line_end text ≡ take n text ∷ slice_split is_line_end (drop (suc n) text) = split_at_end n text (omega (arith, below)) (EndsNowhere-tail n x text none) ends in
+    rw (here, later) refl
+
+-- a text without a byte 10 is one part
+split_nowhere : (text : List ℕ) → EndsNowhere (length text) text → slice_split is_line_end text ≡ text ∷ []
+split_nowhere [] none = refl
+split_nowhere (x ∷ text) none =
+    let here : (x == 10) ≡ false = head_stays (length text) x text none in
+    let later : slice_split is_line_end text ≡ text ∷ [] = split_nowhere text (EndsNowhere-tail (length text) x text none) in
+    rw (here, later) refl
+
+without_empty_last-cons : (part : List ℕ) (parts : List (List ℕ)) → 0 < length parts → without_empty_last (part ∷ parts) ≡ part ∷ without_empty_last parts
+without_empty_last-cons part [] some = absurd (omega arith)
+without_empty_last-cons part (next ∷ more) some = refl
+
+-- what a search for the first byte 10 says of the lines
+pub lines_at : (text : List ℕ) (n : ℕ) → NoneBefore (Passes (is_byte 10) text) 0 (length text) n → Passes (is_byte 10) text n → lines_of text ≡ take n text ∷ lines_of (drop (n + 1) text)
+unfolding EndsNowhere
+lines_at text n first here =
+    let split : slice_split is_line_end text ≡ take n text ∷ slice_split is_line_end (drop (suc n) text) =
+    split_at_end n text first.high (λ k lt is. first.before k (omega arith) lt (eq-eqb (get_or text k 0) 10 is)) (eqb-true (get_or text n 0) 10 here) in
+    let behind = slice_split is_line_end (drop (suc n) text) in
+    let some : 0 < length behind = omega (arith, length-slice_split is_line_end (drop (suc n) text)) in
+    let next : suc n ≡ n + 1 = omega arith in
+    ap without_empty_last split ∙ without_empty_last-cons (take n text) behind some ∙ ap (λ k. take n text ∷ lines_of (drop k text)) next
+
+pub lines_nowhere : (text : List ℕ) → 0 < length text → Nowhere (Passes (is_byte 10) text) 0 (length text) → lines_of text ≡ text ∷ []
+unfolding EndsNowhere
+lines_nowhere text some none =
+    let split : slice_split is_line_end text ≡ text ∷ [] = split_nowhere text (λ k lt is. none k (omega arith) lt (eq-eqb (get_or text k 0) 10 is)) in
+    let filled : (length text == 0) ≡ false = ne_eqb (length text) 0 (λ e. omega (arith, e, some)) in
+    ap without_empty_last split ∙ rw filled refl
+
+-- the text so far, one line more, and the rest
+pub one_more_line : (events : List (ℕ × Named)) (n : ℕ) (whole : Reading) (rest line behind : List ℕ) → whole ≡ followed_by (reading events n None) (reading_of rest) → lines_of rest ≡ line ∷ lines_of behind →
+    whole ≡ followed_by (followed_by (reading events n None) (line_reading (meaning line))) (reading_of behind)
+one_more_line events n whole rest line behind is split =
+    is
+    ∙ ap (λ lines. followed_by (reading events n None) (whole_reading (map (λ l. line_reading (meaning l)) lines))) split
+    ∙ sym (followed_by_assoc (reading events n None) (line_reading (meaning line)) (reading_of behind))
+
+module _ (events : List (ℕ × Named)) (n : ℕ) (line : List ℕ) where
+  pub after_blank : meaning line ≡ Blank → followed_by (reading events n None) (line_reading (meaning line)) ≡ reading events (n + 1) None
+  after_blank is = ap (λ m. followed_by (reading events n None) (line_reading m)) is ∙ ap (λ es. reading es (n + 1) None) (append-nil events)
+
+  pub after_event : (e : Named) → meaning line ≡ Means e → followed_by (reading events n None) (line_reading (meaning line)) ≡ reading (events ++ (n + 1, e) ∷ []) (n + 1) None
+  after_event e is = ap (λ m. followed_by (reading events n None) (line_reading m)) is
+
+  pub after_fault : (f : LineFault) → meaning line ≡ Faulty f → followed_by (reading events n None) (line_reading (meaning line)) ≡ reading events (n + 1) (Some (n + 1, f))
+  after_fault f is = ap (λ m. followed_by (reading events n None) (line_reading m)) is ∙ ap (λ es. reading es (n + 1) (Some (n + 1, f))) (append-nil events)
+
+-- a fault that isn't about memory is the line's own
+pub tells_fault : (f : LineFault) (m : Meaning) → TellsMeaning (Err f) m → (f ≡ Memory → ⊥) → m ≡ Faulty f
+tells_fault Memory m tells other = absurd (other refl)
+tells_fault f m tells other = tells
+
+-- the whole text is read
+pub read_to_end : (events : List (ℕ × Named)) (n : ℕ) (whole : Reading) (rest : List ℕ) → whole ≡ followed_by (reading events n None) (reading_of rest) → (length rest == 0) ≡ true → whole ≡ reading events n None
+read_to_end events n whole [] is end = is ∙ followed_by_nothing (reading events n None)
+read_to_end events n whole (x ∷ rest) is end = absurd (omega (arith, eqb-true (length (x ∷ rest)) 0 end))
+
+-- the text is read up to a fault
+pub read_to_fault : (events : List (ℕ × Named)) (n : ℕ) (whole : Reading) (rest line behind : List ℕ) (f : LineFault) → whole ≡ followed_by (reading events n None) (reading_of rest) → lines_of rest ≡ line ∷ lines_of behind → meaning line ≡ Faulty f →
+    whole ≡ reading events (n + 1) (Some (n + 1, f))
+read_to_fault events n whole rest line behind f is split fault =
+    one_more_line events n whole rest line behind is split ∙ ap (λ r. followed_by r (reading_of behind)) (after_fault events n line f fault)

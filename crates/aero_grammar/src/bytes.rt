@@ -1,0 +1,102 @@
+// Parts of a line's bytes.
+ghost use Rattle.std.specs.Prelude.{◌≡◌, ◌-◌, ◌≤◌, ◌==◌, length, take, drop, is_some, IfSome};
+ghost use Rattle.std.specs.List.{list_any, list_all, prefix_len, suffix_len, position_or_len};
+ghost use Rattle.std.specs.Str.Lines.{strip_carriage_return};
+ghost use Rattle.aero_model.specs.Names.{is_bad_byte as is_bad};
+ghost use Rattle.aero_grammar.specs.Meaning.{is_bar, is_blank as is_blank_byte, trimmed as trimmed_bytes, thread_field, operation_field};
+
+use aero_model::bytes::is_bad_byte;
+
+// The line without one byte 13 at its end.
+#[inline(always)]
+pub fn without_return(line: &[u8]) -> &[u8]
+    ensures { result.now ≡ strip_carriage_return line.now }
+{
+    match line {
+        [front @ .., b'\r'] => front,
+        _ => line,
+    }
+}
+
+#[inline(always)]
+pub fn has_bad_byte(text: &[u8]) -> bool
+    ensures { result ≡ list_any is_bad text.now }
+{
+    text.iter().any(|byte| is_bad_byte(*byte))
+}
+
+// A space or a tab.
+#[inline(always)]
+fn is_blank(byte: u8) -> bool
+    ensures { result ≡ is_blank_byte byte }
+{
+    byte == b' ' || byte == b'\t'
+}
+
+#[inline(always)]
+pub fn is_all_blank(text: &[u8]) -> bool
+    ensures { result ≡ list_all is_blank_byte text.now }
+{
+    text.iter().all(|byte| is_blank(*byte))
+}
+
+// The place of the first such byte, or the length where there is none.
+#[inline(always)]
+pub fn place_of(sought: u8, bytes: &[u8]) -> usize
+    ensures place { result ≡ position_or_len (λ b. b == sought) bytes.now }
+    ensures within { result ≤ length bytes.now }
+{
+    let mut place = 0;
+    while place < bytes.len() && bytes[place] != sought {
+        place += 1;
+    }
+    place
+}
+
+// The bytes without the spaces and tabs at both ends.
+#[inline(always)]
+pub fn trimmed(bytes: &[u8]) -> &[u8]
+    ensures { result.now ≡ trimmed_bytes bytes.now }
+{
+    trimmed_back(trimmed_front(bytes))
+}
+
+#[inline(always)]
+fn trimmed_front(bytes: &[u8]) -> &[u8]
+    ensures { result.now ≡ drop (prefix_len is_blank_byte bytes.now) bytes.now }
+{
+    let mut start = 0;
+    while start < bytes.len() && is_blank(bytes[start]) {
+        start += 1;
+    }
+    &bytes[start..]
+}
+
+#[inline(always)]
+fn trimmed_back(bytes: &[u8]) -> &[u8]
+    ensures { result.now ≡ take (length bytes.now - suffix_len is_blank_byte bytes.now) bytes.now }
+{
+    let mut end = bytes.len();
+    while end > 0 && is_blank(bytes[end - 1]) {
+        end -= 1;
+    }
+    &bytes[..end]
+}
+
+// The first field of a line, the thread, and the second, the operation, or `None` where the line
+// has no `|`. A field ends before the next `|`, or at the line's end.
+#[inline(always)]
+pub fn fields(text: &[u8]) -> Option<(&[u8], &[u8])>
+    ensures barred { is_some result ≡ list_any is_bar text.now }
+    ensures thread { IfSome result (λ fields. fields.0.now ≡ thread_field text.now) }
+    ensures operation { IfSome result (λ fields. fields.1.now ≡ operation_field text.now) }
+{
+    let bar = place_of(b'|', text);
+    if bar == text.len() {
+        return None;
+    }
+    let thread = trimmed(&text[..bar]);
+    let behind = &text[bar + 1..];
+    let end = place_of(b'|', behind);
+    Some((thread, trimmed(&behind[..end])))
+}

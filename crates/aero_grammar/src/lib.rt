@@ -1,0 +1,28 @@
+//! What the lines of a trace's text say.
+//!
+//! A line holds one event: the thread, the operation with its target, and a location, each behind
+//! the other with a `|` between them. `parse_line` reads one line, and `parse_block` a block of
+//! lines, up to the first that is malformed. Spaces and tabs round the thread and the operation
+//! don't count, nor does anything from the second `|` on.
+//!
+//! `specs/Meaning.antt` says what a line means and `specs/Reading.antt` what a text means, and the
+//! contracts say that just that is answered. Blocks of whole lines mean, one after the other, what
+//! the text means that they make up.
+//!
+//! ```text
+//! let parsed = parse_block(rt.alloc(), b"\nT1|r(x)|12\nT1\nT2|w(y)")?;
+//! let (line, event) = &parsed.events[0];
+//! assert_eq!(rt; *line, 2);
+//! assert_eq!(rt; event.thread.bytes(), b"T1".as_slice());
+//! assert_eq!(rt; parsed.fault, Some((3, LineFault::NoOperation)));
+//! ```
+#![tactic(auto)]
+
+pub mod block;
+mod bytes;
+pub mod line;
+mod names;
+mod operation;
+pub mod parsed;
+#[cfg(test)]
+mod tests;

@@ -1,0 +1,46 @@
+ghost use Rattle.aero_grammar.specs.Meaning.{TellsMeaning, meaning};
+
+use crate::bytes::{fields, has_bad_byte, is_all_blank, without_return};
+use crate::operation::parse_operation;
+use aero_model::named::Event;
+use aero_model::verdict::LineFault;
+use std::alloc::Global;
+
+const MOST_LINE_BYTES: usize = 4096;
+
+/// The event of one line, which comes without the byte 10 that ends it, or `None` for a blank
+/// line. One byte 13 at the end is dropped, and the line's length is counted before that.
+///
+/// The error is the first fault that the line has, in the order of `LineFault`'s variants:
+///
+/// - `TooLong`: it has over 4,096 bytes.
+/// - `BadByte`: one of its bytes is 0 to 8, 10 to 31 or 127.
+/// - `NoOperation`: it has no `|`.
+/// - `EmptyThread`: nothing but spaces and tabs stands before the first `|`.
+/// - `UnknownOperation`: the word before the field's first `(`, or the whole field, is none of
+///   `r`, `w`, `begin` and `end`.
+/// - `BadParenthesis`: the field has a `(`, and its last byte is no `)`.
+/// - `MissingTarget`: a read or a write has nothing in its parentheses.
+/// - `NameTooLong`: the thread's name or the target has over 255 bytes.
+/// - `Memory`: the line has an event, one of its names has over 16 bytes, and memory is refused.
+pub fn parse_line(alloc: Global, line: &[u8]) -> Result<Option<Event>, LineFault>
+    ensures { TellsMeaning result (meaning line.now) }
+{
+    if line.len() > MOST_LINE_BYTES {
+        return Err(LineFault::TooLong);
+    }
+    let text = without_return(line);
+    if has_bad_byte(text) {
+        return Err(LineFault::BadByte);
+    }
+    if is_all_blank(text) {
+        return Ok(None);
+    }
+    let Some((thread, field)) = fields(text) else {
+        return Err(LineFault::NoOperation);
+    };
+    if thread.is_empty() {
+        return Err(LineFault::EmptyThread);
+    }
+    parse_operation(alloc, thread, field).map(Some)
+}

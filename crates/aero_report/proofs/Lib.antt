@@ -1,0 +1,3 @@
+pub mod Appended
+pub mod Vectors
+pub mod Written

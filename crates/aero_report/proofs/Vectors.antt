@@ -1,0 +1,33 @@
+-- The definitions at values that are known from elsewhere.
+use Rattle.std.proofs.Common.{◌≡◌, [], ◌∷◌, ◌++◌, refl}
+use Rattle.std.specs.Fmt.{digits}
+use Rattle.std.specs.Prelude.{codes}
+use Rattle.aero_model.specs.declared.verdict.LineFault.TheVariants as line_faults
+use Rattle.aero_model.specs.declared.verdict.ShapeFault.TheVariants as shape_faults
+use Rattle.aero_model.specs.declared.verdict.Verdict.TheVariants.{WellFormed, Malformed, IllFormed}
+use Rattle.aero_model.specs.declared.verdict.Finding.TheVariants.{Judged, Broken, TooLarge}
+use Rattle.aero_report.specs.Texts.{source_line}
+
+broken : source_line (codes "n") (Broken 20) ≡ codes "n: broken after 20 bytes" ++ 10 ∷ []
+unfolding digits
+broken = refl
+
+too_large : source_line (codes "n") TooLarge ≡ codes "n: too large" ++ 10 ∷ []
+unfolding digits
+too_large = refl
+
+nothing_in_it : source_line (codes "n") (Judged (WellFormed 0 0)) ≡ codes "n: well-formed (0 events, 0 blocks)" ++ 10 ∷ []
+unfolding digits
+nothing_in_it = refl
+
+many_events : source_line (codes "n") (Judged (WellFormed 90000 30000)) ≡ codes "n: well-formed (90000 events, 30000 blocks)" ++ 10 ∷ []
+unfolding digits
+many_events = refl
+
+malformed : source_line (codes "n") (Judged (Malformed 2 line_faults.BadParenthesis)) ≡ codes "n:2: malformed: BadParenthesis" ++ 10 ∷ []
+unfolding digits
+malformed = refl
+
+ill_formed : source_line (codes "n") (Judged (IllFormed 3 shape_faults.ThreadJoined)) ≡ codes "n:3: ill-formed: ThreadJoined" ++ 10 ∷ []
+unfolding digits
+ill_formed = refl

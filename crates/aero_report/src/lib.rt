@@ -1,0 +1,26 @@
+//! The texts of the report, and the call that writes them.
+//!
+//! `trace_text` makes the line of a source, with its newline: the source's name, then what was
+//! found of it. `put` writes a text to a counting writer, and says how many bytes went out where a
+//! write failed. The lines stand byte by byte in `specs/Texts.antt`.
+//!
+//! ```text
+//! let finding = Finding::Judged(Verdict::Malformed { line: 2, fault: LineFault::BadParenthesis });
+//! let text = trace_text(alloc, b"trace.std", &finding)?;
+//! assert_eq!(rt; text.as_slice(), b"trace.std:2: malformed: BadParenthesis\n".as_slice());
+//!
+//! let mut writer = Counting::new(stdout());
+//! if let Err(cut) = put(&mut writer, text.as_slice()) {
+//!     // Only the first `cut.written` bytes of the text went out.
+//! }
+//! ```
+#![tactic(auto)]
+
+mod output;
+mod texts;
+
+pub use output::{Cut, put};
+pub use texts::trace_text;
+
+#[cfg(test)]
+mod tests;

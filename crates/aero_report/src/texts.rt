@@ -1,0 +1,111 @@
+ghost use Rattle.std.specs.Prelude.{◌≡◌, ◌++◌, codes, decimal, IfOk, OnOk};
+ghost use Rattle.aero_report.specs.Texts.{line_fault_name, shape_fault_name, sizes_text, verdict_text, finding_text, source_line};
+
+use aero_model::verdict::{Finding, LineFault, ShapeFault, Verdict};
+use itoa::Buffer;
+use std::alloc::{AllocError, Global};
+
+/// The line of a source: its name as its bytes stand, what was found of it, and a newline.
+///
+/// Numbers are decimal, and lines count from 1. Fails only where memory runs out.
+pub fn trace_text(alloc: Global, name: &[u8], finding: &Finding) -> Result<Vec<u8>, AllocError>
+    ensures { IfOk result (λ text. text.items ≡ source_line name.now finding.now) }
+{
+    let mut text = Vec::from_slice(alloc, name)?;
+    append_finding(&mut text, finding)?;
+    text.push(b'\n')?;
+    Ok(text)
+}
+
+fn append_finding(text: &mut Vec<u8>, finding: &Finding) -> Result<(), AllocError>
+    ensures { OnOk result (text.new.items ≡ text.old.items ++ finding_text finding.now) }
+{
+    match finding {
+        Finding::Judged(verdict) => append_verdict(text, *verdict),
+        Finding::Broken(bytes) => {
+            text.extend_from_slice(b": broken after ")?;
+            append_number(text, *bytes)?;
+            text.extend_from_slice(b" bytes")
+        }
+        Finding::TooLarge => text.extend_from_slice(b": too large"),
+    }
+}
+
+fn append_verdict(text: &mut Vec<u8>, verdict: Verdict) -> Result<(), AllocError>
+    ensures { OnOk result (text.new.items ≡ text.old.items ++ verdict_text verdict) }
+{
+    match verdict {
+        Verdict::WellFormed { events, blocks } => {
+            text.extend_from_slice(b": well-formed ")?;
+            append_sizes(text, events, blocks)
+        }
+        Verdict::Malformed { line, fault } => {
+            append_fault(text, line, b": malformed: ", line_fault_name(fault))
+        }
+        Verdict::IllFormed { line, fault } => {
+            append_fault(text, line, b": ill-formed: ", shape_fault_name(fault))
+        }
+    }
+}
+
+fn append_sizes(text: &mut Vec<u8>, events: u32, blocks: u32) -> Result<(), AllocError>
+    ensures { OnOk result (text.new.items ≡ text.old.items ++ sizes_text events blocks) }
+{
+    text.extend_from_slice(b"(")?;
+    append_number(text, u64::from(events))?;
+    text.extend_from_slice(b" events, ")?;
+    append_number(text, u64::from(blocks))?;
+    text.extend_from_slice(b" blocks)")
+}
+
+// `:LINE`, and then the kind of fault and its name.
+fn append_fault(text: &mut Vec<u8>, line: u32, kind: &[u8], name: &[u8]) -> Result<(), AllocError>
+    ensures { OnOk result (text.new.items
+        ≡ text.old.items ++ (codes ":" ++ decimal line ++ kind.now ++ name.now)) }
+{
+    text.extend_from_slice(b":")?;
+    append_number(text, u64::from(line))?;
+    text.extend_from_slice(kind)?;
+    text.extend_from_slice(name)
+}
+
+fn append_number(text: &mut Vec<u8>, number: u64) -> Result<(), AllocError>
+    ensures { OnOk result (text.new.items ≡ text.old.items ++ decimal number) }
+{
+    let mut buffer = Buffer::new();
+    text.extend_from_slice(buffer.format(number).as_bytes())
+}
+
+fn line_fault_name(fault: LineFault) -> &'static [u8]
+    ensures { result.now ≡ line_fault_name fault }
+{
+    match fault {
+        LineFault::TooLong => b"TooLong",
+        LineFault::BadByte => b"BadByte",
+        LineFault::NoOperation => b"NoOperation",
+        LineFault::EmptyThread => b"EmptyThread",
+        LineFault::UnknownOperation => b"UnknownOperation",
+        LineFault::BadParenthesis => b"BadParenthesis",
+        LineFault::MissingTarget => b"MissingTarget",
+        LineFault::NameTooLong => b"NameTooLong",
+        LineFault::TooManyLines => b"TooManyLines",
+        LineFault::Memory => b"Memory",
+    }
+}
+
+fn shape_fault_name(fault: ShapeFault) -> &'static [u8]
+    ensures { result.now ≡ shape_fault_name fault }
+{
+    match fault {
+        ShapeFault::TooManyThreads => b"TooManyThreads",
+        ShapeFault::TooManyNames => b"TooManyNames",
+        ShapeFault::ThreadJoined => b"ThreadJoined",
+        ShapeFault::LockHeldByOther => b"LockHeldByOther",
+        ShapeFault::LockNotHeld => b"LockNotHeld",
+        ShapeFault::ForkSelf => b"ForkSelf",
+        ShapeFault::ForkStarted => b"ForkStarted",
+        ShapeFault::JoinSelf => b"JoinSelf",
+        ShapeFault::EndWithoutBegin => b"EndWithoutBegin",
+        ShapeFault::Memory => b"Memory",
+    }
+}

@@ -1,0 +1,5 @@
+pub mod FirstThread
+pub mod Steps
+pub mod Lines
+pub mod Parts
+pub mod Written

@@ -1,0 +1,5 @@
+pub mod Finding
+pub mod Kept
+pub mod OneThread
+pub mod Shapes
+pub mod Verdict

@@ -1,0 +1,3 @@
+pub mod OneRun
+pub mod Source
+pub mod Status

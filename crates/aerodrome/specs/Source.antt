@@ -1,0 +1,38 @@
+-- What was read of a source.
+use Rattle.std.specs.Prelude.{◌≡◌, ◌≢◌, ℕ, ◌+◌, ◌<◌, ◌≤◌, Bool, true, false, if◌then◌else◌, List, [], ◌++◌, length, Option, Some, None}
+use Rattle.std.specs.Io.KnownBytes.{Consumes}
+use Rattle.aero_model.specs.declared.verdict.Ending.{Ending}
+use Rattle.aero_model.specs.declared.verdict.Ending.TheVariants.{Whole, Broken, TooLarge}
+use Rattle.aero_model.specs.Counts.{Seen}
+
+abbrev pub is_whole : Ending → Bool
+is_whole Whole = true
+is_whole _ = false
+
+abbrev pub is_broken : Ending → Bool
+is_broken Broken = true
+is_broken _ = false
+
+-- A source is too large where one byte more has come than the limit. No source gives more than that.
+abbrev pub FitsLimit : ℕ → Ending → ℕ → Type 0
+FitsLimit limit TooLarge bytes = bytes ≡ limit + 1
+FitsLimit limit ending bytes = bytes ≤ limit
+
+-- These bytes came from the reader, and then the reading ended so: by one failed read exactly where the source is broken, by one end exactly where it is whole.
+pub record WasRead (before after : Seen) (limit : ℕ) (bytes : List ℕ) (ending : Ending) : Type 0 where
+  pub came : Consumes before.bytes after.bytes bytes
+  pub faults : after.faults ≡ before.faults + (if is_broken ending then 1 else 0)
+  pub ends : after.ends ≡ before.ends + (if is_whole ending then 1 else 0)
+  pub fits : FitsLimit limit ending (length bytes)
+
+-- No read failed or found the end.
+pub record IsQuiet (before after : Seen) : Type 0 where
+  pub faults : after.faults ≡ before.faults
+  pub ends : after.ends ≡ before.ends
+
+-- One read: where it gave a piece of at least one byte, the bytes grow by it, and else the reading has ended and they stay.
+abbrev pub Gives : (before after : Seen) (old new : List ℕ) (room : ℕ) → Option Ending → Type 0
+Gives before after old new room None =
+    (piece : List ℕ) × Consumes before.bytes after.bytes piece × (new ≡ old ++ piece) × (0 < length piece) × (length piece ≤ room) × IsQuiet before after
+Gives before after old new room (Some ending) =
+    Consumes before.bytes after.bytes [] × (new ≡ old) × (ending ≢ TooLarge) × (after.faults ≡ before.faults + (if is_broken ending then 1 else 0)) × (after.ends ≡ before.ends + (if is_whole ending then 1 else 0))
