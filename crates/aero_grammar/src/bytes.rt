@@ -18,11 +18,16 @@ pub fn without_return(line: &[u8]) -> &[u8]
     }
 }
 
+// It looks at every byte of the line, which is short, since many are then tested at once.
 #[inline(always)]
 pub fn has_bad_byte(text: &[u8]) -> bool
     ensures { result ≡ list_any is_bad text.now }
 {
-    text.iter().any(|byte| is_bad_byte(*byte))
+    let mut bad = false;
+    for byte in text {
+        bad |= is_bad_byte(*byte);
+    }
+    bad
 }
 
 // A space or a tab.

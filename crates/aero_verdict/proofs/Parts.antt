@@ -7,13 +7,12 @@ use Rattle.std.proofs.lemmas.Option.{slice_get-map}
 use Rattle.std.proofs.Math.Seq.{drop-cons}
 use Rattle.aero_model.specs.Named.{Named}
 use Rattle.aero_model.specs.Numbering.{tables_of, numbered}
-use Rattle.aero_model.specs.Tally.{count_below, is_outer_begin}
 use Rattle.aero_model.specs.declared.verdict.LineFault.{LineFault}
 use Rattle.aero_model.specs.declared.verdict.ShapeFault.{ShapeFault}
 use Rattle.aero_grammar.specs.Reading.{Reading, after_lines, followed_by, whole_reading, LinesRise, IsReading}
 use Rattle.aero_verdict.specs.OneThread.{IsAccepted}
 use Rattle.aero_verdict.specs.Shapes.{IsSum, GoesOn, IsRefusedIn}
-use Rattle.aero_verdict.specs.Verdict.{checked_trace, IsIllFormed, IsMalformed, IsFaultless}
+use Rattle.aero_verdict.specs.Verdict.{checked_trace, IsIllFormed, IsMalformed}
 
 -- the events of the parts, by their names
 abbrev pub all_events : List Reading → List Named
@@ -212,19 +211,6 @@ start parts =
       lines_are = sym (zero-add (whole_reading parts).lines);
       fault_is = sym (fault_after_none (whole_reading parts).fault);
       few = omega arith;
-    }
-
--- where all parts are passed, nothing is wrong
-pub faultless : (parts : List Reading) (events : List (ℕ × Named)) (lines n : ℕ) (first : List ℕ) (d b : ℕ) → AreBefore parts [] events lines → n ≡ length events →
-    IsSum (all_events parts) n first d b → IsFaultless parts n b
-faultless parts events lines n first d b before n_is kept =
-    let es : (whole_reading parts).events ≡ events = before.events_are ∙ append-nil events in
-    let len : n ≡ length (checked_trace parts) = n_is ∙ ap length (sym es) ∙ sym (trace_length parts) in
-    record {
-      accepted = subst (IsAccepted (checked_trace parts)) len kept.accepted;
-      no_fault = before.fault_is;
-      events_are = len;
-      blocks_are = kept.blocks_are ∙ ap (count_below (is_outer_begin (checked_trace parts))) len;
     }
 
 rest_at : (parts : List Reading) (k : ℕ) (p : Reading) → k < length parts → p ≡ get_or parts k p → drop k parts ≡ p ∷ drop (k + 1) parts

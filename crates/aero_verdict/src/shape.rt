@@ -36,6 +36,7 @@ impl<'a> Shape<'a> {
     }
 
     // Takes the next event in, or says why it is refused. A refusal ends the trace.
+    #[inline(always)]
     fn admit(&mut self, event: &'a Event) -> Result<(), ShapeFault>
         requires { self.old.events + 1 < 2 ^ 32 }
         ensures counted { OnOk result (self.new.events ≡ self.old.events + 1) }
@@ -87,6 +88,7 @@ impl<'a> Shape<'a> {
 }
 
 // Whether the event names a thread other than this one.
+#[inline(always)]
 fn has_other_thread(thread: &[u8], event: &Event) -> bool
     ensures { result ≡ names_other thread.now event.now }
 {
@@ -101,6 +103,7 @@ fn has_other_thread(thread: &[u8], event: &Event) -> bool
 
 // How many blocks are open after an event with this operation, or `None` where it is an end and
 // none was open.
+#[inline(always)]
 fn depth_after(depth: u32, op: Op) -> Option<u32>
     requires { depth + 1 < 2 ^ 32 }
     ensures { result ≡ the_depth_after depth op }
@@ -113,6 +116,7 @@ fn depth_after(depth: u32, op: Op) -> Option<u32>
 }
 
 // Whether an event with this operation at this depth is an outermost begin.
+#[inline(always)]
 fn is_outer_begin(depth: u32, op: Op) -> bool
     ensures { result ≡ begins_block depth op }
 {

@@ -1,9 +1,8 @@
-use Rattle.std.proofs.Common.{◌≡◌, ◌+◌, List, [], length, drop, ap, sym, ◌∙◌, subst, arith, map, ◌++◌, length-append}
+use Rattle.std.proofs.Common.{◌≡◌, ◌+◌, [], length, drop, ap, sym, ◌∙◌, subst, arith, map, ◌++◌, length-append}
 use Rattle.std.proofs.lemmas.List.{length-map}
-use Rattle.std.proofs.Math.ListN.{drop_of_length-le}
 use Rattle.aero_grammar.specs.Reading.{Reading, after_lines}
 use Rattle.aero_verdict.specs.Shapes.{IsSum, GoesOn, IsRefusedIn}
-use Rattle.aero_verdict.proofs.Parts.{all_events, AreBefore, start, here, no_more_events, lines_within, goes_on, ill_formed, refused_line, malformed, passed, faultless}
+use Rattle.aero_verdict.proofs.Parts.{all_events, start, here, no_more_events, lines_within, goes_on, ill_formed, refused_line, malformed, passed}
 use Rattle.aero_verdict.proofs.check.check_trace.Goals as goal
 
 pub loop-part-init : goal.loop-part-init
@@ -91,12 +90,3 @@ loop-part-preserved c =
       count_is = omega (arith, counted, so_far.count_is, length-append so_far.events (map (after_lines lines) p.events), length-map p.events (after_lines lines));
       kept = kept;
     }
-
-pub returns : goal.returns
-returns c =
-    let parts = c.args.parts.now in
-    let so_far = c.loop-part.invariant in
-    let none : drop c.loop-part.part-index parts ≡ [] = drop_of_length-le parts (omega (arith, c.loop-part-test.false)) in
-    let P : List Reading → Type 0 = λ rest. AreBefore parts rest so_far.events c.loop-part.lines in
-    faultless parts so_far.events c.loop-part.lines c.loop-part.shape.events c.loop-part.shape.first.now c.loop-part.shape.depth c.loop-part.shape.blocks
-    (subst P none so_far.before) so_far.count_is so_far.kept
