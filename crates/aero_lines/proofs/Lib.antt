@@ -1,0 +1,5 @@
+pub mod Bytewise
+pub mod Capped
+pub mod Steps
+pub mod Runs
+pub mod Vectors

@@ -1,0 +1,5 @@
+pub mod Pushed
+pub mod Told
+pub mod Changes
+pub mod Stands
+pub mod Vectors

@@ -1,0 +1,176 @@
+-- Tables that stand for a list of events stand, after one more, for the list with that event at its end.
+use Rattle.std.proofs.Common.{◌≡◌, ◌≢◌, ℕ, ◌+◌, ◌-◌, ◌==◌, ◌&&◌, ◌||◌, nat_lt, not, Bool, true, false, cond, if◌then◌else◌, List, [], ◌∷◌, ◌++◌, length, Option, Some, None, inl, inr, refl, sym, ◌∙◌, ap, arith}
+use Rattle.std.proofs.lemmas.Bool.{cases_Bool, cases_eq, cases_lt, and_from, and_left, and_right, eq-eqb, ne_eqb, eqb-true, not_from_false, lt-ltb, both_ways, cond-true, cond-false}
+use Rattle.aero_model.specs.declared.event.Numbered.{Numbered}
+use Rattle.aero_model.specs.declared.event.What.{What}
+use Rattle.aero_model.specs.declared.event.What.TheVariants.{Acquire, Release}
+use Rattle.aero_model.specs.declared.verdict.ShapeFault.{ShapeFault}
+use Rattle.aero_model.specs.declared.verdict.ShapeFault.TheVariants.{ThreadJoined, LockHeldByOther, LockNotHeld}
+use Rattle.aero_model.specs.Blocks.{is_begin, is_end, by_thread, depth}
+use Rattle.aero_model.specs.Shape.{is_acquire_of, is_release_of, is_fork_of, is_join_of, held, is_held_by_other, was_joined, deed_fault, shape_fault}
+use Rattle.aero_model.proofs.Locks.{acquire_is, release_is}
+use Rattle.aero_shape.specs.declared.states.LockState.{LockState}
+use Rattle.aero_shape.specs.States.{Tables, thread_at, lock_at, lock_after}
+use Rattle.aero_shape.specs.Told.{is_kept_from, fault_told}
+use Rattle.aero_shape.specs.Standing.{StandsFor}
+use Rattle.aero_shape.proofs.Pushed.{length_pushed, depth_pushed, any_pushed, count_pushed, well_formed_pushed, paired}
+use Rattle.aero_shape.proofs.Told.{kept_told, fault_is_told}
+use Rattle.aero_shape.proofs.Changes.{IsAfter, depth_after, acted_after, forked_after, joined_after, lock_stays}
+
+-- how often the thread holds the lock
+abbrev holding : ℕ → LockState → ℕ
+holding t lock = if lock.holder == t then lock.count else 0
+
+fault_free : (b : Bool) (f : ShapeFault) (o : Option ShapeFault) → (if b then Some f else o) ≡ None → (b ≡ false) × (o ≡ None)
+fault_free true f o e = absurd (cc)
+fault_free false f o e = (refl, e)
+
+module _ (tables : Tables) (h : List Numbered) (s : StandsFor tables h) (e : Numbered) (fits : shape_fault h e ≡ None) (t l : ℕ) where
+  abbrev lock : LockState
+  lock = lock_at tables.locks l
+
+  abbrev acquires : Numbered → Bool
+  acquires f = (f.thread == t) && is_acquire_of l f.what
+
+  abbrev releases : Numbered → Bool
+  releases f = (f.thread == t) && is_release_of l f.what
+
+  abbrev HoldsAfter : Type 0
+  HoldsAfter = held (h ++ e ∷ []) t l ≡ holding t (lock_after l e.thread e.what lock)
+
+  -- the event is no acquire and no release of the lock by the thread
+  held_stays : acquires e ≡ false → releases e ≡ false → held (h ++ e ∷ []) t l ≡ held h t l
+  held_stays a r =
+      let no_acquire : cond {A = ℕ} (acquires e) 1 0 ≡ 0 = ap (λ b. cond {A = ℕ} b 1 0) a in
+      let no_release : cond {A = ℕ} (releases e) 1 0 ≡ 0 = ap (λ b. cond {A = ℕ} b 1 0) r in
+      omega (arith, count_pushed h e acquires, count_pushed h e releases)
+
+  held_by_same : acquires e ≡ true → releases e ≡ false → held (h ++ e ∷ []) t l ≡ held h t l + 1
+  held_by_same a r =
+      let one : cond {A = ℕ} (acquires e) 1 0 ≡ 1 = ap (λ b. cond {A = ℕ} b 1 0) a in
+      let none : cond {A = ℕ} (releases e) 1 0 ≡ 0 = ap (λ b. cond {A = ℕ} b 1 0) r in
+      omega (arith, count_pushed h e acquires, count_pushed h e releases, paired h s.well_formed t l)
+
+  let_go : acquires e ≡ false → releases e ≡ true → held (h ++ e ∷ []) t l ≡ held h t l - 1
+  let_go a r =
+      let none : cond {A = ℕ} (acquires e) 1 0 ≡ 0 = ap (λ b. cond {A = ℕ} b 1 0) a in
+      let one : cond {A = ℕ} (releases e) 1 0 ≡ 1 = ap (λ b. cond {A = ℕ} b 1 0) r in
+      omega (arith, count_pushed h e acquires, count_pushed h e releases)
+
+  deed_fits : (w : What) → e.what ≡ w → deed_fault h e.thread w ≡ None
+  deed_fits w at = ap (deed_fault h e.thread) (sym at) ∙ (fault_free (was_joined h e.thread) ThreadJoined (deed_fault h e.thread e.what) fits).1
+
+  -- no other thread holds a lock that is acquired
+  unkept : e.what ≡ Acquire l → is_kept_from e.thread lock ≡ false
+  unkept at = kept_told tables h s e.thread l ∙ (fault_free (is_held_by_other h e.thread l) LockHeldByOther None (deed_fits (Acquire l) at)).0
+
+  count_free : e.what ≡ Acquire l → lock.holder ≢ e.thread → lock.count ≡ 0
+  count_free at other =
+      elim (cases_lt 0 lock.count) [
+        | inl some ↦ absurd (both_ways (is_kept_from e.thread lock) (unkept at) (and_from (not (lock.holder == e.thread)) (nat_lt 0 lock.count) (not_from_false (lock.holder == e.thread) (ne_eqb lock.holder e.thread other)) (lt-ltb 0 lock.count some)))
+        | inr none ↦ omega arith
+      ]
+
+  -- a thread that releases the lock is its holder
+  is_holder : e.what ≡ Release l → lock.holder ≡ e.thread
+  is_holder at =
+      let some = (fault_free (held h e.thread l == 0) LockNotHeld None (deed_fits (Release l) at)).0 in
+      elim (cases_Bool (lock.holder == e.thread)) [
+        | inl same ↦ eqb-true lock.holder e.thread same
+        | inr other ↦ absurd (both_ways (held h e.thread l == 0) some (eq-eqb (held h e.thread l) 0 (s.held l e.thread ∙ cond-false (lock.holder == e.thread) lock.count 0 other)))
+      ]
+
+  holds_none : lock.holder ≢ t → held h t l ≡ 0
+  holds_none other = s.held l t ∙ cond-false (lock.holder == t) lock.count 0 (ne_eqb lock.holder t other)
+
+  holds_all : lock.holder ≡ t → held h t l ≡ lock.count
+  holds_all same = s.held l t ∙ cond-true (lock.holder == t) lock.count 0 (eq-eqb lock.holder t same)
+
+  acquired : e.what ≡ Acquire l → HoldsAfter
+  acquired at = elim (cases_eq e.thread t) [ inl same ↦ by_it same ∙ sym (reads ∙ cond-true (e.thread == t) (lock.count + 1) 0 (eq-eqb e.thread t same)) | inr other ↦ by_another other ∙ sym (reads ∙ cond-false (e.thread == t) (lock.count + 1) 0 (ne_eqb e.thread t other)) ]
+    where
+      reads : holding t (lock_after l e.thread e.what lock) ≡ (if e.thread == t then lock.count + 1 else 0)
+      reads =
+          ap (holding t) (ap (λ w. lock_after l e.thread w lock) at ∙ cond-true (l == l) (record { holder = e.thread; count = lock.count + 1 }) lock (eq-eqb l l refl))
+
+      no_release : releases e ≡ false
+      no_release = and_right (e.thread == t) (is_release_of l e.what) (ap (is_release_of l) at)
+
+      counted : e.thread ≡ t → held h t l ≡ lock.count
+      counted same =
+          elim (cases_eq lock.holder t) [
+            | inl holder ↦ holds_all holder
+            | inr other ↦ holds_none other ∙ sym (count_free at (λ x. other (x ∙ same)))
+          ]
+
+      by_it : e.thread ≡ t → held (h ++ e ∷ []) t l ≡ lock.count + 1
+      by_it same =
+          let acquires_it = and_from (e.thread == t) (is_acquire_of l e.what) (eq-eqb e.thread t same) (ap (is_acquire_of l) at ∙ eq-eqb l l refl) in
+          held_by_same acquires_it no_release ∙ ap (λ n. n + 1) (counted same)
+
+      by_another : e.thread ≢ t → held (h ++ e ∷ []) t l ≡ 0
+      by_another other =
+          held_stays (and_left (e.thread == t) (is_acquire_of l e.what) (ne_eqb e.thread t other)) no_release
+          ∙ elim (cases_eq lock.holder t) [
+            | inl holder ↦ holds_all holder ∙ count_free at (λ x. other (sym x ∙ holder))
+            | inr apart ↦ holds_none apart
+          ]
+
+  released : e.what ≡ Release l → HoldsAfter
+  released at = elim (cases_eq lock.holder t) [ inl holder ↦ by_it holder ∙ sym (reads ∙ cond-true (lock.holder == t) (lock.count - 1) 0 (eq-eqb lock.holder t holder)) | inr other ↦ by_another other ∙ sym (reads ∙ cond-false (lock.holder == t) (lock.count - 1) 0 (ne_eqb lock.holder t other)) ]
+    where
+      reads : holding t (lock_after l e.thread e.what lock) ≡ (if lock.holder == t then lock.count - 1 else 0)
+      reads =
+          ap (holding t) (ap (λ w. lock_after l e.thread w lock) at ∙ cond-true (l == l) (record lock { count = lock.count - 1 }) lock (eq-eqb l l refl))
+
+      no_acquire : acquires e ≡ false
+      no_acquire = and_right (e.thread == t) (is_acquire_of l e.what) (ap (is_acquire_of l) at)
+
+      by_it : lock.holder ≡ t → held (h ++ e ∷ []) t l ≡ lock.count - 1
+      by_it holder =
+          let same : e.thread ≡ t = sym (is_holder at) ∙ holder in
+          let releases_it = and_from (e.thread == t) (is_release_of l e.what) (eq-eqb e.thread t same) (ap (is_release_of l) at ∙ eq-eqb l l refl) in
+          let_go no_acquire releases_it ∙ ap (λ n. n - 1) (holds_all holder)
+
+      by_another : lock.holder ≢ t → held (h ++ e ∷ []) t l ≡ 0
+      by_another other =
+          held_stays no_acquire (and_left (e.thread == t) (is_release_of l e.what) (ne_eqb e.thread t (λ x. other (is_holder at ∙ x)))) ∙ holds_none other
+
+  other_event : is_acquire_of l e.what ≡ false → is_release_of l e.what ≡ false → HoldsAfter
+  other_event a r =
+      held_stays (and_right (e.thread == t) (is_acquire_of l e.what) a) (and_right (e.thread == t) (is_release_of l e.what) r)
+      ∙ s.held l t
+      ∙ sym (ap (holding t) (lock_stays l e.thread e.what lock a r))
+
+  pub held_after : HoldsAfter
+  held_after =
+      elim (cases_Bool (is_acquire_of l e.what)) [
+        | inl a ↦ acquired (acquire_is l e.what a)
+        | inr a ↦ elim (cases_Bool (is_release_of l e.what)) [
+          | inl r ↦ released (release_is l e.what r)
+          | inr r ↦ other_event a r
+        ]
+      ]
+
+-- what the tables tell of an event without a fault, they stand for once it is noted
+pub stands_after : (old new : Tables) (e : Numbered) → IsAfter old new e → fault_told old.threads old.locks e ≡ None → (h : List Numbered) → StandsFor old h → StandsFor new (h ++ e ∷ [])
+stands_after old new e a none h s =
+    record {
+      well_formed = well_formed_pushed h e s.well_formed fits;
+      admitted = (let one = a.admitted in let all = s.admitted in let more = length_pushed h e in omega arith);
+      depth = depths;
+      acted = λ t. ap (λ x. x.acted) (a.threads t) ∙ acted_after t e (thread_at old.threads t) ∙ ap (λ b. b || (e.thread == t)) (s.acted t) ∙ sym (any_pushed h e (λ f. f.thread == t));
+      forked = λ t. ap (λ x. x.forked) (a.threads t) ∙ forked_after t e (thread_at old.threads t) ∙ ap (λ b. b || is_fork_of t e.what) (s.forked t) ∙ sym (any_pushed h e (λ f. is_fork_of t f.what));
+      joined = λ t. ap (λ x. x.joined) (a.threads t) ∙ joined_after t e (thread_at old.threads t) ∙ ap (λ b. b || is_join_of t e.what) (s.joined t) ∙ sym (any_pushed h e (λ f. is_join_of t f.what));
+      held = λ l t. held_after old h s e fits t l ∙ sym (ap (holding t) (a.locks l));
+    }
+  where
+    fits : shape_fault h e ≡ None
+    fits = sym (fault_is_told old h s e) ∙ none
+
+    depths : (t : ℕ) → (thread_at new.threads t).depth ≡ depth (h ++ e ∷ []) t (length (h ++ e ∷ []))
+    depths t =
+        ap (λ x. x.depth) (a.threads t)
+        ∙ depth_after t e (thread_at old.threads t)
+        ∙ ap (λ d. if by_thread t is_begin (Some e) then d + 1 else if by_thread t is_end (Some e) then d - 1 else d) (s.depth t)
+        ∙ sym (depth_pushed h e t)

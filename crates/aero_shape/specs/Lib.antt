@@ -1,0 +1,4 @@
+pub mod States
+pub mod Told
+pub mod Admission
+pub mod Standing

@@ -1,0 +1,42 @@
+-- What the tables tell of an event. Where they stand for a list of events, it is what the rules for that list say.
+use Rattle.std.specs.Prelude.{ℕ, ◌==◌, nat_lt, not, ◌&&◌, ◌||◌, if◌then◌else◌, Bool, true, List, Option, Some, None}
+use Rattle.aero_model.specs.declared.event.Numbered.{Numbered}
+use Rattle.aero_model.specs.declared.event.What.{What}
+use Rattle.aero_model.specs.declared.event.What.TheVariants.{Acquire, Release, Fork, Join, Begin, End}
+use Rattle.aero_model.specs.declared.verdict.ShapeFault.{ShapeFault}
+use Rattle.aero_model.specs.declared.verdict.ShapeFault.TheVariants.{ThreadJoined, LockHeldByOther, LockNotHeld, ForkSelf, ForkStarted, JoinSelf, EndWithoutBegin}
+use Rattle.aero_shape.specs.declared.admission.Admitted.{Admitted}
+use Rattle.aero_shape.specs.declared.admission.Admitted.TheVariants.{Plain, OuterBegin, OuterEnd, IdleJoin}
+use Rattle.aero_shape.specs.declared.states.ThreadState.{ThreadState}
+use Rattle.aero_shape.specs.declared.states.LockState.{LockState}
+use Rattle.aero_shape.specs.States.{thread_at, lock_at}
+
+-- whether the thread holds the lock
+abbrev pub is_held_by : ℕ → LockState → Bool
+is_held_by t lock = (lock.holder == t) && nat_lt 0 lock.count
+
+-- whether another thread does
+abbrev pub is_kept_from : ℕ → LockState → Bool
+is_kept_from t lock = not (lock.holder == t) && nat_lt 0 lock.count
+
+-- whether a fork of the thread comes too late
+abbrev pub is_started : ThreadState → Bool
+is_started s = s.acted || s.forked || s.joined
+
+abbrev pub deed_fault_told : List ThreadState → List LockState → ℕ → What → Option ShapeFault
+deed_fault_told threads locks t (Acquire l) = if is_kept_from t (lock_at locks l) then Some LockHeldByOther else None
+deed_fault_told threads locks t (Release l) = if is_held_by t (lock_at locks l) then None else Some LockNotHeld
+deed_fault_told threads locks t (Fork u) = if u == t then Some ForkSelf else if is_started (thread_at threads u) then Some ForkStarted else None
+deed_fault_told threads locks t (Join u) = if u == t then Some JoinSelf else None
+deed_fault_told threads locks t End = if (thread_at threads t).depth == 0 then Some EndWithoutBegin else None
+deed_fault_told threads locks t _ = None
+
+abbrev pub fault_told : List ThreadState → List LockState → Numbered → Option ShapeFault
+fault_told threads locks e = if (thread_at threads e.thread).joined then Some ThreadJoined else deed_fault_told threads locks e.thread e.what
+
+-- what the event is, where so many blocks of its thread are open
+abbrev pub kind_told : List ThreadState → ℕ → What → Admitted
+kind_told threads deep Begin = if deep == 0 then OuterBegin else Plain true
+kind_told threads deep End = if deep == 1 then OuterEnd else Plain (nat_lt 0 deep)
+kind_told threads deep (Join u) = if (thread_at threads u).acted then Plain (nat_lt 0 deep) else IdleJoin
+kind_told threads deep _ = Plain (nat_lt 0 deep)
