@@ -8,7 +8,7 @@ use Rattle.aero_model.specs.declared.verdict.LineFault.TheVariants.{TooLong, Bad
 use Rattle.aero_model.specs.Lines.{is_too_long}
 use Rattle.aero_model.specs.Names.{is_bad_byte}
 use Rattle.aero_model.specs.Named.{stands_alone}
-use Rattle.aero_grammar.specs.Meaning.{Meaning, Blank, Means, Faulty, meaning, is_bar, is_blank, thread_field, operation_field, operation_word, known_operation, word_meaning, operation_meaning, is_unclosed, target_bytes, target_of, is_long_name}
+use Rattle.aero_grammar.specs.Meaning.{Meaning, Blank, Means, Faulty, meaning, is_bar, is_blank, thread_field, operation_field, operation_word, operation_of, word_meaning, operation_meaning, is_unclosed, target_bytes, target_of, is_long_name}
 use Rattle.aero_grammar.specs.Reading.{is_own_fault}
 
 -- a fault that the line has by itself
@@ -39,7 +39,7 @@ pub own_fault : (line : List ℕ) → HasOwnFault (meaning line)
 own_fault line =
     let text = strip_carriage_return line in
     let field = operation_field text in
-    let threaded = word_meaning (thread_field text) field (known_operation (operation_word field)) in
+    let threaded = word_meaning (thread_field text) field (operation_of (operation_word field)) in
     let barred = cond (length (thread_field text) == 0) (Faulty EmptyThread) threaded in
     let filled = cond (not (list_any is_bar text)) (Faulty NoOperation) barred in
     let clean = cond (list_all is_blank text) Blank filled in
@@ -49,4 +49,4 @@ own_fault line =
     (own_if (list_all is_blank text) Blank filled tt
     (own_if (not (list_any is_bar text)) (Faulty NoOperation) barred refl
     (own_if (length (thread_field text) == 0) (Faulty EmptyThread) threaded refl
-    (own_word (thread_field text) field (known_operation (operation_word field)))))))
+    (own_word (thread_field text) field (operation_of (operation_word field)))))))

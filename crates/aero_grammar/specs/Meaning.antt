@@ -55,17 +55,6 @@ operation_of word =
     if bytes_eq word (codes "begin") then Some Begin else
     if bytes_eq word (codes "end") then Some End else None
 
--- the operations that are read so far: a word for another is unknown
-abbrev pub is_read_so_far : Op → Bool
-is_read_so_far Read = true
-is_read_so_far Write = true
-is_read_so_far Begin = true
-is_read_so_far End = true
-is_read_so_far _ = false
-
-abbrev pub known_operation : List ℕ → Option Op
-known_operation word = option_and_then (λ op. if is_read_so_far op then Some op else None) (operation_of word)
-
 -- the field has a `(`, and its last byte is no `)`
 abbrev pub is_unclosed : List ℕ → Bool
 is_unclosed field = list_any is_parenthesis field && not (slice_index field (length field - 1) == 41)
@@ -105,7 +94,7 @@ meaning line =
     if list_all is_blank text then Blank else
     if not (list_any is_bar text) then Faulty NoOperation else
     if length (thread_field text) == 0 then Faulty EmptyThread else
-    word_meaning (thread_field text) field (known_operation (operation_word field))
+    word_meaning (thread_field text) field (operation_of (operation_word field))
 
 abbrev pub HasLongTarget : Option (List ℕ) → Type 0
 HasLongTarget None = ⊥

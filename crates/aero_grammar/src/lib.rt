@@ -20,6 +20,7 @@
 
 pub mod block;
 mod bytes;
+pub mod laws;
 pub mod line;
 mod names;
 mod operation;

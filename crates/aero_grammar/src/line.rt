@@ -18,9 +18,9 @@ const MOST_LINE_BYTES: usize = 4096;
 /// - `NoOperation`: it has no `|`.
 /// - `EmptyThread`: nothing but spaces and tabs stands before the first `|`.
 /// - `UnknownOperation`: the word before the field's first `(`, or the whole field, is none of
-///   `r`, `w`, `begin` and `end`.
+///   `r`, `w`, `acq`, `rel`, `fork`, `join`, `begin` and `end`.
 /// - `BadParenthesis`: the field has a `(`, and its last byte is no `)`.
-/// - `MissingTarget`: a read or a write has nothing in its parentheses.
+/// - `MissingTarget`: an operation other than a begin or an end has nothing in its parentheses.
 /// - `NameTooLong`: the thread's name or the target has over 255 bytes.
 /// - `Memory`: the line has an event, one of its names has over 16 bytes, and memory is refused.
 pub fn parse_line(alloc: Global, line: &[u8]) -> Result<Option<Event>, LineFault>

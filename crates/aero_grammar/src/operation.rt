@@ -3,7 +3,7 @@ ghost use Rattle.std.specs.Prelude.{◌≡◌, ◌==◌, ◌<◌, ◌≤◌, ◌
 ghost use Rattle.std.specs.List.{list_any, position_or_len};
 ghost use Rattle.aero_model.specs.Named.{stands_alone as is_alone};
 ghost use Rattle.aero_model.specs.Names.{is_barred};
-ghost use Rattle.aero_grammar.specs.Meaning.{Means, Faulty, TellsEvent, is_parenthesis, operation_word, known_operation as known, is_unclosed, target_bytes, is_long_name as is_long, word_meaning};
+ghost use Rattle.aero_grammar.specs.Meaning.{Means, Faulty, TellsEvent, is_parenthesis, operation_word, operation_of as operation_of_word, is_unclosed, target_bytes, is_long_name as is_long, word_meaning};
 
 use crate::bytes::place_of;
 use crate::names::{is_long_name, read_name};
@@ -17,10 +17,10 @@ pub fn parse_operation(alloc: Global, thread: &[u8], field: &[u8]) -> Result<Eve
     requires some_thread { 0 < length thread.now }
     requires thread_bytes { list_any is_barred thread.now ≡ false }
     requires field_bytes { list_any is_barred field.now ≡ false }
-    ensures { TellsEvent result (word_meaning thread.now field.now (known (operation_word field.now))) }
+    ensures { TellsEvent result (word_meaning thread.now field.now (operation_of_word (operation_word field.now))) }
 {
     let end = place_of(b'(', field);
-    let Some(op) = known_operation(&field[..end]) else {
+    let Some(op) = operation_of(&field[..end]) else {
         return Err(LineFault::UnknownOperation);
     };
     let Some(target) = enclosed(field, end) else {
@@ -33,14 +33,18 @@ pub fn parse_operation(alloc: Global, thread: &[u8], field: &[u8]) -> Result<Eve
     }
 }
 
-// The operation of a word, where it is one of those that are read.
+// The operation of a word, where it is one of the eight.
 #[inline(always)]
-fn known_operation(word: &[u8]) -> Option<Op>
-    ensures { result ≡ known word.now }
+fn operation_of(word: &[u8]) -> Option<Op>
+    ensures { result ≡ operation_of_word word.now }
 {
     match word {
         b"r" => Some(Op::Read),
         b"w" => Some(Op::Write),
+        b"acq" => Some(Op::Acquire),
+        b"rel" => Some(Op::Release),
+        b"fork" => Some(Op::Fork),
+        b"join" => Some(Op::Join),
         b"begin" => Some(Op::Begin),
         b"end" => Some(Op::End),
         _ => None,

@@ -60,6 +60,10 @@ fn lines_say_their_events(rt: HostRuntime) {
         ("T0|end", Op::End, None),
         ("T0|end(foo)", Op::End, None),
         ("T0|r(x)\r", Op::Read, Some("x")),
+        ("T0|acq(l)", Op::Acquire, Some("l")),
+        ("T0|rel(l)", Op::Release, Some("l")),
+        ("T0|fork(u)", Op::Fork, Some("u")),
+        ("T0|join(u)", Op::Join, Some("u")),
     ];
     for (line, op, target) in table {
         assert!(rt;
@@ -91,12 +95,8 @@ fn malformed_lines_have_their_first_fault(rt: HostRuntime) {
         ("T0|r)", LineFault::UnknownOperation),
         ("T0|(x)", LineFault::UnknownOperation),
         ("T0|x(y", LineFault::UnknownOperation),
-        ("T0|acq(l)", LineFault::UnknownOperation),
-        ("T0|rel(l)", LineFault::UnknownOperation),
-        ("T0|fork(u)", LineFault::UnknownOperation),
-        ("T0|join(u)", LineFault::UnknownOperation),
-        ("T0|acq()", LineFault::UnknownOperation),
-        ("T0|fork", LineFault::UnknownOperation),
+        ("T0|acq()", LineFault::MissingTarget),
+        ("T0|fork", LineFault::MissingTarget),
         ("T0|r(x", LineFault::BadParenthesis),
         ("T0|r(x)y", LineFault::BadParenthesis),
         ("T0|r(", LineFault::BadParenthesis),

@@ -1,7 +1,9 @@
-pub mod FirstThread
+pub mod NewNames
+pub mod Fronts
+pub mod Targets
 pub mod Steps
 pub mod Lines
 pub mod Parts
+pub mod Written
 pub mod OneVerdict
 pub mod Vectors
-pub mod Written

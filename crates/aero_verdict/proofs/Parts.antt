@@ -1,36 +1,47 @@
 -- The parts of a trace, one after the other.
-use Rattle.std.proofs.Common.{◌≡◌, ℕ, zero, suc, ◌+◌, ◌<◌, ◌≤◌, Bool, true, false, List, [], ◌∷◌, ◌++◌, length, map, drop, get_or, Option, Some, None, option_map, refl, sym, ◌∙◌, ap, ap₂, subst, arith, add-one, zero-add, add_assoc, length-append}
-use Rattle.std.specs.Prelude.{slice_get, is_some, All, IfSome}
-use Rattle.std.proofs.lemmas.Bool.{cond-true, cond-false}
-use Rattle.std.proofs.lemmas.List.{append_assoc, append-nil, map-append, length-map}
+use Rattle.std.proofs.Common.{◌≡◌, ℕ, zero, suc, ◌+◌, ◌-◌, ◌<◌, ◌≤◌, ◌^◌, nat_le, nat_lt, min, Bool, true, false, List, [], ◌∷◌, ◌++◌, length, map, drop, get_or, Option, Some, None, option_map, inl, inr, refl, sym, ◌∙◌, ap, ap₂, subst, arith, add-one, zero-add, add_assoc, length-append}
+use Rattle.std.specs.Prelude.{slice_get, is_some, All, if◌then◌else◌}
+use Rattle.std.proofs.lemmas.Bool.{cond-true, cond-false, cond_both, cases_lt, cases_Bool, le-leb, lt-leb, lt-ltb, le-ltb}
+use Rattle.std.proofs.lemmas.List.{append_assoc, append-nil, drop_all, map-append, length-map}
+use Rattle.std.proofs.lemmas.List.Elements.{filter-append}
 use Rattle.std.proofs.lemmas.Option.{slice_get-map}
 use Rattle.std.proofs.Math.Seq.{drop-cons}
+use Rattle.aero_model.specs.declared.limits.Limits.{Limits}
+use Rattle.aero_model.specs.declared.verdict.LineFault.{LineFault}
+use Rattle.aero_model.specs.declared.verdict.LineFault.TheVariants.{TooManyLines}
+use Rattle.aero_model.specs.declared.verdict.ShapeFault.{ShapeFault}
 use Rattle.aero_model.specs.Named.{Named}
 use Rattle.aero_model.specs.Numbering.{tables_of, numbered}
-use Rattle.aero_model.specs.declared.verdict.LineFault.{LineFault}
-use Rattle.aero_model.specs.declared.verdict.ShapeFault.{ShapeFault}
-use Rattle.aero_grammar.specs.Reading.{Reading, after_lines, followed_by, whole_reading, LinesRise, IsReading}
-use Rattle.aero_verdict.specs.OneThread.{IsAccepted}
-use Rattle.aero_verdict.specs.Shapes.{IsSum, GoesOn, IsRefusedIn}
-use Rattle.aero_verdict.specs.Verdict.{checked_trace, IsIllFormed, IsMalformed}
+use Rattle.aero_model.specs.Shape.{IsLawful}
+use Rattle.aero_model.specs.Tally.{count_below, is_outer_begin}
+use Rattle.aero_grammar.specs.Reading.{Reading, after_lines, followed_by, whole_reading, LinesRise, IsReading, fault_within, malformed_line}
+use Rattle.aero_verdict.specs.declared.checker.Checker.{Checker}
+use Rattle.aero_verdict.specs.Kept.{StandsFor, up_to, GoesOn, AreNext, AreExpected, IsRefusedIn}
+use Rattle.aero_verdict.specs.Verdict.{counted_events, events_of, checked_trace, IsIllFormed, IsMalformed, IsFaultless}
 
--- the events of the parts, by their names
-abbrev pub all_events : List Reading → List Named
-all_events parts = map (λ e. e.1) (whole_reading parts).events
+abbrev pub names_of : List (ℕ × Named) → List Named
+names_of events = map (λ e. e.1) events
 
 -- the parts before these have no fault, and have these events and so many lines
-pub record AreBefore (parts rest : List Reading) (events : List (ℕ × Named)) (lines : ℕ) : Type 0 where
-  pub events_are : (whole_reading parts).events ≡ events ++ map (after_lines lines) (whole_reading rest).events
-  pub lines_are : (whole_reading parts).lines ≡ lines + (whole_reading rest).lines
-  pub fault_is : (whole_reading parts).fault ≡ option_map (after_lines lines) (whole_reading rest).fault
-  pub few : length events ≤ lines
+pub record AreBefore (parts rest : List Reading) (events : List (ℕ × Named)) (total : ℕ) : Type 0 where
+  pub events_are : (whole_reading parts).events ≡ events ++ map (after_lines total) (whole_reading rest).events
+  pub lines_are : (whole_reading parts).lines ≡ total + (whole_reading rest).lines
+  pub fault_is : (whole_reading parts).fault ≡ option_map (after_lines total) (whole_reading rest).fault
 
--- the first k parts have no fault and so many lines, and the shape is that of their events
-pub record Stands (parts : List Reading) (k lines n : ℕ) (first : List ℕ) (d b : ℕ) : Type 0 where
+-- the greatest number that a line is told by
+abbrev pub greatest_number : ℕ
+greatest_number = 2 ^ 32 - 1
+
+-- The first k parts have no fault and so many lines, as far as these can be told. The checker has admitted those of their events that count, whatever events follow.
+pub record Stands (limits : Limits) (parts : List Reading) (k lines : ℕ) (checker : Checker) : Type 0 where
   pub events : List (ℕ × Named)
-  pub before : AreBefore parts (drop k parts) events lines
-  pub count_is : n ≡ length events
-  pub kept : IsSum (all_events parts) n first d b
+  pub total : ℕ
+  pub before : AreBefore parts (drop k parts) events total
+  pub lines_are : lines ≡ min total greatest_number
+  pub count_is : checker.shape.admitted ≡ length (up_to limits.lines events)
+  pub few : length (up_to limits.lines events) ≤ total
+  pub few_enough : length (up_to limits.lines events) ≤ limits.lines
+  pub kept : (more : List Named) → StandsFor limits checker (names_of (up_to limits.lines events) ++ more)
 
 -- one part, and those after it
 
@@ -49,25 +60,6 @@ begins_with p r = go (is_some p.fault) refl
     go : (b : Bool) → is_some p.fault ≡ b → (more : List (ℕ × Named)) × ((followed_by p r).events ≡ p.events ++ more)
     go true e = ([], ap (λ x. x.events) (after_faulty p r e) ∙ sym (append-nil p.events))
     go false e = (map (after_lines p.lines) r.events, ap (λ x. x.events) (after_faultless p r e))
-
-has_lines : (p r : Reading) → p.lines ≤ (followed_by p r).lines
-has_lines p r = go (is_some p.fault) refl
-  where
-    go : (b : Bool) → is_some p.fault ≡ b → p.lines ≤ (followed_by p r).lines
-    go true e = let same = ap (λ x. x.lines) (after_faulty p r e) in omega (arith, same)
-    go false e = let same = ap (λ x. x.lines) (after_faultless p r e) in omega (arith, same)
-
--- a text has no more events than lines
-
-rising_within : (n m : ℕ) (es : List (ℕ × Named)) → LinesRise n es → All (λ e. e.0 ≤ m) es → n ≤ m → n + length es ≤ m
-rising_within n m [] rising within le = omega arith
-rising_within n m (e ∷ es) rising within le =
-    let here : e.0 ≤ m = within 0 e (omega arith) in
-    let later = rising_within e.0 m es rising.1 (λ i d less. within (suc i) d (omega arith)) here in
-    omega (arith, rising.0, later)
-
-pub no_more_events : (p : Reading) → IsReading p → length p.events ≤ p.lines
-no_more_events p reading = let few = rising_within 0 p.lines p.events reading.rising reading.within (omega arith) in omega (arith, few)
 
 -- lines and names of events that are counted on
 
@@ -111,98 +103,242 @@ fault_after_none : (f : Option (ℕ × LineFault)) → option_map (after_lines 0
 fault_after_none None = refl
 fault_after_none (Some f) = λ i. Some (zero-add f.0 i, f.1)
 
-trace_length : (parts : List Reading) → length (checked_trace parts) ≡ length (whole_reading parts).events
-trace_length parts =
-    length-map (all_events parts) (numbered (tables_of (all_events parts)))
-    ∙ length-map (whole_reading parts).events (λ e. e.1)
+names_after : (n : ℕ) (es : List (ℕ × Named)) → names_of (map (after_lines n) es) ≡ names_of es
+names_after n [] = refl
+names_after n (e ∷ es) = ap (λ ns. e.1 ∷ ns) (names_after n es)
 
-module _ (parts rest : List Reading) (p : Reading) (events : List (ℕ × Named)) (lines : ℕ) (before : AreBefore parts (p ∷ rest) events lines) (reading : IsReading p) where
-  -- the lines so far, with this part's, are lines of the whole
-  pub lines_within : lines + p.lines ≤ (whole_reading parts).lines
-  lines_within = omega (arith, before.lines_are, has_lines p (whole_reading rest))
+-- a text has no more events than lines
 
-  more : List (ℕ × Named)
-  more = (begins_with p (whole_reading rest)).0
+LinesRise-weaker : (m n : ℕ) (es : List (ℕ × Named)) → m ≤ n → LinesRise n es → LinesRise m es
+LinesRise-weaker m n [] le rise = tt
+LinesRise-weaker m n (e ∷ es) le rise = (omega (arith, le, rise.0), rise.1)
 
-  whole_events : (whole_reading parts).events ≡ events ++ map (after_lines lines) (p.events ++ more)
-  unfolding more
-  whole_events = before.events_are ∙ ap (λ es. events ++ map (after_lines lines) es) (begins_with p (whole_reading rest)).1
+rising_within : (n most : ℕ) (es : List (ℕ × Named)) → LinesRise n es → n ≤ most → n + length (up_to most es) ≤ most
+rising_within n most [] rise le = omega arith
+rising_within n most (e ∷ es) rise le =
+    elim (cases_lt most e.0) [
+      | inl beyond ↦
+          let same = ap length (cond-false (nat_le e.0 most) (e ∷ up_to most es) (up_to most es) (lt-leb e.0 most beyond)) in
+          let later = rising_within n most es (LinesRise-weaker n e.0 es (omega (arith, rise.0)) rise.1) le in
+          omega (arith, same, later)
+      | inr within ↦
+          let same = ap length (cond-true (nat_le e.0 most) (e ∷ up_to most es) (up_to most es) (le-leb e.0 most within)) in
+          let later = rising_within e.0 most es rise.1 within in
+          omega (arith, same, later, rise.0)
+    ]
 
-  event_at : (n : ℕ) → n ≡ length events → (i : ℕ) → i < length p.events → slice_get (whole_reading parts).events (n + i) ≡ option_map (after_lines lines) (slice_get p.events i)
-  event_at n n_is i less =
-      ap₂ slice_get whole_events (ap (λ k. k + i) n_is)
-      ∙ slice_get_behind events (map (after_lines lines) (p.events ++ more)) i
-      ∙ slice_get-map (after_lines lines) (p.events ++ more) i
-      ∙ ap (option_map (after_lines lines)) (slice_get_front p.events more i less)
+all_up_to : (most : ℕ) (es : List (ℕ × Named)) → All (λ e. e.0 ≤ most) es → up_to most es ≡ es
+all_up_to most [] within = refl
+all_up_to most (e ∷ es) within =
+    let here : e.0 ≤ most = within 0 e (omega arith) in
+    cond-true (nat_le e.0 most) _ _ (le-leb e.0 most here) ∙ ap (λ xs. e ∷ xs) (all_up_to most es (λ i d less. within (suc i) d (omega arith)))
 
-  -- after the events so far come this part's
-  pub goes_on : (n : ℕ) → n ≡ length events → GoesOn (all_events parts) n p.events
-  goes_on n n_is i less =
-      slice_get-map (λ e. e.1) (whole_reading parts).events (n + i)
-      ∙ ap (option_map (λ e. e.1)) (event_at n n_is i less)
-      ∙ name_after lines (slice_get p.events i)
+up_to_shorter : (most : ℕ) (es : List (ℕ × Named)) → length (up_to most es) ≤ length es
+up_to_shorter most [] = omega arith
+up_to_shorter most (e ∷ es) =
+    let later = up_to_shorter most es in
+    cond_both (nat_le e.0 most) (e ∷ up_to most es) (up_to most es) (λ xs. length xs ≤ length (e ∷ es)) (λ _. omega arith) (λ _. omega arith)
 
-  -- what is refused in this part is ill-formed
-  pub ill_formed : (n : ℕ) → n ≡ length events → (line : ℕ) (fault : ShapeFault) → IsRefusedIn (all_events parts) n p.events line fault → IsIllFormed parts (lines + line) fault
-  ill_formed n n_is line fault refused =
-      record {
-        place = n + refused.index;
-        accepted = refused.accepted;
-        cause = refused.cause;
-        line_of = ap (option_map (λ e. e.0)) (event_at n n_is refused.index refused.within) ∙ line_after lines line (slice_get p.events refused.index) refused.line_of;
-      }
+-- the lines that count, of a text after others
 
-  pub refused_line : (n line : ℕ) (fault : ShapeFault) → IsRefusedIn (all_events parts) n p.events line fault → lines + line ≤ (whole_reading parts).lines
-  refused_line n line fault refused =
-      let within = line_at p.lines line p.events refused.index refused.within refused.line_of reading.within in
-      omega (arith, lines_within, within)
+same_test : (total line limit : ℕ) → 0 < line → nat_le (total + line) limit ≡ nat_le line (limit - total)
+same_test total line limit some =
+    elim (cases_lt limit (total + line)) [
+      | inl beyond ↦ lt-leb (total + line) limit beyond ∙ sym (lt-leb line (limit - total) (omega arith))
+      | inr within ↦ le-leb (total + line) limit within ∙ sym (le-leb line (limit - total) (omega arith))
+    ]
 
-  accepted_whole : (n : ℕ) → n ≡ length events → (first : List ℕ) (d b : ℕ) → IsSum (all_events parts) (n + length p.events) first d b → is_some p.fault ≡ true →
-      IsAccepted (checked_trace parts) (length (checked_trace parts))
-  accepted_whole n n_is first d b kept faulty =
-      let es : (whole_reading parts).events ≡ events ++ map (after_lines lines) p.events =
-      before.events_are ∙ ap (λ r. events ++ map (after_lines lines) r.events) (after_faulty p (whole_reading rest) faulty) in
-      let len : n + length p.events ≡ length (checked_trace parts) =
-      ap₂ (λ a b. a + b) n_is (sym (length-map p.events (after_lines lines)))
-      ∙ sym (length-append events (map (after_lines lines) p.events))
-      ∙ ap length (sym es)
-      ∙ sym (trace_length parts) in
-      subst (IsAccepted (checked_trace parts)) len kept.accepted
+up_to_after : (total limit n : ℕ) (es : List (ℕ × Named)) → LinesRise n es → up_to limit (map (after_lines total) es) ≡ map (after_lines total) (up_to (limit - total) es)
+up_to_after total limit n [] rise = refl
+up_to_after total limit n (e ∷ es) rise =
+    let later = up_to_after total limit e.0 es rise.1 in
+    let test : nat_le (total + e.0) limit ≡ nat_le e.0 (limit - total) = same_test total e.0 limit (omega (arith, rise.0)) in
+    elim (cases_Bool (nat_le e.0 (limit - total))) [
+      | inl yes_here ↦
+          cond-true (nat_le (total + e.0) limit) _ _ (test ∙ yes_here)
+          ∙ ap (λ xs. after_lines total e ∷ xs) later
+          ∙ sym (ap (map (after_lines total)) (cond-true (nat_le e.0 (limit - total)) (e ∷ up_to (limit - total) es) (up_to (limit - total) es) yes_here))
+      | inr not_here ↦
+          cond-false (nat_le (total + e.0) limit) _ _ (test ∙ not_here)
+          ∙ later
+          ∙ sym (ap (map (after_lines total)) (cond-false (nat_le e.0 (limit - total)) (e ∷ up_to (limit - total) es) (up_to (limit - total) es) not_here))
+    ]
 
-  -- where this part's events are accepted and it has a fault, its line is malformed
-  pub malformed : (n : ℕ) → n ≡ length events → (first : List ℕ) (d b : ℕ) → IsSum (all_events parts) (n + length p.events) first d b →
-      (line : ℕ) (fault : LineFault) → p.fault ≡ Some (line, fault) → IsMalformed parts (lines + line) fault
-  malformed n n_is first d b kept line fault is =
-      let faulty : is_some p.fault ≡ true = ap is_some is in
-      record {
-        accepted = accepted_whole n n_is first d b kept faulty;
-        cause =
-            before.fault_is
-            ∙ ap (λ r. option_map (after_lines lines) r.fault) (after_faulty p (whole_reading rest) faulty)
-            ∙ ap (option_map (after_lines lines)) is;
-      }
+-- the line of a fault, where it is told up to the greatest number alone
+fault_told : (limit lines line : ℕ) (fault : LineFault) → limit ≤ 2 ^ 24 → fault_within limit lines (Some (line, fault)) ≡ fault_within limit lines (Some (min line greatest_number, fault))
+fault_told limit lines line fault le =
+    elim (cases_lt greatest_number line) [
+      | inl beyond ↦
+          cond-false (nat_le line (suc limit)) _ _ (lt-leb line (suc limit) (omega arith))
+          ∙ sym (cond-false (nat_le (min line greatest_number) (suc limit)) _ _ (lt-leb (min line greatest_number) (suc limit) (omega arith)))
+      | inr within ↦ let same : line ≡ min line greatest_number = omega arith in ap (λ k. fault_within limit lines (Some (k, fault))) same
+    ]
 
-  -- the line of a fault is the part's last
-  pub fault_line : (line : ℕ) (fault : LineFault) → p.fault ≡ Some (line, fault) → lines + line ≤ (whole_reading parts).lines
-  fault_line line fault is =
-      let last : line ≡ p.lines = subst (λ f. IfSome f (λ l. l.0 ≡ p.lines)) is reading.fault_line in
-      omega (arith, lines_within, last)
+-- events that come next
+pub goes_on : (front more_names : List Named) (more : List (ℕ × Named)) (n : ℕ) → n ≡ length front → GoesOn (front ++ (names_of more ++ more_names)) n more
+goes_on front more_names more n n_is i less =
+    ap (λ k. slice_get (front ++ (names_of more ++ more_names)) (k + i)) n_is
+    ∙ slice_get_behind front (names_of more ++ more_names) i
+    ∙ slice_get_front (names_of more) more_names i (omega (arith, less, length-map more (λ e. e.1)))
+    ∙ slice_get-map (λ e. e.1) more i
 
-  -- this part is one of those before, where it has no fault
-  pub passed : p.fault ≡ None → AreBefore parts rest (events ++ map (after_lines lines) p.events) (lines + p.lines)
-  passed none =
-      let faultless : is_some p.fault ≡ false = ap is_some none in
-      let same = after_faultless p (whole_reading rest) faultless in
-      record {
-        events_are =
-            before.events_are
-            ∙ ap (λ r. events ++ map (after_lines lines) r.events) same
-            ∙ ap (λ es. events ++ es) (map-append (after_lines lines) p.events (map (after_lines p.lines) (whole_reading rest).events) ∙ ap (λ es. map (after_lines lines) p.events ++ es) (after_again lines p.lines (whole_reading rest).events))
-            ∙ sym (append_assoc events (map (after_lines lines) p.events) (map (after_lines (lines + p.lines)) (whole_reading rest).events));
-        lines_are = before.lines_are ∙ ap (λ r. lines + r.lines) same ∙ sym (add_assoc lines p.lines (whole_reading rest).lines);
-        fault_is = before.fault_is ∙ ap (λ r. option_map (after_lines lines) r.fault) same ∙ fault_again lines p.lines (whole_reading rest).fault;
-        few = omega (arith, before.few, no_more_events p reading, length-append events (map (after_lines lines) p.events), length-map p.events (after_lines lines));
-      }
+trace_length : (limits : Limits) (parts : List Reading) → length (checked_trace parts limits) ≡ length (counted_events parts limits)
+trace_length limits parts =
+    length-map (events_of parts limits) (numbered (tables_of (events_of parts limits)))
+    ∙ length-map (counted_events parts limits) (λ e. e.1)
+
+module _ (limits : Limits) (parts rest : List Reading) (p : Reading) (events : List (ℕ × Named)) (total : ℕ) (before : AreBefore parts (p ∷ rest) events total) (reading : IsReading p) (most : ℕ) (most_is : most ≡ limits.lines - total) where
+  -- the events so far that count, and those of this part
+  abbrev front : List (ℕ × Named)
+  front = up_to limits.lines events
+
+  abbrev more : List (ℕ × Named)
+  more = up_to most p.events
+
+  counted_here : up_to limits.lines (map (after_lines total) p.events) ≡ map (after_lines total) more
+  counted_here = up_to_after total limits.lines 0 p.events reading.rising ∙ ap (λ k. map (after_lines total) (up_to k p.events)) (sym most_is)
+
+  counted_with : up_to limits.lines (events ++ map (after_lines total) p.events) ≡ front ++ map (after_lines total) more
+  counted_with = filter-append (λ e. nat_le e.0 limits.lines) events (map (after_lines total) p.events) ∙ ap (λ es. front ++ es) counted_here
+
+  names_with : names_of (up_to limits.lines (events ++ map (after_lines total) p.events)) ≡ names_of front ++ names_of more
+  names_with = ap names_of counted_with ∙ map-append (λ e. e.1) front (map (after_lines total) more) ∙ ap (λ ns. names_of front ++ ns) (names_after total more)
+
+  pub few_more : length more ≤ most
+  few_more = let few = rising_within 0 most p.events reading.rising (omega arith) in omega (arith, few)
+
+  no_more_than_lines : length more ≤ p.lines
+  no_more_than_lines =
+      let few = rising_within 0 p.lines p.events reading.rising (omega arith) in
+      let all = ap length (all_up_to p.lines p.events reading.within) in
+      let shorter = up_to_shorter most p.events in
+      omega (arith, few, all, shorter)
+
+  module _ (checker : Checker) (lines : ℕ) (k : ℕ) (count_is : checker.shape.admitted ≡ length front) (kept : (later : List Named) → StandsFor limits checker (names_of front ++ later)) where
+    next_here : (later : List Named) → AreNext limits checker (names_of front ++ (names_of more ++ later)) more
+    next_here later = (kept (names_of more ++ later), goes_on (names_of front) later more checker.shape.admitted (count_is ∙ sym (length-map front (λ e. e.1))))
+
+    pub expected_here : length front + length more < 2 ^ 32 → AreExpected checker more
+    expected_here short =
+        let lengths : length (names_of front ++ (names_of more ++ [])) ≡ length front + (length more + 0) =
+        length-append (names_of front) (names_of more ++ [])
+        ∙ ap₂ (λ a b. a + b) (length-map front (λ e. e.1)) (length-append (names_of more) [] ∙ ap (λ b. b + 0) (length-map more (λ e. e.1))) in
+        (limits, names_of front ++ (names_of more ++ []), omega (arith, lengths, short), next_here [])
+
+    -- the events of the whole
+    later_events : List (ℕ × Named)
+    later_events = map (after_lines total) (begins_with p (whole_reading rest)).0
+
+    counted_whole : counted_events parts limits ≡ front ++ (map (after_lines total) more ++ up_to limits.lines later_events)
+    unfolding later_events
+    counted_whole =
+        ap (up_to limits.lines) (before.events_are ∙ ap (λ es. events ++ map (after_lines total) es) (begins_with p (whole_reading rest)).1)
+        ∙ filter-append (λ e. nat_le e.0 limits.lines) events (map (after_lines total) (p.events ++ (begins_with p (whole_reading rest)).0))
+        ∙ ap (λ es. front ++ es) (
+        ap (up_to limits.lines) (map-append (after_lines total) p.events (begins_with p (whole_reading rest)).0)
+        ∙ filter-append (λ e. nat_le e.0 limits.lines) (map (after_lines total) p.events) (map (after_lines total) (begins_with p (whole_reading rest)).0)
+        ∙ ap (λ es. es ++ up_to limits.lines (map (after_lines total) (begins_with p (whole_reading rest)).0)) counted_here
+        )
+
+    events_whole : events_of parts limits ≡ names_of front ++ (names_of more ++ names_of (up_to limits.lines later_events))
+    events_whole =
+        ap names_of counted_whole
+        ∙ map-append (λ e. e.1) front (map (after_lines total) more ++ up_to limits.lines later_events)
+        ∙ ap (λ ns. names_of front ++ ns) (map-append (λ e. e.1) (map (after_lines total) more) (up_to limits.lines later_events) ∙ ap (λ ns. ns ++ names_of (up_to limits.lines later_events)) (names_after total more))
+
+    next_whole : AreNext limits checker (events_of parts limits) more
+    next_whole = subst (λ all. AreNext limits checker all more) (sym events_whole) (next_here (names_of (up_to limits.lines later_events)))
+
+    event_at : (i : ℕ) → i < length more → slice_get (counted_events parts limits) (checker.shape.admitted + i) ≡ option_map (after_lines total) (slice_get more i)
+    event_at i less =
+        ap₂ (λ es n. slice_get es (n + i)) counted_whole count_is
+        ∙ slice_get_behind front (map (after_lines total) more ++ up_to limits.lines later_events) i
+        ∙ slice_get_front (map (after_lines total) more) (up_to limits.lines later_events) i (omega (arith, less, length-map more (after_lines total)))
+        ∙ slice_get-map (after_lines total) more i
+
+    -- what is refused in this part is ill-formed
+    pub ill_formed : lines ≡ min total greatest_number → (line : ℕ) (fault : ShapeFault) →
+        ((all : List Named) → AreNext limits checker all more → IsRefusedIn limits all checker.shape.admitted more line fault) → IsIllFormed parts limits (lines + line) fault
+    ill_formed lines_are line fault refused =
+        let here = refused (events_of parts limits) next_whole in
+        let some = here.within in
+        let few : length more ≤ most = few_more in
+        let small : limits.lines ≤ 2 ^ 24 = limits.most_lines in
+        let same : total ≡ lines = omega (arith, some, few, most_is, lines_are, small) in
+        record {
+          place = checker.shape.admitted + here.index;
+          lawful = here.lawful;
+          cause = here.cause;
+          line_of =
+              ap (option_map (λ e. e.0)) (event_at here.index here.within)
+              ∙ line_after total line (slice_get more here.index) here.line_of
+              ∙ ap (λ k. Some (k + line)) same;
+        }
+
+    module _ (new : Checker) (counted : new.shape.admitted ≡ checker.shape.admitted + length more) (kept_on : (all : List Named) → AreNext limits checker all more → StandsFor limits new all) where
+      stands_whole : StandsFor limits new (events_of parts limits)
+      stands_whole = kept_on (events_of parts limits) next_whole
+
+      -- where this part has a fault, its line is malformed
+      pub malformed : lines ≡ min total greatest_number → (line : ℕ) (fault : LineFault) → p.fault ≡ Some (line, fault) → (told : ℕ × LineFault) →
+          ((all_lines : ℕ) → fault_within limits.lines all_lines (Some (min (lines + line) greatest_number, fault)) ≡ Some told) → IsMalformed parts limits told.0 told.1
+      malformed lines_are line fault is told tells =
+          let faulty : is_some p.fault ≡ true = ap is_some is in
+          let only : (whole_reading parts).events ≡ events ++ map (after_lines total) p.events = before.events_are ∙ ap (λ r. events ++ map (after_lines total) r.events) (after_faulty p (whole_reading rest) faulty) in
+          let len : new.shape.admitted ≡ length (checked_trace parts limits) =
+          counted
+          ∙ ap₂ (λ a b. a + b) count_is (sym (length-map more (after_lines total)))
+          ∙ sym (length-append front (map (after_lines total) more))
+          ∙ ap length (sym (ap (up_to limits.lines) only ∙ counted_with))
+          ∙ sym (trace_length limits parts) in
+          let small : limits.lines ≤ 2 ^ 24 = limits.most_lines in
+          let same : min (total + line) greatest_number ≡ min (lines + line) greatest_number = omega arith in
+          record {
+            lawful = subst (IsLawful limits (checked_trace parts limits)) len stands_whole.lawful;
+            cause =
+                ap (fault_within limits.lines (whole_reading parts).lines) (
+                before.fault_is
+                ∙ ap (λ r. option_map (after_lines total) r.fault) (after_faulty p (whole_reading rest) faulty)
+                ∙ ap (option_map (after_lines total)) is
+                )
+                ∙ fault_told limits.lines (whole_reading parts).lines (total + line) fault small
+                ∙ ap (λ k. fault_within limits.lines (whole_reading parts).lines (Some (k, fault))) same
+                ∙ tells (whole_reading parts).lines;
+          }
+
+      -- this part is one of those before, where it has no fault
+      passed : p.fault ≡ None → AreBefore parts rest (events ++ map (after_lines total) p.events) (total + p.lines)
+      passed none =
+          let faultless : is_some p.fault ≡ false = ap is_some none in
+          let same = after_faultless p (whole_reading rest) faultless in
+          record {
+            events_are =
+                before.events_are
+                ∙ ap (λ r. events ++ map (after_lines total) r.events) same
+                ∙ ap (λ es. events ++ es) (map-append (after_lines total) p.events (map (after_lines p.lines) (whole_reading rest).events) ∙ ap (λ es. map (after_lines total) p.events ++ es) (after_again total p.lines (whole_reading rest).events))
+                ∙ sym (append_assoc events (map (after_lines total) p.events) (map (after_lines (total + p.lines)) (whole_reading rest).events));
+            lines_are = before.lines_are ∙ ap (λ r. total + r.lines) same ∙ sym (add_assoc total p.lines (whole_reading rest).lines);
+            fault_is = before.fault_is ∙ ap (λ r. option_map (after_lines total) r.fault) same ∙ fault_again total p.lines (whole_reading rest).fault;
+          }
+
+      pub stands_after : lines ≡ min total greatest_number → length front ≤ total → length front ≤ limits.lines → p.fault ≡ None → rest ≡ drop (k + 1) parts →
+          (lines_after : ℕ) → lines_after ≡ min (lines + p.lines) greatest_number → Stands limits parts (k + 1) lines_after new
+      stands_after lines_are few few_enough none rest_is lines_after after_is =
+          let len : length (up_to limits.lines (events ++ map (after_lines total) p.events)) ≡ length front + length more =
+          ap length counted_with ∙ length-append front (map (after_lines total) more) ∙ ap (λ b. length front + b) (length-map more (after_lines total)) in
+          let by_lines : length more ≤ p.lines = no_more_than_lines in
+          let by_limit : length more ≤ most = few_more in
+          record {
+            events = events ++ map (after_lines total) p.events;
+            total = total + p.lines;
+            before = subst (λ r. AreBefore parts r (events ++ map (after_lines total) p.events) (total + p.lines)) rest_is (passed none);
+            lines_are = omega (arith, after_is, lines_are);
+            count_is = counted ∙ ap (λ a. a + length more) count_is ∙ sym len;
+            few = omega (arith, len, few, by_lines);
+            few_enough = omega (arith, len, few, few_enough, by_limit, most_is);
+            kept = λ later.
+                subst (StandsFor limits new) (sym (append_assoc (names_of front) (names_of more) later) ∙ ap (λ ns. ns ++ later) (sym names_with)) (kept_on (names_of front ++ (names_of more ++ later)) (next_here later));
+          }
 
 pub start : (parts : List Reading) → AreBefore parts parts [] 0
 start parts =
@@ -210,7 +346,6 @@ start parts =
       events_are = sym (after_none (whole_reading parts).events);
       lines_are = sym (zero-add (whole_reading parts).lines);
       fault_is = sym (fault_after_none (whole_reading parts).fault);
-      few = omega arith;
     }
 
 rest_at : (parts : List Reading) (k : ℕ) (p : Reading) → k < length parts → p ≡ get_or parts k p → drop k parts ≡ p ∷ drop (k + 1) parts
@@ -222,3 +357,98 @@ pub here : (parts : List Reading) (k : ℕ) (p item : Reading) → k < length pa
 here parts k p item less is same events lines before =
     let P : List Reading → Type 0 = λ rest. AreBefore parts rest events lines in
     subst P (rest_at parts k item less is ∙ ap (λ x. x ∷ drop (k + 1) parts) (sym same)) before
+
+pub nothing_yet : (limits : Limits) (parts : List Reading) (checker : Checker) → checker.shape.admitted ≡ 0 → ((events : List Named) → StandsFor limits checker events) → Stands limits parts 0 0 checker
+nothing_yet limits parts checker none kept =
+    record {
+      events = [];
+      total = 0;
+      before = start parts;
+      lines_are = omega arith;
+      count_is = none;
+      few = omega arith;
+      few_enough = omega arith;
+      kept = λ later. kept later;
+    }
+
+-- after all parts
+
+module _ (limits : Limits) (parts : List Reading) (k lines : ℕ) (checker : Checker) (stands : Stands limits parts k lines checker) (all : length parts ≤ k) where
+  before_none : AreBefore parts [] stands.events stands.total
+  before_none = subst (λ r. AreBefore parts r stands.events stands.total) (drop_all k parts all) stands.before
+
+  events_are : (whole_reading parts).events ≡ stands.events
+  events_are = before_none.events_are ∙ append-nil stands.events
+
+  admitted_are : checker.shape.admitted ≡ length (checked_trace parts limits)
+  admitted_are = stands.count_is ∙ ap (λ es. length (up_to limits.lines es)) (sym events_are) ∙ sym (trace_length limits parts)
+
+  stands_for : StandsFor limits checker (events_of parts limits)
+  stands_for = subst (StandsFor limits checker) (append-nil (names_of (up_to limits.lines stands.events)) ∙ ap (λ es. names_of (up_to limits.lines es)) (sym events_are)) (stands.kept [])
+
+  malformed_is : malformed_line limits.lines (whole_reading parts) ≡ (if nat_lt limits.lines (stands.total + 0) then Some (suc limits.lines, TooManyLines) else None)
+  malformed_is = ap₂ (λ n f. fault_within limits.lines n f) before_none.lines_are before_none.fault_is
+
+  pub too_many : limits.lines < lines → IsMalformed parts limits (limits.lines + 1) TooManyLines
+  too_many more = record {
+    lawful = subst (IsLawful limits (checked_trace parts limits)) admitted_are stands_for.lawful;
+    cause =
+        malformed_is
+        ∙ cond-true (nat_lt limits.lines (stands.total + 0)) _ _ (lt-ltb limits.lines (stands.total + 0) (omega (arith, stands.lines_are)))
+        ∙ ap (λ n. Some (n, TooManyLines)) (sym (add-one limits.lines));
+  }
+
+  pub faultless : lines ≤ limits.lines → IsFaultless parts limits checker.shape.admitted checker.blocks
+  faultless few =
+      let small : limits.lines ≤ 2 ^ 24 = limits.most_lines in
+      record {
+        lawful = subst (IsLawful limits (checked_trace parts limits)) admitted_are stands_for.lawful;
+        no_fault = malformed_is ∙ cond-false (nat_lt limits.lines (stands.total + 0)) _ _ (le-ltb limits.lines (stands.total + 0) (omega (arith, stands.lines_are, small)));
+        events_are = admitted_are;
+        blocks_are = stands_for.blocks_are ∙ ap (count_below (is_outer_begin (checked_trace parts limits))) admitted_are;
+      }
+
+-- the next part
+
+module _ (limits : Limits) (parts : List Reading) (k lines : ℕ) (checker : Checker) (stands : Stands limits parts k lines checker) (p item : Reading) (less : k < length parts) (is : item ≡ get_or parts k item) (view : p ≡ item) (reading : IsReading p) (most : ℕ) (most_is : most ≡ limits.lines - lines) (es : List (ℕ × Named)) (es_are : es ≡ p.events) where
+  before_here : AreBefore parts (p ∷ drop (k + 1) parts) stands.events stands.total
+  before_here = here parts k p item less is view stands.events stands.total stands.before
+
+  most_here : most ≡ limits.lines - stands.total
+  most_here = let small : limits.lines ≤ 2 ^ 24 = limits.most_lines in omega (arith, most_is, stands.lines_are, small)
+
+  few_here : length (up_to limits.lines stands.events) + length (up_to most p.events) < 2 ^ 32
+  few_here =
+      let small : limits.lines ≤ 2 ^ 24 = limits.most_lines in
+      let few = few_more limits parts (drop (k + 1) parts) p stands.events stands.total before_here reading most most_here in
+      omega (arith, small, few, stands.few_enough, most_is)
+
+  pub part_expected : AreExpected checker (up_to most es)
+  part_expected =
+      subst (λ xs. AreExpected checker (up_to most xs)) (sym es_are)
+      (expected_here limits parts (drop (k + 1) parts) p stands.events stands.total before_here reading most most_here checker lines k stands.count_is stands.kept few_here)
+
+  pub line_fits : (line : ℕ) → line ≤ most → lines + line < 2 ^ 32
+  line_fits line le = let small : limits.lines ≤ 2 ^ 24 = limits.most_lines in omega (arith, le, most_is, small, stands.lines_are)
+
+  pub part_ill_formed : (line : ℕ) (fault : ShapeFault) → ((all : List Named) → AreNext limits checker all (up_to most es) → IsRefusedIn limits all checker.shape.admitted (up_to most es) line fault) → IsIllFormed parts limits (lines + line) fault
+  part_ill_formed line fault refused =
+      ill_formed limits parts (drop (k + 1) parts) p stands.events stands.total before_here reading most most_here checker lines k stands.count_is stands.kept stands.lines_are line fault
+      (subst (λ xs. (all : List Named) → AreNext limits checker all (up_to most xs) → IsRefusedIn limits all checker.shape.admitted (up_to most xs) line fault) es_are refused)
+
+  module _ (new : Checker) (counted : new.shape.admitted ≡ checker.shape.admitted + length (up_to most es)) (kept_on : (all : List Named) → AreNext limits checker all (up_to most es) → StandsFor limits new all) where
+    counted_on : new.shape.admitted ≡ checker.shape.admitted + length (up_to most p.events)
+    counted_on = counted ∙ ap (λ xs. checker.shape.admitted + length (up_to most xs)) es_are
+
+    kept_here : (all : List Named) → AreNext limits checker all (up_to most p.events) → StandsFor limits new all
+    kept_here = subst (λ xs. (all : List Named) → AreNext limits checker all (up_to most xs) → StandsFor limits new all) es_are kept_on
+
+    pub part_malformed : (line : ℕ) (fault : LineFault) → p.fault ≡ Some (line, fault) → (told : ℕ × LineFault) →
+        ((all_lines : ℕ) → fault_within limits.lines all_lines (Some (min (lines + line) greatest_number, fault)) ≡ Some told) → IsMalformed parts limits told.0 told.1
+    part_malformed =
+        malformed limits parts (drop (k + 1) parts) p stands.events stands.total before_here reading most most_here checker lines k stands.count_is stands.kept new counted_on kept_here stands.lines_are
+
+    pub part_passed : p.fault ≡ None → (lines_after : ℕ) → lines_after ≡ min (lines + p.lines) greatest_number → Stands limits parts (k + 1) lines_after new
+    part_passed none =
+        stands_after limits parts (drop (k + 1) parts) p stands.events stands.total before_here reading most most_here checker lines k stands.count_is stands.kept new counted_on kept_here
+        stands.lines_are stands.few stands.few_enough none refl

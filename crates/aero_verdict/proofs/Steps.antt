@@ -1,206 +1,174 @@
--- One more event of a list: why it is refused, or what it leaves behind.
-use Rattle.std.proofs.Common.{◌≡◌, ℕ, zero, suc, ◌+◌, ◌-◌, ◌<◌, ◌==◌, nat_lt, Bool, true, false, ◌&&◌, ◌||◌, cond, if◌then◌else◌, List, [], ◌∷◌, length, take, Some, None, option_map, refl, sym, ◌∙◌, ap, ap₂, arith, add-one, below_more}
-use Rattle.std.specs.Prelude.{slice_get, unwrap_or, option_and_then}
-use Rattle.std.specs.Option.{option_map_or}
-use Rattle.std.proofs.lemmas.Bool.{cond-true, cond-false, ltb-false, or_parts}
-use Rattle.std.proofs.lemmas.List.{length-take-le}
-use Rattle.std.proofs.lemmas.Option.{slice_get-map, slice_get_within}
+-- One more event of a list: why it is ill-formed, or what it leaves behind.
+use Rattle.std.proofs.Common.{◌≡◌, ◌≢◌, ℕ, zero, suc, ◌+◌, ◌^◌, ◌<◌, ◌≤◌, ◌==◌, ◌&&◌, Bool, true, false, if◌then◌else◌, List, [], ◌∷◌, ◌++◌, length, take, drop, Some, None, refl, sym, ◌∙◌, ap, ap₂, subst, arith, add-one, below_more, length-append}
+use Rattle.std.specs.Prelude.{slice_get, option_and_then, option_map, Ok, Err}
+use Rattle.std.specs.Option.{option_or, option_map_or}
+use Rattle.std.proofs.lemmas.Bool.{eq-eqb, cond_both}
+use Rattle.std.proofs.lemmas.Option.{slice_get-map, slice_get_within, same_Some}
 use Rattle.aero_model.specs.declared.event.Numbered.{Numbered}
 use Rattle.aero_model.specs.declared.event.What.{What}
-use Rattle.aero_model.specs.declared.named.Op.{Op}
-use Rattle.aero_model.specs.declared.named.Op.TheVariants as op
-use Rattle.aero_model.specs.declared.verdict.ShapeFault.TheVariants.{TooManyThreads, EndWithoutBegin}
-use Rattle.aero_model.specs.Blocks.{depth, is_begin, is_end, by_thread, opens}
-use Rattle.aero_model.specs.Named.{Named}
-use Rattle.aero_model.specs.Numbering.{Tables, tables_of, what_of, numbered, trace_of}
+use Rattle.aero_model.specs.declared.event.What.TheVariants.{Read, Write, Acquire, Release, Fork, Join, Begin, End}
+use Rattle.aero_model.specs.declared.limits.Limits.{Limits}
+use Rattle.aero_model.specs.declared.verdict.ShapeFault.{ShapeFault}
+use Rattle.aero_model.specs.declared.verdict.ShapeFault.TheVariants.{Memory, TooManyThreads, TooManyNames, ThreadJoined, LockHeldByOther, LockNotHeld, ForkSelf, ForkStarted, JoinSelf, EndWithoutBegin}
+use Rattle.aero_model.specs.Blocks.{depth, is_begin, by_thread, opens}
+use Rattle.aero_model.specs.Named.{Named, HasItsTarget}
+use Rattle.aero_model.specs.Numbering.{Tables, tables_of, numbered, trace_of}
+use Rattle.aero_model.specs.Shape.{shape_fault, limit_fault, fault_at, has_acted, IsLawful}
 use Rattle.aero_model.specs.Tally.{count_below, is_outer_begin}
 use Rattle.aero_model.proofs.Stability.{depth_same}
-use Rattle.aero_verdict.specs.OneThread.{targets_second_thread, names_second_thread, ends_no_block, event_fault, fault_at}
-use Rattle.aero_verdict.specs.Shapes.{names_other, depth_after, begins_block, IsSum}
-use Rattle.aero_verdict.proofs.FirstThread.{second_is_other}
+use Rattle.aero_model.proofs.WellFormed.{slice_get-take}
+use Rattle.aero_shape.specs.declared.admission.Admitted.{Admitted}
+use Rattle.aero_shape.specs.declared.admission.Admitted.TheVariants.{Plain, OuterBegin, OuterEnd, IdleJoin}
+use Rattle.aero_shape.specs.Admission.{deed_as, admitted_as, TellsEvent}
+use Rattle.aero_shape.specs.Standing as shapes
+use Rattle.aero_shape.specs.States as states
+use Rattle.aero_verdict.specs.declared.checker.Checker.{Checker}
+use Rattle.aero_verdict.specs.declared.numbering.Numbering.{Numbering}
+use Rattle.aero_verdict.specs.Kept.{StandsFor, IsNext, Refuses}
+use Rattle.aero_verdict.specs.Limited.{names_in, IsLimited, NumbersEvent, RefusesEvent}
+use Rattle.aero_verdict.specs.Numbers.{with_event, numbered_after}
+use Rattle.aero_verdict.proofs.Fronts.{Extends, tables_pushed, tables_extended, numbered_kept}
 
-slice_get-take : {A : Type 0} (n : ℕ) (xs : List A) (i : ℕ) → i < n → slice_get (take n xs) i ≡ slice_get xs i
-slice_get-take zero xs i less = absurd (omega arith)
-slice_get-take (suc n) [] i less = refl
-slice_get-take (suc n) (x ∷ xs) zero less = refl
-slice_get-take (suc n) (x ∷ xs) (suc i) less = slice_get-take n xs i (omega arith)
+-- the front of a list with its next element, and what comes after it
+pub take_pushed : {A : Type 0} (xs : List A) (n : ℕ) (x : A) → slice_get xs n ≡ Some x → take (suc n) xs ≡ take n xs ++ x ∷ []
+take_pushed [] n x at = absurd (cc)
+take_pushed (y ∷ ys) zero x at = ap (λ z. z ∷ []) (same_Some y x at)
+take_pushed (y ∷ ys) (suc n) x at = ap (λ zs. y ∷ zs) (take_pushed ys n x at)
 
-abbrev is_begin_op : Op → Bool
-is_begin_op op.Begin = true
-is_begin_op _ = false
+pub front_and_rest : {A : Type 0} (xs : List A) (n : ℕ) → take n xs ++ drop n xs ≡ xs
+front_and_rest xs zero = refl
+front_and_rest [] (suc n) = refl
+front_and_rest (x ∷ xs) (suc n) = ap (λ ys. x ∷ ys) (front_and_rest xs n)
 
-abbrev is_end_op : Op → Bool
-is_end_op op.End = true
-is_end_op _ = false
+-- whether an answer says that the event is an outermost begin
+abbrev pub is_outer : Admitted → Bool
+is_outer OuterBegin = true
+is_outer _ = false
 
-begin_op : (tables : Tables) (o : Op) (target : List ℕ) → is_begin (what_of tables o target) ≡ is_begin_op o
-begin_op tables op.Read target = refl
-begin_op tables op.Write target = refl
-begin_op tables op.Acquire target = refl
-begin_op tables op.Release target = refl
-begin_op tables op.Fork target = refl
-begin_op tables op.Join target = refl
-begin_op tables op.Begin target = refl
-begin_op tables op.End target = refl
+pub outer_begin_is : (a : Admitted) → a ≡ OuterBegin → is_outer a ≡ true
+outer_begin_is a is = ap is_outer is
 
-end_op : (tables : Tables) (o : Op) (target : List ℕ) → is_end (what_of tables o target) ≡ is_end_op o
-end_op tables op.Read target = refl
-end_op tables op.Write target = refl
-end_op tables op.Acquire target = refl
-end_op tables op.Release target = refl
-end_op tables op.Fork target = refl
-end_op tables op.Join target = refl
-end_op tables op.Begin target = refl
-end_op tables op.End target = refl
+pub no_outer_begin_is : (a : Admitted) → (a ≡ OuterBegin → ⊥) → is_outer a ≡ false
+no_outer_begin_is (Plain b) other = refl
+no_outer_begin_is OuterBegin other = absurd (other refl)
+no_outer_begin_is OuterEnd other = refl
+no_outer_begin_is IdleJoin other = refl
 
--- what the operation does to the depth, in the words of `depth`
-abbrev next_depth : ℕ → Op → ℕ
-next_depth d o = if is_begin_op o then d + 1 else if is_end_op o then d - 1 else d
+outer_if : (b : Bool) (a : Admitted) → is_outer a ≡ false → is_outer (if b then OuterBegin else a) ≡ b
+outer_if true a inner = refl
+outer_if false a inner = inner
 
-some_end : (b : Bool) (d k : ℕ) → cond b None (Some (d - 1)) ≡ Some k → (b ≡ false) × (d - 1 ≡ k)
-some_end true d k is = absurd (cc)
-some_end false d k is = (refl, cc)
+inner_if : (b : Bool) (x y : Admitted) → is_outer x ≡ false → is_outer y ≡ false → is_outer (if b then x else y) ≡ false
+inner_if true x y first second = first
+inner_if false x y first second = second
 
-none_end : (b : Bool) (d : ℕ) → cond b None (Some (d - 1)) ≡ None → b ≡ true
-none_end true d is = refl
-none_end false d is = absurd (cc)
+outer_as : (before : List Numbered) (d : ℕ) (w : What) → is_outer (deed_as before d w) ≡ (is_begin w && (d == 0))
+outer_as before d (Read x) = refl
+outer_as before d (Write x) = refl
+outer_as before d (Acquire l) = refl
+outer_as before d (Release l) = refl
+outer_as before d (Fork u) = refl
+outer_as before d (Join u) = inner_if (has_acted before u) _ IdleJoin refl refl
+outer_as before d Begin = outer_if (d == 0) (Plain true) refl
+outer_as before d End = inner_if (d == 1) OuterEnd _ refl refl
 
--- the operation is allowed at this depth, and leaves that one
-goes_on : (o : Op) (d k : ℕ) → depth_after d o ≡ Some k → ((is_end_op o && (d == 0)) ≡ false) × (next_depth d o ≡ k)
-goes_on op.Read d k is = (refl, cc)
-goes_on op.Write d k is = (refl, cc)
-goes_on op.Acquire d k is = (refl, cc)
-goes_on op.Release d k is = (refl, cc)
-goes_on op.Fork d k is = (refl, cc)
-goes_on op.Join d k is = (refl, cc)
-goes_on op.Begin d k is = (refl, cc)
-goes_on op.End d k is = some_end (d == 0) d k is
+tells_fault : (before : List Numbered) (m : Numbered) (fault : ShapeFault) → TellsEvent before m (Err fault) → fault ≢ Memory → shape_fault before m ≡ Some fault
+tells_fault before m Memory tells not_memory = absurd (not_memory refl)
+tells_fault before m TooManyThreads tells not_memory = tells
+tells_fault before m TooManyNames tells not_memory = tells
+tells_fault before m ThreadJoined tells not_memory = tells
+tells_fault before m LockHeldByOther tells not_memory = tells
+tells_fault before m LockNotHeld tells not_memory = tells
+tells_fault before m ForkSelf tells not_memory = tells
+tells_fault before m ForkStarted tells not_memory = tells
+tells_fault before m JoinSelf tells not_memory = tells
+tells_fault before m EndWithoutBegin tells not_memory = tells
 
--- the operation is refused at this depth
-stops : (o : Op) (d : ℕ) → depth_after d o ≡ None → (is_end_op o && (d == 0)) ≡ true
-stops op.Read d is = absurd (cc)
-stops op.Write d is = absurd (cc)
-stops op.Acquire d is = absurd (cc)
-stops op.Release d is = absurd (cc)
-stops op.Fork d is = absurd (cc)
-stops op.Join d is = absurd (cc)
-stops op.Begin d is = absurd (cc)
-stops op.End d is = none_end (d == 0) d is
+module _ (limits : Limits) (events : List Named) (checker : Checker) (e : Named) (has : HasItsTarget e.op e.target) (next : IsNext limits checker events e) where
+  abbrev n : ℕ
+  n = checker.shape.admitted
 
-outer_begin : (o : Op) (d : ℕ) → (is_begin_op o && (d == 0)) ≡ begins_block d o
-outer_begin op.Read d = refl
-outer_begin op.Write d = refl
-outer_begin op.Acquire d = refl
-outer_begin op.Release d = refl
-outer_begin op.Fork d = refl
-outer_begin op.Join d = refl
-outer_begin op.Begin d = refl
-outer_begin op.End d = refl
+  abbrev names : Tables
+  names = names_in checker.numbering
 
--- the thread of an event that names no second thread
-first_number : (t : ℕ) (b : Bool) → (nat_lt 0 t || b) ≡ false → t ≡ 0
-first_number t b is = let above = ltb-false 0 t (or_parts (nat_lt 0 t) b is).0 in omega arith
-
-module _ (events : List Named) (n : ℕ) (e : Named) (e_at : slice_get events n ≡ Some e) (first : List ℕ) (d b : ℕ) (kept : IsSum events n first d b) (is_first : option_map (λ e. e.thread) (slice_get events 0) ≡ Some first) where
-  trace : List Numbered
+  abbrev trace : List Numbered
   trace = trace_of events
 
-  x : Numbered
-  x = numbered (tables_of events) e
+  abbrev x : Numbered
+  x = numbered_after names e
+
+  tables_next : tables_of (take (suc n) events) ≡ with_event names e
+  tables_next = ap tables_of (take_pushed events n e next.1) ∙ tables_pushed (take n events) e ∙ ap (λ t. with_event t e) (sym next.0.names_are)
+
+  extends : Extends (with_event names e) (tables_of events)
+  extends =
+      subst (λ t. Extends t (tables_of events)) tables_next
+      (subst (λ es. Extends (tables_of (take (suc n) events)) (tables_of es)) (front_and_rest events (suc n)) (tables_extended (take (suc n) events) (drop (suc n) events)))
 
   x_at : slice_get trace n ≡ Some x
-  unfolding trace x
-  x_at = slice_get-map (numbered (tables_of events)) events n ∙ ap (option_map (numbered (tables_of events))) e_at
+  x_at =
+      slice_get-map (numbered (tables_of events)) events n
+      ∙ ap (option_map (numbered (tables_of events))) next.1
+      ∙ ap Some (numbered_kept names (tables_of events) e has extends)
 
-  fault_here : fault_at trace n ≡ event_fault (take n trace) x
-  fault_here = ap (option_and_then (λ y. event_fault (take n trace) y)) x_at
+  fault_here : fault_at limits trace n ≡ option_or (limit_fault limits x) (shape_fault (take n trace) x)
+  fault_here = ap (option_and_then (λ y. option_or (limit_fault limits y) (shape_fault (take n trace) y))) x_at
 
-  within : n < length trace
-  within = slice_get_within trace n x x_at
+  pub refused_by_limit : (fault : ShapeFault) → RefusesEvent checker.numbering e fault → Refuses limits checker events fault
+  refused_by_limit fault refuses = λ not_memory. fault_here ∙ ap (λ o. option_or o (shape_fault (take n trace) x)) (refuses limits next.0.limited not_memory)
 
-  depth_here : depth (take n trace) 0 (length (take n trace)) ≡ d
-  unfolding trace
-  depth_here =
-      ap (depth (take n trace) 0) (length-take-le n trace (omega (arith, within)))
-      ∙ depth_same (take n trace) trace 0 n (record { same = λ i less. slice_get-take n trace i less })
-      ∙ sym kept.depth_is
+  module _ (numbering : Numbering) (m : Numbered) (h : NumbersEvent checker.numbering numbering e m) where
+    no_limit : limit_fault limits x ≡ None
+    no_limit = ap (limit_fault limits) (sym h.numbered_is) ∙ (h.within limits next.0.limited).1
 
-  second : names_second_thread x ≡ names_other first e
-  unfolding x
-  second = second_is_other events first is_first e
+    fault_by_shape : fault_at limits trace n ≡ shape_fault (take n trace) m
+    fault_by_shape = fault_here ∙ ap (λ o. option_or o (shape_fault (take n trace) x)) no_limit ∙ ap (shape_fault (take n trace)) (sym h.numbered_is)
 
-  pub refused_thread : names_other first e ≡ true → fault_at (trace_of events) n ≡ Some TooManyThreads
-  unfolding trace
-  refused_thread other = fault_here ∙ cond-true (names_second_thread x) _ _ (second ∙ other)
+    pub refused_by_shape : (fault : ShapeFault) → TellsEvent (take n trace) m (Err fault) → Refuses limits checker events fault
+    refused_by_shape fault tells = λ not_memory. fault_by_shape ∙ tells_fault (take n trace) m fault tells not_memory
 
-  module _ (one : names_other first e ≡ false) where
-    thread_is : x.thread ≡ 0
-    thread_is = first_number x.thread (targets_second_thread x.what) (second ∙ one)
+    m_at : slice_get trace n ≡ Some m
+    m_at = x_at ∙ ap Some (sym h.numbered_is)
 
-    begins : is_begin x.what ≡ is_begin_op e.op
-    unfolding x
-    begins = begin_op (tables_of events) e.op (unwrap_or e.target [])
+    depth_here : depth trace m.thread n ≡ depth (take n trace) m.thread (length (take n trace))
+    depth_here =
+        sym (depth_same (take n trace) trace m.thread n (record { same = λ i less. slice_get-take trace n i less }))
+        ∙ ap (depth (take n trace) m.thread) next.0.shape_stands.admitted
 
-    ends : is_end x.what ≡ is_end_op e.op
-    unfolding x
-    ends = end_op (tables_of events) e.op (unwrap_or e.target [])
+    outer_here : is_outer_begin trace n ≡ is_outer (admitted_as (take n trace) m)
+    outer_here =
+        ap (λ o. option_map_or (λ y. opens trace y.thread n) o false) m_at
+        ∙ ap₂ (λ o d. by_thread m.thread is_begin o && (d == 0)) m_at depth_here
+        ∙ ap (λ b. (b && is_begin m.what) && (depth (take n trace) m.thread (length (take n trace)) == 0)) (eq-eqb m.thread m.thread refl)
+        ∙ sym (outer_as (take n trace) (depth (take n trace) m.thread (length (take n trace))) m.what)
 
-    ends_here : ends_no_block (take n trace) x ≡ (is_end_op e.op && (d == 0))
-    ends_here =
-        ap₂ (λ a k. a && (k == 0)) ends
-        (ap (λ t. depth (take n trace) t (length (take n trace))) thread_is ∙ depth_here)
+    module _ (admitted : Admitted) (tells : TellsEvent (take n trace) m (Ok admitted)) (shape : states.Tables) (stands : shapes.StandsFor shape (take n trace ++ m ∷ [])) where
+      pub count_next : shape.admitted ≡ n + 1
+      count_next = let old = next.0.shape_stands.admitted in let new = stands.admitted in omega (arith, old, new, length-append (take n trace) (m ∷ []))
 
-    fault_by_end : fault_at trace n ≡ (if ends_no_block (take n trace) x then Some EndWithoutBegin else None)
-    fault_by_end = fault_here ∙ cond-false (names_second_thread x) _ _ (second ∙ one)
-
-    pub refused_end : depth_after d e.op ≡ None → fault_at (trace_of events) n ≡ Some EndWithoutBegin
-    unfolding trace
-    refused_end none = fault_by_end ∙ cond-true (ends_no_block (take n trace) x) _ _ (ends_here ∙ stops e.op d none)
-
-    module _ (k : ℕ) (some : depth_after d e.op ≡ Some k) where
-      accepted_here : fault_at trace n ≡ None
-      accepted_here = fault_by_end ∙ cond-false (ends_no_block (take n trace) x) _ _ (ends_here ∙ (goes_on e.op d k some).0)
-
-      by_first : (test : What → Bool) → by_thread 0 test (slice_get trace n) ≡ test x.what
-      by_first test = ap (by_thread 0 test) x_at ∙ ap (λ t. (t == 0) && test x.what) thread_is
-
-      depth_next : depth trace 0 (suc n) ≡ k
-      unfolding trace
-      depth_next =
-          ap₂ (λ a b. if a then depth trace 0 n + 1 else if b then depth trace 0 n - 1 else depth trace 0 n) (by_first is_begin ∙ begins) (by_first is_end ∙ ends)
-          ∙ ap (λ m. next_depth m e.op) (sym kept.depth_is)
-          ∙ (goes_on e.op d k some).1
-
-      outer_here : is_outer_begin trace n ≡ begins_block d e.op
-      unfolding trace
-      outer_here =
-          ap (λ o. option_map_or (λ y. opens trace y.thread n) o false) x_at
-          ∙ ap (λ t. opens trace t n) thread_is
-          ∙ ap₂ (λ a m. a && (m == 0)) (by_first is_begin ∙ begins) (sym kept.depth_is)
-          ∙ outer_begin e.op d
-
-      blocks_next : count_below (is_outer_begin trace) (suc n) ≡ (if begins_block d e.op then b + 1 else b)
-      unfolding trace
-      blocks_next = ap₂ (λ o m. if o then m + 1 else m) outer_here (sym kept.blocks_are)
-
-      pub kept_next : (c : ℕ) → c ≡ (if begins_block d e.op then b + 1 else b) → IsSum events (n + 1) first k c
-      unfolding trace
-      kept_next c is =
+      pub kept_next : (new : Checker) → new.numbering ≡ numbering → new.shape ≡ shape → new.blocks ≡ (if is_outer admitted then checker.blocks + 1 else checker.blocks) → StandsFor limits new events
+      kept_next new same_numbering same_shape blocks =
+          let count : new.shape.admitted ≡ suc n = ap (λ (s : states.Tables). s.admitted) same_shape ∙ count_next ∙ add-one n in
           record {
-            first_is = λ _. is_first;
-            depth_is = sym (ap (depth (trace_of events) 0) (add-one n) ∙ depth_next);
-            blocks_are = is ∙ sym (ap (count_below (is_outer_begin (trace_of events))) (add-one n) ∙ blocks_next);
-            accepted = below_more (λ i. fault_at (trace_of events) i ≡ None) n kept.accepted accepted_here;
+            limited = subst (IsLimited limits) (sym same_numbering) (h.within limits next.0.limited).0;
+            names_are = ap names_in same_numbering ∙ h.names_are ∙ sym tables_next ∙ ap (λ k. tables_of (take k events)) (sym count);
+            shape_stands = subst (λ s. shapes.StandsFor s (take new.shape.admitted trace)) (sym same_shape) (subst (shapes.StandsFor shape) (sym (take_pushed trace n m m_at) ∙ ap (λ k. take k trace) (sym count)) stands);
+            blocks_are =
+                blocks
+                ∙ ap₂ (λ o b. if o then b + 1 else b) (ap is_outer tells.1 ∙ sym outer_here) next.0.blocks_are
+                ∙ ap (count_below (is_outer_begin trace)) (sym count);
+            lawful = subst (IsLawful limits trace) (sym (count ∙ sym (add-one n))) (below_more (λ i. fault_at limits trace i ≡ None) n next.0.lawful (fault_by_shape ∙ tells.0));
           }
 
--- the first event's thread, at this event and after it
-pub first_at_start : (events : List Named) (n : ℕ) (e : Named) (first : List ℕ) → slice_get events n ≡ Some e → n ≡ 0 → first ≡ e.thread →
-    option_map (λ e. e.thread) (slice_get events 0) ≡ Some first
-first_at_start events n e first e_at start is = ap (λ k. option_map (λ e. e.thread) (slice_get events k)) (sym start) ∙ ap (option_map (λ e. e.thread)) e_at ∙ ap Some (sym is)
+count_below_most : (test : ℕ → Bool) (n : ℕ) → count_below test n ≤ n
+count_below_most test zero = omega arith
+count_below_most test (suc n) =
+    let before = count_below_most test n in
+    cond_both (test n) (count_below test n + 1) (count_below test n) (λ k. k ≤ suc n) (λ e. omega arith) (λ e. omega arith)
 
-pub first_later : (events : List Named) (n : ℕ) (first next : List ℕ) (d b : ℕ) → IsSum events n first d b → (n ≡ 0 → ⊥) → next ≡ first →
-    option_map (λ e. e.thread) (slice_get events 0) ≡ Some next
-first_later events n first next d b kept later is = kept.first_is (omega arith) ∙ ap Some (sym is)
+-- numbers that fit, where the list is short
+pub few_events : (limits : Limits) (events : List Named) (checker : Checker) (e : Named) → IsNext limits checker events e → length events < 2 ^ 32 → checker.shape.admitted + 1 < 2 ^ 32
+few_events limits events checker e next short = let within = slice_get_within events checker.shape.admitted e next.1 in omega arith
 
-pub with_first : (events : List Named) (n : ℕ) (first next : List ℕ) (d b : ℕ) → IsSum events n first d b → option_map (λ e. e.thread) (slice_get events 0) ≡ Some next → IsSum events n next d b
-with_first events n first next d b kept is = record { first_is = λ _. is; depth_is = kept.depth_is; blocks_are = kept.blocks_are; accepted = kept.accepted }
+pub few_blocks : (limits : Limits) (events : List Named) (checker : Checker) → StandsFor limits checker events → checker.blocks ≤ checker.shape.admitted
+few_blocks limits events checker stands = let most = count_below_most (is_outer_begin (trace_of events)) checker.shape.admitted in omega (arith, stands.blocks_are, most)

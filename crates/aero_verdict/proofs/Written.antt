@@ -1,11 +1,10 @@
 -- Parts that are written by hand, as tests do.
-use Rattle.std.proofs.Common.{◌≡◌, ℕ, ◌+◌, ◌*◌, ◌<◌, ◌≤◌, Bool, true, false, List, [], ◌∷◌, ◌++◌, length, Some, None, refl, ap, arith}
-use Rattle.std.specs.Prelude.{All, is_some}
+use Rattle.std.proofs.Common.{ℕ, ◌+◌, ◌<◌, ◌≤◌, List, [], ◌∷◌, ◌++◌, Some, None, refl, arith}
+use Rattle.std.specs.Prelude.{All}
 use Rattle.std.proofs.lemmas.List.Elements.{All-nil, All-head, All-tail, All-push, All-weaker}
 use Rattle.aero_model.specs.Named.{Named}
 use Rattle.aero_model.specs.declared.verdict.LineFault.TheVariants.{NoOperation}
-use Rattle.aero_grammar.specs.Reading.{Reading, followed_by, whole_reading, LinesRise, IsReading}
-use Rattle.aero_verdict.proofs.Parts.{after_faulty, after_faultless}
+use Rattle.aero_grammar.specs.Reading.{LinesRise, IsReading}
 
 -- the events stand on lines that rise, up to this one
 pub record IsWritten (lines : ℕ) (events : List (ℕ × Named)) : Type 0 where
@@ -49,19 +48,3 @@ written_faulty lines more events written =
       fault_line = refl;
       own_fault = refl;
     }
-
-no_more_lines : (p r : Reading) → (followed_by p r).lines ≤ p.lines + r.lines
-no_more_lines p r = go (is_some p.fault) refl
-  where
-    go : (b : Bool) → is_some p.fault ≡ b → (followed_by p r).lines ≤ p.lines + r.lines
-    go true e = let same = ap (λ x. x.lines) (after_faulty p r e) in omega (arith, same)
-    go false e = let same = ap (λ x. x.lines) (after_faultless p r e) in omega (arith, same)
-
--- parts of few lines have few lines together
-pub few_lines : (most : ℕ) (parts : List Reading) → All (λ p. p.lines ≤ most) parts → (whole_reading parts).lines ≤ most * length parts
-few_lines most [] few = omega arith
-few_lines most (p ∷ parts) few =
-    let later = few_lines most parts (All-tail (λ p. p.lines ≤ most) p parts few) in
-    let here : p.lines ≤ most = All-head (λ p. p.lines ≤ most) p parts few in
-    let both = no_more_lines p (whole_reading parts) in
-    omega (arith, later, here, both)

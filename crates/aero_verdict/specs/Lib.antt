@@ -1,5 +1,5 @@
-pub mod Finding
+pub mod Numbers
+pub mod Limited
 pub mod Kept
-pub mod OneThread
-pub mod Shapes
 pub mod Verdict
+pub mod Finding

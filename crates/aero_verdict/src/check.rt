@@ -1,52 +1,78 @@
-ghost use Rattle.std.specs.Prelude.{◌<◌, ◌^◌, IfOk};
-ghost use Rattle.aero_grammar.specs.Reading.{whole_reading};
+ghost use Rattle.std.specs.Prelude.{◌≡◌, ◌≢◌, ℕ, Some, IfOk, OnOk, OnErr};
+ghost use Rattle.aero_grammar.specs.Reading.{fault_within};
 ghost use Rattle.aero_verdict.specs.Verdict.{IsVerdict};
 
-use crate::shape::Shape;
+use crate::checker::Checker;
 use aero_grammar::parsed::Parsed;
 use aero_model::limits::Limits;
-use aero_model::verdict::Verdict;
+use aero_model::verdict::{LineFault, ShapeFault, Verdict};
 use std::alloc::{AllocError, Global};
 
-/// The verdict on the trace that the parts hold, one after the other.
+/// The verdict on the trace that the parts hold, one after the other, under the limits.
 ///
 /// Line numbers count from 1 through all parts: those of a part follow the lines of the parts
-/// before it. What follows a part with a fault is ignored.
+/// before it. What follows a part with a fault is ignored, and so is each event on a line after
+/// `limits.lines`.
 ///
-/// - `IllFormed`: the first event that is refused, with the number of its line. An event that names
-///   a second thread, as its actor or as the target of a fork or a join, is `TooManyThreads`. An
-///   end where no block is open is `EndWithoutBegin`. So far there is no other cause.
-/// - `Malformed`: the faulty line, where no event is refused. All events stand before it.
+/// - `IllFormed`: the first event that is ill-formed, with the number of its line and the first
+///   cause, in the order of the variants of `ShapeFault`. The limits on threads and names are
+///   looked at first, and the actor before the target.
+/// - `Malformed`: the faulty line, where no event is ill-formed. All events stand before it. Line
+///   `limits.lines + 1` is `TooManyLines` where it has no fault of its own.
 /// - `WellFormed`: how many events there are, and how many outermost begins.
 ///
-/// So far no limit holds and no memory is taken, so `Err` never comes.
-pub fn check_trace(
-    _alloc: Global,
-    parts: &[Parsed],
-    _limits: &Limits,
-) -> Result<Verdict, AllocError>
-    requires { (whole_reading parts.now).lines < 2 ^ 32 }
-    ensures { IfOk result (λ verdict. IsVerdict parts.now verdict) }
+/// An `AllocError` says that memory was refused, to the names or to the states of threads and locks.
+pub fn check_trace(alloc: Global, parts: &[Parsed], limits: &Limits) -> Result<Verdict, AllocError>
+    ensures { IfOk result (λ verdict. IsVerdict parts.now limits.now verdict) }
 {
-    let mut shape = Shape::new();
-    let mut lines = 0;
+    let mut checker = Checker::new(alloc, limits);
+    let mut lines = 0u32;
     for part in parts {
-        if let Err((line, fault)) = shape.admit_all(&part.events) {
+        let most = limits.lines.saturating_sub(lines);
+        if let Err((line, fault)) = checker.admit_all(&part.events, most) {
             return Ok(Verdict::IllFormed {
                 line: lines + line,
-                fault,
+                fault: own_fault(fault)?,
             });
         }
         if let Some((line, fault)) = part.fault {
-            return Ok(Verdict::Malformed {
-                line: lines + line,
-                fault,
-            });
+            let (line, fault) = malformed_line(lines.saturating_add(line), fault, limits);
+            return Ok(Verdict::Malformed { line, fault });
         }
-        lines += part.lines;
+        lines = lines.saturating_add(part.lines);
+    }
+    if lines > limits.lines {
+        return Ok(Verdict::Malformed {
+            line: limits.lines + 1,
+            fault: LineFault::TooManyLines,
+        });
     }
     Ok(Verdict::WellFormed {
-        events: shape.events,
-        blocks: shape.blocks,
+        events: checker.events(),
+        blocks: checker.blocks(),
     })
+}
+
+// The malformed line, where this one has a fault by itself: it, unless one before it is one too many.
+fn malformed_line(line: u32, fault: LineFault, limits: &Limits) -> (u32, LineFault)
+    ensures { (lines : ℕ) → fault_within limits.now.lines lines (Some (line, fault)) ≡ Some result }
+{
+    let first_too_many = limits.lines + 1;
+    if line > first_too_many {
+        (first_too_many, LineFault::TooManyLines)
+    } else {
+        (line, fault)
+    }
+}
+
+// The fault, where the event has it by itself.
+fn own_fault(fault: ShapeFault) -> Result<ShapeFault, AllocError>
+    ensures same { IfOk result (λ own. own ≡ fault) }
+    ensures not_memory { OnOk result (fault ≢ ShapeFault.Memory) }
+    ensures memory { OnErr result (fault ≡ ShapeFault.Memory) }
+{
+    match fault {
+        ShapeFault::Memory => Err(AllocError),
+        fault => Ok(fault),
+    }
 }

@@ -1,7 +1,8 @@
 //! The verdict on a trace: well-formed, or the first line that is malformed or ill-formed.
 //!
 //! A trace comes as parts, one after the other, and each part says what its block of lines holds.
-//! So far a trace has one thread: an event that names a second one is ill-formed.
+//! The events are numbered and checked against the rules for well-formed traces, one after another,
+//! and limits bound how many lines, threads and names a trace may have.
 //!
 //! ```text
 //! // T1|begin, T1|w(x) and T1|end, on three lines
@@ -11,7 +12,8 @@
 #![tactic(auto)]
 
 mod check;
-mod shape;
+mod checker;
+mod numbering;
 
 pub use check::check_trace;
 

@@ -1,4 +1,4 @@
-ghost use Rattle.std.specs.Prelude.{◌≤◌, ◌<◌, length, IfOk};
+ghost use Rattle.std.specs.Prelude.{◌<◌, length};
 
 use crate::check_trace;
 use aero_grammar::parsed::Parsed;
@@ -41,7 +41,6 @@ fn event(alloc: Global, thread: &str, op: Op, target: &str) -> Result<Event, Fai
 fn parsed(alloc: Global, part: Part) -> Result<Parsed, Fail>
     requires few_events { length part.events.now < 1000 }
     requires few_lines { part.blank_lines < 1000 }
-    ensures { IfOk result (λ p. p.lines ≤ 3000) }
 {
     let mut events = Vec::new(alloc);
     let mut lines = 0u32;
@@ -65,14 +64,25 @@ fn parsed(alloc: Global, part: Part) -> Result<Parsed, Fail>
     })
 }
 
-fn verdict_of(rt: &impl Abort, alloc: Global, parts: &[Part]) -> Result<Verdict, Fail> {
+// Checks that the parts have the verdict under the limits.
+fn expect(
+    rt: &impl Abort,
+    alloc: Global,
+    limits: &Limits,
+    parts: &[Part],
+    wanted: Verdict,
+) -> Result<(), Fail> {
     let mut all = Vec::new(alloc);
     for part in parts {
         assert!(rt; part.events.len() < 1000 && part.blank_lines < 1000);
         all.push(parsed(alloc, *part)?)?;
     }
-    assert!(rt; all.len() < 1000);
-    Ok(check_trace(alloc, &all, &Limits::greatest())?)
+    assert_eq!(rt; check_trace(alloc, &all, limits)?, wanted);
+    Ok(())
+}
+
+fn limits(rt: &impl Abort, lines: u32, threads: u32, names: u32) -> Limits {
+    Limits::new(1000, lines, threads, names).expect(rt, "limits")
 }
 
 const BEGIN: Line = ("T1", Op::Begin, "");
@@ -83,15 +93,39 @@ const READ: Line = ("T1", Op::Read, "x");
 
 const WRITE: Line = ("T1", Op::Write, "x");
 
-const FORK: Line = ("T1", Op::Fork, "T2");
+const OTHER: Line = ("T1", Op::Write, "y");
 
-const JOIN: Line = ("T1", Op::Join, "T2");
+const SECOND: Line = ("T2", Op::Write, "x");
+
+const THIRD: Line = ("T3", Op::Write, "x");
+
+const ACQUIRE: Line = ("T1", Op::Acquire, "l");
+
+const RELEASE: Line = ("T1", Op::Release, "l");
+
+const JOIN: Line = ("T1", Op::Join, "T9");
 
 const BLOCK: [Line; 5] = [BEGIN, WRITE, READ, WRITE, END];
 
 const NESTED: [Line; 8] = [BEGIN, BEGIN, END, BEGIN, END, END, BEGIN, END];
 
-const OTHER: Line = ("T2", Op::Read, "x");
+const LOCKED: [Line; 8] = [BEGIN, BEGIN, ACQUIRE, ACQUIRE, RELEASE, RELEASE, END, END];
+
+const TWO_THREADS: [Line; 6] = [
+    BEGIN,
+    ("T2", Op::Begin, ""),
+    WRITE,
+    ("T2", Op::Read, "x"),
+    ("T2", Op::Write, "y"),
+    ("T1", Op::Read, "y"),
+];
+
+const FORKED: [Line; 4] = [
+    ("T1", Op::Fork, "T2"),
+    ("T2", Op::Write, "x"),
+    ("T1", Op::Join, "T2"),
+    WRITE,
+];
 
 const fn whole(events: &'static [Line]) -> Part {
     Part {
@@ -120,36 +154,153 @@ const fn blank(events: &'static [Line]) -> Part {
 
 #[test]
 fn events_and_outermost_begins_are_counted(rt: HostRuntime) -> Result<(), Fail> {
-    let cases: [(&[Part], u32, u32); 5] = [
+    let cases: [(&[Part], u32, u32); 9] = [
         (&[], 0, 0),
         (&[whole(&BLOCK)], 5, 1),
         (&[whole(&NESTED)], 8, 2),
+        (&[whole(&LOCKED)], 8, 1),
+        (&[whole(&TWO_THREADS)], 6, 2),
+        (&[whole(&FORKED)], 4, 0),
+        (&[whole(&[JOIN, JOIN])], 2, 0),
         (&[blank(&BLOCK), whole(&[]), whole(&BLOCK)], 10, 2),
         (&[whole(&[BEGIN]), whole(&[BEGIN, END])], 3, 1),
     ];
     for (parts, events, blocks) in cases {
-        let verdict = verdict_of(&rt, rt.alloc(), parts)?;
-        assert_eq!(rt; verdict, Verdict::WellFormed { events, blocks });
+        let wanted = Verdict::WellFormed { events, blocks };
+        expect(&rt, rt.alloc(), &Limits::greatest(), parts, wanted)?;
     }
     Ok(())
 }
 
 #[test]
-fn the_first_refused_event_is_named(rt: HostRuntime) -> Result<(), Fail> {
-    let threads = ShapeFault::TooManyThreads;
-    let no_begin = ShapeFault::EndWithoutBegin;
-    let cases: [(&[Part], u32, ShapeFault); 7] = [
-        (&[whole(&[READ, OTHER])], 2, threads),
-        (&[whole(&[BEGIN, FORK])], 2, threads),
-        (&[whole(&[JOIN, END])], 1, threads),
-        (&[faulty(&[END])], 1, no_begin),
-        (&[whole(&[BEGIN, END, END])], 3, no_begin),
-        (&[blank(&[READ]), whole(&[READ, END])], 4, no_begin),
-        (&[blank(&[READ]), whole(&[OTHER, END])], 3, threads),
+fn the_first_ill_formed_event_is_told_with_its_cause(rt: HostRuntime) -> Result<(), Fail> {
+    let cases: [(&[Part], u32, ShapeFault); 11] = [
+        (&[whole(&[RELEASE])], 1, ShapeFault::LockNotHeld),
+        (
+            &[whole(&[ACQUIRE, ("T2", Op::Acquire, "l")])],
+            2,
+            ShapeFault::LockHeldByOther,
+        ),
+        (
+            &[whole(&[ACQUIRE, ("T2", Op::Release, "l")])],
+            2,
+            ShapeFault::LockNotHeld,
+        ),
+        (
+            &[whole(&[JOIN, JOIN, ("T9", Op::Write, "x")])],
+            3,
+            ShapeFault::ThreadJoined,
+        ),
+        (
+            &[whole(&[JOIN, JOIN, ("T1", Op::Fork, "T9")])],
+            3,
+            ShapeFault::ForkStarted,
+        ),
+        (
+            &[whole(&[READ, ("T1", Op::Fork, "T1")])],
+            2,
+            ShapeFault::ForkSelf,
+        ),
+        (&[whole(&[("T1", Op::Join, "T1")])], 1, ShapeFault::JoinSelf),
+        (&[whole(&[BEGIN, END, END])], 3, ShapeFault::EndWithoutBegin),
+        (
+            &[whole(&[BEGIN, ("T2", Op::End, "")])],
+            2,
+            ShapeFault::EndWithoutBegin,
+        ),
+        (
+            &[blank(&[READ]), whole(&[READ, END])],
+            4,
+            ShapeFault::EndWithoutBegin,
+        ),
+        (
+            &[blank(&[ACQUIRE]), whole(&[("T2", Op::Acquire, "l"), END])],
+            3,
+            ShapeFault::LockHeldByOther,
+        ),
     ];
     for (parts, line, fault) in cases {
-        let verdict = verdict_of(&rt, rt.alloc(), parts)?;
-        assert_eq!(rt; verdict, Verdict::IllFormed { line, fault });
+        let wanted = Verdict::IllFormed { line, fault };
+        expect(&rt, rt.alloc(), &Limits::greatest(), parts, wanted)?;
+    }
+    Ok(())
+}
+
+#[test]
+fn a_thread_past_the_limit_is_too_many(rt: HostRuntime) -> Result<(), Fail> {
+    let cases: [(&[Part], u32); 4] = [
+        (&[whole(&[WRITE, SECOND, THIRD])], 3),
+        (
+            &[whole(&[WRITE, SECOND]), blank(&[]), whole(&[READ, THIRD])],
+            5,
+        ),
+        (
+            &[whole(&[WRITE, ("T1", Op::Fork, "T2"), ("T2", Op::Fork, "T3")])],
+            3,
+        ),
+        (&[whole(&[SECOND, JOIN, ("T1", Op::End, "")])], 2),
+    ];
+    let wanted = ShapeFault::TooManyThreads;
+    for (parts, line) in cases {
+        let wanted = Verdict::IllFormed {
+            line,
+            fault: wanted,
+        };
+        expect(&rt, rt.alloc(), &limits(&rt, 100, 2, 100), parts, wanted)?;
+    }
+    Ok(())
+}
+
+#[test]
+fn a_variable_or_lock_past_the_limit_is_too_many(rt: HostRuntime) -> Result<(), Fail> {
+    let cases: [(&[Part], u32); 4] = [
+        (&[whole(&[WRITE, ("T1", Op::Acquire, "x"), OTHER])], 3),
+        (
+            &[whole(&[ACQUIRE, WRITE, READ, ("T1", Op::Acquire, "x")])],
+            4,
+        ),
+        (
+            &[
+                whole(&[WRITE]),
+                whole(&[ACQUIRE, RELEASE, ("T1", Op::Read, "l")]),
+            ],
+            4,
+        ),
+        (&[whole(&[("T1", Op::Join, "x"), WRITE, OTHER])], 3),
+    ];
+    for (parts, line) in cases {
+        let fault = ShapeFault::TooManyNames;
+        let wanted = Verdict::IllFormed { line, fault };
+        expect(&rt, rt.alloc(), &limits(&rt, 100, 100, 1), parts, wanted)?;
+    }
+    Ok(())
+}
+
+#[test]
+fn the_limits_are_looked_at_first_and_the_actor_before_the_target(
+    rt: HostRuntime,
+) -> Result<(), Fail> {
+    let cases: [(&[Part], ShapeFault); 4] = [
+        (
+            &[whole(&[WRITE, ("T2", Op::Write, "y")])],
+            ShapeFault::TooManyThreads,
+        ),
+        (
+            &[whole(&[WRITE, ("T2", Op::End, "")])],
+            ShapeFault::TooManyThreads,
+        ),
+        (
+            &[whole(&[ACQUIRE, ("T1", Op::Release, "m")])],
+            ShapeFault::TooManyNames,
+        ),
+        (
+            &[whole(&[ACQUIRE, ("T2", Op::Acquire, "l")])],
+            ShapeFault::TooManyThreads,
+        ),
+    ];
+    for (parts, fault) in cases {
+        let wanted = Verdict::IllFormed { line: 2, fault };
+        expect(&rt, rt.alloc(), &limits(&rt, 100, 1, 1), parts, wanted)?;
     }
     Ok(())
 }
@@ -160,12 +311,80 @@ fn a_malformed_line_ends_the_trace(rt: HostRuntime) -> Result<(), Fail> {
         (&[faulty(&[])], 1),
         (&[faulty(&[BEGIN, READ])], 3),
         (&[blank(&[READ]), faulty(&[])], 3),
-        (&[whole(&[READ]), faulty(&[READ]), whole(&[OTHER])], 3),
+        (&[whole(&[READ]), faulty(&[READ]), whole(&[END])], 3),
     ];
     for (parts, line) in cases {
         let fault = LineFault::NoOperation;
-        let verdict = verdict_of(&rt, rt.alloc(), parts)?;
-        assert_eq!(rt; verdict, Verdict::Malformed { line, fault });
+        let wanted = Verdict::Malformed { line, fault };
+        expect(&rt, rt.alloc(), &Limits::greatest(), parts, wanted)?;
     }
     Ok(())
+}
+
+#[test]
+fn an_ill_formed_event_goes_before_a_malformed_line(rt: HostRuntime) -> Result<(), Fail> {
+    let fault = ShapeFault::EndWithoutBegin;
+    let wanted = Verdict::IllFormed { line: 1, fault };
+    let greatest = Limits::greatest();
+    expect(&rt, rt.alloc(), &greatest, &[faulty(&[END])], wanted)?;
+    let parts = [whole(&[END]), faulty(&[])];
+    expect(&rt, rt.alloc(), &greatest, &parts, wanted)?;
+    let parts = [whole(&[END, READ, READ])];
+    expect(&rt, rt.alloc(), &limits(&rt, 1, 1, 1), &parts, wanted)
+}
+
+#[test]
+fn the_line_after_the_limit_is_too_many_or_has_a_fault_of_its_own(
+    rt: HostRuntime,
+) -> Result<(), Fail> {
+    let cases: [(&[Part], LineFault); 11] = [
+        (&[blank(&[READ, READ])], LineFault::TooManyLines),
+        (&[whole(&[READ, READ, END])], LineFault::TooManyLines),
+        (&[faulty(&[READ, READ])], LineFault::NoOperation),
+        (&[faulty(&[READ, READ, END])], LineFault::TooManyLines),
+        (&[whole(&[READ]), blank(&[READ])], LineFault::TooManyLines),
+        (&[whole(&[READ, READ]), blank(&[])], LineFault::TooManyLines),
+        (&[whole(&[READ, READ]), faulty(&[])], LineFault::NoOperation),
+        (
+            &[whole(&[READ]), whole(&[]), faulty(&[READ])],
+            LineFault::NoOperation,
+        ),
+        (
+            &[whole(&[READ]), whole(&[READ, END]), faulty(&[])],
+            LineFault::TooManyLines,
+        ),
+        (
+            &[whole(&[READ, READ]), whole(&[END]), whole(&[END])],
+            LineFault::TooManyLines,
+        ),
+        (
+            &[blank(&[READ]), faulty(&[]), whole(&[END, END])],
+            LineFault::NoOperation,
+        ),
+    ];
+    for (parts, fault) in cases {
+        let wanted = Verdict::Malformed { line: 3, fault };
+        expect(&rt, rt.alloc(), &limits(&rt, 2, 10, 10), parts, wanted)?;
+    }
+    Ok(())
+}
+
+#[test]
+fn as_many_lines_as_the_limit_allows_count(rt: HostRuntime) -> Result<(), Fail> {
+    let cases: [(&[Part], u32); 4] = [
+        (&[whole(&[READ, READ])], 2),
+        (&[blank(&[READ]), whole(&[])], 1),
+        (&[whole(&[READ]), whole(&[]), whole(&[READ])], 2),
+        (&[blank(&[]), blank(&[])], 0),
+    ];
+    for (parts, events) in cases {
+        let wanted = Verdict::WellFormed { events, blocks: 0 };
+        expect(&rt, rt.alloc(), &limits(&rt, 2, 10, 10), parts, wanted)?;
+    }
+    let end = Verdict::IllFormed {
+        line: 2,
+        fault: ShapeFault::EndWithoutBegin,
+    };
+    let parts = [whole(&[READ]), whole(&[END, READ])];
+    expect(&rt, rt.alloc(), &limits(&rt, 2, 10, 10), &parts, end)
 }

@@ -1,6 +1,7 @@
 -- What a run over one source does to its reader and its writer.
 use Rattle.std.specs.Prelude.{◌≡◌, ℕ, ◌+◌, ◌<◌, List, length, take}
 use Rattle.std.specs.Io.KnownBytes.{Appends, Keeps}
+use Rattle.aero_model.specs.declared.limits.Limits.{Limits}
 use Rattle.aero_model.specs.declared.verdict.Ending.{Ending}
 use Rattle.aero_model.specs.declared.verdict.Finding.{Finding}
 use Rattle.aero_model.specs.Counts.{Seen}
@@ -11,12 +12,12 @@ use Rattle.aerodrome.specs.declared.one.OneFault.{OneFault}
 use Rattle.aerodrome.specs.declared.one.OneFault.TheVariants.{Memory, Write}
 
 -- So many bytes were read, and this is the finding on them and on how they ended.
-pub record WasFound (before after : Seen) (limit count : ℕ) (finding : Finding) : Type 0 where
+pub record WasFound (before after : Seen) (limits : Limits) (count : ℕ) (finding : Finding) : Type 0 where
   pub bytes : List ℕ
   pub ending : Ending
-  pub read : WasRead before after limit bytes ending
+  pub read : WasRead before after limits.bytes bytes ending
   pub counted : count ≡ length bytes
-  pub found : IsFinding bytes ending finding
+  pub found : IsFinding bytes ending limits finding
 
 -- The whole text went out, and no write failed.
 pub record WasWritten (before after : Seen) (text : List ℕ) : Type 0 where
@@ -35,7 +36,7 @@ pub record IsUntouched (before after : Seen) : Type 0 where
   pub faults : after.faults ≡ before.faults
 
 -- How a run that was refused leaves its reader and its writer. After a refused write what stands is a part of the line on what was read.
-abbrev pub WasLeft : (reader reader' writer writer' : Seen) (name : List ℕ) (limit : ℕ) → OneFault → Type 0
-WasLeft reader reader' writer writer' name limit Memory = IsUntouched writer writer'
-WasLeft reader reader' writer writer' name limit (Write written) =
-    (count : ℕ) × (finding : Finding) × WasFound reader reader' limit count finding × WasCut writer writer' (source_line name finding) written
+abbrev pub WasLeft : (reader reader' writer writer' : Seen) (name : List ℕ) (limits : Limits) → OneFault → Type 0
+WasLeft reader reader' writer writer' name limits Memory = IsUntouched writer writer'
+WasLeft reader reader' writer writer' name limits (Write written) =
+    (count : ℕ) × (finding : Finding) × WasFound reader reader' limits count finding × WasCut writer writer' (source_line name finding) written

@@ -41,12 +41,12 @@ pub fn run_one<R: Read, W: Write>(
 ) -> Result<(u64, Finding), OneFault>
     requires some_piece { 0 < piece }
     requires piece { piece ≤ 2 ^ 20 }
-    ensures found { IfOk result (λ told. WasFound (seen_by R.remaining reader.old) (seen_by R.remaining reader.new) limits.now.bytes told.0 told.1) }
+    ensures found { IfOk result (λ told. WasFound (seen_by R.remaining reader.old) (seen_by R.remaining reader.new) limits.now told.0 told.1) }
     ensures written { IfOk result (λ told. WasWritten (seen_by W.contents writer.old) (seen_by W.contents writer.new) (source_line name.now told.1)) }
     ensures left { IfErr result (WasLeft
         (seen_by R.remaining reader.old) (seen_by R.remaining reader.new)
         (seen_by W.contents writer.old) (seen_by W.contents writer.new)
-        name.now limits.now.bytes) }
+        name.now limits.now) }
 {
     let received = read_source(alloc, reader, limits.bytes, piece).map_err(|_| OneFault::Memory)?;
     let count = received.bytes.len() as u64;
@@ -61,7 +61,7 @@ pub fn run_one<R: Read, W: Write>(
 // What is found of a source: the verdict on its bytes where they are all there.
 fn finding_of(alloc: Global, received: &Received, limits: &Limits) -> Result<Finding, AllocError>
     requires { FitsLimit limits.now.bytes received.now.ending (length received.now.bytes.items) }
-    ensures { IfOk result (IsFinding received.now.bytes.items received.now.ending) }
+    ensures { IfOk result (IsFinding received.now.bytes.items received.now.ending limits.now) }
 {
     match received.ending {
         Ending::Whole => {

@@ -13,8 +13,22 @@ use std::test::Fail;
 
 const PIECES: [u32; 4] = [1, 2, 7, 65_536];
 
-// What is read of two threads whose blocks cross: so far the second thread is one too many.
+// Two blocks that cross, each before the other.
 const CROSSED: &[u8] = b"T1|begin\nT2|begin\nT1|w(x)\nT2|r(x)\nT2|w(y)\nT1|r(y)";
+
+const CROSSED_THEN_MALFORMED: &[u8] = b"T1|begin\nT2|begin\nT1|w(x)\nT2|r(x)\nT2|w(y)\nT1|r(y)\nT1";
+
+// The end of one block closes the blocks of two threads.
+const CLOSED_AT_ONE_READ: &[u8] =
+    b"T1|begin\nT2|begin\nT3|begin\nT2|w(a)\nT3|w(b)\nT1|w(x)\nT2|r(x)\nT3|r(x)\nT1|r(a)\nT1|r(b)\nT1|end";
+
+// What an ended block leads to shows in a last write alone.
+const SPREAD_TO_A_WRITE: &[u8] =
+    b"T3|begin\nT2|begin\nT2|w(y)\nT1|r(y)\nT1|w(v)\nT3|w(x)\nT2|r(x)\nT2|end\nT3|r(v)";
+
+// A block in a block, and a lock that is acquired again.
+const NESTED: &[u8] =
+    b"T1|begin(a)\nT1|begin()\nT1|acq(l)\nT1|acq(l)\nT1|rel(l)\nT1|rel(l)\nT1|end\nT1|end";
 
 const ONE_BLOCK: &[u8] = b"T1|begin\nT1|w(x)\nT1|r(x)\nT1|w(x)\nT1|end";
 
@@ -85,6 +99,28 @@ impl Write for CutsOnce {
     }
 }
 
+fn limits_of(bytes: u32, lines: u32, threads: u32, names: u32) -> Result<Limits, Fail> {
+    match Limits::new(bytes, lines, threads, names) {
+        Some(limits) => Ok(limits),
+        None => Err(Fail::from(AllocError)),
+    }
+}
+
+// Runs over the text in pieces of different sizes, and expects the line and the status each time.
+fn expect_in_pieces(
+    rt: &(impl Abort + AllocGlobal),
+    text: &[u8],
+    limits: &Limits,
+    line: &[u8],
+    status: u8,
+) -> Result<(), AllocError> {
+    for piece in PIECES {
+        let count = expect_line(rt, text, limits, piece, line, status)?;
+        assert_eq!(rt; count, text.len() as u64);
+    }
+    Ok(())
+}
+
 // Runs over the reader in pieces, and expects the line and the status.
 fn expect_line<R: Read + Drop>(
     rt: &(impl Abort + AllocGlobal),
@@ -109,25 +145,114 @@ fn expect_line<R: Read + Drop>(
     }
 }
 
+// Each text with its line and status, under the greatest limits.
 #[test]
 fn a_source_has_its_line(rt: HostRuntime) -> Result<(), Fail> {
-    let rows: [(&[u8], &[u8], u8); 9] = [
+    let rows: [(&[u8], &[u8], u8); 8] = [
         (b"", b"n: well-formed (0 events, 0 blocks)\n", 0),
+        (
+            b"T1|w(x)|5\nT2|r(x)|6",
+            b"n: well-formed (2 events, 0 blocks)\n",
+            0,
+        ),
+        (
+            b"T1|w(x)|5\r\nT2|r(x)|6\r",
+            b"n: well-formed (2 events, 0 blocks)\n",
+            0,
+        ),
+        (CROSSED, b"n: well-formed (6 events, 2 blocks)\n", 0),
+        (
+            CLOSED_AT_ONE_READ,
+            b"n: well-formed (11 events, 3 blocks)\n",
+            0,
+        ),
+        (
+            SPREAD_TO_A_WRITE,
+            b"n: well-formed (9 events, 2 blocks)\n",
+            0,
+        ),
+        (NESTED, b"n: well-formed (8 events, 1 blocks)\n", 0),
         (ONE_BLOCK, b"n: well-formed (5 events, 1 blocks)\n", 0),
-        (b"T1|begin\nT1|w(x", b"n:2: malformed: BadParenthesis\n", 2),
-        (b"\nT1|x(y)", b"n:2: malformed: UnknownOperation\n", 2),
-        (b"T1|r()", b"n:1: malformed: MissingTarget\n", 2),
-        (b"T1|end\nT1", b"n:1: ill-formed: EndWithoutBegin\n", 2),
-        (b"T1|r(x)\nT2|r(x)", b"n:2: ill-formed: TooManyThreads\n", 2),
-        (b"T1|acq(l)", b"n:1: malformed: UnknownOperation\n", 2),
-        (CROSSED, b"n:2: ill-formed: TooManyThreads\n", 2),
     ];
     for (text, line, status) in rows {
-        for piece in PIECES {
-            let count = expect_line(&rt, text, &Limits::greatest(), piece, line, status)?;
-            assert_eq!(rt; count, text.len() as u64);
-        }
+        expect_in_pieces(&rt, text, &Limits::greatest(), line, status)?;
     }
+    Ok(())
+}
+
+#[test]
+fn a_malformed_line_is_told(rt: HostRuntime) -> Result<(), Fail> {
+    let rows: [(&[u8], &[u8]); 5] = [
+        (b"T1|begin\nT1|w(x", b"n:2: malformed: BadParenthesis\n"),
+        (b"\nT1|x(y)", b"n:2: malformed: UnknownOperation\n"),
+        (b"T1|r()", b"n:1: malformed: MissingTarget\n"),
+        (b"T1|acq", b"n:1: malformed: MissingTarget\n"),
+        (CROSSED_THEN_MALFORMED, b"n:7: malformed: NoOperation\n"),
+    ];
+    for (text, line) in rows {
+        expect_in_pieces(&rt, text, &Limits::greatest(), line, 2)?;
+    }
+    Ok(())
+}
+
+#[test]
+fn an_ill_formed_event_is_told(rt: HostRuntime) -> Result<(), Fail> {
+    let rows: [(&[u8], &[u8]); 5] = [
+        (b"T1|rel(l)", b"n:1: ill-formed: LockNotHeld\n"),
+        (
+            b"T1|acq(l)\nT2|acq(l)",
+            b"n:2: ill-formed: LockHeldByOther\n",
+        ),
+        (b"T1|end\nT1", b"n:1: ill-formed: EndWithoutBegin\n"),
+        (
+            b"T1|join(T9)\nT1|join(T9)\nT9|w(x)",
+            b"n:3: ill-formed: ThreadJoined\n",
+        ),
+        (
+            b"T1|join(T9)\nT1|join(T9)\nT1|fork(T9)",
+            b"n:3: ill-formed: ForkStarted\n",
+        ),
+    ];
+    for (text, line) in rows {
+        expect_in_pieces(&rt, text, &Limits::greatest(), line, 2)?;
+    }
+    let line = b"n: well-formed (2 events, 0 blocks)\n";
+    expect_in_pieces(
+        &rt,
+        b"T1|join(T9)\nT1|join(T9)",
+        &Limits::greatest(),
+        line,
+        0,
+    )?;
+    Ok(())
+}
+
+#[test]
+fn limits_on_lines_threads_and_names_hold(rt: HostRuntime) -> Result<(), Fail> {
+    let lines = limits_of(100, 2, 1, 1)?;
+    let rows: [(&[u8], &[u8], u8); 4] = [
+        (
+            b"T1|r(x)\nT1|r(x)",
+            b"n: well-formed (2 events, 0 blocks)\n",
+            0,
+        ),
+        (b"T1|r(x)\nT1|r(x)\n ", b"n:3: malformed: TooManyLines\n", 2),
+        (b"T1|r(x)\nT1|r(x)\nT1", b"n:3: malformed: NoOperation\n", 2),
+        (
+            b"T1|r(x)\nT1|r(x)\nT1|r(x)\nT1",
+            b"n:3: malformed: TooManyLines\n",
+            2,
+        ),
+    ];
+    for (text, line, status) in rows {
+        expect_in_pieces(&rt, text, &lines, line, status)?;
+    }
+    let threads = limits_of(100, 3, 2, 1)?;
+    let line = b"n:3: ill-formed: TooManyThreads\n";
+    expect_in_pieces(&rt, b"T1|w(x)\nT2|w(x)\nT3|w(x)", &threads, line, 2)?;
+    let names = limits_of(100, 3, 1, 1)?;
+    let line = b"n:3: ill-formed: TooManyNames\n";
+    expect_in_pieces(&rt, b"T1|w(x)\nT1|acq(x)\nT1|w(y)", &names, line, 2)?;
     Ok(())
 }
 
