@@ -1,14 +1,11 @@
 -- The verdict at traces whose verdict is known.
-use Rattle.std.proofs.Common.{ℕ, zero, suc, ◌<◌, ◌^◌, List, [], ◌∷◌, ◌++◌, length, Some, None, refl, arith, lit<, lit≤}
+use Rattle.std.proofs.Common.{ℕ, zero, suc, ◌<◌, ◌^◌, List, [], ◌∷◌, ◌++◌, refl, arith, lit<, lit≤}
 use Rattle.std.specs.Prelude.{codes}
 use Rattle.aero_model.specs.declared.limits.Limits.{Limits}
-use Rattle.aero_model.specs.declared.named.Op.{Op}
-use Rattle.aero_model.specs.declared.named.Op.TheVariants.{Write, Acquire, Fork, Join, Release}
 use Rattle.aero_model.specs.declared.verdict.LineFault.TheVariants.{NoOperation, MissingTarget, TooManyLines}
 use Rattle.aero_model.specs.declared.verdict.ShapeFault.TheVariants.{TooManyThreads, TooManyNames, ThreadJoined, LockHeldByOther, LockNotHeld, ForkStarted, EndWithoutBegin}
 use Rattle.aero_model.specs.declared.verdict.Verdict.TheVariants.{WellFormed, Malformed, IllFormed}
-use Rattle.aero_model.specs.Named.{Named}
-use Rattle.aero_grammar.specs.Reading.{Reading, reading_of}
+use Rattle.aero_grammar.specs.Reading.{reading_of}
 use Rattle.aero_verdict.specs.Verdict.{IsVerdict}
 
 abbrev greatest : Limits
@@ -52,17 +49,6 @@ abbrev text : List (List ℕ) → List ℕ
 text [] = []
 text (line ∷ more) = line ++ 10 ∷ text more
 
--- one event a line
-abbrev written : ℕ → List Named → List (ℕ × Named)
-written n [] = []
-written n (e ∷ more) = (n, e) ∷ written (suc n) more
-
-abbrev lines_of_events : List Named → List Reading
-lines_of_events events = record { events = written 1 events; lines = length events; fault = None } ∷ []
-
-abbrev does : List ℕ → Op → List ℕ → Named
-does thread op target = record { thread = thread; op = op; target = Some target }
-
 -- no events, and malformed lines
 
 nothing_read : IsVerdict [] greatest (WellFormed 0 0)
@@ -82,7 +68,7 @@ third_part_ignored = record { lawful = below_suc _ 0 (none_below _) refl; cause 
 third_thread : IsVerdict (reading_of (text (codes "T1|w(x)" ∷ codes "T2|w(x)" ∷ codes "T3|w(x)" ∷ [])) ∷ []) two_threads (IllFormed 3 TooManyThreads)
 third_thread = record { place = 2; lawful = below_suc _ 1 (below_suc _ 0 (none_below _) refl) refl; cause = refl; line_of = refl }
 
-second_variable : IsVerdict (lines_of_events (does (codes "T1") Write (codes "x") ∷ does (codes "T1") Acquire (codes "x") ∷ does (codes "T1") Write (codes "y") ∷ [])) one_name (IllFormed 3 TooManyNames)
+second_variable : IsVerdict (reading_of (text (codes "T1|w(x)" ∷ codes "T1|acq(x)" ∷ codes "T1|w(y)" ∷ [])) ∷ []) one_name (IllFormed 3 TooManyNames)
 second_variable = record { place = 2; lawful = below_suc _ 1 (below_suc _ 0 (none_below _) refl) refl; cause = refl; line_of = refl }
 
 third_line_blank : IsVerdict (reading_of (text (codes "T1|w(x)" ∷ codes "T1|w(x)" ∷ [] ∷ [])) ∷ []) two_lines (Malformed 3 TooManyLines)
@@ -96,23 +82,29 @@ fourth_line_faulty = record { lawful = below_suc _ 1 (below_suc _ 0 (none_below 
 
 -- ill-formed events
 
-lone_release : IsVerdict (lines_of_events (does (codes "T1") Release (codes "l") ∷ [])) greatest (IllFormed 1 LockNotHeld)
+lone_release : IsVerdict (reading_of (codes "T1|rel(l)") ∷ []) greatest (IllFormed 1 LockNotHeld)
 lone_release = record { place = 0; lawful = none_below _; cause = refl; line_of = refl }
 
-second_acquire : IsVerdict (lines_of_events (does (codes "T1") Acquire (codes "l") ∷ does (codes "T2") Acquire (codes "l") ∷ [])) greatest (IllFormed 2 LockHeldByOther)
+second_acquire : IsVerdict (reading_of (text (codes "T1|acq(l)" ∷ codes "T2|acq(l)" ∷ [])) ∷ []) greatest (IllFormed 2 LockHeldByOther)
 second_acquire = record { place = 1; lawful = below_suc _ 0 (none_below _) refl; cause = refl; line_of = refl }
 
-abbrev join : Named
-join = does (codes "T1") Join (codes "T9")
-
-join_twice : IsVerdict (lines_of_events (join ∷ join ∷ [])) greatest (WellFormed 2 0)
+join_twice : IsVerdict (reading_of (text (codes "T1|join(T9)" ∷ codes "T1|join(T9)" ∷ [])) ∷ []) greatest (WellFormed 2 0)
 join_twice = record { lawful = below_suc _ 1 (below_suc _ 0 (none_below _) refl) refl; no_fault = refl; events_are = refl; blocks_are = refl }
 
-join_twice_then_act : IsVerdict (lines_of_events (join ∷ join ∷ does (codes "T9") Write (codes "x") ∷ [])) greatest (IllFormed 3 ThreadJoined)
+join_twice_then_act : IsVerdict (reading_of (text (codes "T1|join(T9)" ∷ codes "T1|join(T9)" ∷ codes "T9|w(x)" ∷ [])) ∷ []) greatest (IllFormed 3 ThreadJoined)
 join_twice_then_act = record { place = 2; lawful = below_suc _ 1 (below_suc _ 0 (none_below _) refl) refl; cause = refl; line_of = refl }
 
-join_twice_then_fork : IsVerdict (lines_of_events (join ∷ join ∷ does (codes "T1") Fork (codes "T9") ∷ [])) greatest (IllFormed 3 ForkStarted)
+join_twice_then_fork : IsVerdict (reading_of (text (codes "T1|join(T9)" ∷ codes "T1|join(T9)" ∷ codes "T1|fork(T9)" ∷ [])) ∷ []) greatest (IllFormed 3 ForkStarted)
 join_twice_then_fork = record { place = 2; lawful = below_suc _ 1 (below_suc _ 0 (none_below _) refl) refl; cause = refl; line_of = refl }
+
+locks_nest : IsVerdict (reading_of (text (codes "T1|begin" ∷ codes "T1|begin" ∷ codes "T1|acq(l)" ∷ codes "T1|acq(l)" ∷ codes "T1|rel(l)" ∷ codes "T1|rel(l)" ∷ codes "T1|end" ∷ codes "T1|end" ∷ [])) ∷ []) greatest (WellFormed 8 1)
+locks_nest =
+    record {
+      lawful = below_suc _ 7 (below_suc _ 6 (below_suc _ 5 (below_suc _ 4 (below_suc _ 3 (below_suc _ 2 (below_suc _ 1 (below_suc _ 0 (none_below _) refl) refl) refl) refl) refl) refl) refl) refl;
+      no_fault = refl;
+      events_are = refl;
+      blocks_are = refl;
+    }
 
 -- blocks
 

@@ -26,6 +26,8 @@ pub fn check_trace(alloc: Global, parts: &[Parsed], limits: &Limits) -> Result<V
     ensures { IfOk result (λ verdict. IsVerdict parts.now limits.now verdict) }
 {
     let mut checker = Checker::new(alloc, limits);
+
+    // The lines of the parts so far. A number that a `u32` can't tell is past every limit.
     let mut lines = 0u32;
     for part in parts {
         let most = limits.lines.saturating_sub(lines);
