@@ -1,0 +1,6 @@
+use Rattle.std.proofs.Common.{refl}
+use Rattle.aero_access.proofs.Standings.{stands_at_first}
+use Rattle.aero_access.proofs.clocks.Clocks.new.Goals as goal
+
+pub returns-clause-stands : goal.returns-clause-stands
+returns-clause-stands c = stands_at_first _ refl refl c.new.ensures.items c.new-2.ensures

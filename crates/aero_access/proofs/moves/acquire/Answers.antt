@@ -1,0 +1,18 @@
+use Rattle.std.proofs.Common.{get_or}
+use Rattle.std.proofs.lemmas.Option.{slice_get-get_or}
+use Rattle.aero_access.proofs.Outcomes.{IfOk_both}
+use Rattle.aero_access.proofs.OwnSteps.{same_blocks_set}
+use Rattle.aero_access.proofs.Events.{acquire_answer}
+use Rattle.aero_access.proofs.moves.acquire.Goals as goal
+
+pub returns-clause-moves : goal.returns-clause-moves
+returns-clause-moves c =
+    let at = slice_get-get_or c.args.threads.now c.args.t c.index-threads-t.result c.requires in
+    IfOk_both c.take_last.result
+    (λ closes closing takes. acquire_answer c.args.threads.now c.args.table.now c.args.t (get_or c.args.threads.now c.args.t c.index-threads-t.result) at c.args.l c.take_last.new.thread closes closing takes c.take_last.ensures.same)
+    c.take_last.ensures.closing c.take_last.ensures.takes
+
+pub returns-clause-same : goal.returns-clause-same
+returns-clause-same c =
+    let at = slice_get-get_or c.args.threads.now c.args.t c.index-threads-t.result c.requires in
+    same_blocks_set c.args.threads.now c.args.t (get_or c.args.threads.now c.args.t c.index-threads-t.result) c.take_last.new.thread at c.take_last.ensures.same

@@ -1,0 +1,6 @@
+use Rattle.std.proofs.Common.{arith}
+use Rattle.aero_access.proofs.KeptLists.{flat-set}
+use Rattle.aero_access.proofs.places.put.Goals as goal
+
+pub returns-clause-ok : goal.returns-clause-ok
+returns-clause-ok c = flat-set c.make_room.new.kept.items c.args.kept.now.items c.args.number c.args.entry (omega (arith, c.in_ok-make_room.ensures.room)) c.in_ok-make_room.ensures.same

@@ -1,0 +1,12 @@
+pub mod Slots
+pub mod Takes
+pub mod Clocks
+pub mod Judgement
+pub mod Laws
+pub mod Kept
+pub mod Threads
+pub mod Table
+pub mod TableWords
+pub mod States
+pub mod StateWords
+pub mod Standing

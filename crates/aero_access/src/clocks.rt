@@ -1,0 +1,297 @@
+//! The clocks of a trace, kept event by event.
+ghost use Rattle.std.specs.Prelude.{◌≡◌, ◌≢◌, ◌↔◌, ◌<◌, ◌≤◌, ◌+◌, ◌-◌, ◌^◌, ◌++◌, ◌∷◌, [], ℕ, true, false, None, Some, List, max, length, vec_len, IsTrue, IsErr, IfOk, OnOk, OnErr};
+ghost use Rattle.aero_model.specs.declared.event.Numbered.{Numbered};
+ghost use Rattle.aero_model.specs.declared.event.What.{What};
+ghost use Rattle.aero_model.specs.declared.event.What.TheVariants.{Read, Write, Acquire, Release, Fork, Join, Begin};
+ghost use Rattle.aero_model.specs.Shape.{IsWellFormed};
+ghost use Rattle.aero_access.specs.declared.slot.Slot.{Slot};
+ghost use Rattle.aero_access.specs.StateWords.{event, IsIdle};
+
+use crate::moves;
+use crate::table::Table;
+use crate::thread::{Thread, reach};
+use std::alloc::{AllocError, Global};
+
+/// Memory was refused. From then on each call that can answer this does.
+#[derive(Clone, Copy, Debug, PartialEq, Eq)]
+pub struct Spent;
+
+impl From<AllocError> for Spent {
+    fn from(_e: AllocError) -> Spent {
+        Spent
+    }
+}
+
+/// The clocks of the events so far. Threads, variables and locks go by numbers from 0.
+///
+/// A call for an event answers the thread whose open block closes a cycle with it, if there is
+/// one. Then `closed` answers that thread, and no further event may be given. Where memory is
+/// refused a call answers `Spent`; then `in_block`, `begins`, `acted` and `closed` answer as
+/// before that call.
+#[derive(Drop)]
+pub struct Clocks {
+    threads: Vec<Thread>,
+    table: Table,
+    closed: Option<u32>,
+    spent: bool,
+    ghost few: { vec_len threads ≤ 2 ^ 32 },
+}
+
+impl Clocks {
+    ghost use Rattle.aero_access.specs.Standing.{in_block_at, begins_at, acted_at, closed_by, is_spent, StandsFor, Answers, Follows, Tells, quiet, IsStarted, IsRefused, IsFinished, IsClosed, HaveSameTests, clock_of, threads_of, slots_of, slot_at, IsBehind, ClosesBack, AbsorbsClock, ClosesBlock};
+
+    /// The clocks of no event.
+    pub fn new(alloc: Global) -> Clocks
+        ensures stands { StandsFor result [] }
+        ensures threads { threads_of result ≡ 0 }
+    {
+        Clocks {
+            threads: Vec::new(alloc),
+            table: Table::new(alloc),
+            closed: None,
+            spent: false,
+        }
+    }
+
+    /// Whether thread `t` is in a block.
+    pub fn in_block(&self, t: u32) -> bool
+        ensures { result ≡ in_block_at self.now t }
+    {
+        match self.threads.get(t as usize) {
+            Some(thread) => thread.begin.is_some(),
+            None => false,
+        }
+    }
+
+    /// How many outermost begins thread `t` has made.
+    pub fn begins(&self, t: u32) -> u32
+        ensures { result ≡ begins_at self.now t }
+    {
+        match self.threads.get(t as usize) {
+            Some(thread) => thread.begins,
+            None => 0,
+        }
+    }
+
+    /// Whether thread `t` has made an event.
+    pub fn acted(&self, t: u32) -> bool
+        ensures { result ≡ acted_at self.now t }
+    {
+        match self.threads.get(t as usize) {
+            Some(thread) => thread.acted,
+            None => false,
+        }
+    }
+
+    /// The thread that an earlier call answered, if one did.
+    pub fn closed(&self) -> Option<u32>
+        ensures { result ≡ closed_by self.now }
+    {
+        self.closed
+    }
+
+    /// Thread `t` reads variable `x`.
+    pub fn read(&mut self, t: u32, x: u32) -> Result<Option<u32>, Spent>
+        requires { closed_by self.old ≡ None }
+        ensures answers { Answers self.old self.new result }
+        ensures follows { Follows self.old self.new (event t (Read x)) result }
+        ensures named { OnOk result (threads_of self.new ≡ max (threads_of self.old) (t + 1)) }
+    {
+        self.start(t)?;
+        let closes = moves::read(&mut self.threads, &mut self.table, t, x)?;
+        Ok(self.finish(t, closes))
+    }
+
+    /// Thread `t` writes variable `x`.
+    pub fn write(&mut self, t: u32, x: u32) -> Result<Option<u32>, Spent>
+        requires { closed_by self.old ≡ None }
+        ensures answers { Answers self.old self.new result }
+        ensures follows { Follows self.old self.new (event t (Write x)) result }
+        ensures named { OnOk result (threads_of self.new ≡ max (threads_of self.old) (t + 1)) }
+    {
+        self.start(t)?;
+        let closes = moves::write(&mut self.threads, &mut self.table, t, x)?;
+        Ok(self.finish(t, closes))
+    }
+
+    /// Thread `t` acquires lock `l`.
+    pub fn acquire(&mut self, t: u32, l: u32) -> Result<Option<u32>, Spent>
+        requires { closed_by self.old ≡ None }
+        ensures answers { Answers self.old self.new result }
+        ensures follows { Follows self.old self.new (event t (Acquire l)) result }
+        ensures named { OnOk result (threads_of self.new ≡ max (threads_of self.old) (t + 1)) }
+    {
+        self.start(t)?;
+        let closes = moves::acquire(&mut self.threads, &self.table, t, l)?;
+        Ok(self.finish(t, closes))
+    }
+
+    /// Thread `t` releases lock `l`.
+    pub fn release(&mut self, t: u32, l: u32) -> Result<Option<u32>, Spent>
+        requires { closed_by self.old ≡ None }
+        ensures answers { Answers self.old self.new result }
+        ensures follows { Follows self.old self.new (event t (Release l)) result }
+        ensures named { OnOk result (threads_of self.new ≡ max (threads_of self.old) (t + 1)) }
+    {
+        self.start(t)?;
+        moves::release(&self.threads, &mut self.table, t, l)?;
+        Ok(self.finish(t, false))
+    }
+
+    /// Thread `t` forks thread `u`, which has made no event.
+    pub fn fork(&mut self, t: u32, u: u32) -> Result<Option<u32>, Spent>
+        requires closed { closed_by self.old ≡ None }
+        requires other { u ≢ t }
+        requires fresh { acted_at self.old u ≡ false }
+        ensures answers { Answers self.old self.new result }
+        ensures follows { Follows self.old self.new (event t (Fork u)) result }
+        ensures named { OnOk result (threads_of self.new ≡ max (threads_of self.old) ((max t u) + 1)) }
+    {
+        self.start(t.max(u))?;
+        moves::fork(&mut self.threads, &self.table, t, u)?;
+        Ok(self.finish(t, false))
+    }
+
+    /// Thread `t` joins thread `u`, which has made an event.
+    pub fn join(&mut self, t: u32, u: u32) -> Result<Option<u32>, Spent>
+        requires closed { closed_by self.old ≡ None }
+        requires other { u ≢ t }
+        requires acted { acted_at self.old u ≡ true }
+        ensures answers { Answers self.old self.new result }
+        ensures follows { Follows self.old self.new (event t (Join u)) result }
+        ensures named { OnOk result (threads_of self.new ≡ max (threads_of self.old) ((max t u) + 1)) }
+    {
+        self.start(t.max(u))?;
+        let closes = moves::join(&mut self.threads, &self.table, t, u)?;
+        Ok(self.finish(t, closes))
+    }
+
+    /// Thread `t`, which is in no block, begins one.
+    pub fn begin(&mut self, t: u32) -> Result<Option<u32>, Spent>
+        requires closed { closed_by self.old ≡ None }
+        requires outside { in_block_at self.old t ≡ false }
+        requires count { begins_at self.old t < 2 ^ 32 - 1 }
+        ensures answers { Answers self.old self.new result }
+        ensures follows { Follows self.old self.new (event t Begin) result }
+        ensures named { OnOk result (threads_of self.new ≡ max (threads_of self.old) (t + 1)) }
+    {
+        self.start(t)?;
+        moves::begin(&mut self.threads, &self.table, t)?;
+        Ok(self.finish(t, false))
+    }
+
+    /// Thread `t` makes an event that changes no clock: a begin or an end within a block, or a
+    /// join of a thread that has made no event.
+    pub fn plain(&mut self, t: u32) -> Result<(), Spent>
+        requires { closed_by self.old ≡ None }
+        ensures answers { Answers self.old self.new (quiet result) }
+        ensures follows { (h : List Numbered) (what : What)
+            → StandsFor self.old h
+            → IsWellFormed (h ++ event t what ∷ [])
+            → IsIdle h t what
+            → OnOk result (Tells self.new (h ++ event t what ∷ []) (length h) None) }
+        ensures named { OnOk result (threads_of self.new ≡ max (threads_of self.old) (t + 1)) }
+    {
+        self.start(t)?;
+        self.finish(t, false);
+        Ok(())
+    }
+
+    /// How many threads have a number here: one more than the greatest that an event named.
+    pub fn threads(&self) -> usize
+        ensures { result ≡ threads_of self.now }
+    {
+        self.threads.len()
+    }
+
+    /// How many slots have a number: first the threads, by their numbers, then last writes, last
+    /// reads and last releases. A slot without a number has a zero clock.
+    pub fn slots(&self) -> usize
+        ensures count { result ≡ slots_of self.now }
+        ensures all { (s : Slot) (u : ℕ) → 0 < clock_of self.now s u → (n : ℕ) × (n < result) × (slot_at self.now n ≡ s) }
+    {
+        self.threads.len() + self.table.len()
+    }
+
+    /// Whether the clock of the slot with this number is at least the begin clock of thread `t`,
+    /// which is in a block, in every place.
+    pub fn leads(&self, t: u32, slot: usize) -> bool
+        requires inside { in_block_at self.now t ≡ true }
+        requires slot { slot < slots_of self.now }
+        ensures { IsTrue result ↔ IsBehind self.now t (clock_of self.now (slot_at self.now slot)) }
+    {
+        match self.threads.get(t as usize) {
+            Some(thread) => moves::leads(thread, &self.threads, &self.table, slot),
+            None => false,
+        }
+    }
+
+    /// Joins the clock of the slot with this number with the clock of thread `t`, which is in a
+    /// block. Where the slot is a thread in a block whose begin clock the clock of `t` is at least
+    /// in every place, that thread is answered, as for an event.
+    pub fn absorb(&mut self, t: u32, slot: usize) -> Result<Option<u32>, Spent>
+        requires closed { closed_by self.old ≡ None }
+        requires inside { in_block_at self.old t ≡ true }
+        requires slot { slot < slots_of self.old }
+        requires other { slot ≢ t }
+        ensures answers { Answers self.old self.new result }
+        ensures tests { HaveSameTests self.old self.new }
+        ensures told { IfOk result (λ o. (u : ℕ) → (o ≡ Some u) ↔ ClosesBack self.old t (slot_at self.old slot) u) }
+        ensures absorbed { IfOk result (λ o. o ≡ None → AbsorbsClock self.old self.new t (slot_at self.old slot)) }
+    {
+        if self.spent {
+            return Err(Spent);
+        }
+        self.spent = true;
+        self.closed = moves::absorb(&mut self.threads, &mut self.table, t, slot)?;
+        self.spent = false;
+        Ok(self.closed)
+    }
+
+    /// Ends the open block of thread `t`. After a refusal it changes nothing.
+    pub fn close_block(&mut self, t: u32)
+        requires closed { closed_by self.old ≡ None }
+        requires inside { in_block_at self.old t ≡ true }
+        ensures spent { is_spent self.old ≡ true → self.new ≡ self.old }
+        ensures closes { is_spent self.old ≡ false → ClosesBlock self.old self.new t }
+    {
+        if self.spent {
+            return;
+        }
+        let thread = &mut self.threads[t as usize];
+        thread.begin = None;
+        thread.acted = true;
+    }
+
+    // Begins a call, which is spent until it is finished, and makes room for thread t.
+    fn start(&mut self, t: u32) -> Result<(), Spent>
+        ensures ok { OnOk result (IsStarted self.old self.new t) }
+        ensures err { OnErr result (IsRefused self.old self.new) }
+        ensures spent { is_spent self.old ≡ true → IsErr result }
+    {
+        if self.spent {
+            return Err(Spent);
+        }
+        self.spent = true;
+        reach(&mut self.threads, t)?;
+        Ok(())
+    }
+
+    // Ends a call: thread t has acted, or its block is told.
+    fn finish(&mut self, t: u32, closes: bool) -> Option<u32>
+        requires { t < vec_len self.old.threads }
+        ensures told { closes ≡ true → result ≡ Some t }
+        ensures closed { closes ≡ true → IsClosed self.old self.new t }
+        ensures untold { closes ≡ false → result ≡ None }
+        ensures finished { closes ≡ false → IsFinished self.old self.new t }
+        ensures threads { threads_of self.new ≡ threads_of self.old }
+    {
+        self.spent = false;
+        if closes {
+            self.closed = Some(t);
+            return self.closed;
+        }
+        self.threads[t as usize].acted = true;
+        None
+    }
+}

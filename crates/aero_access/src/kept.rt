@@ -1,0 +1,32 @@
+//! What is kept of a last event.
+ghost use Rattle.std.specs.Prelude.{◌≡◌, ◌≢◌, ◌↔◌, false, IsTrue, IfOk};
+ghost use Rattle.aero_clock.specs.Numbers.{number_at};
+
+use crate::thread::Thread;
+use aero_clock::clock::Clock;
+use std::alloc::AllocError;
+
+/// Who made the event, and its clock.
+#[derive(Drop)]
+pub struct Kept {
+    pub thread: u32,
+    pub clock: Clock,
+}
+
+impl Kept {
+    ghost use Rattle.aero_access.specs.Kept.{clock_but};
+    ghost use Rattle.aero_access.specs.Threads.{IsClosedBy, HasSameBlock, TakesClock};
+
+    /// Thread `t` takes the clock, unless the event is its own, or the clock closes a cycle: then
+    /// the answer is true.
+    pub fn give(&self, thread: &mut Thread, t: u32) -> Result<bool, AllocError>
+        ensures closing { IfOk result (λ closes. IsTrue closes ↔ ((self.now.thread ≢ t) × IsClosedBy thread.old.begin (number_at self.now.clock))) }
+        ensures takes { IfOk result (λ closes. closes ≡ false → TakesClock thread.old thread.new (clock_but t self.now)) }
+        ensures same { HasSameBlock thread.old thread.new }
+    {
+        if self.thread == t {
+            return Ok(false);
+        }
+        thread.take(&self.clock)
+    }
+}

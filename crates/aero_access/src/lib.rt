@@ -1,0 +1,34 @@
+//! Clocks of a logged execution, by which a violation of atomicity is found as it happens.
+//!
+//! A block is what a thread does between an outermost begin and its end. `Clocks` is given the
+//! events one by one, threads, variables and locks by their numbers. For each thread, each last
+//! write, read and release it keeps a clock: how many blocks of each thread lead there. An event
+//! takes the clocks of what it conflicts with. Where one of them counts the open block of the
+//! event's own thread, there is a cycle through that block, and the thread is answered.
+//!
+//! The contracts speak of the trace of the events so far: what is answered is what is to be told,
+//! so `None` is answered exactly where the trace has no cycle that tells. `laws` has the laws of
+//! such clocks, whatever keeps them.
+//!
+//! ```text
+//! let mut clocks = Clocks::new(alloc);
+//! clocks.begin(0)?;
+//! clocks.write(0, 7)?;
+//! clocks.read(1, 7)?;
+//! clocks.write(1, 8)?;
+//! // Thread 0's block comes before what thread 1 wrote, and after it.
+//! assert_eq!(rt; clocks.read(0, 8), Ok(Some(0)));
+//! ```
+#![tactic(auto)]
+
+pub mod clocks;
+mod kept;
+pub mod laws;
+mod moves;
+mod places;
+mod readers;
+pub mod slot;
+mod table;
+#[cfg(test)]
+mod tests;
+mod thread;

@@ -1,0 +1,175 @@
+//! What one event does to the threads and the table. Each function answers whether the event
+//! closes a cycle through the open block of its thread; then it leaves the blocks as they were.
+ghost use Rattle.std.specs.Prelude.{◌≡◌, ◌≢◌, ◌<◌, ◌≤◌, ◌+◌, ◌↔◌, ◌-◌, ◌^◌, ℕ, true, false, None, Some, length, slice_get, IsTrue, IfOk, OnOk, OnErr, is_some};
+ghost use Rattle.aero_clock.specs.Numbers.{number_at};
+ghost use Rattle.aero_model.specs.declared.event.What.TheVariants.{Read, Write, Acquire, Release, Fork, Join, Begin};
+ghost use Rattle.aero_access.specs.Kept.{is_kept, greatest_but};
+ghost use Rattle.aero_access.specs.Threads.{HasSameBlock, TakesClock, ClosesOne, ClosesNone, IsClosedBy, thread_clock, thread_acted, thread_begin, thread_begins};
+ghost use Rattle.aero_access.specs.TableWords.{kept_of, readers_of, labels_of};
+ghost use Rattle.aero_access.specs.StateWords.{event, clock_in, state_in, slot_in, JoinsClock, Moves, HaveSameBlocks, ClosesLast, last_but, KeepsClock};
+
+use crate::kept::Kept;
+use crate::slot::Slot;
+use crate::table::Table;
+use crate::thread::Thread;
+use std::alloc::AllocError;
+
+/// Thread `t` reads variable `x`.
+pub fn read(threads: &mut [Thread], table: &mut Table, t: u32, x: u32) -> Result<bool, AllocError>
+    requires { t < length threads.old }
+    ensures moves { IfOk result (Moves (state_in threads.old table.old) (state_in threads.new table.new) (event t (Read x))) }
+    ensures same { HaveSameBlocks threads.old threads.new }
+{
+    let thread = &mut threads[t as usize];
+    if take_last(thread, table, t, Slot::LastWrite(x))? {
+        return Ok(true);
+    }
+    keep(thread, table, t, Slot::LastRead(x, t))?;
+    Ok(false)
+}
+
+/// Thread `t` writes variable `x`.
+pub fn write(threads: &mut [Thread], table: &mut Table, t: u32, x: u32) -> Result<bool, AllocError>
+    requires { t < length threads.old }
+    ensures moves { IfOk result (Moves (state_in threads.old table.old) (state_in threads.new table.new) (event t (Write x))) }
+    ensures same { HaveSameBlocks threads.old threads.new }
+{
+    let thread = &mut threads[t as usize];
+    if take_last(thread, table, t, Slot::LastWrite(x))? {
+        return Ok(true);
+    }
+    if take_reads(thread, table, t, x)? {
+        return Ok(true);
+    }
+    keep(thread, table, t, Slot::LastWrite(x))?;
+    Ok(false)
+}
+
+/// Thread `t` acquires lock `l`.
+pub fn acquire(threads: &mut [Thread], table: &Table, t: u32, l: u32) -> Result<bool, AllocError>
+    requires { t < length threads.old }
+    ensures moves { IfOk result (Moves (state_in threads.old table.now) (state_in threads.new table.now) (event t (Acquire l))) }
+    ensures same { HaveSameBlocks threads.old threads.new }
+{
+    take_last(&mut threads[t as usize], table, t, Slot::LastRelease(l))
+}
+
+/// Thread `t` releases lock `l`.
+pub fn release(threads: &[Thread], table: &mut Table, t: u32, l: u32) -> Result<(), AllocError>
+    requires { t < length threads.now }
+    ensures { OnOk result (Moves (state_in threads.now table.old) (state_in threads.now table.new) (event t (Release l)) false) }
+{
+    keep(&threads[t as usize], table, t, Slot::LastRelease(l))
+}
+
+/// Thread `t` forks thread `u`.
+pub fn fork(threads: &mut [Thread], table: &Table, t: u32, u: u32) -> Result<(), AllocError>
+    requires actor { t < length threads.old }
+    requires target { u < length threads.old }
+    requires other { u ≢ t }
+    ensures moves { OnOk result (Moves (state_in threads.old table.now) (state_in threads.new table.now) (event t (Fork u)) false) }
+    ensures same { HaveSameBlocks threads.old threads.new }
+{
+    let clock = threads[t as usize].clock.copy()?;
+    threads[u as usize].join(&clock)
+}
+
+/// Thread `t` joins thread `u`.
+pub fn join(threads: &mut [Thread], table: &Table, t: u32, u: u32) -> Result<bool, AllocError>
+    requires actor { t < length threads.old }
+    requires target { u < length threads.old }
+    requires other { u ≢ t }
+    requires acted { thread_acted (slice_get threads.old u) ≡ true }
+    ensures moves { IfOk result (Moves (state_in threads.old table.now) (state_in threads.new table.now) (event t (Join u))) }
+    ensures same { HaveSameBlocks threads.old threads.new }
+{
+    let clock = threads[u as usize].clock.copy()?;
+    threads[t as usize].take(&clock)
+}
+
+/// Thread `t` begins a block, and is in none.
+pub fn begin(threads: &mut [Thread], table: &Table, t: u32) -> Result<(), AllocError>
+    requires actor { t < length threads.old }
+    requires outside { thread_begin (slice_get threads.old t) ≡ None }
+    requires count { thread_begins (slice_get threads.old t) < 2 ^ 32 - 1 }
+    ensures moves { OnOk result (Moves (state_in threads.old table.now) (state_in threads.new table.now) (event t Begin) false) }
+    ensures err { OnErr result (HaveSameBlocks threads.old threads.new) }
+{
+    threads[t as usize].open(t)
+}
+
+/// Whether the clock of the slot with this number is at least the thread's begin clock.
+pub fn leads(thread: &Thread, threads: &[Thread], table: &Table, slot: usize) -> bool
+    requires { slot < length threads.now + length (labels_of table.now) }
+    ensures { IsTrue result ↔ IsClosedBy thread.now.begin (clock_in threads.now table.now (slot_in threads.now table.now slot)) }
+{
+    if slot < threads.len() {
+        return thread.is_closed_by(&threads[slot].clock);
+    }
+    match table.get(table.label(slot - threads.len())) {
+        Some(kept) => thread.is_closed_by(&kept.clock),
+        None => false,
+    }
+}
+
+/// Joins the clock of the slot with this number with the clock of thread `t`. Where the slot is a
+/// thread in a block that the clock closes, that thread is answered, and no clock is joined.
+pub fn absorb(
+    threads: &mut [Thread],
+    table: &mut Table,
+    t: u32,
+    slot: usize,
+) -> Result<Option<u32>, AllocError>
+    requires few { length threads.old ≤ 2 ^ 32 }
+    requires actor { t < length threads.old }
+    requires slot { slot < length threads.old + length (labels_of table.old) }
+    requires other { slot ≢ t }
+    ensures same { HaveSameBlocks threads.old threads.new }
+    ensures labels { OnOk result (labels_of table.new ≡ labels_of table.old) }
+    ensures told { IfOk result (λ o. (u : ℕ) → (o ≡ Some u) ↔ ((slot_in threads.old table.old slot ≡ Slot.OfThread u) × IsClosedBy (thread_begin (slice_get threads.old u)) (thread_clock (slice_get threads.old t)))) }
+    ensures absorbed { IfOk result (λ o. o ≡ None → JoinsClock (state_in threads.old table.old) (state_in threads.new table.new) t (slot_in threads.old table.old slot)) }
+{
+    let clock = threads[t as usize].clock.copy()?;
+    if slot < threads.len() {
+        let closes = threads[slot].take(&clock)?;
+        return Ok(if closes { Some(slot as u32) } else { None });
+    }
+    let label = table.label(slot - threads.len());
+    table.join(label, &clock)?;
+    Ok(None)
+}
+
+// Takes the clocks of the variable's last reads by other threads.
+fn take_reads(thread: &mut Thread, table: &Table, t: u32, x: u32) -> Result<bool, AllocError>
+    ensures closing { IfOk result (λ closes. closes ≡ true → ClosesOne thread.old.begin t (readers_of table.now x)) }
+    ensures none { IfOk result (λ closes. closes ≡ false → ClosesNone thread.old.begin t (readers_of table.now x)) }
+    ensures takes { IfOk result (λ closes. closes ≡ false → TakesClock thread.old thread.new (greatest_but t (readers_of table.now x))) }
+    ensures same { HasSameBlock thread.old thread.new }
+{
+    match table.readers(x) {
+        Some(readers) => readers.give(thread, t),
+        None => Ok(false),
+    }
+}
+
+// Takes the clock of the slot's last event, unless that is by thread t itself.
+fn take_last(thread: &mut Thread, table: &Table, t: u32, slot: Slot) -> Result<bool, AllocError>
+    ensures closing { IfOk result (λ closes. IsTrue closes ↔ ClosesLast thread.old.begin t (kept_of table.now slot)) }
+    ensures takes { IfOk result (λ closes. closes ≡ false → TakesClock thread.old thread.new (last_but t (kept_of table.now slot))) }
+    ensures same { HasSameBlock thread.old thread.new }
+{
+    match table.get(slot) {
+        Some(kept) => kept.give(thread, t),
+        None => Ok(false),
+    }
+}
+
+// Keeps the thread's clock of the slot.
+fn keep(thread: &Thread, table: &mut Table, t: u32, slot: Slot) -> Result<(), AllocError>
+    requires kept { is_kept slot ≡ true }
+    requires reader { (x u : ℕ) → slot ≡ Slot.LastRead x u → t ≡ u }
+    ensures { OnOk result (KeepsClock table.old table.new slot t (number_at thread.now.clock)) }
+{
+    let clock = thread.clock.copy()?;
+    table.set(slot, Kept { thread: t, clock })
+}

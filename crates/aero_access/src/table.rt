@@ -1,0 +1,160 @@
+//! The clocks of last writes, reads and releases.
+ghost use Rattle.std.specs.Prelude.{◌≡◌, ◌++◌, ◌∷◌, [], ℕ, true, Some, OnOk, OnErr, if◌then◌else◌};
+ghost use Rattle.aero_access.specs.declared.slot.Slot.{Slot};
+ghost use Rattle.aero_access.specs.Kept.{is_kept, same_slot};
+ghost use Rattle.aero_access.specs.Table.{AreLabelled, kept_in};
+
+use crate::kept::Kept;
+use crate::places::{kept_at, put, put_read};
+use crate::readers::Readers;
+use crate::slot::Slot;
+use aero_clock::clock::Clock;
+use std::alloc::{AllocError, Global};
+
+/// What is kept of the last events that are no thread's own. Variables and locks are numbered, so
+/// that each is found by its place.
+#[derive(Drop)]
+pub struct Table {
+    writes: Vec<Option<Kept>>,
+    reads: Vec<Readers>,
+    releases: Vec<Option<Kept>>,
+    labels: Vec<Slot>,
+    ghost labelled: { AreLabelled (kept_in writes.items reads.items releases.items) labels.items },
+}
+
+impl Table {
+    ghost use Rattle.std.specs.Prelude.{◌<◌, None, slice_get, length, IsSome, is_some};
+    ghost use Rattle.aero_clock.specs.Numbers.{number_at};
+    ghost use Rattle.std.specs.Option.{option_copied};
+    ghost use Rattle.aero_access.specs.TableWords.{kept_of, labels_of, Keeps, JoinsSlot};
+
+    /// Nothing is kept.
+    pub fn new(alloc: Global) -> Table
+        ensures { (s : Slot) → kept_of result s ≡ None }
+    {
+        Table {
+            writes: Vec::new(alloc),
+            reads: Vec::new(alloc),
+            releases: Vec::new(alloc),
+            labels: Vec::new(alloc),
+        }
+    }
+
+    /// What is kept of the slot's last event, if there was one. Of a thread nothing is kept here.
+    pub fn get(&self, slot: Slot) -> Option<&Kept>
+        ensures { option_copied result ≡ kept_of self.now slot }
+    {
+        match slot {
+            Slot::OfThread(_) => None,
+            Slot::LastWrite(x) => kept_at(&self.writes, x),
+            Slot::LastRead(x, t) => self.readers(x)?.get(t),
+            Slot::LastRelease(l) => kept_at(&self.releases, l),
+        }
+    }
+
+    /// What is kept of the last reads of the variable.
+    pub fn readers(&self, x: u32) -> Option<&Readers>
+        ensures { option_copied result ≡ slice_get self.now.reads.items x }
+    {
+        self.reads.get(x as usize)
+    }
+
+    /// Keeps this of the slot's last event.
+    pub fn set(&mut self, slot: Slot, kept: Kept) -> Result<(), AllocError>
+        requires kept { is_kept slot ≡ true }
+        requires reader { (x t : ℕ) → slot ≡ Slot.LastRead x t → kept.thread ≡ t }
+        ensures ok { OnOk result (Keeps self.old self.new slot kept) }
+        ensures labels { OnOk result (labels_of self.new ≡ (if is_some (kept_of self.old slot) then labels_of self.old else labels_of self.old ++ slot ∷ [])) }
+    {
+        let is_new = self.get(slot).is_none();
+        keep_labelled(
+            &mut self.writes,
+            &mut self.reads,
+            &mut self.releases,
+            &mut self.labels,
+            slot,
+            is_new,
+            kept,
+        )
+    }
+
+    /// Joins the clock that is kept of the slot with this one.
+    pub fn join(&mut self, slot: Slot, clock: &Clock) -> Result<(), AllocError>
+        requires { IsSome (kept_of self.old slot) }
+        ensures { OnOk result (JoinsSlot self.old self.new slot (number_at clock.now)) }
+    {
+        let Some(kept) = self.get(slot) else {
+            return Ok(());
+        };
+        let thread = kept.thread;
+        let mut joined = kept.clock.copy()?;
+        joined.join(clock)?;
+        self.set(
+            slot,
+            Kept {
+                thread,
+                clock: joined,
+            },
+        )
+    }
+
+    /// How many slots have a label.
+    pub fn len(&self) -> usize
+        ensures { result ≡ length (labels_of self.now) }
+    {
+        self.labels.len()
+    }
+
+    /// The slot with this number.
+    pub fn label(&self, i: usize) -> Slot
+        requires { i < length (labels_of self.now) }
+        ensures { slice_get (labels_of self.now) i ≡ Some result }
+    {
+        self.labels[i]
+    }
+}
+
+fn keep(
+    writes: &mut Vec<Option<Kept>>,
+    reads: &mut Vec<Readers>,
+    releases: &mut Vec<Option<Kept>>,
+    slot: Slot,
+    kept: Kept,
+) -> Result<(), AllocError>
+    requires kept { is_kept slot ≡ true }
+    requires reader { (x t : ℕ) → slot ≡ Slot.LastRead x t → kept.thread ≡ t }
+    ensures ok { OnOk result ((s : Slot) → kept_in writes.new.items reads.new.items releases.new.items s ≡ (if same_slot s slot then Some kept else kept_in writes.old.items reads.old.items releases.old.items s)) }
+    ensures err { OnErr result ((s : Slot) → kept_in writes.new.items reads.new.items releases.new.items s ≡ kept_in writes.old.items reads.old.items releases.old.items s) }
+{
+    match slot {
+        Slot::OfThread(_) => Ok(()),
+        Slot::LastWrite(x) => put(writes, x, kept),
+        Slot::LastRead(x, _) => put_read(reads, x, kept),
+        Slot::LastRelease(l) => put(releases, l, kept),
+    }
+}
+
+// A slot that is new gets a label.
+fn keep_labelled(
+    writes: &mut Vec<Option<Kept>>,
+    reads: &mut Vec<Readers>,
+    releases: &mut Vec<Option<Kept>>,
+    labels: &mut Vec<Slot>,
+    slot: Slot,
+    is_new: bool,
+    kept: Kept,
+) -> Result<(), AllocError>
+    requires kept { is_kept slot ≡ true }
+    requires reader { (x t : ℕ) → slot ≡ Slot.LastRead x t → kept.thread ≡ t }
+    ensures ok { OnOk result ((s : Slot) → kept_in writes.new.items reads.new.items releases.new.items s ≡ (if same_slot s slot then Some kept else kept_in writes.old.items reads.old.items releases.old.items s)) }
+    ensures err { OnErr result ((s : Slot) → kept_in writes.new.items reads.new.items releases.new.items s ≡ kept_in writes.old.items reads.old.items releases.old.items s) }
+    ensures labels_ok { OnOk result (labels.new.items ≡ (if is_new then labels.old.items ++ slot ∷ [] else labels.old.items)) }
+    ensures labels_err { OnErr result (labels.new.items ≡ labels.old.items) }
+{
+    labels.reserve(1)?;
+    keep(writes, reads, releases, slot, kept)?;
+    if is_new {
+        labels.push_reserved(slot);
+    }
+    Ok(())
+}

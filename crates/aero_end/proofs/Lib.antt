@@ -1,0 +1,3 @@
+pub mod Spreading
+pub mod AfterEnds
+pub mod Answering

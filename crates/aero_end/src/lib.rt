@@ -1,0 +1,79 @@
+//! The end of a block, over the clocks of a logged execution.
+//!
+//! When the outermost block of a thread ends, all of its events are one step. So what the block
+//! leads to comes after all that leads to the block: each thread, and each last write, read and
+//! release, whose clock counts the block takes the clock of its thread. Where such a thread has an
+//! open block that the thread's clock counts, that block leads to the one that ends and comes
+//! after it: this is a cycle, and the thread is answered. Where there are several, the least is.
+//!
+//! ```text
+//! let mut clocks = Clocks::new(alloc);
+//! clocks.begin(0)?;
+//! clocks.begin(1)?;
+//! clocks.write(1, 1)?;
+//! clocks.write(0, 0)?;
+//! clocks.read(1, 0)?;
+//! clocks.read(0, 1)?;
+//! assert_eq!(rt; end(&mut clocks, 0), Ok(Some(1)));
+//! ```
+#![tactic(auto)]
+
+ghost use Rattle.std.specs.Prelude.{◌≡◌, ◌++◌, ◌∷◌, [], ℕ, true, None, Some, List, length, IfOk, OnErr};
+ghost use Rattle.aero_model.specs.declared.event.Numbered.{Numbered};
+ghost use Rattle.aero_model.specs.declared.event.What.TheVariants.{End};
+ghost use Rattle.aero_model.specs.Blocks.{closes};
+ghost use Rattle.aero_model.specs.Shape.{IsWellFormed};
+ghost use Rattle.aero_access.specs.StateWords.{event};
+ghost use Rattle.aero_access.specs.Standing.{in_block_at, closed_by, slots_of, StandsFor, HaveSameTests, Answers, Tells};
+ghost use Rattle.aero_end.specs.Ends.{IsFirst, Spreads, IsRefused};
+
+#[cfg(test)]
+mod tests;
+
+use aero_access::clocks::{Clocks, Spent};
+
+/// Ends the outermost block of thread `t`, which is in a block. Answers the least thread whose
+/// open block closes a cycle through the block that ends, and `None` where there is none: then
+/// thread `t` is in no block any more.
+///
+/// Answers `Spent` where memory was refused, now or before, and each later call that can does so
+/// too. After that, and after a thread was answered, the tests answer as before the call.
+pub fn end(clocks: &mut Clocks, t: u32) -> Result<Option<u32>, Spent>
+    requires inside { in_block_at clocks.old t ≡ true }
+    requires closed { closed_by clocks.old ≡ None }
+    ensures answers { Answers clocks.old clocks.new result }
+    ensures follows { (h : List Numbered) → StandsFor clocks.old h → IsWellFormed (h ++ event t End ∷ []) → closes (h ++ event t End ∷ []) t (length h) ≡ true → IfOk result (Tells clocks.new (h ++ event t End ∷ []) (length h)) }
+{
+    let closing = spread(clocks, t)?;
+    if closing.is_some() {
+        return Ok(closing);
+    }
+    clocks.close_block(t);
+    // Clocks whose memory was refused close no block.
+    if clocks.in_block(t) {
+        return Err(Spent);
+    }
+    Ok(None)
+}
+
+// Each slot whose clock is at least the begin clock of thread `t` takes the clock of `t`, threads
+// first and in order of number, up to a thread whose open block closes: that one is answered.
+fn spread(clocks: &mut Clocks, t: u32) -> Result<Option<u32>, Spent>
+    requires inside { in_block_at clocks.old t ≡ true }
+    requires closed { closed_by clocks.old ≡ None }
+    ensures tests { HaveSameTests clocks.old clocks.new }
+    ensures named { IfOk result (λ o. (u : ℕ) → o ≡ Some u → IsFirst clocks.old clocks.new t u) }
+    ensures spreads { IfOk result (λ o. o ≡ None → Spreads clocks.old clocks.new t (slots_of clocks.old)) }
+    ensures refused { OnErr result (IsRefused clocks.old clocks.new) }
+{
+    for slot in 0..clocks.slots() {
+        if slot == t as usize || !clocks.leads(t, slot) {
+            continue;
+        }
+        let closing = clocks.absorb(t, slot)?;
+        if closing.is_some() {
+            return Ok(closing);
+        }
+    }
+    Ok(None)
+}

@@ -1,0 +1,5 @@
+pub mod CallSteps
+pub mod InOrder
+pub mod Places
+pub mod Steps
+pub mod Vectors

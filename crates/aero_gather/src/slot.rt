@@ -1,0 +1,54 @@
+ghost use Rattle.std.specs.Prelude.{◌↔◌, length, IsTrue, IfSome, IfNone};
+ghost use Rattle.aero_pieces.specs.Schedule.{NoneWaits};
+ghost use Rattle.aero_gather.specs.Gathered.{IsOldestWaiting, IsOpenQuestion};
+
+use aero_pieces::answer::Value;
+use aero_pieces::question::Question;
+use aero_pieces::same;
+use std::alloc::Global;
+use std::marker::Model;
+use std::sync::Arc;
+
+/// An open question, the value that was kept for it, and whether no answer is to be awaited.
+#[derive(Drop)]
+pub struct Slot {
+    pub question: Arc<Question, Global>,
+    pub value: Option<Value>,
+    pub missed: bool,
+}
+
+impl Model for Slot {
+    ghost use Rattle.std.specs.Arc.{arc_value};
+    ghost use Rattle.aero_pieces.specs.Schedule.{Entry};
+
+    ghost Value = { Entry };
+
+    ghost view = { λ s. record { question = arc_value s.question; value = s.value; missed = s.missed } };
+}
+
+// The place of the oldest slot that waits for an answer to the question.
+pub fn oldest_waiting(slots: &[Slot], question: &Question) -> Option<usize>
+    ensures some { IfSome result (λ place. IsOldestWaiting question.now slots.now place) }
+    ensures none { IfNone result (NoneWaits question.now slots.now (length slots.now)) }
+{
+    for i in 0..slots.len() {
+        let slot = &slots[i];
+        if slot.value.is_none() && same(&slot.question, question) {
+            return Some(i);
+        }
+    }
+    None
+}
+
+// Whether a slot has the question.
+pub fn has_question(slots: &[Slot], question: &Question) -> bool
+    ensures { IsTrue result ↔ IsOpenQuestion question.now slots.now }
+{
+    for i in 0..slots.len() {
+        let slot = &slots[i];
+        if same(&slot.question, question) {
+            return true;
+        }
+    }
+    false
+}

@@ -1,0 +1,4 @@
+pub mod EachJob
+pub mod InOrder
+pub mod SameLists
+pub mod Vectors
