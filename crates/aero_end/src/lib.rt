@@ -2,9 +2,10 @@
 //!
 //! When the outermost block of a thread ends, all of its events are one step. So what the block
 //! leads to comes after all that leads to the block: each thread, and each last write, read and
-//! release, whose clock counts the block takes the clock of its thread. Where such a thread has an
-//! open block that the thread's clock counts, that block leads to the one that ends and comes
-//! after it: this is a cycle, and the thread is answered. Where there are several, the least is.
+//! release, whose clock counts the block takes the clock of the block's thread. Where another
+//! thread's clock counts it, and that thread has an open block that leads back to the block that
+//! ends, there is a cycle through the open block, and its thread is answered. Where there are
+//! several, the least is.
 //!
 //! ```text
 //! let mut clocks = Clocks::new(alloc);
