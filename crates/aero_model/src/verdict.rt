@@ -1,3 +1,4 @@
+use crate::name::Name;
 use thiserror::Error;
 
 /// Why a line has no event, in the order of the checks.
@@ -50,14 +51,30 @@ pub enum ShapeFault {
     Memory,
 }
 
-/// What is said of a trace. Line numbers count from 1.
-#[derive(Clone, Copy, Debug, PartialEq, Eq)]
+/// What is said of a trace. Line numbers count from 1. `events` counts the events, and `blocks` the
+/// outermost begins.
+#[derive(Drop)]
 pub enum Verdict {
-    /// Every line and every event is in order. `blocks` counts the outermost begins.
-    WellFormed { events: u32, blocks: u32 },
-    /// The first malformed line stands before any ill-formed event. Its fault is not `Memory`.
+    /// Every line and every event is in order, every block has ended, and no violation is found.
+    Serializable { events: u32, blocks: u32 },
+    /// The same, but so many blocks are still open.
+    Pending {
+        events: u32,
+        blocks: u32,
+        pending: u32,
+    },
+    /// With the event on this line a cycle closes that begins in the open block of this thread.
+    /// Its outermost begin stands on line `begun`.
+    Violation {
+        line: u32,
+        thread: Name,
+        begun: u32,
+    },
+    /// The first malformed line stands before anything else that is wrong. Its fault is not
+    /// `Memory`.
     Malformed { line: u32, fault: LineFault },
-    /// The first ill-formed event stands on this line. Its fault is not `Memory`.
+    /// The first ill-formed event stands on this line, before anything else that is wrong. Its
+    /// fault is not `Memory`.
     IllFormed { line: u32, fault: ShapeFault },
 }
 

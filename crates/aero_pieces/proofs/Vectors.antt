@@ -3,8 +3,9 @@ use Rattle.std.proofs.Common.{◌≢◌, ℕ, zero, suc, ◌<◌, ◌^◌, [], �
 use Rattle.std.specs.Prelude.{codes}
 use Rattle.aero_model.specs.declared.limits.Limits.{Limits}
 use Rattle.aero_model.specs.declared.named.Op.TheVariants.{Read}
-use Rattle.aero_model.specs.declared.verdict.Verdict.TheVariants.{WellFormed}
+use Rattle.aero_model.specs.declared.verdict.Verdict.TheVariants.{Serializable}
 use Rattle.aero_grammar.specs.Reading.{Reading}
+use Rattle.aero_verdict.proofs.Vectors.{below_suc, none_below, none_of_two}
 use Rattle.aero_pieces.specs.declared.question.Question.{Question}
 use Rattle.aero_pieces.specs.declared.question.Question.TheVariants.{Parse, Check}
 use Rattle.aero_pieces.specs.declared.answer.Value.{Value}
@@ -38,18 +39,14 @@ greatest =
       most_names = lit≤ tt;
     }
 
--- what holds at 0 holds at each number below 1
-at_zero : (P : ℕ → Type 0) → P 0 → (i : ℕ) → i < 1 → P i
-at_zero P here zero less = here
-at_zero P here (suc i) less = absurd (omega (arith, less))
-
-value_of_check : IsValueOf (Check 0 (reading ∷ []) greatest) (Judged (WellFormed 1 0))
+value_of_check : IsValueOf (Check 0 (reading ∷ []) greatest) (Judged (Serializable 1 0))
 value_of_check =
     ∣ record {
-      lawful = at_zero _ refl;
+      clean = record { lawful = below_suc _ 0 (none_below _) refl; no_cycle = none_of_two _ _ (lit≤ tt) };
       no_fault = refl;
       events_are = refl;
       blocks_are = refl;
+      open_are = refl;
     } ∣₁
 
 -- The window is 1: the second question isn't asked. The queue has room for two jobs, and the only worker takes the first.

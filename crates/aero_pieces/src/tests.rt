@@ -82,7 +82,7 @@ fn a_trace_is_answered_by_its_verdict(rt: HostRuntime) -> Result<(), Fail> {
     let question = check_question(alloc, 0, &blocks, Limits::greatest())?.share(alloc)?;
     let answer = Question::answer(&question, alloc)?;
     match answer.into_value() {
-        Value::Judged(Verdict::WellFormed { events, blocks }) => {
+        Value::Judged(Verdict::Serializable { events, blocks }) => {
             assert_eq!(rt; events, 1);
             assert_eq!(rt; blocks, 0);
         }

@@ -4,7 +4,7 @@ use Rattle.std.specs.Fmt.{digits}
 use Rattle.std.specs.Prelude.{codes}
 use Rattle.aero_model.specs.declared.verdict.LineFault.TheVariants as line_faults
 use Rattle.aero_model.specs.declared.verdict.ShapeFault.TheVariants as shape_faults
-use Rattle.aero_model.specs.declared.verdict.Verdict.TheVariants.{WellFormed, Malformed, IllFormed}
+use Rattle.aero_model.specs.declared.verdict.Verdict.TheVariants.{Serializable, Pending, Violation, Malformed, IllFormed}
 use Rattle.aero_model.specs.declared.verdict.Finding.TheVariants.{Judged, Broken, TooLarge}
 use Rattle.aero_report.specs.Texts.{source_line}
 
@@ -16,13 +16,21 @@ too_large : source_line (codes "n") TooLarge ≡ codes "n: too large" ++ 10 ∷ 
 unfolding digits
 too_large = refl
 
-nothing_in_it : source_line (codes "n") (Judged (WellFormed 0 0)) ≡ codes "n: well-formed (0 events, 0 blocks)" ++ 10 ∷ []
+nothing_in_it : source_line (codes "n") (Judged (Serializable 0 0)) ≡ codes "n: serializable (0 events, 0 blocks)" ++ 10 ∷ []
 unfolding digits
 nothing_in_it = refl
 
-many_events : source_line (codes "n") (Judged (WellFormed 90000 30000)) ≡ codes "n: well-formed (90000 events, 30000 blocks)" ++ 10 ∷ []
+many_events : source_line (codes "n") (Judged (Serializable 90000 30000)) ≡ codes "n: serializable (90000 events, 30000 blocks)" ++ 10 ∷ []
 unfolding digits
 many_events = refl
+
+open_blocks : source_line (codes "n") (Judged (Pending 5 2 2)) ≡ codes "n: no violation, 2 blocks open (5 events, 2 blocks)" ++ 10 ∷ []
+unfolding digits
+open_blocks = refl
+
+violation : source_line (codes "n") (Judged (Violation 6 (codes "T1") 1)) ≡ codes "n: violation at line 6: block of T1 from line 1" ++ 10 ∷ []
+unfolding digits
+violation = refl
 
 malformed : source_line (codes "n") (Judged (Malformed 2 line_faults.BadParenthesis)) ≡ codes "n:2: malformed: BadParenthesis" ++ 10 ∷ []
 unfolding digits

@@ -5,7 +5,7 @@ use Rattle.aero_model.specs.declared.verdict.LineFault.TheVariants as line_fault
 use Rattle.aero_model.specs.declared.verdict.ShapeFault.{ShapeFault}
 use Rattle.aero_model.specs.declared.verdict.ShapeFault.TheVariants as shape_faults
 use Rattle.aero_model.specs.declared.verdict.Verdict.{Verdict}
-use Rattle.aero_model.specs.declared.verdict.Verdict.TheVariants.{WellFormed, Malformed, IllFormed}
+use Rattle.aero_model.specs.declared.verdict.Verdict.TheVariants.{Serializable, Pending, Violation, Malformed, IllFormed}
 use Rattle.aero_model.specs.declared.verdict.Finding.{Finding}
 use Rattle.aero_model.specs.declared.verdict.Finding.TheVariants.{Judged, Broken, TooLarge}
 
@@ -39,7 +39,9 @@ sizes_text events blocks = codes "(" ++ decimal events ++ codes " events, " ++ d
 
 -- what stands behind the source's name
 abbrev pub verdict_text : Verdict → List ℕ
-verdict_text (WellFormed events blocks) = codes ": well-formed " ++ sizes_text events blocks
+verdict_text (Serializable events blocks) = codes ": serializable " ++ sizes_text events blocks
+verdict_text (Pending events blocks pending) = codes ": no violation, " ++ decimal pending ++ codes " blocks open " ++ sizes_text events blocks
+verdict_text (Violation line thread begun) = codes ": violation at line " ++ decimal line ++ (codes ": block of " ++ thread ++ (codes " from line " ++ decimal begun))
 verdict_text (Malformed line fault) = codes ":" ++ decimal line ++ codes ": malformed: " ++ line_fault_name fault
 verdict_text (IllFormed line fault) = codes ":" ++ decimal line ++ codes ": ill-formed: " ++ shape_fault_name fault
 

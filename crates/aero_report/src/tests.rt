@@ -3,6 +3,7 @@ ghost use Rattle.std.specs.Prelude.{Some};
 
 use crate::{Cut, put, trace_text};
 use aero_model::counting::Counting;
+use aero_model::name::Name;
 use aero_model::verdict::{Finding, LineFault, ShapeFault, Verdict};
 use std::alloc::Global;
 use std::io;
@@ -103,15 +104,33 @@ fn expect_line(rt: &impl Abort, alloc: Global, finding: Finding, line: &str) -> 
 
 #[test]
 fn each_finding_has_its_line(rt: HostRuntime) -> Result<(), Fail> {
-    let well_formed = |events, blocks| Finding::Judged(Verdict::WellFormed { events, blocks });
+    let serializable = |events, blocks| Finding::Judged(Verdict::Serializable { events, blocks });
+    let pending = Verdict::Pending {
+        events: 5,
+        blocks: 2,
+        pending: 2,
+    };
+    let violation = Verdict::Violation {
+        line: 6,
+        thread: Name::read(rt.alloc(), b"T1")?,
+        begun: 1,
+    };
     let cases = [
         (Finding::Broken(20), "n: broken after 20 bytes\n"),
         (Finding::TooLarge, "n: too large\n"),
-        (well_formed(0, 0), "n: well-formed (0 events, 0 blocks)\n"),
-        (well_formed(1, 1), "n: well-formed (1 events, 1 blocks)\n"),
+        (serializable(0, 0), "n: serializable (0 events, 0 blocks)\n"),
+        (serializable(1, 1), "n: serializable (1 events, 1 blocks)\n"),
         (
-            well_formed(90000, 30000),
-            "n: well-formed (90000 events, 30000 blocks)\n",
+            serializable(90000, 30000),
+            "n: serializable (90000 events, 30000 blocks)\n",
+        ),
+        (
+            Finding::Judged(pending),
+            "n: no violation, 2 blocks open (5 events, 2 blocks)\n",
+        ),
+        (
+            Finding::Judged(violation),
+            "n: violation at line 6: block of T1 from line 1\n",
         ),
     ];
     for (finding, line) in cases {

@@ -21,7 +21,7 @@ fn append_finding(text: &mut Vec<u8>, finding: &Finding) -> Result<(), AllocErro
     ensures { OnOk result (text.new.items ≡ text.old.items ++ finding_text finding.now) }
 {
     match finding {
-        Finding::Judged(verdict) => append_verdict(text, *verdict),
+        Finding::Judged(verdict) => append_verdict(text, verdict),
         Finding::Broken(bytes) => {
             text.extend_from_slice(b": broken after ")?;
             append_number(text, *bytes)?;
@@ -31,21 +31,78 @@ fn append_finding(text: &mut Vec<u8>, finding: &Finding) -> Result<(), AllocErro
     }
 }
 
-fn append_verdict(text: &mut Vec<u8>, verdict: Verdict) -> Result<(), AllocError>
-    ensures { OnOk result (text.new.items ≡ text.old.items ++ verdict_text verdict) }
+fn append_verdict(text: &mut Vec<u8>, verdict: &Verdict) -> Result<(), AllocError>
+    ensures { OnOk result (text.new.items ≡ text.old.items ++ verdict_text verdict.now) }
 {
     match verdict {
-        Verdict::WellFormed { events, blocks } => {
-            text.extend_from_slice(b": well-formed ")?;
-            append_sizes(text, events, blocks)
+        Verdict::Serializable { events, blocks } => {
+            text.extend_from_slice(b": serializable ")?;
+            append_sizes(text, *events, *blocks)
         }
+        Verdict::Pending {
+            events,
+            blocks,
+            pending,
+        } => append_pending(text, *events, *blocks, *pending),
+        Verdict::Violation {
+            line,
+            thread,
+            begun,
+        } => append_violation(text, *line, thread.bytes(), *begun),
         Verdict::Malformed { line, fault } => {
-            append_fault(text, line, b": malformed: ", line_fault_name(fault))
+            append_fault(text, *line, b": malformed: ", line_fault_name(*fault))
         }
         Verdict::IllFormed { line, fault } => {
-            append_fault(text, line, b": ill-formed: ", shape_fault_name(fault))
+            append_fault(text, *line, b": ill-formed: ", shape_fault_name(*fault))
         }
     }
+}
+
+// What has no violation so far, behind the number of its open blocks.
+fn append_pending(
+    text: &mut Vec<u8>,
+    events: u32,
+    blocks: u32,
+    pending: u32,
+) -> Result<(), AllocError>
+    ensures { OnOk result (text.new.items
+        ≡ text.old.items ++ (codes ": no violation, " ++ decimal pending ++ codes " blocks open " ++ sizes_text events blocks)) }
+{
+    append_count(text, b": no violation, ", pending)?;
+    text.extend_from_slice(b" blocks open ")?;
+    append_sizes(text, events, blocks)
+}
+
+// The lines of a violation's event and of its block's begin.
+fn append_violation(
+    text: &mut Vec<u8>,
+    line: u32,
+    thread: &[u8],
+    begun: u32,
+) -> Result<(), AllocError>
+    ensures { OnOk result (text.new.items
+        ≡ text.old.items ++ (codes ": violation at line " ++ decimal line ++ (codes ": block of " ++ thread.now ++ (codes " from line " ++ decimal begun)))) }
+{
+    append_count(text, b": violation at line ", line)?;
+    append_block(text, thread, begun)
+}
+
+// The thread of a block, and the line of its begin.
+fn append_block(text: &mut Vec<u8>, thread: &[u8], begun: u32) -> Result<(), AllocError>
+    ensures { OnOk result (text.new.items
+        ≡ text.old.items ++ (codes ": block of " ++ thread.now ++ (codes " from line " ++ decimal begun))) }
+{
+    text.extend_from_slice(b": block of ")?;
+    text.extend_from_slice(thread)?;
+    append_count(text, b" from line ", begun)
+}
+
+// A number behind its label.
+fn append_count(text: &mut Vec<u8>, label: &[u8], number: u32) -> Result<(), AllocError>
+    ensures { OnOk result (text.new.items ≡ text.old.items ++ (label.now ++ decimal number)) }
+{
+    text.extend_from_slice(label)?;
+    append_number(text, u64::from(number))
 }
 
 fn append_sizes(text: &mut Vec<u8>, events: u32, blocks: u32) -> Result<(), AllocError>

@@ -1,8 +1,10 @@
 pub mod NewNames
 pub mod Fronts
 pub mod Targets
+pub mod Judging
 pub mod Steps
 pub mod Lines
+pub mod Stops
 pub mod Parts
 pub mod Written
 pub mod OneVerdict

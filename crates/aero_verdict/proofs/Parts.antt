@@ -9,18 +9,19 @@ use Rattle.std.proofs.Math.Seq.{drop-cons}
 use Rattle.aero_model.specs.declared.limits.Limits.{Limits}
 use Rattle.aero_model.specs.declared.verdict.LineFault.{LineFault}
 use Rattle.aero_model.specs.declared.verdict.LineFault.TheVariants.{TooManyLines}
-use Rattle.aero_model.specs.declared.verdict.ShapeFault.{ShapeFault}
+use Rattle.aero_model.specs.declared.verdict.Verdict.{Verdict}
 use Rattle.aero_model.specs.Named.{Named}
 use Rattle.aero_model.specs.Numbering.{tables_of, numbered}
 use Rattle.aero_model.specs.Shape.{IsLawful}
-use Rattle.aero_model.specs.Tally.{count_below, is_outer_begin}
+use Rattle.aero_model.specs.Cycle.{HasTellingCycle}
+use Rattle.aero_model.specs.Tally.{count_below, is_outer_begin, is_outer_end}
 use Rattle.aero_grammar.specs.Reading.{Reading, after_lines, followed_by, whole_reading, LinesRise, IsReading, fault_within, malformed_line}
 use Rattle.aero_verdict.specs.declared.checker.Checker.{Checker}
-use Rattle.aero_verdict.specs.Kept.{StandsFor, up_to, GoesOn, AreNext, AreExpected, IsRefusedIn}
-use Rattle.aero_verdict.specs.Verdict.{counted_events, events_of, checked_trace, IsIllFormed, IsMalformed, IsFaultless}
-
-abbrev pub names_of : List (ℕ × Named) → List Named
-names_of events = map (λ e. e.1) events
+use Rattle.aero_verdict.specs.declared.checker.Stop.{Stop}
+use Rattle.aero_verdict.specs.Kept.{StandsFor, up_to, GoesOn, AreNext, AreExpected, StopsIn, TellsStop}
+use Rattle.aero_verdict.specs.Verdict.{counted_events, events_of, checked_trace, IsClean, IsVerdict, IsMalformed, IsFaultless}
+use Rattle.aero_verdict.proofs.Lines.{untold_whole}
+use Rattle.aero_verdict.proofs.Stops.{verdict_at}
 
 -- the parts before these have no fault, and have these events and so many lines
 pub record AreBefore (parts rest : List Reading) (events : List (ℕ × Named)) (total : ℕ) : Type 0 where
@@ -41,7 +42,7 @@ pub record Stands (limits : Limits) (parts : List Reading) (k lines : ℕ) (chec
   pub count_is : checker.shape.admitted ≡ length (up_to limits.lines events)
   pub few : length (up_to limits.lines events) ≤ total
   pub few_enough : length (up_to limits.lines events) ≤ limits.lines
-  pub kept : (more : List Named) → StandsFor limits checker (names_of (up_to limits.lines events) ++ more)
+  pub kept : (more : List (ℕ × Named)) → StandsFor limits checker (up_to limits.lines events ++ more)
 
 -- one part, and those after it
 
@@ -74,19 +75,6 @@ slice_get_front [] ys i less = absurd (omega arith)
 slice_get_front (x ∷ xs) ys zero less = refl
 slice_get_front (x ∷ xs) ys (suc i) less = slice_get_front xs ys i (omega arith)
 
-name_after : (n : ℕ) (o : Option (ℕ × Named)) → option_map (λ e. e.1) (option_map (after_lines n) o) ≡ option_map (λ e. e.1) o
-name_after n None = refl
-name_after n (Some e) = refl
-
-line_after : (n line : ℕ) (o : Option (ℕ × Named)) → option_map (λ e. e.0) o ≡ Some line → option_map (λ e. e.0) (option_map (after_lines n) o) ≡ Some (n + line)
-line_after n line None is = absurd (cc)
-line_after n line (Some e) is = let same : e.0 ≡ line = cc in ap (λ k. Some (n + k)) same
-
-line_at : (m line : ℕ) (es : List (ℕ × Named)) (i : ℕ) → i < length es → option_map (λ e. e.0) (slice_get es i) ≡ Some line → All (λ e. e.0 ≤ m) es → line ≤ m
-line_at m line [] i less is within = absurd (omega arith)
-line_at m line (e ∷ es) zero less is within = let same : e.0 ≡ line = cc in let here : e.0 ≤ m = within 0 e (omega arith) in omega (arith, same, here)
-line_at m line (e ∷ es) (suc i) less is within = line_at m line es i (omega arith) is (λ j d l. within (suc j) d (omega arith))
-
 after_again : {A : Type 0} (m n : ℕ) (xs : List (ℕ × A)) → map (after_lines m) (map (after_lines n) xs) ≡ map (after_lines (m + n)) xs
 after_again m n [] = refl
 after_again m n (x ∷ xs) = λ i. (sym (add_assoc m n x.0) i, x.1) ∷ after_again m n xs i
@@ -102,10 +90,6 @@ fault_again m n (Some f) = λ i. Some (sym (add_assoc m n f.0) i, f.1)
 fault_after_none : (f : Option (ℕ × LineFault)) → option_map (after_lines 0) f ≡ f
 fault_after_none None = refl
 fault_after_none (Some f) = λ i. Some (zero-add f.0 i, f.1)
-
-names_after : (n : ℕ) (es : List (ℕ × Named)) → names_of (map (after_lines n) es) ≡ names_of es
-names_after n [] = refl
-names_after n (e ∷ es) = ap (λ ns. e.1 ∷ ns) (names_after n es)
 
 -- a text has no more events than lines
 
@@ -175,17 +159,26 @@ fault_told limit lines line fault le =
     ]
 
 -- events that come next
-pub goes_on : (front more_names : List Named) (more : List (ℕ × Named)) (n : ℕ) → n ≡ length front → GoesOn (front ++ (names_of more ++ more_names)) n more
-goes_on front more_names more n n_is i less =
-    ap (λ k. slice_get (front ++ (names_of more ++ more_names)) (k + i)) n_is
-    ∙ slice_get_behind front (names_of more ++ more_names) i
-    ∙ slice_get_front (names_of more) more_names i (omega (arith, less, length-map more (λ e. e.1)))
-    ∙ slice_get-map (λ e. e.1) more i
+pub goes_on : (front later more : List (ℕ × Named)) (before n : ℕ) → n ≡ length front → GoesOn (front ++ (map (after_lines before) more ++ later)) n before more
+goes_on front later more before n n_is i less =
+    ap (λ k. slice_get (front ++ (map (after_lines before) more ++ later)) (k + i)) n_is
+    ∙ slice_get_behind front (map (after_lines before) more ++ later) i
+    ∙ slice_get_front (map (after_lines before) more) later i (omega (arith, less, length-map more (after_lines before)))
+    ∙ slice_get-map (after_lines before) more i
 
-trace_length : (limits : Limits) (parts : List Reading) → length (checked_trace parts limits) ≡ length (counted_events parts limits)
+pub trace_length : (limits : Limits) (parts : List Reading) → length (checked_trace parts limits) ≡ length (counted_events parts limits)
 trace_length limits parts =
     length-map (events_of parts limits) (numbered (tables_of (events_of parts limits)))
     ∙ length-map (counted_events parts limits) (λ e. e.1)
+
+-- nothing is wrong with the events, where all of them were admitted
+clean_here : (limits : Limits) (parts : List Reading) (checker : Checker) → StandsFor limits checker (counted_events parts limits) → checker.shape.admitted ≡ length (checked_trace parts limits) →
+    IsClean parts limits (length (checked_trace parts limits))
+clean_here limits parts checker stands all =
+    record {
+      lawful = subst (IsLawful limits (checked_trace parts limits)) all stands.counts.lawful;
+      no_cycle = subst (λ n. ¬ HasTellingCycle (checked_trace parts limits) n) all (untold_whole limits checker (counted_events parts limits) stands);
+    }
 
 module _ (limits : Limits) (parts rest : List Reading) (p : Reading) (events : List (ℕ × Named)) (total : ℕ) (before : AreBefore parts (p ∷ rest) events total) (reading : IsReading p) (most : ℕ) (most_is : most ≡ limits.lines - total) where
   -- the events so far that count, and those of this part
@@ -201,9 +194,6 @@ module _ (limits : Limits) (parts rest : List Reading) (p : Reading) (events : L
   counted_with : up_to limits.lines (events ++ map (after_lines total) p.events) ≡ front ++ map (after_lines total) more
   counted_with = filter-append (λ e. nat_le e.0 limits.lines) events (map (after_lines total) p.events) ∙ ap (λ es. front ++ es) counted_here
 
-  names_with : names_of (up_to limits.lines (events ++ map (after_lines total) p.events)) ≡ names_of front ++ names_of more
-  names_with = ap names_of counted_with ∙ map-append (λ e. e.1) front (map (after_lines total) more) ∙ ap (λ ns. names_of front ++ ns) (names_after total more)
-
   pub few_more : length more ≤ most
   few_more = let few = rising_within 0 most p.events reading.rising (omega arith) in omega (arith, few)
 
@@ -214,16 +204,26 @@ module _ (limits : Limits) (parts rest : List Reading) (p : Reading) (events : L
       let shorter = up_to_shorter most p.events in
       omega (arith, few, all, shorter)
 
-  module _ (checker : Checker) (lines : ℕ) (k : ℕ) (count_is : checker.shape.admitted ≡ length front) (kept : (later : List Named) → StandsFor limits checker (names_of front ++ later)) where
-    next_here : (later : List Named) → AreNext limits checker (names_of front ++ (names_of more ++ later)) more
-    next_here later = (kept (names_of more ++ later), goes_on (names_of front) later more checker.shape.admitted (count_is ∙ sym (length-map front (λ e. e.1))))
+  module _ (checker : Checker) (lines : ℕ) (k : ℕ) (count_is : checker.shape.admitted ≡ length front) (kept : (later : List (ℕ × Named)) → StandsFor limits checker (front ++ later)) (lines_are : lines ≡ min total greatest_number) where
+    -- where an event counts, the lines before it can be told
+    lines_told : 0 < length more → total ≡ lines
+    lines_told some =
+        let few : length more ≤ most = few_more in
+        let small : limits.lines ≤ 2 ^ 24 = limits.most_lines in
+        omega (arith, some, few, most_is, lines_are, small)
 
-    pub expected_here : length front + length more < 2 ^ 32 → AreExpected checker more
+    next_here : (later : List (ℕ × Named)) → AreNext limits checker (front ++ (map (after_lines total) more ++ later)) lines more
+    next_here later = (
+      kept (map (after_lines total) more ++ later),
+      λ i less. goes_on front later more total checker.shape.admitted count_is i less ∙ ap (λ n. option_map (after_lines n) (slice_get more i)) (lines_told (omega (arith, less))),
+    )
+
+    pub expected_here : length front + length more < 2 ^ 32 → AreExpected checker lines more
     expected_here short =
-        let lengths : length (names_of front ++ (names_of more ++ [])) ≡ length front + (length more + 0) =
-        length-append (names_of front) (names_of more ++ [])
-        ∙ ap₂ (λ a b. a + b) (length-map front (λ e. e.1)) (length-append (names_of more) [] ∙ ap (λ b. b + 0) (length-map more (λ e. e.1))) in
-        (limits, names_of front ++ (names_of more ++ []), omega (arith, lengths, short), next_here [])
+        let lengths : length (front ++ (map (after_lines total) more ++ [])) ≡ length front + (length more + 0) =
+        length-append front (map (after_lines total) more ++ [])
+        ∙ ap (λ b. length front + b) (length-append (map (after_lines total) more) [] ∙ ap (λ b. b + 0) (length-map more (after_lines total))) in
+        (limits, front ++ (map (after_lines total) more ++ []), omega (arith, lengths, short), next_here [])
 
     -- the events of the whole
     later_events : List (ℕ × Named)
@@ -240,49 +240,22 @@ module _ (limits : Limits) (parts rest : List Reading) (p : Reading) (events : L
         ∙ ap (λ es. es ++ up_to limits.lines (map (after_lines total) (begins_with p (whole_reading rest)).0)) counted_here
         )
 
-    events_whole : events_of parts limits ≡ names_of front ++ (names_of more ++ names_of (up_to limits.lines later_events))
-    events_whole =
-        ap names_of counted_whole
-        ∙ map-append (λ e. e.1) front (map (after_lines total) more ++ up_to limits.lines later_events)
-        ∙ ap (λ ns. names_of front ++ ns) (map-append (λ e. e.1) (map (after_lines total) more) (up_to limits.lines later_events) ∙ ap (λ ns. ns ++ names_of (up_to limits.lines later_events)) (names_after total more))
+    next_whole : AreNext limits checker (counted_events parts limits) lines more
+    next_whole = subst (λ all. AreNext limits checker all lines more) (sym counted_whole) (next_here (up_to limits.lines later_events))
 
-    next_whole : AreNext limits checker (events_of parts limits) more
-    next_whole = subst (λ all. AreNext limits checker all more) (sym events_whole) (next_here (names_of (up_to limits.lines later_events)))
+    -- what stops in this part is told
+    pub stopped : (new : Checker) (line : ℕ) (stop : Stop) → ((all : List (ℕ × Named)) → AreNext limits checker all lines more → StopsIn limits new all checker.shape.admitted lines more line stop) →
+        (verdict : Verdict) → TellsStop new line stop verdict → IsVerdict parts limits verdict
+    stopped new line stop stops verdict tells = verdict_at limits parts new checker.shape.admitted lines more line stop (stops (counted_events parts limits) next_whole) verdict tells
 
-    event_at : (i : ℕ) → i < length more → slice_get (counted_events parts limits) (checker.shape.admitted + i) ≡ option_map (after_lines total) (slice_get more i)
-    event_at i less =
-        ap₂ (λ es n. slice_get es (n + i)) counted_whole count_is
-        ∙ slice_get_behind front (map (after_lines total) more ++ up_to limits.lines later_events) i
-        ∙ slice_get_front (map (after_lines total) more) (up_to limits.lines later_events) i (omega (arith, less, length-map more (after_lines total)))
-        ∙ slice_get-map (after_lines total) more i
-
-    -- what is refused in this part is ill-formed
-    pub ill_formed : lines ≡ min total greatest_number → (line : ℕ) (fault : ShapeFault) →
-        ((all : List Named) → AreNext limits checker all more → IsRefusedIn limits all checker.shape.admitted more line fault) → IsIllFormed parts limits (lines + line) fault
-    ill_formed lines_are line fault refused =
-        let here = refused (events_of parts limits) next_whole in
-        let some = here.within in
-        let few : length more ≤ most = few_more in
-        let small : limits.lines ≤ 2 ^ 24 = limits.most_lines in
-        let same : total ≡ lines = omega (arith, some, few, most_is, lines_are, small) in
-        record {
-          place = checker.shape.admitted + here.index;
-          lawful = here.lawful;
-          cause = here.cause;
-          line_of =
-              ap (option_map (λ e. e.0)) (event_at here.index here.within)
-              ∙ line_after total line (slice_get more here.index) here.line_of
-              ∙ ap (λ k. Some (k + line)) same;
-        }
-
-    module _ (new : Checker) (counted : new.shape.admitted ≡ checker.shape.admitted + length more) (kept_on : (all : List Named) → AreNext limits checker all more → StandsFor limits new all) where
-      stands_whole : StandsFor limits new (events_of parts limits)
-      stands_whole = kept_on (events_of parts limits) next_whole
+    module _ (new : Checker) (counted : new.shape.admitted ≡ checker.shape.admitted + length more) (kept_on : (all : List (ℕ × Named)) → AreNext limits checker all lines more → StandsFor limits new all) where
+      stands_whole : StandsFor limits new (counted_events parts limits)
+      stands_whole = kept_on (counted_events parts limits) next_whole
 
       -- where this part has a fault, its line is malformed
-      pub malformed : lines ≡ min total greatest_number → (line : ℕ) (fault : LineFault) → p.fault ≡ Some (line, fault) → (told : ℕ × LineFault) →
+      pub malformed : (line : ℕ) (fault : LineFault) → p.fault ≡ Some (line, fault) → (told : ℕ × LineFault) →
           ((all_lines : ℕ) → fault_within limits.lines all_lines (Some (min (lines + line) greatest_number, fault)) ≡ Some told) → IsMalformed parts limits told.0 told.1
-      malformed lines_are line fault is told tells =
+      malformed line fault is told tells =
           let faulty : is_some p.fault ≡ true = ap is_some is in
           let only : (whole_reading parts).events ≡ events ++ map (after_lines total) p.events = before.events_are ∙ ap (λ r. events ++ map (after_lines total) r.events) (after_faulty p (whole_reading rest) faulty) in
           let len : new.shape.admitted ≡ length (checked_trace parts limits) =
@@ -294,7 +267,7 @@ module _ (limits : Limits) (parts rest : List Reading) (p : Reading) (events : L
           let small : limits.lines ≤ 2 ^ 24 = limits.most_lines in
           let same : min (total + line) greatest_number ≡ min (lines + line) greatest_number = omega arith in
           record {
-            lawful = subst (IsLawful limits (checked_trace parts limits)) len stands_whole.lawful;
+            clean = clean_here limits parts new stands_whole len;
             cause =
                 ap (fault_within limits.lines (whole_reading parts).lines) (
                 before.fault_is
@@ -321,9 +294,9 @@ module _ (limits : Limits) (parts rest : List Reading) (p : Reading) (events : L
             fault_is = before.fault_is ∙ ap (λ r. option_map (after_lines total) r.fault) same ∙ fault_again total p.lines (whole_reading rest).fault;
           }
 
-      pub stands_after : lines ≡ min total greatest_number → length front ≤ total → length front ≤ limits.lines → p.fault ≡ None → rest ≡ drop (k + 1) parts →
+      pub stands_after : length front ≤ total → length front ≤ limits.lines → p.fault ≡ None → rest ≡ drop (k + 1) parts →
           (lines_after : ℕ) → lines_after ≡ min (lines + p.lines) greatest_number → Stands limits parts (k + 1) lines_after new
-      stands_after lines_are few few_enough none rest_is lines_after after_is =
+      stands_after few few_enough none rest_is lines_after after_is =
           let len : length (up_to limits.lines (events ++ map (after_lines total) p.events)) ≡ length front + length more =
           ap length counted_with ∙ length-append front (map (after_lines total) more) ∙ ap (λ b. length front + b) (length-map more (after_lines total)) in
           let by_lines : length more ≤ p.lines = no_more_than_lines in
@@ -337,7 +310,7 @@ module _ (limits : Limits) (parts rest : List Reading) (p : Reading) (events : L
             few = omega (arith, len, few, by_lines);
             few_enough = omega (arith, len, few, few_enough, by_limit, most_is);
             kept = λ later.
-                subst (StandsFor limits new) (sym (append_assoc (names_of front) (names_of more) later) ∙ ap (λ ns. ns ++ later) (sym names_with)) (kept_on (names_of front ++ (names_of more ++ later)) (next_here later));
+                subst (StandsFor limits new) (sym (append_assoc front (map (after_lines total) more) later) ∙ ap (λ es. es ++ later) (sym counted_with)) (kept_on (front ++ (map (after_lines total) more ++ later)) (next_here later));
           }
 
 pub start : (parts : List Reading) → AreBefore parts parts [] 0
@@ -358,7 +331,7 @@ here parts k p item less is same events lines before =
     let P : List Reading → Type 0 = λ rest. AreBefore parts rest events lines in
     subst P (rest_at parts k item less is ∙ ap (λ x. x ∷ drop (k + 1) parts) (sym same)) before
 
-pub nothing_yet : (limits : Limits) (parts : List Reading) (checker : Checker) → checker.shape.admitted ≡ 0 → ((events : List Named) → StandsFor limits checker events) → Stands limits parts 0 0 checker
+pub nothing_yet : (limits : Limits) (parts : List Reading) (checker : Checker) → checker.shape.admitted ≡ 0 → ((events : List (ℕ × Named)) → StandsFor limits checker events) → Stands limits parts 0 0 checker
 nothing_yet limits parts checker none kept =
     record {
       events = [];
@@ -383,29 +356,36 @@ module _ (limits : Limits) (parts : List Reading) (k lines : ℕ) (checker : Che
   admitted_are : checker.shape.admitted ≡ length (checked_trace parts limits)
   admitted_are = stands.count_is ∙ ap (λ es. length (up_to limits.lines es)) (sym events_are) ∙ sym (trace_length limits parts)
 
-  stands_for : StandsFor limits checker (events_of parts limits)
-  stands_for = subst (StandsFor limits checker) (append-nil (names_of (up_to limits.lines stands.events)) ∙ ap (λ es. names_of (up_to limits.lines es)) (sym events_are)) (stands.kept [])
+  stands_for : StandsFor limits checker (counted_events parts limits)
+  stands_for = subst (StandsFor limits checker) (append-nil (up_to limits.lines stands.events) ∙ ap (up_to limits.lines) (sym events_are)) (stands.kept [])
 
   malformed_is : malformed_line limits.lines (whole_reading parts) ≡ (if nat_lt limits.lines (stands.total + 0) then Some (suc limits.lines, TooManyLines) else None)
   malformed_is = ap₂ (λ n f. fault_within limits.lines n f) before_none.lines_are before_none.fault_is
 
   pub too_many : limits.lines < lines → IsMalformed parts limits (limits.lines + 1) TooManyLines
   too_many more = record {
-    lawful = subst (IsLawful limits (checked_trace parts limits)) admitted_are stands_for.lawful;
+    clean = clean_here limits parts checker stands_for admitted_are;
     cause =
         malformed_is
         ∙ cond-true (nat_lt limits.lines (stands.total + 0)) _ _ (lt-ltb limits.lines (stands.total + 0) (omega (arith, stands.lines_are)))
         ∙ ap (λ n. Some (n, TooManyLines)) (sym (add-one limits.lines));
   }
 
-  pub faultless : lines ≤ limits.lines → IsFaultless parts limits checker.shape.admitted checker.blocks
+  begun_whole : checker.blocks.begun ≡ count_below (is_outer_begin (checked_trace parts limits)) (length (checked_trace parts limits))
+  begun_whole = stands_for.counts.begun_are ∙ ap (count_below (is_outer_begin (checked_trace parts limits))) admitted_are
+
+  ended_whole : checker.blocks.ended ≡ count_below (is_outer_end (checked_trace parts limits)) (length (checked_trace parts limits))
+  ended_whole = stands_for.counts.ended_are ∙ ap (count_below (is_outer_end (checked_trace parts limits))) admitted_are
+
+  pub faultless : lines ≤ limits.lines → IsFaultless parts limits checker.shape.admitted checker.blocks.begun (checker.blocks.begun - checker.blocks.ended)
   faultless few =
       let small : limits.lines ≤ 2 ^ 24 = limits.most_lines in
       record {
-        lawful = subst (IsLawful limits (checked_trace parts limits)) admitted_are stands_for.lawful;
+        clean = clean_here limits parts checker stands_for admitted_are;
         no_fault = malformed_is ∙ cond-false (nat_lt limits.lines (stands.total + 0)) _ _ (le-ltb limits.lines (stands.total + 0) (omega (arith, stands.lines_are, small)));
         events_are = admitted_are;
-        blocks_are = stands_for.blocks_are ∙ ap (count_below (is_outer_begin (checked_trace parts limits))) admitted_are;
+        blocks_are = begun_whole;
+        open_are = ap₂ (λ b e. b - e) begun_whole ended_whole;
       }
 
 -- the next part
@@ -423,32 +403,33 @@ module _ (limits : Limits) (parts : List Reading) (k lines : ℕ) (checker : Che
       let few = few_more limits parts (drop (k + 1) parts) p stands.events stands.total before_here reading most most_here in
       omega (arith, small, few, stands.few_enough, most_is)
 
-  pub part_expected : AreExpected checker (up_to most es)
+  pub part_expected : AreExpected checker lines (up_to most es)
   part_expected =
-      subst (λ xs. AreExpected checker (up_to most xs)) (sym es_are)
-      (expected_here limits parts (drop (k + 1) parts) p stands.events stands.total before_here reading most most_here checker lines k stands.count_is stands.kept few_here)
+      subst (λ xs. AreExpected checker lines (up_to most xs)) (sym es_are)
+      (expected_here limits parts (drop (k + 1) parts) p stands.events stands.total before_here reading most most_here checker lines k stands.count_is stands.kept stands.lines_are few_here)
 
-  pub line_fits : (line : ℕ) → line ≤ most → lines + line < 2 ^ 32
-  line_fits line le = let small : limits.lines ≤ 2 ^ 24 = limits.most_lines in omega (arith, le, most_is, small, stands.lines_are)
+  pub lines_fit : lines + most < 2 ^ 32
+  lines_fit = let small : limits.lines ≤ 2 ^ 24 = limits.most_lines in omega (arith, most_is, small, stands.lines_are)
 
-  pub part_ill_formed : (line : ℕ) (fault : ShapeFault) → ((all : List Named) → AreNext limits checker all (up_to most es) → IsRefusedIn limits all checker.shape.admitted (up_to most es) line fault) → IsIllFormed parts limits (lines + line) fault
-  part_ill_formed line fault refused =
-      ill_formed limits parts (drop (k + 1) parts) p stands.events stands.total before_here reading most most_here checker lines k stands.count_is stands.kept stands.lines_are line fault
-      (subst (λ xs. (all : List Named) → AreNext limits checker all (up_to most xs) → IsRefusedIn limits all checker.shape.admitted (up_to most xs) line fault) es_are refused)
+  pub part_stopped : (new : Checker) (line : ℕ) (stop : Stop) → ((all : List (ℕ × Named)) → AreNext limits checker all lines (up_to most es) → StopsIn limits new all checker.shape.admitted lines (up_to most es) line stop) →
+      (verdict : Verdict) → TellsStop new line stop verdict → IsVerdict parts limits verdict
+  part_stopped new line stop stops =
+      stopped limits parts (drop (k + 1) parts) p stands.events stands.total before_here reading most most_here checker lines k stands.count_is stands.kept stands.lines_are new line stop
+      (subst (λ xs. (all : List (ℕ × Named)) → AreNext limits checker all lines (up_to most xs) → StopsIn limits new all checker.shape.admitted lines (up_to most xs) line stop) es_are stops)
 
-  module _ (new : Checker) (counted : new.shape.admitted ≡ checker.shape.admitted + length (up_to most es)) (kept_on : (all : List Named) → AreNext limits checker all (up_to most es) → StandsFor limits new all) where
+  module _ (new : Checker) (counted : new.shape.admitted ≡ checker.shape.admitted + length (up_to most es)) (kept_on : (all : List (ℕ × Named)) → AreNext limits checker all lines (up_to most es) → StandsFor limits new all) where
     counted_on : new.shape.admitted ≡ checker.shape.admitted + length (up_to most p.events)
     counted_on = counted ∙ ap (λ xs. checker.shape.admitted + length (up_to most xs)) es_are
 
-    kept_here : (all : List Named) → AreNext limits checker all (up_to most p.events) → StandsFor limits new all
-    kept_here = subst (λ xs. (all : List Named) → AreNext limits checker all (up_to most xs) → StandsFor limits new all) es_are kept_on
+    kept_here : (all : List (ℕ × Named)) → AreNext limits checker all lines (up_to most p.events) → StandsFor limits new all
+    kept_here = subst (λ xs. (all : List (ℕ × Named)) → AreNext limits checker all lines (up_to most xs) → StandsFor limits new all) es_are kept_on
 
     pub part_malformed : (line : ℕ) (fault : LineFault) → p.fault ≡ Some (line, fault) → (told : ℕ × LineFault) →
         ((all_lines : ℕ) → fault_within limits.lines all_lines (Some (min (lines + line) greatest_number, fault)) ≡ Some told) → IsMalformed parts limits told.0 told.1
     part_malformed =
-        malformed limits parts (drop (k + 1) parts) p stands.events stands.total before_here reading most most_here checker lines k stands.count_is stands.kept new counted_on kept_here stands.lines_are
+        malformed limits parts (drop (k + 1) parts) p stands.events stands.total before_here reading most most_here checker lines k stands.count_is stands.kept stands.lines_are new counted_on kept_here
 
     pub part_passed : p.fault ≡ None → (lines_after : ℕ) → lines_after ≡ min (lines + p.lines) greatest_number → Stands limits parts (k + 1) lines_after new
     part_passed none =
-        stands_after limits parts (drop (k + 1) parts) p stands.events stands.total before_here reading most most_here checker lines k stands.count_is stands.kept new counted_on kept_here
-        stands.lines_are stands.few stands.few_enough none refl
+        stands_after limits parts (drop (k + 1) parts) p stands.events stands.total before_here reading most most_here checker lines k stands.count_is stands.kept stands.lines_are new counted_on kept_here
+        stands.few stands.few_enough none refl

@@ -1,8 +1,9 @@
 -- One more event of a list: why it is ill-formed, or what it leaves behind.
-use Rattle.std.proofs.Common.{◌≡◌, ◌≢◌, ℕ, zero, suc, ◌+◌, ◌^◌, ◌<◌, ◌≤◌, ◌==◌, ◌&&◌, Bool, true, false, if◌then◌else◌, List, [], ◌∷◌, ◌++◌, length, take, drop, Some, None, refl, sym, ◌∙◌, ap, ap₂, subst, arith, add-one, below_more, length-append}
-use Rattle.std.specs.Prelude.{slice_get, option_and_then, option_map, Ok, Err}
+use Rattle.std.proofs.Common.{◌≡◌, ◌≢◌, ℕ, zero, suc, ◌+◌, ◌^◌, ◌<◌, ◌≤◌, ◌==◌, ◌&&◌, Bool, true, false, if◌then◌else◌, List, [], ◌∷◌, ◌++◌, length, take, drop, Option, Some, None, refl, sym, ◌∙◌, ap, ap₂, subst, arith, add-one, below_more, length-append}
+use Rattle.std.specs.Prelude.{slice_get, option_and_then, option_map, Result, Ok, Err, OnOk}
+use Rattle.std.specs.Result.{is_err}
 use Rattle.std.specs.Option.{option_or, option_map_or}
-use Rattle.std.proofs.lemmas.Bool.{eq-eqb, cond_both}
+use Rattle.std.proofs.lemmas.Bool.{eq-eqb, eqb-true, cond_both, cond-true, cond-false, and_parts, and_right, true≢false}
 use Rattle.std.proofs.lemmas.Option.{slice_get-map, slice_get_within, same_Some}
 use Rattle.aero_model.specs.declared.event.Numbered.{Numbered}
 use Rattle.aero_model.specs.declared.event.What.{What}
@@ -10,23 +11,35 @@ use Rattle.aero_model.specs.declared.event.What.TheVariants.{Read, Write, Acquir
 use Rattle.aero_model.specs.declared.limits.Limits.{Limits}
 use Rattle.aero_model.specs.declared.verdict.ShapeFault.{ShapeFault}
 use Rattle.aero_model.specs.declared.verdict.ShapeFault.TheVariants.{Memory, TooManyThreads, TooManyNames, ThreadJoined, LockHeldByOther, LockNotHeld, ForkSelf, ForkStarted, JoinSelf, EndWithoutBegin}
-use Rattle.aero_model.specs.Blocks.{depth, is_begin, by_thread, opens}
+use Rattle.aero_model.specs.Blocks.{depth, is_begin, is_end, by_thread, opens, closes, blocks, Block, transaction}
+use Rattle.aero_model.specs.Cycle.{IsOpener}
 use Rattle.aero_model.specs.Named.{Named, HasItsTarget}
 use Rattle.aero_model.specs.Numbering.{Tables, tables_of, numbered, trace_of}
-use Rattle.aero_model.specs.Shape.{shape_fault, limit_fault, fault_at, has_acted, IsLawful}
-use Rattle.aero_model.specs.Tally.{count_below, is_outer_begin}
-use Rattle.aero_model.proofs.Stability.{depth_same}
+use Rattle.aero_model.specs.Shape.{shape_fault, limit_fault, fault_at, IsLawful}
+use Rattle.aero_model.specs.Tally.{count_below, is_outer_begin, is_outer_end}
+use Rattle.aero_model.proofs.Ends.{begin_in}
+use Rattle.aero_model.proofs.Depths.{opening_at}
+use Rattle.aero_model.proofs.Places.{block_from}
+use Rattle.aero_model.proofs.Stability.{depth_same, agree_front, blocks_same}
+use Rattle.aero_model.proofs.Telling.{closing_front, opener_front}
 use Rattle.aero_model.proofs.WellFormed.{slice_get-take}
 use Rattle.aero_shape.specs.declared.admission.Admitted.{Admitted}
-use Rattle.aero_shape.specs.declared.admission.Admitted.TheVariants.{Plain, OuterBegin, OuterEnd, IdleJoin}
-use Rattle.aero_shape.specs.Admission.{deed_as, admitted_as, TellsEvent}
+use Rattle.aero_shape.specs.Admission.{admitted_as, TellsEvent}
+use Rattle.aero_access.specs.Judgement.{IsTold}
+use Rattle.aero_access.specs.Standing.{Tells}
+use Rattle.aero_access.specs.Standing as clocks
+use Rattle.aero_access.specs.StateWords.{event}
 use Rattle.aero_shape.specs.Standing as shapes
 use Rattle.aero_shape.specs.States as states
 use Rattle.aero_verdict.specs.declared.checker.Checker.{Checker}
 use Rattle.aero_verdict.specs.declared.numbering.Numbering.{Numbering}
-use Rattle.aero_verdict.specs.Kept.{StandsFor, IsNext, Refuses}
+use Rattle.aero_verdict.specs.declared.blocks.Blocks.{Blocks}
+use Rattle.aero_verdict.specs.Begun.{begin_line, begins_block, ends_block, CountsBlock}
+use Rattle.aero_verdict.specs.Judging.{ComesAfter, IsAdmitted}
+use Rattle.aero_verdict.specs.Kept.{names_of, trace_in, LastBegins, Counts, StandsFor, IsNext, Refuses, Judged}
 use Rattle.aero_verdict.specs.Limited.{names_in, IsLimited, NumbersEvent, RefusesEvent}
 use Rattle.aero_verdict.specs.Numbers.{with_event, numbered_after}
+use Rattle.aero_verdict.proofs.Judging.{begins_as, ends_as}
 use Rattle.aero_verdict.proofs.Fronts.{Extends, tables_pushed, tables_extended, numbered_kept}
 
 -- the front of a list with its next element, and what comes after it
@@ -40,37 +53,9 @@ front_and_rest xs zero = refl
 front_and_rest [] (suc n) = refl
 front_and_rest (x ∷ xs) (suc n) = ap (λ ys. x ∷ ys) (front_and_rest xs n)
 
--- whether an answer says that the event is an outermost begin
-abbrev pub is_outer : Admitted → Bool
-is_outer OuterBegin = true
-is_outer _ = false
-
-pub outer_begin_is : (a : Admitted) → a ≡ OuterBegin → is_outer a ≡ true
-outer_begin_is a is = ap is_outer is
-
-pub no_outer_begin_is : (a : Admitted) → (a ≡ OuterBegin → ⊥) → is_outer a ≡ false
-no_outer_begin_is (Plain b) other = refl
-no_outer_begin_is OuterBegin other = absurd (other refl)
-no_outer_begin_is OuterEnd other = refl
-no_outer_begin_is IdleJoin other = refl
-
-outer_if : (b : Bool) (a : Admitted) → is_outer a ≡ false → is_outer (if b then OuterBegin else a) ≡ b
-outer_if true a inner = refl
-outer_if false a inner = inner
-
-inner_if : (b : Bool) (x y : Admitted) → is_outer x ≡ false → is_outer y ≡ false → is_outer (if b then x else y) ≡ false
-inner_if true x y first second = first
-inner_if false x y first second = second
-
-outer_as : (before : List Numbered) (d : ℕ) (w : What) → is_outer (deed_as before d w) ≡ (is_begin w && (d == 0))
-outer_as before d (Read x) = refl
-outer_as before d (Write x) = refl
-outer_as before d (Acquire l) = refl
-outer_as before d (Release l) = refl
-outer_as before d (Fork u) = refl
-outer_as before d (Join u) = inner_if (has_acted before u) _ IdleJoin refl refl
-outer_as before d Begin = outer_if (d == 0) (Plain true) refl
-outer_as before d End = inner_if (d == 1) OuterEnd _ refl refl
+and_true : (b : Bool) → (b && true) ≡ b
+and_true true = refl
+and_true false = refl
 
 tells_fault : (before : List Numbered) (m : Numbered) (fault : ShapeFault) → TellsEvent before m (Err fault) → fault ≢ Memory → shape_fault before m ≡ Some fault
 tells_fault before m Memory tells not_memory = absurd (not_memory refl)
@@ -84,42 +69,57 @@ tells_fault before m ForkStarted tells not_memory = tells
 tells_fault before m JoinSelf tells not_memory = tells
 tells_fault before m EndWithoutBegin tells not_memory = tells
 
-module _ (limits : Limits) (events : List Named) (checker : Checker) (e : Named) (has : HasItsTarget e.op e.target) (next : IsNext limits checker events e) where
+opens_here : (w : What) (t d : ℕ) → (by_thread t is_begin (Some (event t w)) && (d == 0)) ≡ (is_begin w && (d == 0))
+opens_here w t d = ap (λ b. (b && is_begin w) && (d == 0)) (eq-eqb t t refl)
+
+closes_here : (w : What) (t d : ℕ) → (by_thread t is_end (Some (event t w)) && (d == 1)) ≡ (is_end w && (d == 1))
+closes_here w t d = ap (λ b. (b && is_end w) && (d == 1)) (eq-eqb t t refl)
+
+module _ (limits : Limits) (events : List (ℕ × Named)) (checker : Checker) (line : ℕ) (e : Named) (has : HasItsTarget e.op e.target) (next : IsNext limits checker events (line, e)) where
   abbrev n : ℕ
   n = checker.shape.admitted
 
   abbrev names : Tables
   names = names_in checker.numbering
 
+  abbrev named : List Named
+  named = names_of events
+
   abbrev trace : List Numbered
-  trace = trace_of events
+  trace = trace_in events
 
   abbrev x : Numbered
   x = numbered_after names e
 
-  tables_next : tables_of (take (suc n) events) ≡ with_event names e
-  tables_next = ap tables_of (take_pushed events n e next.1) ∙ tables_pushed (take n events) e ∙ ap (λ t. with_event t e) (sym next.0.names_are)
+  abbrev kept : Counts limits checker events
+  kept = next.0.counts
 
-  extends : Extends (with_event names e) (tables_of events)
+  named_at : slice_get named n ≡ Some e
+  named_at = slice_get-map (λ (p : ℕ × Named). p.1) events n ∙ ap (option_map (λ (p : ℕ × Named). p.1)) next.1
+
+  tables_next : tables_of (take (suc n) named) ≡ with_event names e
+  tables_next = ap tables_of (take_pushed named n e named_at) ∙ tables_pushed (take n named) e ∙ ap (λ t. with_event t e) (sym kept.names_are)
+
+  extends : Extends (with_event names e) (tables_of named)
   extends =
-      subst (λ t. Extends t (tables_of events)) tables_next
-      (subst (λ es. Extends (tables_of (take (suc n) events)) (tables_of es)) (front_and_rest events (suc n)) (tables_extended (take (suc n) events) (drop (suc n) events)))
+      subst (λ t. Extends t (tables_of named)) tables_next
+      (subst (λ es. Extends (tables_of (take (suc n) named)) (tables_of es)) (front_and_rest named (suc n)) (tables_extended (take (suc n) named) (drop (suc n) named)))
 
   x_at : slice_get trace n ≡ Some x
   x_at =
-      slice_get-map (numbered (tables_of events)) events n
-      ∙ ap (option_map (numbered (tables_of events))) next.1
-      ∙ ap Some (numbered_kept names (tables_of events) e has extends)
+      slice_get-map (numbered (tables_of named)) named n
+      ∙ ap (option_map (numbered (tables_of named))) named_at
+      ∙ ap Some (numbered_kept names (tables_of named) e has extends)
 
   fault_here : fault_at limits trace n ≡ option_or (limit_fault limits x) (shape_fault (take n trace) x)
   fault_here = ap (option_and_then (λ y. option_or (limit_fault limits y) (shape_fault (take n trace) y))) x_at
 
   pub refused_by_limit : (fault : ShapeFault) → RefusesEvent checker.numbering e fault → Refuses limits checker events fault
-  refused_by_limit fault refuses = λ not_memory. fault_here ∙ ap (λ o. option_or o (shape_fault (take n trace) x)) (refuses limits next.0.limited not_memory)
+  refused_by_limit fault refuses = λ not_memory. fault_here ∙ ap (λ o. option_or o (shape_fault (take n trace) x)) (refuses limits kept.limited not_memory)
 
   module _ (numbering : Numbering) (m : Numbered) (h : NumbersEvent checker.numbering numbering e m) where
     no_limit : limit_fault limits x ≡ None
-    no_limit = ap (limit_fault limits) (sym h.numbered_is) ∙ (h.within limits next.0.limited).1
+    no_limit = ap (limit_fault limits) (sym h.numbered_is) ∙ (h.within limits kept.limited).1
 
     fault_by_shape : fault_at limits trace n ≡ shape_fault (take n trace) m
     fault_by_shape = fault_here ∙ ap (λ o. option_or o (shape_fault (take n trace) x)) no_limit ∙ ap (shape_fault (take n trace)) (sym h.numbered_is)
@@ -133,32 +133,143 @@ module _ (limits : Limits) (events : List Named) (checker : Checker) (e : Named)
     depth_here : depth trace m.thread n ≡ depth (take n trace) m.thread (length (take n trace))
     depth_here =
         sym (depth_same (take n trace) trace m.thread n (record { same = λ i less. slice_get-take trace n i less }))
-        ∙ ap (depth (take n trace) m.thread) next.0.shape_stands.admitted
+        ∙ ap (depth (take n trace) m.thread) kept.shape_stands.admitted
 
-    outer_here : is_outer_begin trace n ≡ is_outer (admitted_as (take n trace) m)
-    outer_here =
+    abbrev deep : ℕ
+    deep = depth (take n trace) m.thread (length (take n trace))
+
+    begins_here : is_outer_begin trace n ≡ begins_block (admitted_as (take n trace) m)
+    begins_here =
         ap (λ o. option_map_or (λ y. opens trace y.thread n) o false) m_at
         ∙ ap₂ (λ o d. by_thread m.thread is_begin o && (d == 0)) m_at depth_here
-        ∙ ap (λ b. (b && is_begin m.what) && (depth (take n trace) m.thread (length (take n trace)) == 0)) (eq-eqb m.thread m.thread refl)
-        ∙ sym (outer_as (take n trace) (depth (take n trace) m.thread (length (take n trace))) m.what)
+        ∙ opens_here m.what m.thread deep
+        ∙ sym (begins_as (take n trace) deep m.what)
+
+    ends_here : is_outer_end trace n ≡ ends_block (admitted_as (take n trace) m)
+    ends_here =
+        ap (λ o. option_map_or (λ y. closes trace y.thread n) o false) m_at
+        ∙ ap₂ (λ o d. by_thread m.thread is_end o && (d == 1)) m_at depth_here
+        ∙ closes_here m.what m.thread deep
+        ∙ sym (ends_as (take n trace) deep m.what)
 
     module _ (admitted : Admitted) (tells : TellsEvent (take n trace) m (Ok admitted)) (shape : states.Tables) (stands : shapes.StandsFor shape (take n trace ++ m ∷ [])) where
       pub count_next : shape.admitted ≡ n + 1
-      count_next = let old = next.0.shape_stands.admitted in let new = stands.admitted in omega (arith, old, new, length-append (take n trace) (m ∷ []))
+      count_next = let old = kept.shape_stands.admitted in let new = stands.admitted in omega (arith, old, new, length-append (take n trace) (m ∷ []))
 
-      pub kept_next : (new : Checker) → new.numbering ≡ numbering → new.shape ≡ shape → new.blocks ≡ (if is_outer admitted then checker.blocks + 1 else checker.blocks) → StandsFor limits new events
-      kept_next new same_numbering same_shape blocks =
+      opens_is : (t : ℕ) → opens trace t n ≡ (begins_block admitted && (m.thread == t))
+      opens_is t =
+          ap₂ (λ o d. by_thread t is_begin o && (d == 0)) m_at refl
+          ∙ opens_by t (m.thread == t) refl
+        where
+          opens_by : (t : ℕ) (b : Bool) → (m.thread == t) ≡ b → (((m.thread == t) && is_begin m.what) && (depth trace t n == 0)) ≡ (begins_block admitted && (m.thread == t))
+          opens_by t true same =
+              let one : m.thread ≡ t = eqb-true m.thread t same in
+              ap (λ b. (b && is_begin m.what) && (depth trace t n == 0)) same
+              ∙ ap (λ d. is_begin m.what && (d == 0)) (ap (λ u. depth trace u n) (sym one) ∙ depth_here)
+              ∙ sym (begins_as (take n trace) deep m.what)
+              ∙ ap begins_block (sym tells.1)
+              ∙ sym (and_true (begins_block admitted))
+              ∙ ap (λ b. begins_block admitted && b) (sym same)
+          opens_by t false other =
+              ap (λ b. (b && is_begin m.what) && (depth trace t n == 0)) other ∙ sym (and_right (begins_block admitted) (m.thread == t) other)
+
+      module _ (counted : Blocks) (counts : CountsBlock checker.blocks counted admitted m.thread line) where
+        begins_inside : (t : ℕ) → opens trace t n ≡ true → transaction trace n ≡ Block t (blocks trace t (suc n))
+        begins_inside t here = block_from trace n t (blocks trace t (suc n)) (begin_in trace t n (opening_at trace t n here))
+
+        -- the begin of a block, and the latest of each other thread
+        begins_on : (t : ℕ) → 0 < blocks trace t (suc n) → LastBegins events (suc n) t (begin_line counted t)
+        begins_on t some = go (opens trace t n) refl
+          where
+            go : (b : Bool) → opens trace t n ≡ b → LastBegins events (suc n) t (begin_line counted t)
+            go true here =
+                let by_it = and_parts (begins_block admitted) (m.thread == t) (sym (opens_is t) ∙ here) in
+                let one : m.thread ≡ t = eqb-true m.thread t by_it.1 in
+                let opening = begins_inside t here in
+                let told : begin_line counted t ≡ line = counts.begin_line t ∙ cond-true (begins_block admitted && (m.thread == t)) line (begin_line checker.blocks t) (sym (opens_is t) ∙ here) in
+                record {
+                  place = n;
+                  before = omega arith;
+                  outermost = here;
+                  block = opening;
+                  line_of = ap (option_map (λ (p : ℕ × Named). p.0)) next.1 ∙ ap Some (sym told);
+                }
+            go false other =
+                let same : blocks trace t (suc n) ≡ blocks trace t n = cond-false (opens trace t n) (blocks trace t n + 1) (blocks trace t n) other in
+                let told : begin_line counted t ≡ begin_line checker.blocks t = counts.begin_line t ∙ cond-false (begins_block admitted && (m.thread == t)) line (begin_line checker.blocks t) (sym (opens_is t) ∙ other) in
+                let old = kept.lines_are t (omega (arith, some, same)) in
+                record {
+                  place = old.place;
+                  before = omega (arith, old.before);
+                  outermost = old.outermost;
+                  block = old.block ∙ ap (Block t) (sym same);
+                  line_of = old.line_of ∙ ap Some (sym told);
+                }
+
+        pub counts_next : (new : Checker) → new.numbering ≡ numbering → new.shape ≡ shape → new.blocks ≡ counted → Counts limits new events
+        counts_next new same_numbering same_shape same_blocks =
+            let count : new.shape.admitted ≡ suc n = ap (λ (s : states.Tables). s.admitted) same_shape ∙ count_next ∙ add-one n in
+            record {
+              limited = subst (IsLimited limits) (sym same_numbering) (h.within limits kept.limited).0;
+              names_are = ap names_in same_numbering ∙ h.names_are ∙ sym tables_next ∙ ap (λ k. tables_of (take k named)) (sym count);
+              shape_stands = subst (λ s. shapes.StandsFor s (take new.shape.admitted trace)) (sym same_shape) (subst (shapes.StandsFor shape) (sym (take_pushed trace n m m_at) ∙ ap (λ k. take k trace) (sym count)) stands);
+              begun_are =
+                  ap (λ (b : Blocks). b.begun) same_blocks
+                  ∙ counts.begun
+                  ∙ ap₂ (λ o b. if o then b + 1 else b) (ap begins_block tells.1 ∙ sym begins_here) kept.begun_are
+                  ∙ ap (count_below (is_outer_begin trace)) (sym count);
+              ended_are =
+                  ap (λ (b : Blocks). b.ended) same_blocks
+                  ∙ counts.ended
+                  ∙ ap₂ (λ o b. if o then b + 1 else b) (ap ends_block tells.1 ∙ sym ends_here) kept.ended_are
+                  ∙ ap (count_below (is_outer_end trace)) (sym count);
+              lines_are = λ t.
+                  subst (λ (b : Blocks). 0 < blocks trace t new.shape.admitted → LastBegins events new.shape.admitted t (begin_line b t)) (sym same_blocks)
+                  (subst (λ k. 0 < blocks trace t k → LastBegins events k t (begin_line counted t)) (sym count) (begins_on t));
+              lawful = subst (IsLawful limits trace) (sym (count ∙ sym (add-one n))) (below_more (λ i. fault_at limits trace i ≡ None) n kept.lawful (fault_by_shape ∙ tells.0));
+            }
+
+      -- the event comes after those that the clocks stand for
+      pub comes_after : ComesAfter checker.clocks (take n trace) m admitted
+      comes_after = record { stands = next.0.clocks_stand; well_formed = stands.well_formed; in_shape = tells.0; kind = tells.1 }
+
+      pub short_enough : length events < 2 ^ 32 → IsAdmitted checker.clocks m admitted
+      short_enough short =
+          let within = slice_get_within events n (line, e) next.1 in
+          let many = kept.shape_stands.admitted in
+          (take n trace, omega (arith, within, many, short), comes_after)
+
+      taken : take (suc n) trace ≡ take n trace ++ m ∷ []
+      taken = take_pushed trace n m m_at
+
+      whole : (take n trace ++ m ∷ []) ++ drop (suc n) trace ≡ trace
+      whole = ap (λ es. es ++ drop (suc n) trace) (sym taken) ∙ front_and_rest trace (suc n)
+
+      -- what the clocks tell of the first events is so of the whole
+      pub told_whole : (t : ℕ) → IsTold (take n trace ++ m ∷ []) (length (take n trace)) (Some t) → IsTold trace n (Some t)
+      told_whole t told =
+          let many : length (take n trace) ≡ n = sym kept.shape_stands.admitted in
+          let longer = length-append (take n trace) (m ∷ []) in
+          let there : IsTold (take n trace ++ m ∷ []) n (Some t) = subst (λ k. IsTold (take n trace ++ m ∷ []) k (Some t)) many told in
+          let agree = agree_front (suc n) (take n trace ++ m ∷ []) (drop (suc n) trace) (omega (arith, many, longer)) in
+          let number : blocks (take n trace ++ m ∷ []) t n ≡ blocks ((take n trace ++ m ∷ []) ++ drop (suc n) trace) t n =
+          blocks_same (suc n) (take n trace ++ m ∷ []) ((take n trace ++ m ∷ []) ++ drop (suc n) trace) agree t n (omega arith) in
+          subst (λ es. IsTold es n (Some t)) whole (
+            closing_front (take n trace ++ m ∷ []) (drop (suc n) trace) n (omega (arith, many, longer)) there.0,
+            subst (IsOpener ((take n trace ++ m ∷ []) ++ drop (suc n) trace) (suc n) t) number
+                (opener_front (take n trace ++ m ∷ []) (drop (suc n) trace) (suc n) t (blocks (take n trace ++ m ∷ []) t n) (omega (arith, many, longer)) there.1),
+          )
+
+      pub judged : (counted : Blocks) → CountsBlock checker.blocks counted admitted m.thread line → (told : Option ℕ) → (new : Checker) → new.numbering ≡ numbering → new.shape ≡ shape → new.blocks ≡ counted →
+          Tells new.clocks (take n trace ++ m ∷ []) (length (take n trace)) told → Judged limits new events n told
+      judged counted counts None new same_numbering same_shape same_blocks tells_new =
           let count : new.shape.admitted ≡ suc n = ap (λ (s : states.Tables). s.admitted) same_shape ∙ count_next ∙ add-one n in
           record {
-            limited = subst (IsLimited limits) (sym same_numbering) (h.within limits next.0.limited).0;
-            names_are = ap names_in same_numbering ∙ h.names_are ∙ sym tables_next ∙ ap (λ k. tables_of (take k events)) (sym count);
-            shape_stands = subst (λ s. shapes.StandsFor s (take new.shape.admitted trace)) (sym same_shape) (subst (shapes.StandsFor shape) (sym (take_pushed trace n m m_at) ∙ ap (λ k. take k trace) (sym count)) stands);
-            blocks_are =
-                blocks
-                ∙ ap₂ (λ o b. if o then b + 1 else b) (ap is_outer tells.1 ∙ sym outer_here) next.0.blocks_are
-                ∙ ap (count_below (is_outer_begin trace)) (sym count);
-            lawful = subst (IsLawful limits trace) (sym (count ∙ sym (add-one n))) (below_more (λ i. fault_at limits trace i ≡ None) n next.0.lawful (fault_by_shape ∙ tells.0));
+            counts = counts_next counted counts new same_numbering same_shape same_blocks;
+            clocks_stand = subst (clocks.StandsFor new.clocks) (sym taken ∙ ap (λ k. take k trace) (sym count)) (tells_new.stands refl);
           }
+      judged counted counts (Some t) new same_numbering same_shape same_blocks tells_new =
+          (counts_next counted counts new same_numbering same_shape same_blocks, told_whole t tells_new.told)
 
 count_below_most : (test : ℕ → Bool) (n : ℕ) → count_below test n ≤ n
 count_below_most test zero = omega arith
@@ -167,8 +278,16 @@ count_below_most test (suc n) =
     cond_both (test n) (count_below test n + 1) (count_below test n) (λ k. k ≤ suc n) (λ e. omega arith) (λ e. omega arith)
 
 -- numbers that fit, where the list is short
-pub few_events : (limits : Limits) (events : List Named) (checker : Checker) (e : Named) → IsNext limits checker events e → length events < 2 ^ 32 → checker.shape.admitted + 1 < 2 ^ 32
+pub few_events : (limits : Limits) (events : List (ℕ × Named)) (checker : Checker) (e : ℕ × Named) → IsNext limits checker events e → length events < 2 ^ 32 → checker.shape.admitted + 1 < 2 ^ 32
 few_events limits events checker e next short = let within = slice_get_within events checker.shape.admitted e next.1 in omega arith
 
-pub few_blocks : (limits : Limits) (events : List Named) (checker : Checker) → StandsFor limits checker events → checker.blocks ≤ checker.shape.admitted
-few_blocks limits events checker stands = let most = count_below_most (is_outer_begin (trace_of events)) checker.shape.admitted in omega (arith, stands.blocks_are, most)
+pub few_begun : (limits : Limits) (events : List (ℕ × Named)) (checker : Checker) → StandsFor limits checker events → checker.blocks.begun ≤ checker.shape.admitted
+few_begun limits events checker stands = let most = count_below_most (is_outer_begin (trace_in events)) checker.shape.admitted in omega (arith, stands.counts.begun_are, most)
+
+pub few_ended : (limits : Limits) (events : List (ℕ × Named)) (checker : Checker) → StandsFor limits checker events → checker.blocks.ended ≤ checker.shape.admitted
+few_ended limits events checker stands = let most = count_below_most (is_outer_end (trace_in events)) checker.shape.admitted in omega (arith, stands.counts.ended_are, most)
+
+-- what holds where there is a value
+pub on_ok_here : {T E : Type 0} (r : Result T E) (P : Type 0) → is_err r ≡ false → OnOk r P → P
+on_ok_here (Ok x) P some p = p
+on_ok_here (Err e) P some p = absurd (true≢false some)

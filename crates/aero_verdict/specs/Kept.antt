@@ -1,56 +1,104 @@
 -- For which events of a list a `Checker` stands: the first of them, as many as its shape has admitted.
-use Rattle.std.specs.Prelude.{◌≡◌, ◌≢◌, ℕ, ◌+◌, ◌^◌, ◌<◌, nat_le, List, length, filter, take, slice_get, option_map, Some}
+use Rattle.std.specs.Prelude.{◌≡◌, ◌≢◌, ℕ, suc, ◌+◌, ◌^◌, ◌<◌, nat_le, true, List, length, filter, map, take, slice_get, option_map, Option, Some, None}
+use Rattle.aero_model.specs.declared.event.Numbered.{Numbered}
 use Rattle.aero_model.specs.declared.limits.Limits.{Limits}
 use Rattle.aero_model.specs.declared.verdict.ShapeFault.{ShapeFault}
 use Rattle.aero_model.specs.declared.verdict.ShapeFault.TheVariants.{Memory}
+use Rattle.aero_model.specs.declared.verdict.Verdict.{Verdict}
+use Rattle.aero_model.specs.declared.verdict.Verdict.TheVariants.{Violation, IllFormed}
+use Rattle.aero_model.specs.Blocks.{Block, opens, blocks, transaction}
 use Rattle.aero_model.specs.Named.{Named}
+use Rattle.aero_model.specs.Cycle.{HasTellingCycle}
 use Rattle.aero_model.specs.Numbering.{tables_of, trace_of}
 use Rattle.aero_model.specs.Shape.{IsLawful, fault_at}
-use Rattle.aero_model.specs.Tally.{count_below, is_outer_begin}
+use Rattle.aero_model.specs.Tally.{count_below, is_outer_begin, is_outer_end}
+use Rattle.aero_grammar.specs.Reading.{after_lines}
+use Rattle.aero_access.specs.Judgement.{IsTold}
+use Rattle.aero_access.specs.Standing as clocks
 use Rattle.aero_shape.specs.Standing as shapes
 use Rattle.aero_verdict.specs.declared.checker.Checker.{Checker}
+use Rattle.aero_verdict.specs.declared.checker.Stop.{Stop}
+use Rattle.aero_verdict.specs.declared.checker.Stop.TheVariants.{Refused, Closed}
+use Rattle.aero_verdict.specs.Begun.{begin_line}
 use Rattle.aero_verdict.specs.Limited.{names_in, IsLimited}
 
--- The names, the shape and the number of outermost begins are those of the events that were admitted, and none of these is ill-formed.
-pub record StandsFor (limits : Limits) (checker : Checker) (events : List Named) : Type 0 where
+abbrev pub names_of : List (ℕ × Named) → List Named
+names_of events = map (λ e. e.1) events
+
+abbrev pub trace_in : List (ℕ × Named) → List Numbered
+trace_in events = trace_of (names_of events)
+
+-- the latest outermost begin of thread t in the first n events stands on the line
+pub record LastBegins (events : List (ℕ × Named)) (n t line : ℕ) : Type 0 where
+  pub place : ℕ
+  pub before : place < n
+  pub outermost : opens (trace_in events) t place ≡ true
+  pub block : transaction (trace_in events) place ≡ Block t (blocks (trace_in events) t n)
+  pub line_of : option_map (λ e. e.0) (slice_get events place) ≡ Some line
+
+-- The names, the shape and the blocks are those of the events that were admitted, and none of these is ill-formed.
+pub record Counts (limits : Limits) (checker : Checker) (events : List (ℕ × Named)) : Type 0 where
   pub limited : IsLimited limits checker.numbering
-  pub names_are : names_in checker.numbering ≡ tables_of (take checker.shape.admitted events)
-  pub shape_stands : shapes.StandsFor checker.shape (take checker.shape.admitted (trace_of events))
-  pub blocks_are : checker.blocks ≡ count_below (is_outer_begin (trace_of events)) checker.shape.admitted
-  pub lawful : IsLawful limits (trace_of events) checker.shape.admitted
+  pub names_are : names_in checker.numbering ≡ tables_of (take checker.shape.admitted (names_of events))
+  pub shape_stands : shapes.StandsFor checker.shape (take checker.shape.admitted (trace_in events))
+  pub begun_are : checker.blocks.begun ≡ count_below (is_outer_begin (trace_in events)) checker.shape.admitted
+  pub ended_are : checker.blocks.ended ≡ count_below (is_outer_end (trace_in events)) checker.shape.admitted
+  pub lines_are : (t : ℕ) → 0 < blocks (trace_in events) t checker.shape.admitted → LastBegins events checker.shape.admitted t (begin_line checker.blocks t)
+  pub lawful : IsLawful limits (trace_in events) checker.shape.admitted
+
+-- So are the clocks, and there is no telling cycle.
+pub record StandsFor (limits : Limits) (checker : Checker) (events : List (ℕ × Named)) : Type 0 where
+  pub counts : Counts limits checker events
+  pub clocks_stand : clocks.StandsFor checker.clocks (take checker.shape.admitted (trace_in events))
 
 -- it stands for events of the list, and this is the event after them
-abbrev pub IsNext : Limits → Checker → List Named → Named → Type 0
+abbrev pub IsNext : Limits → Checker → List (ℕ × Named) → ℕ × Named → Type 0
 IsNext limits checker events e = StandsFor limits checker events × (slice_get events checker.shape.admitted ≡ Some e)
 
 -- this is the event after them, for some list of fewer than 2^32 events
-abbrev pub IsExpected : Checker → Named → Type 0
-IsExpected checker e = (limits : Limits) × (events : List Named) × (length events < 2 ^ 32) × IsNext limits checker events e
+abbrev pub IsExpected : Checker → ℕ × Named → Type 0
+IsExpected checker e = (limits : Limits) × (events : List (ℕ × Named)) × (length events < 2 ^ 32) × IsNext limits checker events e
 
 -- why the event after them is ill-formed
-abbrev pub Refuses : Limits → Checker → List Named → ShapeFault → Type 0
-Refuses limits checker events fault = fault ≢ Memory → fault_at limits (trace_of events) checker.shape.admitted ≡ Some fault
+abbrev pub Refuses : Limits → Checker → List (ℕ × Named) → ShapeFault → Type 0
+Refuses limits checker events fault = fault ≢ Memory → fault_at limits (trace_in events) checker.shape.admitted ≡ Some fault
+
+-- after the event at place n: nothing is told, or thread t is, with whose open block a cycle closes
+abbrev pub Judged : Limits → Checker → List (ℕ × Named) → ℕ → Option ℕ → Type 0
+Judged limits checker events n None = StandsFor limits checker events
+Judged limits checker events n (Some t) = Counts limits checker events × IsTold (trace_in events) n (Some t)
 
 -- the events on lines up to this one
 abbrev pub up_to : ℕ → List (ℕ × Named) → List (ℕ × Named)
 up_to most events = filter (λ e. nat_le e.0 most) events
 
--- From place n on, the list goes on with these events.
-abbrev pub GoesOn : List Named → ℕ → List (ℕ × Named) → Type 0
-GoesOn events n more = (i : ℕ) → i < length more → slice_get events (n + i) ≡ option_map (λ e. e.1) (slice_get more i)
+-- From place n on, the list goes on with these events, on lines after so many.
+abbrev pub GoesOn : List (ℕ × Named) → ℕ → ℕ → List (ℕ × Named) → Type 0
+GoesOn events n before more = (i : ℕ) → i < length more → slice_get events (n + i) ≡ option_map (after_lines before) (slice_get more i)
 
 -- it stands for events of the list, and these are the events after them
-abbrev pub AreNext : Limits → Checker → List Named → List (ℕ × Named) → Type 0
-AreNext limits checker events more = StandsFor limits checker events × GoesOn events checker.shape.admitted more
+abbrev pub AreNext : Limits → Checker → List (ℕ × Named) → ℕ → List (ℕ × Named) → Type 0
+AreNext limits checker events before more = StandsFor limits checker events × GoesOn events checker.shape.admitted before more
 
 -- these are the events after them, for some list of fewer than 2^32 events
-abbrev pub AreExpected : Checker → List (ℕ × Named) → Type 0
-AreExpected checker more = (limits : Limits) × (events : List Named) × (length events < 2 ^ 32) × AreNext limits checker events more
+abbrev pub AreExpected : Checker → ℕ → List (ℕ × Named) → Type 0
+AreExpected checker before more = (limits : Limits) × (events : List (ℕ × Named)) × (length events < 2 ^ 32) × AreNext limits checker events before more
 
--- Of these events, which the list has from place n on, the first that is ill-formed stands on the line and has the fault.
-pub record IsRefusedIn (limits : Limits) (events : List Named) (n : ℕ) (more : List (ℕ × Named)) (line : ℕ) (fault : ShapeFault) : Type 0 where
+-- the event at the place stands on the line, and is ill-formed or closes a cycle
+abbrev pub StopsAt : Limits → Checker → List (ℕ × Named) → ℕ → Stop → Type 0
+StopsAt limits checker events n (Refused fault) =
+    IsLawful limits (trace_in events) n × (¬ HasTellingCycle (trace_in events) n) × (fault ≢ Memory → fault_at limits (trace_in events) n ≡ Some fault)
+StopsAt limits checker events n (Closed t) = (checker.shape.admitted ≡ suc n) × Counts limits checker events × IsTold (trace_in events) n (Some t)
+
+-- one of these events, which the list has from place n on, stands on the line and stops
+pub record StopsIn (limits : Limits) (checker : Checker) (events : List (ℕ × Named)) (n before : ℕ) (more : List (ℕ × Named)) (line : ℕ) (stop : Stop) : Type 0 where
   pub index : ℕ
   pub within : index < length more
-  pub lawful : IsLawful limits (trace_of events) (n + index)
-  pub cause : fault_at limits (trace_of events) (n + index) ≡ Some fault
-  pub line_of : option_map (λ e. e.0) (slice_get more index) ≡ Some line
+  pub stops : StopsAt limits checker events (n + index) stop
+  pub line_of : option_map (λ e. e.0) (slice_get events (n + index)) ≡ Some line
+
+-- what is told of it
+abbrev pub TellsStop : Checker → ℕ → Stop → Verdict → Type 0
+TellsStop checker line (Refused fault) verdict = (fault ≢ Memory) × (verdict ≡ IllFormed line fault)
+TellsStop checker line (Closed t) verdict =
+    (name : List ℕ) × (slice_get (names_in checker.numbering).threads t ≡ Some name) × (verdict ≡ Violation line name (begin_line checker.blocks t))

@@ -1,5 +1,7 @@
 pub mod Numbers
 pub mod Limited
+pub mod Begun
+pub mod Judging
 pub mod Kept
 pub mod Verdict
 pub mod Finding

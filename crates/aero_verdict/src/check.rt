@@ -1,8 +1,10 @@
-ghost use Rattle.std.specs.Prelude.{◌≡◌, ◌≢◌, ℕ, Some, IfOk, OnOk, OnErr};
-ghost use Rattle.aero_grammar.specs.Reading.{fault_within};
-ghost use Rattle.aero_verdict.specs.Verdict.{IsVerdict};
+ghost use Rattle.std.specs.Prelude.{◌≡◌, ◌≢◌, ◌-◌, ℕ, List, Some, IfOk, OnOk, OnErr};
+ghost use Rattle.aero_model.specs.declared.limits.Limits.{Limits};
+ghost use Rattle.aero_grammar.specs.Reading.{Reading, fault_within};
+ghost use Rattle.aero_verdict.specs.Verdict.{IsVerdict, IsFaultless};
+ghost use Rattle.aero_verdict.specs.Kept.{TellsStop};
 
-use crate::checker::Checker;
+use crate::checker::{Checker, Stop};
 use aero_grammar::parsed::Parsed;
 use aero_model::limits::Limits;
 use aero_model::verdict::{LineFault, ShapeFault, Verdict};
@@ -12,16 +14,21 @@ use std::alloc::{AllocError, Global};
 ///
 /// Line numbers count from 1 through all parts: those of a part follow the lines of the parts
 /// before it. What follows a part with a fault is ignored, and so is each event on a line after
-/// `limits.lines`.
+/// `limits.lines`. Of what is wrong, what stands first by line decides:
 ///
 /// - `IllFormed`: the first event that is ill-formed, with the number of its line and the first
 ///   cause, in the order of the variants of `ShapeFault`. The limits on threads and names are
 ///   looked at first, and the actor before the target.
-/// - `Malformed`: the faulty line, where no event is ill-formed. All events stand before it. Line
-///   `limits.lines + 1` is `TooManyLines` where it has no fault of its own.
-/// - `WellFormed`: how many events there are, and how many outermost begins.
+/// - `Violation`: the event with which a cycle closes that begins in an open block, by its line,
+///   with the name of the block's thread and the line on which the block began. Where there are
+///   several such blocks, the thread is the one that the trace names first.
+/// - `Malformed`: the faulty line, where nothing is wrong with the events, which all stand before
+///   it. Line `limits.lines + 1` is `TooManyLines` where it has no fault of its own.
+/// - `Pending`: nothing is wrong, and blocks are open: how many events, outermost begins and open
+///   blocks there are.
+/// - `Serializable`: nothing is wrong, and no block is open.
 ///
-/// An `AllocError` says that memory was refused, to the names or to the states of threads and locks.
+/// An `AllocError` says that memory was refused: to the names, the states, the clocks or the answer.
 pub fn check_trace(alloc: Global, parts: &[Parsed], limits: &Limits) -> Result<Verdict, AllocError>
     ensures { IfOk result (λ verdict. IsVerdict parts.now limits.now verdict) }
 {
@@ -31,11 +38,8 @@ pub fn check_trace(alloc: Global, parts: &[Parsed], limits: &Limits) -> Result<V
     let mut lines = 0u32;
     for part in parts {
         let most = limits.lines.saturating_sub(lines);
-        if let Err((line, fault)) = checker.admit_all(&part.events, most) {
-            return Ok(Verdict::IllFormed {
-                line: lines + line,
-                fault: own_fault(fault)?,
-            });
+        if let Err((line, stop)) = checker.admit_all(&part.events, lines, most) {
+            return stopped_at(alloc, &checker, line, stop);
         }
         if let Some((line, fault)) = part.fault {
             let (line, fault) = malformed_line(lines.saturating_add(line), fault, limits);
@@ -49,10 +53,48 @@ pub fn check_trace(alloc: Global, parts: &[Parsed], limits: &Limits) -> Result<V
             fault: LineFault::TooManyLines,
         });
     }
-    Ok(Verdict::WellFormed {
-        events: checker.events(),
-        blocks: checker.blocks(),
-    })
+    Ok(faultless(&checker))
+}
+
+// The verdict where no further event is admitted after the one on this line.
+fn stopped_at(
+    alloc: Global,
+    checker: &Checker,
+    line: u32,
+    stop: Stop,
+) -> Result<Verdict, AllocError>
+    ensures { IfOk result (λ verdict. TellsStop checker.now line stop verdict) }
+{
+    match stop {
+        Stop::Refused(fault) => Ok(Verdict::IllFormed {
+            line,
+            fault: own_fault(fault)?,
+        }),
+        Stop::Closed(t) => Ok(Verdict::Violation {
+            line,
+            thread: checker.thread_name(alloc, t)?,
+            begun: checker.begin_line(t),
+        }),
+    }
+}
+
+// The verdict where nothing is wrong.
+fn faultless(checker: &Checker) -> Verdict
+    ensures { (parts : List Reading) (limits : Limits) →
+        IsFaultless parts limits checker.now.shape.admitted checker.now.blocks.begun (checker.now.blocks.begun - checker.now.blocks.ended) → IsVerdict parts limits result }
+{
+    let events = checker.events();
+    let blocks = checker.blocks();
+    let pending = checker.pending();
+    if pending == 0 {
+        Verdict::Serializable { events, blocks }
+    } else {
+        Verdict::Pending {
+            events,
+            blocks,
+            pending,
+        }
+    }
 }
 
 // The malformed line, where this one has a fault by itself: it, unless one before it is one too many.

@@ -1,36 +1,55 @@
-//! The events of a trace, one after another, up to the first that is ill-formed.
+//! The events of a trace, one after another, up to the first that is ill-formed or closes a cycle.
+ghost use Rattle.std.specs.Prelude.{◌≡◌, List};
+ghost use Rattle.aero_verdict.specs.declared.checker.Stop.{Stop};
+
+use crate::blocks::Blocks;
+use crate::judge::judge;
 use crate::numbering::Numbering;
+use aero_access::clocks::Clocks;
 use aero_model::limits::Limits;
+use aero_model::name::Name;
 use aero_model::named::Event;
 use aero_model::verdict::ShapeFault;
-use aero_shape::admission::Admitted;
 use aero_shape::shape::Shape;
-use std::alloc::Global;
+use std::alloc::{AllocError, Global};
+
+// Why no further event is admitted.
+#[derive(Clone, Copy, Debug, PartialEq, Eq)]
+pub(crate) enum Stop {
+    // The event is ill-formed, or memory was refused.
+    Refused(ShapeFault),
+    // A cycle closes that begins in the open block of this thread.
+    Closed(u32),
+}
 
 // What is kept of the events that were admitted: their names, what they make of each thread and
-// lock, and how many of them are outermost begins.
+// lock, the clocks, and their outermost blocks.
 #[derive(Drop)]
 pub(crate) struct Checker {
     numbering: Numbering,
     shape: Shape,
-    blocks: u32,
+    clocks: Clocks,
+    blocks: Blocks,
 }
 
 impl Checker {
-    ghost use Rattle.std.specs.Prelude.{◌≡◌, ◌≢◌, ◌+◌, ◌≤◌, List, length, OnOk, IfErr};
+    ghost use Rattle.std.specs.Prelude.{◌≡◌, ◌≢◌, ◌+◌, ◌-◌, ◌≤◌, ◌<◌, ◌^◌, ℕ, List, length, slice_get, Some, OnOk, IfOk, IfErr};
     ghost use Rattle.aero_model.specs.declared.limits.Limits.{Limits};
     ghost use Rattle.aero_model.specs.Named.{Named};
-    ghost use Rattle.aero_verdict.specs.Kept.{StandsFor, IsNext, IsExpected, Refuses, up_to, AreNext, AreExpected, IsRefusedIn};
+    ghost use Rattle.aero_verdict.specs.Begun.{begin_line};
+    ghost use Rattle.aero_verdict.specs.Kept.{StandsFor, IsNext, IsExpected, Refuses, Judged, up_to, AreNext, AreExpected, StopsIn};
+    ghost use Rattle.aero_verdict.specs.Limited.{names_in};
 
     // No event was admitted yet.
     pub(crate) fn new(alloc: Global, limits: &Limits) -> Checker
         ensures none { result.shape.admitted ≡ 0 }
-        ensures kept { (events : List Named) → StandsFor limits.now result events }
+        ensures kept { (events : List (ℕ × Named)) → StandsFor limits.now result events }
     {
         Checker {
             numbering: Numbering::new(alloc, limits),
             shape: Shape::new(alloc),
-            blocks: 0,
+            clocks: Clocks::new(alloc),
+            blocks: Blocks::new(alloc),
         }
     }
 
@@ -43,51 +62,82 @@ impl Checker {
 
     // How many of them are outermost begins.
     pub(crate) fn blocks(&self) -> u32
-        ensures { result ≡ self.now.blocks }
+        ensures { result ≡ self.now.blocks.begun }
     {
-        self.blocks
+        self.blocks.begun()
     }
 
-    // Admits the next event, or says why it is ill-formed, or that memory was refused. No event is
-    // admitted after an error.
+    // How many blocks are open.
+    pub(crate) fn pending(&self) -> u32
+        ensures { result ≡ self.now.blocks.begun - self.now.blocks.ended }
+    {
+        self.blocks.pending()
+    }
+
+    // The name of the thread with this number, which an event has named.
+    pub(crate) fn thread_name(&self, alloc: Global, t: u32) -> Result<Name, AllocError>
+        ensures { IfOk result (λ name. slice_get (names_in self.now.numbering).threads t ≡ Some name) }
+    {
+        self.numbering.thread_name(alloc, t)
+    }
+
+    // The line of the latest outermost begin of this thread.
+    pub(crate) fn begin_line(&self, t: u32) -> u32
+        ensures { result ≡ begin_line self.now.blocks t }
+    {
+        self.blocks.begin_line(t)
+    }
+
+    // Admits the next event, which stands on this line: the thread in whose open block a cycle begins
+    // that closes with it, if there is one. Or says why the event is ill-formed, or that memory was
+    // refused. No event is admitted after an error or a thread.
     #[inline(always)]
-    fn admit(&mut self, event: &Event) -> Result<(), ShapeFault>
-        requires { IsExpected self.old event.now }
+    fn admit(&mut self, line: u32, event: &Event) -> Result<Option<u32>, ShapeFault>
+        requires { IsExpected self.old (line, event.now) }
         ensures counted { OnOk result (self.new.shape.admitted ≡ self.old.shape.admitted + 1) }
-        ensures kept { OnOk result ((limits : Limits) (events : List Named) → IsNext limits self.old events event.now →
-            StandsFor limits self.new events) }
-        ensures refused { IfErr result (λ fault. (limits : Limits) (events : List Named) →
-            IsNext limits self.old events event.now → Refuses limits self.old events fault) }
+        ensures judged { IfOk result (λ told. (limits : Limits) (events : List (ℕ × Named)) → IsNext limits self.old events (line, event.now) →
+            Judged limits self.new events self.old.shape.admitted told) }
+        ensures refused { IfErr result (λ fault. (limits : Limits) (events : List (ℕ × Named)) →
+            IsNext limits self.old events (line, event.now) → Refuses limits self.old events fault) }
     {
         let numbered = self.numbering.number(event)?;
-        if let Admitted::OuterBegin = self.shape.admit(&numbered)? {
-            self.blocks += 1;
+        let admitted = self.shape.admit(&numbered)?;
+        if self.blocks.count(admitted, numbered.thread, line).is_err() {
+            return Err(ShapeFault::Memory);
         }
-        Ok(())
+        match judge(&mut self.clocks, &numbered, admitted) {
+            Ok(told) => Ok(told),
+            Err(_) => Err(ShapeFault::Memory),
+        }
     }
 
-    // Admits the events on lines up to `most`, one after another, up to the first that isn't: the
-    // number of its line, and why.
+    // Admits the events on lines up to `most`, one after another, up to the first that is ill-formed
+    // or closes a cycle: the number of its line, and why. So many lines stand before those of these
+    // events, and count in the number.
     pub(crate) fn admit_all(
         &mut self,
         events: &[(u32, Event)],
+        before: u32,
         most: u32,
-    ) -> Result<(), (u32, ShapeFault)>
-        requires { AreExpected self.old (up_to most events.now) }
+    ) -> Result<(), (u32, Stop)>
+        requires next { AreExpected self.old before (up_to most events.now) }
+        requires lines { before + most < 2 ^ 32 }
         ensures counted { OnOk result (self.new.shape.admitted ≡ self.old.shape.admitted + length (up_to most events.now)) }
-        ensures kept { OnOk result ((limits : Limits) (all : List Named) →
-            AreNext limits self.old all (up_to most events.now) → StandsFor limits self.new all) }
-        ensures within { IfErr result (λ refused. refused.0 ≤ most) }
-        ensures refused { IfErr result (λ refused. (limits : Limits) (all : List Named) →
-            AreNext limits self.old all (up_to most events.now) → refused.1 ≢ ShapeFault.Memory →
-            IsRefusedIn limits all self.old.shape.admitted (up_to most events.now) refused.0 refused.1) }
+        ensures kept { OnOk result ((limits : Limits) (all : List (ℕ × Named)) →
+            AreNext limits self.old all before (up_to most events.now) → StandsFor limits self.new all) }
+        ensures stopped { IfErr result (λ stopped. (limits : Limits) (all : List (ℕ × Named)) →
+            AreNext limits self.old all before (up_to most events.now) →
+            StopsIn limits self.new all self.old.shape.admitted before (up_to most events.now) stopped.0 stopped.1) }
     {
         for (line, event) in events {
             if *line > most {
                 continue;
             }
-            if let Err(fault) = self.admit(event) {
-                return Err((*line, fault));
+            let line = before + *line;
+            match self.admit(line, event) {
+                Ok(None) => {}
+                Ok(Some(t)) => return Err((line, Stop::Closed(t))),
+                Err(fault) => return Err((line, Stop::Refused(fault))),
             }
         }
         Ok(())

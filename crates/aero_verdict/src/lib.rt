@@ -1,18 +1,22 @@
-//! The verdict on a trace: well-formed, or the first line that is malformed or ill-formed.
+//! The verdict on a trace: serializable, pending, or the first line with which something is wrong.
 //!
 //! A trace comes as parts, one after the other, and each part says what its block of lines holds.
 //! The events are numbered and checked against the rules for well-formed traces, one after another,
-//! and limits bound how many lines, threads and names a trace may have.
+//! and limits bound how many lines, threads and names a trace may have. Clocks tell the first event
+//! with which a cycle closes that begins in an open block: it stands for an execution that no
+//! execution of whole blocks, one after another, has the same conflicts as.
 //!
 //! ```text
 //! // T1|begin, T1|w(x) and T1|end, on three lines
 //! let verdict = check_trace(alloc, &parts, &Limits::greatest())?;
-//! assert_eq!(rt; verdict, Verdict::WellFormed { events: 3, blocks: 1 });
+//! assert!(rt; matches!(verdict, Verdict::Serializable { events: 3, blocks: 1 }));
 //! ```
 #![tactic(auto)]
 
+mod blocks;
 mod check;
 mod checker;
+mod judge;
 mod numbering;
 
 pub use check::check_trace;

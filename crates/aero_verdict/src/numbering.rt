@@ -11,7 +11,7 @@ use aero_model::name::Name;
 use aero_model::named::{Event, Op};
 use aero_model::verdict::ShapeFault;
 use aero_names::names::{Names, NamesFault};
-use std::alloc::Global;
+use std::alloc::{AllocError, Global};
 
 // The names of the events so far.
 #[derive(Drop)]
@@ -22,7 +22,7 @@ pub(crate) struct Numbering {
 }
 
 impl Numbering {
-    ghost use Rattle.std.specs.Prelude.{◌≡◌, []};
+    ghost use Rattle.std.specs.Prelude.{◌≡◌, [], slice_get, Some, IfOk};
     ghost use Rattle.aero_model.specs.Named.{HasItsTarget};
     ghost use Rattle.aero_verdict.specs.Limited.{names_in, IsLimited, NumbersTarget, RefusesTarget, NumbersEvent, RefusesEvent};
 
@@ -35,6 +35,19 @@ impl Numbering {
             threads: Names::new(alloc, limits.threads),
             variables: Names::new(alloc, limits.names),
             locks: Names::new(alloc, limits.names),
+        }
+    }
+
+    // The name of the thread with this number.
+    pub(crate) fn thread_name(&self, alloc: Global, t: u32) -> Result<Name, AllocError>
+        ensures { IfOk result (λ name. slice_get (names_in self.now).threads t ≡ Some name) }
+    {
+        let Some(bytes) = self.threads.name(t) else {
+            return Err(AllocError);
+        };
+        match Name::read(alloc, bytes) {
+            Ok(name) => Ok(name),
+            Err(_) => Err(AllocError),
         }
     }
 

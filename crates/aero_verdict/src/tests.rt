@@ -64,20 +64,58 @@ fn parsed(alloc: Global, part: Part) -> Result<Parsed, Fail>
     })
 }
 
+// A verdict, where a thread is told by its name in text.
+#[derive(Clone, Copy)]
+enum Wanted {
+    Serializable(u32, u32),
+    Pending(u32, u32, u32),
+    Violation(u32, &'static str, u32),
+    Malformed(u32, LineFault),
+    IllFormed(u32, ShapeFault),
+}
+
+fn is_wanted(verdict: &Verdict, wanted: Wanted) -> bool {
+    match (verdict, wanted) {
+        (Verdict::Serializable { events, blocks }, Wanted::Serializable(e, b)) => {
+            *events == e && *blocks == b
+        }
+        (
+            Verdict::Pending {
+                events,
+                blocks,
+                pending,
+            },
+            Wanted::Pending(e, b, p),
+        ) => *events == e && *blocks == b && *pending == p,
+        (
+            Verdict::Violation {
+                line,
+                thread,
+                begun,
+            },
+            Wanted::Violation(l, t, b),
+        ) => *line == l && thread.bytes() == t.as_bytes() && *begun == b,
+        (Verdict::Malformed { line, fault }, Wanted::Malformed(l, f)) => *line == l && *fault == f,
+        (Verdict::IllFormed { line, fault }, Wanted::IllFormed(l, f)) => *line == l && *fault == f,
+        _ => false,
+    }
+}
+
 // Checks that the parts have the verdict under the limits.
 fn expect(
     rt: &impl Abort,
     alloc: Global,
     limits: &Limits,
     parts: &[Part],
-    wanted: Verdict,
+    wanted: Wanted,
 ) -> Result<(), Fail> {
     let mut all = Vec::new(alloc);
     for part in parts {
         assert!(rt; part.events.len() < 1000 && part.blank_lines < 1000);
         all.push(parsed(alloc, *part)?)?;
     }
-    assert_eq!(rt; check_trace(alloc, &all, limits)?, wanted);
+    let verdict = check_trace(alloc, &all, limits)?;
+    assert!(rt; is_wanted(&verdict, wanted));
     Ok(())
 }
 
@@ -111,14 +149,27 @@ const NESTED: [Line; 8] = [BEGIN, BEGIN, END, BEGIN, END, END, BEGIN, END];
 
 const LOCKED: [Line; 8] = [BEGIN, BEGIN, ACQUIRE, ACQUIRE, RELEASE, RELEASE, END, END];
 
-const TWO_THREADS: [Line; 6] = [
-    BEGIN,
-    ("T2", Op::Begin, ""),
-    WRITE,
-    ("T2", Op::Read, "x"),
-    ("T2", Op::Write, "y"),
-    ("T1", Op::Read, "y"),
-];
+const BEGIN_2: Line = ("T2", Op::Begin, "");
+
+const READ_2: Line = ("T2", Op::Read, "x");
+
+const OTHER_2: Line = ("T2", Op::Write, "y");
+
+const READ_OTHER: Line = ("T1", Op::Read, "y");
+
+// Each of the two blocks has an event that comes after one of the other.
+const CROSSED: [Line; 6] = [BEGIN, BEGIN_2, WRITE, READ_2, OTHER_2, READ_OTHER];
+
+// The same by other paths: what T2 writes first is read last.
+const BOTH_OPEN: [Line; 6] = [BEGIN, BEGIN_2, OTHER_2, WRITE, READ_2, READ_OTHER];
+
+const BOTH_OPEN_THEN_END: [Line; 7] = [BEGIN, BEGIN_2, OTHER_2, WRITE, READ_2, READ_OTHER, END];
+
+const CROSSED_ONE_WAY: [Line; 5] = [BEGIN, BEGIN_2, WRITE, OTHER_2, READ_OTHER];
+
+const FORK_2: Line = ("T1", Op::Fork, "T2");
+
+const JOIN_2: Line = ("T1", Op::Join, "T2");
 
 const FORKED: [Line; 4] = [
     ("T1", Op::Fork, "T2"),
@@ -154,22 +205,87 @@ const fn blank(events: &'static [Line]) -> Part {
 
 #[test]
 fn events_and_outermost_begins_are_counted(rt: HostRuntime) -> Result<(), Fail> {
-    let cases: [(&[Part], u32, u32); 9] = [
+    let cases: [(&[Part], u32, u32); 7] = [
         (&[], 0, 0),
         (&[whole(&BLOCK)], 5, 1),
         (&[whole(&NESTED)], 8, 2),
         (&[whole(&LOCKED)], 8, 1),
-        (&[whole(&TWO_THREADS)], 6, 2),
         (&[whole(&FORKED)], 4, 0),
         (&[whole(&[JOIN, JOIN])], 2, 0),
         (&[blank(&BLOCK), whole(&[]), whole(&BLOCK)], 10, 2),
-        (&[whole(&[BEGIN]), whole(&[BEGIN, END])], 3, 1),
     ];
     for (parts, events, blocks) in cases {
-        let wanted = Verdict::WellFormed { events, blocks };
+        let wanted = Wanted::Serializable(events, blocks);
         expect(&rt, rt.alloc(), &Limits::greatest(), parts, wanted)?;
     }
     Ok(())
+}
+
+#[test]
+fn open_blocks_are_pending(rt: HostRuntime) -> Result<(), Fail> {
+    let cases: [(&[Part], u32, u32, u32); 4] = [
+        (&[whole(&CROSSED_ONE_WAY)], 5, 2, 2),
+        (&[whole(&BOTH_OPEN)], 6, 2, 2),
+        (&[whole(&[BEGIN]), whole(&[BEGIN, END])], 3, 1, 1),
+        (&[whole(&BLOCK), whole(&[BEGIN])], 6, 2, 1),
+    ];
+    for (parts, events, blocks, pending) in cases {
+        let wanted = Wanted::Pending(events, blocks, pending);
+        expect(&rt, rt.alloc(), &Limits::greatest(), parts, wanted)?;
+    }
+    Ok(())
+}
+
+#[test]
+fn a_violation_is_told_where_a_cycle_closes(rt: HostRuntime) -> Result<(), Fail> {
+    let cases: [(&[Part], u32, &str, u32); 7] = [
+        (&[whole(&CROSSED)], 6, "T1", 1),
+        (&[whole(&BOTH_OPEN_THEN_END)], 7, "T2", 2),
+        (&[whole(&[BEGIN, FORK_2, SECOND, JOIN_2])], 4, "T1", 1),
+        (&[faulty(&CROSSED)], 6, "T1", 1),
+        (&[whole(&CROSSED), whole(&[END, END])], 6, "T1", 1),
+        (&[whole(&BLOCK), blank(&[]), whole(&CROSSED)], 12, "T1", 7),
+        (
+            &[
+                blank(&[BEGIN, BEGIN_2, WRITE, READ_2]),
+                whole(&[OTHER_2, READ_OTHER]),
+            ],
+            7,
+            "T1",
+            1,
+        ),
+    ];
+    for (parts, line, thread, begun) in cases {
+        let wanted = Wanted::Violation(line, thread, begun);
+        expect(&rt, rt.alloc(), &Limits::greatest(), parts, wanted)?;
+    }
+    Ok(())
+}
+
+#[test]
+fn a_thread_that_does_nothing_closes_no_cycle(rt: HostRuntime) -> Result<(), Fail> {
+    let wanted = Wanted::Serializable(4, 1);
+    let parts = [whole(&[BEGIN, FORK_2, JOIN_2, END])];
+    expect(&rt, rt.alloc(), &Limits::greatest(), &parts, wanted)
+}
+
+#[test]
+fn a_violation_past_the_limit_does_not_count(rt: HostRuntime) -> Result<(), Fail> {
+    let wanted = Wanted::Malformed(6, LineFault::TooManyLines);
+    expect(
+        &rt,
+        rt.alloc(),
+        &limits(&rt, 5, 10, 10),
+        &[whole(&CROSSED)],
+        wanted,
+    )
+}
+
+#[test]
+fn an_ill_formed_event_goes_before_a_later_violation(rt: HostRuntime) -> Result<(), Fail> {
+    let wanted = Wanted::IllFormed(1, ShapeFault::LockNotHeld);
+    let parts = [whole(&[RELEASE]), whole(&CROSSED)];
+    expect(&rt, rt.alloc(), &Limits::greatest(), &parts, wanted)
 }
 
 #[test]
@@ -220,7 +336,7 @@ fn the_first_ill_formed_event_is_told_with_its_cause(rt: HostRuntime) -> Result<
         ),
     ];
     for (parts, line, fault) in cases {
-        let wanted = Verdict::IllFormed { line, fault };
+        let wanted = Wanted::IllFormed(line, fault);
         expect(&rt, rt.alloc(), &Limits::greatest(), parts, wanted)?;
     }
     Ok(())
@@ -242,10 +358,7 @@ fn a_thread_past_the_limit_is_too_many(rt: HostRuntime) -> Result<(), Fail> {
     ];
     let wanted = ShapeFault::TooManyThreads;
     for (parts, line) in cases {
-        let wanted = Verdict::IllFormed {
-            line,
-            fault: wanted,
-        };
+        let wanted = Wanted::IllFormed(line, wanted);
         expect(&rt, rt.alloc(), &limits(&rt, 100, 2, 100), parts, wanted)?;
     }
     Ok(())
@@ -270,7 +383,7 @@ fn a_variable_or_lock_past_the_limit_is_too_many(rt: HostRuntime) -> Result<(), 
     ];
     for (parts, line) in cases {
         let fault = ShapeFault::TooManyNames;
-        let wanted = Verdict::IllFormed { line, fault };
+        let wanted = Wanted::IllFormed(line, fault);
         expect(&rt, rt.alloc(), &limits(&rt, 100, 100, 1), parts, wanted)?;
     }
     Ok(())
@@ -299,7 +412,7 @@ fn the_limits_are_looked_at_first_and_the_actor_before_the_target(
         ),
     ];
     for (parts, fault) in cases {
-        let wanted = Verdict::IllFormed { line: 2, fault };
+        let wanted = Wanted::IllFormed(2, fault);
         expect(&rt, rt.alloc(), &limits(&rt, 100, 1, 1), parts, wanted)?;
     }
     Ok(())
@@ -315,7 +428,7 @@ fn a_malformed_line_ends_the_trace(rt: HostRuntime) -> Result<(), Fail> {
     ];
     for (parts, line) in cases {
         let fault = LineFault::NoOperation;
-        let wanted = Verdict::Malformed { line, fault };
+        let wanted = Wanted::Malformed(line, fault);
         expect(&rt, rt.alloc(), &Limits::greatest(), parts, wanted)?;
     }
     Ok(())
@@ -324,7 +437,7 @@ fn a_malformed_line_ends_the_trace(rt: HostRuntime) -> Result<(), Fail> {
 #[test]
 fn an_ill_formed_event_goes_before_a_malformed_line(rt: HostRuntime) -> Result<(), Fail> {
     let fault = ShapeFault::EndWithoutBegin;
-    let wanted = Verdict::IllFormed { line: 1, fault };
+    let wanted = Wanted::IllFormed(1, fault);
     let greatest = Limits::greatest();
     expect(&rt, rt.alloc(), &greatest, &[faulty(&[END])], wanted)?;
     let parts = [whole(&[END]), faulty(&[])];
@@ -363,7 +476,7 @@ fn the_line_after_the_limit_is_too_many_or_has_a_fault_of_its_own(
         ),
     ];
     for (parts, fault) in cases {
-        let wanted = Verdict::Malformed { line: 3, fault };
+        let wanted = Wanted::Malformed(3, fault);
         expect(&rt, rt.alloc(), &limits(&rt, 2, 10, 10), parts, wanted)?;
     }
     Ok(())
@@ -378,13 +491,10 @@ fn as_many_lines_as_the_limit_allows_count(rt: HostRuntime) -> Result<(), Fail> 
         (&[blank(&[]), blank(&[])], 0),
     ];
     for (parts, events) in cases {
-        let wanted = Verdict::WellFormed { events, blocks: 0 };
+        let wanted = Wanted::Serializable(events, 0);
         expect(&rt, rt.alloc(), &limits(&rt, 2, 10, 10), parts, wanted)?;
     }
-    let end = Verdict::IllFormed {
-        line: 2,
-        fault: ShapeFault::EndWithoutBegin,
-    };
+    let end = Wanted::IllFormed(2, ShapeFault::EndWithoutBegin);
     let parts = [whole(&[READ]), whole(&[END, READ])];
     expect(&rt, rt.alloc(), &limits(&rt, 2, 10, 10), &parts, end)
 }

@@ -2,12 +2,13 @@
 use Rattle.std.specs.Prelude.{ℕ, Result, Ok, Err}
 use Rattle.aero_model.specs.declared.verdict.Finding.{Finding}
 use Rattle.aero_model.specs.declared.verdict.Finding.TheVariants.{Judged, Broken, TooLarge}
-use Rattle.aero_model.specs.declared.verdict.Verdict.{Verdict}
-use Rattle.aero_model.specs.declared.verdict.Verdict.TheVariants.{WellFormed, Malformed, IllFormed}
+use Rattle.aero_model.specs.declared.verdict.Verdict.TheVariants.{Serializable, Pending, Violation, Malformed, IllFormed}
 use Rattle.aerodrome.specs.declared.one.OneFault.{OneFault}
 
 abbrev pub finding_status : Finding → ℕ
-finding_status (Judged (WellFormed events blocks)) = 0
+finding_status (Judged (Serializable events blocks)) = 0
+finding_status (Judged (Pending events blocks pending)) = 0
+finding_status (Judged (Violation line thread begun)) = 1
 finding_status (Judged (Malformed line fault)) = 2
 finding_status (Judged (IllFormed line fault)) = 2
 finding_status (Broken bytes) = 2

@@ -1,13 +1,13 @@
 //! `aerodrome` reads a logged execution of a threaded program from standard input, one event a
-//! line, judges it, and writes one line:
+//! line, judges whether its atomic blocks behave as if each had run alone, and writes one line:
 //!
 //! ```text
 //! $ printf 'T1|begin\nT1|w(x)\nT1|end\n' | aerodrome
-//! -: well-formed (3 events, 1 blocks)
+//! -: serializable (3 events, 1 blocks)
 //! ```
 //!
-//! The exit status is 0, 2 for a source that is malformed, ill-formed, broken or too large, and 4
-//! where memory was refused, or a write or the flush failed.
+//! The exit status is 0, 1 for a violation, 2 for a source that is malformed, ill-formed, broken or
+//! too large, and 4 where memory was refused, or a write or the flush failed.
 #![tactic(auto)]
 
 pub mod one;

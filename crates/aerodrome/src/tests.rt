@@ -16,10 +16,13 @@ const PIECES: [u32; 4] = [1, 2, 7, 65_536];
 // Two blocks that cross, each before the other.
 const CROSSED: &[u8] = b"T1|begin\nT2|begin\nT1|w(x)\nT2|r(x)\nT2|w(y)\nT1|r(y)";
 
+// The same without the read of x: nothing leads from the first block to the second.
+const NOT_YET_CROSSED: &[u8] = b"T1|begin\nT2|begin\nT1|w(x)\nT2|w(y)\nT1|r(y)";
+
 const CROSSED_THEN_MALFORMED: &[u8] = b"T1|begin\nT2|begin\nT1|w(x)\nT2|r(x)\nT2|w(y)\nT1|r(y)\nT1";
 
 // The end of one block closes the blocks of two threads.
-const CLOSED_AT_ONE_READ: &[u8] =
+const CLOSED_AT_ONE_END: &[u8] =
     b"T1|begin\nT2|begin\nT3|begin\nT2|w(a)\nT3|w(b)\nT1|w(x)\nT2|r(x)\nT3|r(x)\nT1|r(a)\nT1|r(b)\nT1|end";
 
 // What an ended block leads to shows in a last write alone.
@@ -148,31 +151,40 @@ fn expect_line<R: Read + Drop>(
 // Each text with its line and status, under the greatest limits.
 #[test]
 fn a_source_has_its_line(rt: HostRuntime) -> Result<(), Fail> {
-    let rows: [(&[u8], &[u8], u8); 8] = [
-        (b"", b"n: well-formed (0 events, 0 blocks)\n", 0),
+    let rows: [(&[u8], &[u8], u8); 9] = [
+        (b"", b"n: serializable (0 events, 0 blocks)\n", 0),
         (
             b"T1|w(x)|5\nT2|r(x)|6",
-            b"n: well-formed (2 events, 0 blocks)\n",
+            b"n: serializable (2 events, 0 blocks)\n",
             0,
         ),
         (
             b"T1|w(x)|5\r\nT2|r(x)|6\r",
-            b"n: well-formed (2 events, 0 blocks)\n",
+            b"n: serializable (2 events, 0 blocks)\n",
             0,
         ),
-        (CROSSED, b"n: well-formed (6 events, 2 blocks)\n", 0),
         (
-            CLOSED_AT_ONE_READ,
-            b"n: well-formed (11 events, 3 blocks)\n",
+            CROSSED,
+            b"n: violation at line 6: block of T1 from line 1\n",
+            1,
+        ),
+        (
+            NOT_YET_CROSSED,
+            b"n: no violation, 2 blocks open (5 events, 2 blocks)\n",
             0,
+        ),
+        (
+            CLOSED_AT_ONE_END,
+            b"n: violation at line 11: block of T2 from line 2\n",
+            1,
         ),
         (
             SPREAD_TO_A_WRITE,
-            b"n: well-formed (9 events, 2 blocks)\n",
-            0,
+            b"n: violation at line 9: block of T3 from line 1\n",
+            1,
         ),
-        (NESTED, b"n: well-formed (8 events, 1 blocks)\n", 0),
-        (ONE_BLOCK, b"n: well-formed (5 events, 1 blocks)\n", 0),
+        (NESTED, b"n: serializable (8 events, 1 blocks)\n", 0),
+        (ONE_BLOCK, b"n: serializable (5 events, 1 blocks)\n", 0),
     ];
     for (text, line, status) in rows {
         expect_in_pieces(&rt, text, &Limits::greatest(), line, status)?;
@@ -182,17 +194,23 @@ fn a_source_has_its_line(rt: HostRuntime) -> Result<(), Fail> {
 
 #[test]
 fn a_malformed_line_is_told(rt: HostRuntime) -> Result<(), Fail> {
-    let rows: [(&[u8], &[u8]); 5] = [
+    let rows: [(&[u8], &[u8]); 4] = [
         (b"T1|begin\nT1|w(x", b"n:2: malformed: BadParenthesis\n"),
         (b"\nT1|x(y)", b"n:2: malformed: UnknownOperation\n"),
         (b"T1|r()", b"n:1: malformed: MissingTarget\n"),
         (b"T1|acq", b"n:1: malformed: MissingTarget\n"),
-        (CROSSED_THEN_MALFORMED, b"n:7: malformed: NoOperation\n"),
     ];
     for (text, line) in rows {
         expect_in_pieces(&rt, text, &Limits::greatest(), line, 2)?;
     }
     Ok(())
+}
+
+// A violation stands before a fault on a later line.
+#[test]
+fn what_stands_first_is_told(rt: HostRuntime) -> Result<(), Fail> {
+    let line = b"n: violation at line 6: block of T1 from line 1\n";
+    expect_in_pieces(&rt, CROSSED_THEN_MALFORMED, &Limits::greatest(), line, 1).map_err(Fail::from)
 }
 
 #[test]
@@ -216,7 +234,7 @@ fn an_ill_formed_event_is_told(rt: HostRuntime) -> Result<(), Fail> {
     for (text, line) in rows {
         expect_in_pieces(&rt, text, &Limits::greatest(), line, 2)?;
     }
-    let line = b"n: well-formed (2 events, 0 blocks)\n";
+    let line = b"n: serializable (2 events, 0 blocks)\n";
     expect_in_pieces(
         &rt,
         b"T1|join(T9)\nT1|join(T9)",
@@ -233,7 +251,7 @@ fn limits_on_lines_threads_and_names_hold(rt: HostRuntime) -> Result<(), Fail> {
     let rows: [(&[u8], &[u8], u8); 4] = [
         (
             b"T1|r(x)\nT1|r(x)",
-            b"n: well-formed (2 events, 0 blocks)\n",
+            b"n: serializable (2 events, 0 blocks)\n",
             0,
         ),
         (b"T1|r(x)\nT1|r(x)\n ", b"n:3: malformed: TooManyLines\n", 2),
@@ -264,7 +282,7 @@ fn a_line_has_at_most_4096_bytes(rt: HostRuntime) -> Result<(), Fail> {
     }
     let limits = Limits::greatest();
     for piece in PIECES {
-        let line = b"n: well-formed (1 events, 0 blocks)\n";
+        let line = b"n: serializable (1 events, 0 blocks)\n";
         expect_line(&rt, text.as_slice(), &limits, piece, line.as_slice(), 0)?;
     }
     text.push(b'a')?;
@@ -283,7 +301,7 @@ fn a_source_past_the_limit_is_too_large(rt: HostRuntime) -> Result<(), Fail> {
     let Some(short) = Limits::new(6, 1, 1, 1) else {
         return Err(Fail::from(AllocError));
     };
-    let fits = b"n: well-formed (1 events, 0 blocks)\n".as_slice();
+    let fits = b"n: serializable (1 events, 0 blocks)\n".as_slice();
     let large = b"n: too large\n".as_slice();
     for piece in PIECES {
         let text = b"T1|r(x)".as_slice();
@@ -323,7 +341,7 @@ fn a_failed_write_cuts_the_line(rt: HostRuntime) -> Result<(), Fail> {
     assert!(rt; matches!(outcome, Err(OneFault::Write(10))));
     assert_eq!(rt;
         writer.into_inner().taken.as_slice(),
-        b"n: well-fo".as_slice()
+        b"n: seriali".as_slice()
     );
     Ok(())
 }
@@ -335,7 +353,7 @@ fn a_run_tells_what_it_found(rt: HostRuntime) -> Result<(), Fail> {
     let limits = Limits::greatest();
     let outcome = run_one(rt.alloc(), b"n", &mut reader, &mut writer, &limits, 7);
     let found = match outcome {
-        Ok((39, Finding::Judged(Verdict::WellFormed { events, blocks }))) => {
+        Ok((39, Finding::Judged(Verdict::Serializable { events, blocks }))) => {
             events == 5 && blocks == 1
         }
         _ => false,

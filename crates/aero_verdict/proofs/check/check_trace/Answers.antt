@@ -1,18 +1,22 @@
-use Rattle.std.proofs.Common.{Some, List, sym, ◌∙◌, ap, subst}
-use Rattle.aero_model.specs.Named.{Named}
+use Rattle.std.proofs.Common.{Some, sym, ◌∙◌, ap}
+use Rattle.std.proofs.lemmas.Result.{IfOk-weaker}
 use Rattle.aero_grammar.specs.Reading.{Reading, fault_within}
-use Rattle.aero_verdict.specs.Kept.{up_to, AreNext, IsRefusedIn}
-use Rattle.aero_verdict.specs.Verdict.{IsFaultless}
-use Rattle.aero_verdict.proofs.Parts.{nothing_yet, part_expected, part_ill_formed, part_malformed, part_passed, too_many, faultless}
+use Rattle.aero_verdict.proofs.Parts.{nothing_yet, part_expected, lines_fit, part_stopped, part_malformed, part_passed, too_many, faultless}
 use Rattle.aero_verdict.proofs.check.check_trace.Goals as goal
 
 pub loop-part-init : goal.loop-part-init
 loop-part-init c = nothing_yet c.args.limits.now c.args.parts.now c.new-checker.result c.new-checker.ensures.none (c.new-checker.ensures.kept)
 
-pub admit_all-requires : goal.admit_all-requires
-admit_all-requires c =
+pub admit_all-requires-clause-next : goal.admit_all-requires-clause-next
+admit_all-requires-clause-next c =
     let p : Reading = record { events = c.part.inside.events.items; lines = c.part.inside.lines; fault = c.part.inside.fault } in
     part_expected c.args.limits.now c.args.parts.now c.loop-part.part-index c.loop-part.lines c.loop-part.checker c.loop-part.invariant p c.part-item.result c.loop-part-test.true c.part-item.is c.part.view_is
+    c.part.invariant c.saturating_sub-most.result c.saturating_sub-most.ensures c.deref.result.now c.deref.ensures.value
+
+pub admit_all-requires-clause-lines : goal.admit_all-requires-clause-lines
+admit_all-requires-clause-lines c =
+    let p : Reading = record { events = c.part.inside.events.items; lines = c.part.inside.lines; fault = c.part.inside.fault } in
+    lines_fit c.args.limits.now c.args.parts.now c.loop-part.part-index c.loop-part.lines c.loop-part.checker c.loop-part.invariant p c.part-item.result c.loop-part-test.true c.part-item.is c.part.view_is
     c.part.invariant c.saturating_sub-most.result c.saturating_sub-most.ensures c.deref.result.now c.deref.ensures.value
 
 pub loop-part-preserved : goal.loop-part-preserved
@@ -26,12 +30,11 @@ loop-part-preserved c =
 pub returns-in-Err : goal.returns-in-Err
 returns-in-Err c =
     let p : Reading = record { events = c.part.inside.events.items; lines = c.part.inside.lines; fault = c.part.inside.fault } in
-    let own = c.in_ok-own_fault.ensures in
-    part_ill_formed c.args.limits.now c.args.parts.now c.loop-part.part-index c.loop-part.lines c.loop-part.checker c.loop-part.invariant p c.part-item.result c.loop-part-test.true c.part-item.is c.part.view_is
+    IfOk-weaker c.stopped_at.result _ _
+    (part_stopped c.args.limits.now c.args.parts.now c.loop-part.part-index c.loop-part.lines c.loop-part.checker c.loop-part.invariant p c.part-item.result c.loop-part-test.true c.part-item.is c.part.view_is
     c.part.invariant c.saturating_sub-most.result c.saturating_sub-most.ensures c.deref.result.now c.deref.ensures.value
-    c.in-Err.line c.in_ok-own_fault.field-0
-    (subst (λ f. (all : List Named) → AreNext c.args.limits.now c.loop-part.checker all (up_to c.saturating_sub-most.result c.deref.result.now) → IsRefusedIn c.args.limits.now all c.loop-part.checker.shape.admitted (up_to c.saturating_sub-most.result c.deref.result.now) c.in-Err.line f) (sym own.same)
-    (λ all next. c.in-Err.ensures.refused c.args.limits.now all next own.not_memory))
+    c.admit_all.new.self c.in-Err.line c.in-Err.stop (c.in-Err.ensures.stopped c.args.limits.now))
+    c.stopped_at.ensures
 
 pub returns-in-Some : goal.returns-in-Some
 returns-in-Some c =
@@ -50,6 +53,4 @@ pub returns : goal.returns
 returns c =
     let parts = c.args.parts.now in
     let limits = c.args.limits.now in
-    subst (λ n. IsFaultless parts limits n c.blocks-2.result) (sym c.events.ensures)
-    (subst (λ b. IsFaultless parts limits c.loop-part.checker.shape.admitted b) (sym c.blocks-2.ensures)
-    (faultless limits parts c.loop-part.part-index c.loop-part.lines c.loop-part.checker c.loop-part.invariant c.loop-part-test.false c.if-lines-limits.false))
+    c.faultless.ensures parts limits (faultless limits parts c.loop-part.part-index c.loop-part.lines c.loop-part.checker c.loop-part.invariant c.loop-part-test.false c.if-lines-limits.false)

@@ -1,5 +1,4 @@
-use Rattle.std.proofs.Common.{rules, length, arith}
-use Rattle.aero_model.specs.Counts.{seen_by}
+use Rattle.std.proofs.Common.{rules, length}
 use Rattle.aerodrome.proofs.one.run_one.Goals as goal
 
 pub returns-clause-left : goal.returns-clause-left
@@ -16,3 +15,13 @@ returns-clause-left g c =
       },
       record { went = search rules; part = search rules; faults = search rules },
     )
+
+pub returns-in-Ok-clause-found : goal.returns-in-Ok-clause-found
+returns-in-Ok-clause-found g c =
+    record {
+      bytes = c.in_ok-received.received.bytes.items;
+      ending = c.in_ok-received.received.ending;
+      read = search rules;
+      counted = search rules;
+      found = search rules;
+    }

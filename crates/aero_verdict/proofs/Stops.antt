@@ -1,0 +1,101 @@
+-- The verdict where no further event is admitted.
+use Rattle.std.proofs.Common.{◌≡◌, ◌≢◌, ℕ, zero, suc, ◌+◌, ◌<◌, ◌≤◌, Bool, true, false, List, [], ◌∷◌, ◌++◌, length, take, drop, Option, Some, None, refl, sym, ◌∙◌, ap, subst, le_refl, arith}
+use Rattle.std.specs.Prelude.{slice_get, fold, bytes_eq, option_map}
+use Rattle.std.specs.List.{list_any}
+use Rattle.std.proofs.lemmas.Bool.{cond_both}
+use Rattle.aero_model.specs.declared.event.Numbered.{Numbered}
+use Rattle.aero_model.specs.declared.limits.Limits.{Limits}
+use Rattle.aero_model.specs.declared.verdict.Verdict.{Verdict}
+use Rattle.aero_model.specs.Blocks.{blocks, Block, transaction}
+use Rattle.aero_model.specs.Cycle.{HasTellingCycle, IsClosing, IsOpener}
+use Rattle.aero_model.specs.Graph.{BeginsCycle}
+use Rattle.aero_model.specs.Named.{Named}
+use Rattle.aero_model.specs.Numbering.{with_name, tables_of}
+use Rattle.aero_model.specs.Shape.{IsLawful, IsWellFormed}
+use Rattle.aero_model.proofs.Begins.{open_number}
+use Rattle.aero_model.proofs.Cycles.{begins_open}
+use Rattle.aero_model.proofs.Ends.{open_deep}
+use Rattle.aero_model.proofs.Stability.{Agree, agree_back, agree_less, blocks_same}
+use Rattle.aero_model.proofs.Telling.{telling_from_begins, begins_from_telling, none_begins}
+use Rattle.aero_model.proofs.Walks.{begins_same}
+use Rattle.aero_model.proofs.WellFormed.{slice_get-take}
+use Rattle.aero_grammar.specs.Reading.{Reading}
+use Rattle.aero_verdict.specs.declared.checker.Checker.{Checker}
+use Rattle.aero_verdict.specs.declared.checker.Stop.{Stop}
+use Rattle.aero_verdict.specs.declared.checker.Stop.TheVariants.{Refused, Closed}
+use Rattle.aero_verdict.specs.Begun.{begin_line}
+use Rattle.aero_verdict.specs.Kept.{names_of, LastBegins, StopsIn, TellsStop}
+use Rattle.aero_verdict.specs.Limited.{names_in}
+use Rattle.aero_verdict.specs.Verdict.{IsVerdict, IsViolation, BeginsOnLine, counted_events, events_of, checked_trace}
+use Rattle.aero_verdict.proofs.Steps.{front_and_rest}
+use Rattle.aero_verdict.proofs.Fronts.{tables_extended}
+
+-- a name keeps its place, whatever names come later
+
+still_in_front : (xs ys : List (List ℕ)) (t : ℕ) (y : List ℕ) → slice_get xs t ≡ Some y → slice_get (xs ++ ys) t ≡ Some y
+still_in_front [] ys t y at = absurd (cc)
+still_in_front (x ∷ xs) ys zero y at = at
+still_in_front (x ∷ xs) ys (suc t) y at = still_in_front xs ys t y at
+
+still_with : (xs : List (List ℕ)) (name : List ℕ) (t : ℕ) (y : List ℕ) → slice_get xs t ≡ Some y → slice_get (with_name xs name) t ≡ Some y
+still_with xs name t y at =
+    cond_both (list_any (bytes_eq name) xs) xs (xs ++ name ∷ []) (λ zs. slice_get zs t ≡ Some y) (λ _. at) (λ _. still_in_front xs (name ∷ []) t y at)
+
+still_at : (xs more : List (List ℕ)) (t : ℕ) (y : List ℕ) → slice_get xs t ≡ Some y → slice_get (fold with_name xs more) t ≡ Some y
+still_at xs [] t y at = at
+still_at xs (name ∷ more) t y at = still_at (with_name xs name) more t y (still_with xs name t y at)
+
+named_still : (events : List Named) (n t : ℕ) (y : List ℕ) → slice_get (tables_of (take n events)).threads t ≡ Some y → slice_get (tables_of events).threads t ≡ Some y
+named_still events n t y at =
+    let extends = tables_extended (take n events) (drop n events) in
+    subst (λ es. slice_get (tables_of es).threads t ≡ Some y) (front_and_rest events n)
+    (ap (λ ns. slice_get ns t) extends.threads.1 ∙ still_at (tables_of (take n events)).threads extends.threads.0 t y at)
+
+-- the opener is the latest block of its thread
+pub opener_number : (trace : List Numbered) (n t k : ℕ) → IsWellFormed (take (suc n) trace) → IsClosing trace n → IsOpener trace (suc n) t k → (0 < blocks trace t (suc n)) × (blocks trace t (suc n) ≡ k)
+opener_number trace n t k well closing o =
+    let front = take (suc n) trace in
+    let agree : Agree (suc n) front trace = record { same = λ i less. slice_get-take trace (suc n) i less } in
+    let begins : BeginsCycle front (suc n) (Block t k) = begins_same (suc n) trace front (agree_back (suc n) front trace agree) (suc n) (le_refl (suc n)) (Block t k) o.begins in
+    let none : ¬ HasTellingCycle front n =
+    λ c. closing.before n (le_refl n) (telling_from_begins trace n (transaction front (c.0).enters) (begins_same n front trace (agree_less n (suc n) front trace (omega arith) agree) n (le_refl n) (transaction front (c.0).enters) (begins_from_telling front n c))) in
+    let deep = open_deep front (suc n) t k (begins_open front n well (none_begins front n none) (Block t k) begins) in
+    let some : 0 < blocks front t (suc n) = open_number front t (suc n) deep.0 in
+    let same : blocks front t (suc n) ≡ blocks trace t (suc n) = blocks_same (suc n) front trace agree t (suc n) (le_refl (suc n)) in
+    (omega (arith, some, same), sym same ∙ deep.1)
+
+module _ (limits : Limits) (parts : List Reading) (new : Checker) (n before : ℕ) (more : List (ℕ × Named)) (line : ℕ) where
+  abbrev events : List (ℕ × Named)
+  events = counted_events parts limits
+
+  abbrev trace : List Numbered
+  trace = checked_trace parts limits
+
+  violation : (t : ℕ) (name : List ℕ) → StopsIn limits new events n before more line (Closed t) → slice_get (names_in new.numbering).threads t ≡ Some name →
+      IsViolation parts limits line name (begin_line new.blocks t)
+  violation t name stops at =
+      let p = n + stops.index in
+      let count : new.shape.admitted ≡ suc p = stops.stops.0 in
+      let counts = stops.stops.1 in
+      let told = stops.stops.2 in
+      let well : IsWellFormed (take (suc p) trace) = subst (λ k. IsWellFormed (take k trace)) count counts.shape_stands.well_formed in
+      let number = opener_number trace p t (blocks trace t p) well told.0 told.1 in
+      let last : LastBegins events (suc p) t (begin_line new.blocks t) =
+      subst (λ k. 0 < blocks trace t k → LastBegins events k t (begin_line new.blocks t)) count (counts.lines_are t) number.0 in
+      record {
+        place = p;
+        lawful = subst (IsLawful limits trace) count counts.lawful;
+        closing = told.0;
+        line_of = stops.line_of;
+        t = t;
+        number = blocks trace t p;
+        opener = told.1;
+        name = named_still (events_of parts limits) new.shape.admitted t name (ap (λ ts. slice_get ts.threads t) (sym counts.names_are) ∙ at);
+        begins = record { place = last.place; outermost = last.outermost; block = last.block ∙ ap (Block t) number.1; line_of = last.line_of };
+      }
+
+  pub verdict_at : (stop : Stop) → StopsIn limits new events n before more line stop → (verdict : Verdict) → TellsStop new line stop verdict → IsVerdict parts limits verdict
+  verdict_at (Refused fault) stops verdict tells =
+      subst (IsVerdict parts limits) (sym tells.1)
+      (record { place = n + stops.index; clean = record { lawful = stops.stops.0; no_cycle = stops.stops.1 }; cause = stops.stops.2 tells.0; line_of = stops.line_of })
+  verdict_at (Closed t) stops verdict tells = subst (IsVerdict parts limits) (sym tells.2) (violation t tells.0 stops tells.1)
