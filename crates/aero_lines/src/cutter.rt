@@ -27,6 +27,14 @@ impl Block {
     {
         self.bytes.as_slice()
     }
+
+    /// The bytes of the block, for whoever keeps them.
+    pub fn into_bytes(self) -> Vec<u8>
+        ensures { result.items ≡ self }
+    {
+        let Block { bytes } = self;
+        bytes
+    }
 }
 
 /// Cuts one text, piece by piece. It keeps the bytes since the last cut, 4,096 at most, and whether
@@ -49,7 +57,8 @@ impl Model for Cutter {
 }
 
 impl Cutter {
-    ghost use Rattle.std.specs.Prelude.{◌≡◌, ◌++◌, [], true, IfOk, OnOk, OnErr, IsOk, IsTrue, Ok, Some};
+    ghost use Rattle.std.specs.Prelude.{◌≡◌, ◌≤◌, ◌+◌, ◌++◌, [], true, length, IfOk, OnOk, OnErr, IfSome, IsOk, IsTrue, Ok, Some};
+    ghost use Rattle.aero_model.specs.Lines.{most_line_bytes};
     ghost use Rattle.aero_lines.specs.Cutting.{IsOpenLine, nothing_yet, fed, block_of, last_block};
 
     /// A cutter before its first piece. It takes no memory yet.
@@ -64,8 +73,9 @@ impl Cutter {
     }
 
     /// Takes the next piece, and gives all lines that are whole now, with their bytes 10, or None
-    /// where there is none. Where a line is too long, the block ends with its first 4,097 bytes,
-    /// and the cutter is shut: every later call gives None and drops the piece.
+    /// where there is none: at most 4,096 bytes more than the piece. Where a line is too long, the
+    /// block ends with its first 4,097 bytes, and the cutter is shut: every later call gives None
+    /// and drops the piece.
     ///
     /// The time is linear in the pieces so far, however short they are: each byte is looked at three
     /// times at most and copied once, and the memory that holds it grows by doubling.
@@ -76,6 +86,7 @@ impl Cutter {
     /// same piece may be fed again. A cutter that is shut takes no memory.
     pub fn feed(&mut self, piece: &[u8]) -> Result<Option<Block>, AllocError>
         ensures block { IfOk result (λ block. block ≡ block_of self.old piece.now) }
+        ensures few { IfOk result (λ block. IfSome block (λ bytes. length bytes ≤ most_line_bytes + length piece.now)) }
         ensures after { OnOk result (self.new ≡ fed self.old piece.now) }
         ensures refused { OnErr result (self.new ≡ self.old) }
         ensures shut { IsTrue self.old.shut → IsOk result }
@@ -98,14 +109,15 @@ impl Cutter {
         }
     }
 
-    /// Ends the text: gives the bytes that no byte 10 ended, or None where there are none or the
-    /// cutter is shut.
+    /// Ends the text: gives the bytes that no byte 10 ended, 4,096 at most, or None where there are
+    /// none or the cutter is shut.
     ///
     /// # Errors
     ///
     /// None: no memory is needed, and the result is always Ok.
     pub fn finish(self) -> Result<Option<Block>, AllocError>
-        ensures { result ≡ Ok (last_block self) }
+        ensures last { result ≡ Ok (last_block self) }
+        ensures few { IfOk result (λ block. IfSome block (λ bytes. length bytes ≤ most_line_bytes)) }
     {
         let Cutter { rest, shut, .. } = self;
         if shut || rest.is_empty() {

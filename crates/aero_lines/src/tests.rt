@@ -74,6 +74,16 @@ fn a_line_that_is_too_long_shuts_the_cutter(rt: HostRuntime) -> Result<(), Fail>
 }
 
 #[test]
+fn a_block_gives_its_bytes_away(rt: HostRuntime) -> Result<(), Fail> {
+    let mut cutter = Cutter::new(rt.alloc());
+    match cutter.feed(b"ab\nc")? {
+        Some(block) => assert_eq!(rt; block.into_bytes().as_slice(), b"ab\n".as_slice()),
+        None => assert!(rt; false, "no block"),
+    }
+    Ok(())
+}
+
+#[test]
 fn many_short_pieces_make_one_block(rt: HostRuntime) -> Result<(), Fail> {
     let mut cutter = Cutter::new(rt.alloc());
     for _ in 0..4096 {

@@ -6,7 +6,7 @@ use Rattle.aero_model.specs.declared.verdict.LineFault.TheVariants as line_fault
 use Rattle.aero_model.specs.declared.verdict.ShapeFault.TheVariants as shape_faults
 use Rattle.aero_model.specs.declared.verdict.Verdict.TheVariants.{Serializable, Pending, Violation, Malformed, IllFormed}
 use Rattle.aero_model.specs.declared.verdict.Finding.TheVariants.{Judged, Broken, TooLarge}
-use Rattle.aero_report.specs.Texts.{source_line}
+use Rattle.aero_report.specs.Texts.{source_line, summary_line, no_counts, counts_of, report}
 
 broken : source_line (codes "n") (Broken 20) ≡ codes "n: broken after 20 bytes" ++ 10 ∷ []
 unfolding digits
@@ -39,3 +39,14 @@ malformed = refl
 ill_formed : source_line (codes "n") (Judged (IllFormed 3 shape_faults.ThreadJoined)) ≡ codes "n:3: ill-formed: ThreadJoined" ++ 10 ∷ []
 unfolding digits
 ill_formed = refl
+
+no_sources : summary_line no_counts ≡ codes "traces 0: serializable 0, open 0, violations 0, faults 0" ++ 10 ∷ []
+unfolding digits
+no_sources = refl
+
+one_of_each : counts_of (Judged (Serializable 1 0) ∷ Judged (Pending 5 2 2) ∷ Judged (Violation 6 (codes "T1") 1) ∷ Broken 20 ∷ TooLarge ∷ []) ≡ record { serializable = 1; pending = 1; violations = 1; faults = 2 }
+one_of_each = refl
+
+one_broken : report ((codes "n", Broken 20) ∷ []) ≡ codes "n: broken after 20 bytes" ++ 10 ∷ codes "traces 1: serializable 0, open 0, violations 0, faults 1" ++ 10 ∷ []
+unfolding digits
+one_broken = refl

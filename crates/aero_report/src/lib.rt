@@ -1,8 +1,9 @@
 //! The texts of the report, and the call that writes them.
 //!
 //! `trace_text` makes the line of a source, with its newline: the source's name, then what was
-//! found of it. `put` writes a text to a counting writer, and says how many bytes went out where a
-//! write failed. The lines stand byte by byte in `specs/Texts.antt`.
+//! found of it. `summary_text` makes the last line, which counts what was found. `put` writes a text
+//! to a counting writer, and says how many bytes went out where a write failed. The lines stand byte
+//! by byte in `specs/Texts.antt`.
 //!
 //! ```text
 //! let finding = Finding::Judged(Verdict::Malformed { line: 2, fault: LineFault::BadParenthesis });
@@ -17,9 +18,11 @@
 #![tactic(auto)]
 
 mod output;
+mod summary;
 mod texts;
 
 pub use output::{Cut, put};
+pub use summary::summary_text;
 pub use texts::trace_text;
 
 #[cfg(test)]

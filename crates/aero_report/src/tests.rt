@@ -1,10 +1,10 @@
 // What no clause says: texts known from elsewhere, and writers that fail or take nothing.
 ghost use Rattle.std.specs.Prelude.{Some};
 
-use crate::{Cut, put, trace_text};
+use crate::{Cut, put, summary_text, trace_text};
 use aero_model::counting::Counting;
 use aero_model::name::Name;
-use aero_model::verdict::{Finding, LineFault, ShapeFault, Verdict};
+use aero_model::verdict::{Counts, Finding, LineFault, ShapeFault, Verdict};
 use std::alloc::Global;
 use std::io;
 use std::io::Write;
@@ -192,6 +192,39 @@ fn each_ill_formed_event_is_named(rt: HostRuntime) -> Result<(), Fail> {
     for (fault, line) in cases {
         let verdict = Verdict::IllFormed { line: 3, fault };
         expect_line(&rt, rt.alloc(), Finding::Judged(verdict), line)?;
+    }
+    Ok(())
+}
+
+#[test]
+fn the_summary_counts_what_was_found(rt: HostRuntime) -> Result<(), Fail> {
+    let cases = [
+        (
+            [0, 0, 0, 0],
+            "traces 0: serializable 0, open 0, violations 0, faults 0\n",
+        ),
+        (
+            [1, 0, 2, 0],
+            "traces 3: serializable 1, open 0, violations 2, faults 0\n",
+        ),
+        (
+            [0, 0, 0, 1],
+            "traces 1: serializable 0, open 0, violations 0, faults 1\n",
+        ),
+        (
+            [1, u64::MAX, 0, 0],
+            "traces 18446744073709551616: serializable 1, open 18446744073709551615, violations 0, faults 0\n",
+        ),
+    ];
+    for ([serializable, pending, violations, faults], line) in cases {
+        let counts = Counts {
+            serializable,
+            pending,
+            violations,
+            faults,
+        };
+        let text = summary_text(rt.alloc(), &counts)?;
+        assert_eq!(rt; text.as_slice(), line.as_bytes());
     }
     Ok(())
 }

@@ -126,7 +126,7 @@ fn append_fault(text: &mut Vec<u8>, line: u32, kind: &[u8], name: &[u8]) -> Resu
     text.extend_from_slice(name)
 }
 
-fn append_number(text: &mut Vec<u8>, number: u64) -> Result<(), AllocError>
+pub fn append_number(text: &mut Vec<u8>, number: u64) -> Result<(), AllocError>
     ensures { OnOk result (text.new.items ≡ text.old.items ++ decimal number) }
 {
     let mut buffer = Buffer::new();

@@ -1,11 +1,10 @@
 -- What the shape's answer to an event says of it, and so of the clocks' call for it.
-use Rattle.std.proofs.Common.{◌≡◌, ◌≢◌, ◌⊎◌, ℕ, suc, ◌+◌, ◌-◌, ◌^◌, ◌<◌, ◌≤◌, ◌==◌, ◌&&◌, ◌||◌, nat_lt, Bool, true, false, if◌then◌else◌, List, [], ◌∷◌, ◌++◌, length, Option, Some, None, inl, inr, refl, sym, ◌∙◌, ap, ap₂, subst, arith}
+use Rattle.std.proofs.Common.{◌≡◌, ◌≢◌, ◌⊎◌, ℕ, ◌-◌, ◌^◌, ◌<◌, ◌≤◌, ◌==◌, ◌&&◌, ◌||◌, nat_lt, Bool, true, false, if◌then◌else◌, List, [], ◌∷◌, ◌++◌, length, Option, Some, None, inl, inr, refl, sym, ◌∙◌, ap, subst, arith}
 use Rattle.std.specs.Prelude.{slice_get, Result, IfOk}
-use Rattle.std.proofs.lemmas.Bool.{cases_Bool, cases_eq, cases_lt, and_parts, and_from, eqb-true, eq-eqb, lt-ltb, le-ltb, cond-true, cond-false, true≢false, both_ways, true_from_ne_false}
+use Rattle.std.proofs.lemmas.Bool.{cases_Bool, cases_eq, and_parts, and_from, eqb-true, eq-eqb, cond-true, cond-false, true≢false}
 use Rattle.aero_model.specs.declared.event.Numbered.{Numbered}
 use Rattle.aero_model.specs.declared.event.What.{What}
 use Rattle.aero_model.specs.declared.event.What.TheVariants.{Read, Write, Acquire, Release, Fork, Join, Begin, End}
-use Rattle.aero_model.specs.declared.verdict.ShapeFault.{ShapeFault}
 use Rattle.aero_model.specs.declared.verdict.ShapeFault.TheVariants.{ForkSelf, ForkStarted, JoinSelf, EndWithoutBegin, ThreadJoined}
 use Rattle.aero_model.specs.Blocks.{depth, blocks, is_begin, is_end, by_thread, closes}
 use Rattle.aero_model.specs.Shape.{has_acted, was_forked, was_joined, has_started, deed_fault, shape_fault, IsWellFormed}
@@ -17,9 +16,9 @@ use Rattle.aero_access.specs.Standing as clocks
 use Rattle.aero_access.specs.StateWords.{event, IsIdle, inner_begin, inner_end, idle_join}
 use Rattle.aero_shape.specs.declared.admission.Admitted.{Admitted}
 use Rattle.aero_shape.specs.declared.admission.Admitted.TheVariants.{Plain, OuterBegin, OuterEnd, IdleJoin}
-use Rattle.aero_shape.specs.Admission.{deed_as, admitted_as}
+use Rattle.aero_shape.specs.Admission.{deed_as}
 use Rattle.aero_verdict.specs.Begun.{begins_block, ends_block}
-use Rattle.aero_verdict.specs.Judging.{ComesAfter, ActsAfter, IsAdmitted, IsToAct}
+use Rattle.aero_verdict.specs.Judging.{ComesAfter}
 
 -- whether an answer says that a thread is joined that has not acted
 abbrev joins_idle : Admitted → Bool

@@ -4,6 +4,8 @@ pub mod Targets
 pub mod Judging
 pub mod Steps
 pub mod Lines
+pub mod Openers
+pub mod Readings
 pub mod Stops
 pub mod Parts
 pub mod Written

@@ -1,5 +1,5 @@
 -- A trace has one verdict at most.
-use Rattle.std.proofs.Common.{◌≡◌, inl, inr, ℕ, suc, ◌+◌, ◌<◌, ◌≤◌, ◌&&◌, ◌==◌, List, length, Option, Some, None, sym, ◌∙◌, ap, ap₂, subst, option_map, take, true, arith, le_refl}
+use Rattle.std.proofs.Common.{◌≡◌, inl, inr, ℕ, suc, ◌<◌, ◌≤◌, List, length, Option, Some, None, sym, ◌∙◌, ap, ap₂, subst, option_map, take, true, arith}
 use Rattle.std.specs.Prelude.{slice_get, option_and_then, unwrap_or}
 use Rattle.std.specs.Option.{option_or}
 use Rattle.std.proofs.lemmas.Bool.{cases_lt, cases_order}
@@ -11,7 +11,7 @@ use Rattle.aero_model.specs.declared.verdict.ShapeFault.{ShapeFault}
 use Rattle.aero_model.specs.declared.verdict.Verdict.{Verdict}
 use Rattle.aero_model.specs.declared.verdict.Verdict.TheVariants.{Serializable, Pending, Violation, Malformed, IllFormed}
 use Rattle.aero_model.specs.Blocks.{Block, opens, blocks, transaction}
-use Rattle.aero_model.specs.Cycle.{HasTellingCycle, IsClosing, IsOpener}
+use Rattle.aero_model.specs.Cycle.{IsClosing, IsOpener}
 use Rattle.aero_model.specs.Graph.{BeginsCycle}
 use Rattle.aero_model.specs.Named.{Named}
 use Rattle.aero_model.specs.Numbering.{tables_of}
@@ -23,8 +23,8 @@ use Rattle.aero_model.proofs.Places.{in_block}
 use Rattle.aero_model.proofs.Telling.{telling_more}
 use Rattle.aero_grammar.specs.Reading.{Reading}
 use Rattle.aero_verdict.specs.Verdict.{IsVerdict, IsFaultless, IsClean, IsIllFormed, IsMalformed, IsViolation, BeginsOnLine, counted_events, events_of, checked_trace}
-use Rattle.aero_verdict.proofs.Parts.{trace_length}
-use Rattle.aero_verdict.proofs.Stops.{opener_number}
+use Rattle.aero_verdict.proofs.Openers.{opener_number}
+use Rattle.aero_verdict.proofs.Readings.{trace_length}
 
 -- only an event of the trace is refused
 refused_within : (limits : Limits) (trace : List Numbered) (n : ℕ) (fault : ShapeFault) → fault_at limits trace n ≡ Some fault → n < length trace

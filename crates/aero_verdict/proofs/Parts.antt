@@ -1,37 +1,25 @@
 -- The parts of a trace, one after the other.
-use Rattle.std.proofs.Common.{◌≡◌, ℕ, zero, suc, ◌+◌, ◌-◌, ◌<◌, ◌≤◌, ◌^◌, nat_le, nat_lt, min, Bool, true, false, List, [], ◌∷◌, ◌++◌, length, map, drop, get_or, Option, Some, None, option_map, inl, inr, refl, sym, ◌∙◌, ap, ap₂, subst, arith, add-one, zero-add, add_assoc, length-append}
-use Rattle.std.specs.Prelude.{slice_get, is_some, All, if◌then◌else◌}
-use Rattle.std.proofs.lemmas.Bool.{cond-true, cond-false, cond_both, cases_lt, cases_Bool, le-leb, lt-leb, lt-ltb, le-ltb}
+use Rattle.std.proofs.Common.{◌≡◌, ℕ, suc, ◌+◌, ◌-◌, ◌<◌, ◌≤◌, ◌^◌, nat_le, nat_lt, min, true, false, List, [], ◌∷◌, ◌++◌, length, map, drop, get_or, Some, None, option_map, sym, ◌∙◌, ap, ap₂, subst, refl, arith, add-one, add_assoc, length-append}
+use Rattle.std.specs.Prelude.{slice_get, is_some, if◌then◌else◌}
+use Rattle.std.proofs.lemmas.Bool.{cond-true, cond-false, lt-ltb, le-ltb}
 use Rattle.std.proofs.lemmas.List.{append_assoc, append-nil, drop_all, map-append, length-map}
 use Rattle.std.proofs.lemmas.List.Elements.{filter-append}
-use Rattle.std.proofs.lemmas.Option.{slice_get-map}
-use Rattle.std.proofs.Math.Seq.{drop-cons}
 use Rattle.aero_model.specs.declared.limits.Limits.{Limits}
 use Rattle.aero_model.specs.declared.verdict.LineFault.{LineFault}
 use Rattle.aero_model.specs.declared.verdict.LineFault.TheVariants.{TooManyLines}
 use Rattle.aero_model.specs.declared.verdict.Verdict.{Verdict}
 use Rattle.aero_model.specs.Named.{Named}
-use Rattle.aero_model.specs.Numbering.{tables_of, numbered}
 use Rattle.aero_model.specs.Shape.{IsLawful}
 use Rattle.aero_model.specs.Cycle.{HasTellingCycle}
 use Rattle.aero_model.specs.Tally.{count_below, is_outer_begin, is_outer_end}
-use Rattle.aero_grammar.specs.Reading.{Reading, after_lines, followed_by, whole_reading, LinesRise, IsReading, fault_within, malformed_line}
+use Rattle.aero_grammar.specs.Reading.{Reading, after_lines, whole_reading, IsReading, fault_within, malformed_line}
 use Rattle.aero_verdict.specs.declared.checker.Checker.{Checker}
 use Rattle.aero_verdict.specs.declared.checker.Stop.{Stop}
-use Rattle.aero_verdict.specs.Kept.{StandsFor, up_to, GoesOn, AreNext, AreExpected, StopsIn, TellsStop}
-use Rattle.aero_verdict.specs.Verdict.{counted_events, events_of, checked_trace, IsClean, IsVerdict, IsMalformed, IsFaultless}
+use Rattle.aero_verdict.specs.Kept.{StandsFor, up_to, AreNext, AreExpected, StopsIn, TellsStop}
+use Rattle.aero_verdict.specs.Verdict.{counted_events, checked_trace, IsClean, IsVerdict, IsMalformed, IsFaultless}
 use Rattle.aero_verdict.proofs.Lines.{untold_whole}
+use Rattle.aero_verdict.proofs.Readings.{AreBefore, greatest_number, after_faulty, after_faultless, begins_with, after_again, fault_again, rising_within, all_up_to, up_to_shorter, up_to_after, fault_told, goes_on, trace_length, start, here}
 use Rattle.aero_verdict.proofs.Stops.{verdict_at}
-
--- the parts before these have no fault, and have these events and so many lines
-pub record AreBefore (parts rest : List Reading) (events : List (ℕ × Named)) (total : ℕ) : Type 0 where
-  pub events_are : (whole_reading parts).events ≡ events ++ map (after_lines total) (whole_reading rest).events
-  pub lines_are : (whole_reading parts).lines ≡ total + (whole_reading rest).lines
-  pub fault_is : (whole_reading parts).fault ≡ option_map (after_lines total) (whole_reading rest).fault
-
--- the greatest number that a line is told by
-abbrev pub greatest_number : ℕ
-greatest_number = 2 ^ 32 - 1
 
 -- The first k parts have no fault and so many lines, as far as these can be told. The checker has admitted those of their events that count, whatever events follow.
 pub record Stands (limits : Limits) (parts : List Reading) (k lines : ℕ) (checker : Checker) : Type 0 where
@@ -43,133 +31,6 @@ pub record Stands (limits : Limits) (parts : List Reading) (k lines : ℕ) (chec
   pub few : length (up_to limits.lines events) ≤ total
   pub few_enough : length (up_to limits.lines events) ≤ limits.lines
   pub kept : (more : List (ℕ × Named)) → StandsFor limits checker (up_to limits.lines events ++ more)
-
--- one part, and those after it
-
-pub after_faulty : (p r : Reading) → is_some p.fault ≡ true → followed_by p r ≡ p
-after_faulty p r faulty = cond-true (is_some p.fault) _ _ faulty
-
-abbrev pub joined : Reading → Reading → Reading
-joined p r = record { events = p.events ++ map (after_lines p.lines) r.events; lines = p.lines + r.lines; fault = option_map (after_lines p.lines) r.fault }
-
-pub after_faultless : (p r : Reading) → is_some p.fault ≡ false → followed_by p r ≡ joined p r
-after_faultless p r faultless = cond-false (is_some p.fault) _ _ faultless
-
-begins_with : (p r : Reading) → (more : List (ℕ × Named)) × ((followed_by p r).events ≡ p.events ++ more)
-begins_with p r = go (is_some p.fault) refl
-  where
-    go : (b : Bool) → is_some p.fault ≡ b → (more : List (ℕ × Named)) × ((followed_by p r).events ≡ p.events ++ more)
-    go true e = ([], ap (λ x. x.events) (after_faulty p r e) ∙ sym (append-nil p.events))
-    go false e = (map (after_lines p.lines) r.events, ap (λ x. x.events) (after_faultless p r e))
-
--- lines and names of events that are counted on
-
-slice_get_behind : {A : Type 0} (xs ys : List A) (i : ℕ) → slice_get (xs ++ ys) (length xs + i) ≡ slice_get ys i
-slice_get_behind [] ys i = ap (slice_get ys) (zero-add i)
-slice_get_behind (x ∷ xs) ys i =
-    let more : length (x ∷ xs) + i ≡ suc (length xs + i) = omega arith in
-    ap (slice_get (x ∷ (xs ++ ys))) more ∙ slice_get_behind xs ys i
-
-slice_get_front : {A : Type 0} (xs ys : List A) (i : ℕ) → i < length xs → slice_get (xs ++ ys) i ≡ slice_get xs i
-slice_get_front [] ys i less = absurd (omega arith)
-slice_get_front (x ∷ xs) ys zero less = refl
-slice_get_front (x ∷ xs) ys (suc i) less = slice_get_front xs ys i (omega arith)
-
-after_again : {A : Type 0} (m n : ℕ) (xs : List (ℕ × A)) → map (after_lines m) (map (after_lines n) xs) ≡ map (after_lines (m + n)) xs
-after_again m n [] = refl
-after_again m n (x ∷ xs) = λ i. (sym (add_assoc m n x.0) i, x.1) ∷ after_again m n xs i
-
-after_none : {A : Type 0} (xs : List (ℕ × A)) → map (after_lines 0) xs ≡ xs
-after_none [] = refl
-after_none (x ∷ xs) = λ i. (zero-add x.0 i, x.1) ∷ after_none xs i
-
-fault_again : (m n : ℕ) (f : Option (ℕ × LineFault)) → option_map (after_lines m) (option_map (after_lines n) f) ≡ option_map (after_lines (m + n)) f
-fault_again m n None = refl
-fault_again m n (Some f) = λ i. Some (sym (add_assoc m n f.0) i, f.1)
-
-fault_after_none : (f : Option (ℕ × LineFault)) → option_map (after_lines 0) f ≡ f
-fault_after_none None = refl
-fault_after_none (Some f) = λ i. Some (zero-add f.0 i, f.1)
-
--- a text has no more events than lines
-
-LinesRise-weaker : (m n : ℕ) (es : List (ℕ × Named)) → m ≤ n → LinesRise n es → LinesRise m es
-LinesRise-weaker m n [] le rise = tt
-LinesRise-weaker m n (e ∷ es) le rise = (omega (arith, le, rise.0), rise.1)
-
-rising_within : (n most : ℕ) (es : List (ℕ × Named)) → LinesRise n es → n ≤ most → n + length (up_to most es) ≤ most
-rising_within n most [] rise le = omega arith
-rising_within n most (e ∷ es) rise le =
-    elim (cases_lt most e.0) [
-      | inl beyond ↦
-          let same = ap length (cond-false (nat_le e.0 most) (e ∷ up_to most es) (up_to most es) (lt-leb e.0 most beyond)) in
-          let later = rising_within n most es (LinesRise-weaker n e.0 es (omega (arith, rise.0)) rise.1) le in
-          omega (arith, same, later)
-      | inr within ↦
-          let same = ap length (cond-true (nat_le e.0 most) (e ∷ up_to most es) (up_to most es) (le-leb e.0 most within)) in
-          let later = rising_within e.0 most es rise.1 within in
-          omega (arith, same, later, rise.0)
-    ]
-
-all_up_to : (most : ℕ) (es : List (ℕ × Named)) → All (λ e. e.0 ≤ most) es → up_to most es ≡ es
-all_up_to most [] within = refl
-all_up_to most (e ∷ es) within =
-    let here : e.0 ≤ most = within 0 e (omega arith) in
-    cond-true (nat_le e.0 most) _ _ (le-leb e.0 most here) ∙ ap (λ xs. e ∷ xs) (all_up_to most es (λ i d less. within (suc i) d (omega arith)))
-
-up_to_shorter : (most : ℕ) (es : List (ℕ × Named)) → length (up_to most es) ≤ length es
-up_to_shorter most [] = omega arith
-up_to_shorter most (e ∷ es) =
-    let later = up_to_shorter most es in
-    cond_both (nat_le e.0 most) (e ∷ up_to most es) (up_to most es) (λ xs. length xs ≤ length (e ∷ es)) (λ _. omega arith) (λ _. omega arith)
-
--- the lines that count, of a text after others
-
-same_test : (total line limit : ℕ) → 0 < line → nat_le (total + line) limit ≡ nat_le line (limit - total)
-same_test total line limit some =
-    elim (cases_lt limit (total + line)) [
-      | inl beyond ↦ lt-leb (total + line) limit beyond ∙ sym (lt-leb line (limit - total) (omega arith))
-      | inr within ↦ le-leb (total + line) limit within ∙ sym (le-leb line (limit - total) (omega arith))
-    ]
-
-up_to_after : (total limit n : ℕ) (es : List (ℕ × Named)) → LinesRise n es → up_to limit (map (after_lines total) es) ≡ map (after_lines total) (up_to (limit - total) es)
-up_to_after total limit n [] rise = refl
-up_to_after total limit n (e ∷ es) rise =
-    let later = up_to_after total limit e.0 es rise.1 in
-    let test : nat_le (total + e.0) limit ≡ nat_le e.0 (limit - total) = same_test total e.0 limit (omega (arith, rise.0)) in
-    elim (cases_Bool (nat_le e.0 (limit - total))) [
-      | inl yes_here ↦
-          cond-true (nat_le (total + e.0) limit) _ _ (test ∙ yes_here)
-          ∙ ap (λ xs. after_lines total e ∷ xs) later
-          ∙ sym (ap (map (after_lines total)) (cond-true (nat_le e.0 (limit - total)) (e ∷ up_to (limit - total) es) (up_to (limit - total) es) yes_here))
-      | inr not_here ↦
-          cond-false (nat_le (total + e.0) limit) _ _ (test ∙ not_here)
-          ∙ later
-          ∙ sym (ap (map (after_lines total)) (cond-false (nat_le e.0 (limit - total)) (e ∷ up_to (limit - total) es) (up_to (limit - total) es) not_here))
-    ]
-
--- the line of a fault, where it is told up to the greatest number alone
-fault_told : (limit lines line : ℕ) (fault : LineFault) → limit ≤ 2 ^ 24 → fault_within limit lines (Some (line, fault)) ≡ fault_within limit lines (Some (min line greatest_number, fault))
-fault_told limit lines line fault le =
-    elim (cases_lt greatest_number line) [
-      | inl beyond ↦
-          cond-false (nat_le line (suc limit)) _ _ (lt-leb line (suc limit) (omega arith))
-          ∙ sym (cond-false (nat_le (min line greatest_number) (suc limit)) _ _ (lt-leb (min line greatest_number) (suc limit) (omega arith)))
-      | inr within ↦ let same : line ≡ min line greatest_number = omega arith in ap (λ k. fault_within limit lines (Some (k, fault))) same
-    ]
-
--- events that come next
-pub goes_on : (front later more : List (ℕ × Named)) (before n : ℕ) → n ≡ length front → GoesOn (front ++ (map (after_lines before) more ++ later)) n before more
-goes_on front later more before n n_is i less =
-    ap (λ k. slice_get (front ++ (map (after_lines before) more ++ later)) (k + i)) n_is
-    ∙ slice_get_behind front (map (after_lines before) more ++ later) i
-    ∙ slice_get_front (map (after_lines before) more) later i (omega (arith, less, length-map more (after_lines before)))
-    ∙ slice_get-map (after_lines before) more i
-
-pub trace_length : (limits : Limits) (parts : List Reading) → length (checked_trace parts limits) ≡ length (counted_events parts limits)
-trace_length limits parts =
-    length-map (events_of parts limits) (numbered (tables_of (events_of parts limits)))
-    ∙ length-map (counted_events parts limits) (λ e. e.1)
 
 -- nothing is wrong with the events, where all of them were admitted
 clean_here : (limits : Limits) (parts : List Reading) (checker : Checker) → StandsFor limits checker (counted_events parts limits) → checker.shape.admitted ≡ length (checked_trace parts limits) →
@@ -312,24 +173,6 @@ module _ (limits : Limits) (parts rest : List Reading) (p : Reading) (events : L
             kept = λ later.
                 subst (StandsFor limits new) (sym (append_assoc front (map (after_lines total) more) later) ∙ ap (λ es. es ++ later) (sym counted_with)) (kept_on (front ++ (map (after_lines total) more ++ later)) (next_here later));
           }
-
-pub start : (parts : List Reading) → AreBefore parts parts [] 0
-start parts =
-    record {
-      events_are = sym (after_none (whole_reading parts).events);
-      lines_are = sym (zero-add (whole_reading parts).lines);
-      fault_is = sym (fault_after_none (whole_reading parts).fault);
-    }
-
-rest_at : (parts : List Reading) (k : ℕ) (p : Reading) → k < length parts → p ≡ get_or parts k p → drop k parts ≡ p ∷ drop (k + 1) parts
-rest_at parts k p less is = drop-cons parts k p less ∙ ap₂ (λ x m. x ∷ drop m parts) (sym is) (sym (add-one k))
-
--- the next part is the one at place k
-pub here : (parts : List Reading) (k : ℕ) (p item : Reading) → k < length parts → item ≡ get_or parts k item → p ≡ item →
-    (events : List (ℕ × Named)) (lines : ℕ) → AreBefore parts (drop k parts) events lines → AreBefore parts (p ∷ drop (k + 1) parts) events lines
-here parts k p item less is same events lines before =
-    let P : List Reading → Type 0 = λ rest. AreBefore parts rest events lines in
-    subst P (rest_at parts k item less is ∙ ap (λ x. x ∷ drop (k + 1) parts) (sym same)) before
 
 pub nothing_yet : (limits : Limits) (parts : List Reading) (checker : Checker) → checker.shape.admitted ≡ 0 → ((events : List (ℕ × Named)) → StandsFor limits checker events) → Stands limits parts 0 0 checker
 nothing_yet limits parts checker none kept =

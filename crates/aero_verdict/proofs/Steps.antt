@@ -7,14 +7,13 @@ use Rattle.std.proofs.lemmas.Bool.{eq-eqb, eqb-true, cond_both, cond-true, cond-
 use Rattle.std.proofs.lemmas.Option.{slice_get-map, slice_get_within, same_Some}
 use Rattle.aero_model.specs.declared.event.Numbered.{Numbered}
 use Rattle.aero_model.specs.declared.event.What.{What}
-use Rattle.aero_model.specs.declared.event.What.TheVariants.{Read, Write, Acquire, Release, Fork, Join, Begin, End}
 use Rattle.aero_model.specs.declared.limits.Limits.{Limits}
 use Rattle.aero_model.specs.declared.verdict.ShapeFault.{ShapeFault}
 use Rattle.aero_model.specs.declared.verdict.ShapeFault.TheVariants.{Memory, TooManyThreads, TooManyNames, ThreadJoined, LockHeldByOther, LockNotHeld, ForkSelf, ForkStarted, JoinSelf, EndWithoutBegin}
 use Rattle.aero_model.specs.Blocks.{depth, is_begin, is_end, by_thread, opens, closes, blocks, Block, transaction}
 use Rattle.aero_model.specs.Cycle.{IsOpener}
 use Rattle.aero_model.specs.Named.{Named, HasItsTarget}
-use Rattle.aero_model.specs.Numbering.{Tables, tables_of, numbered, trace_of}
+use Rattle.aero_model.specs.Numbering.{Tables, tables_of, numbered}
 use Rattle.aero_model.specs.Shape.{shape_fault, limit_fault, fault_at, IsLawful}
 use Rattle.aero_model.specs.Tally.{count_below, is_outer_begin, is_outer_end}
 use Rattle.aero_model.proofs.Ends.{begin_in}

@@ -1,34 +1,26 @@
 -- The verdict where no further event is admitted.
-use Rattle.std.proofs.Common.{◌≡◌, ◌≢◌, ℕ, zero, suc, ◌+◌, ◌<◌, ◌≤◌, Bool, true, false, List, [], ◌∷◌, ◌++◌, length, take, drop, Option, Some, None, refl, sym, ◌∙◌, ap, subst, le_refl, arith}
-use Rattle.std.specs.Prelude.{slice_get, fold, bytes_eq, option_map}
+use Rattle.std.proofs.Common.{◌≡◌, ℕ, zero, suc, ◌+◌, ◌<◌, List, [], ◌∷◌, ◌++◌, take, drop, Some, sym, ◌∙◌, ap, subst}
+use Rattle.std.specs.Prelude.{slice_get, fold, bytes_eq}
 use Rattle.std.specs.List.{list_any}
 use Rattle.std.proofs.lemmas.Bool.{cond_both}
 use Rattle.aero_model.specs.declared.event.Numbered.{Numbered}
 use Rattle.aero_model.specs.declared.limits.Limits.{Limits}
 use Rattle.aero_model.specs.declared.verdict.Verdict.{Verdict}
-use Rattle.aero_model.specs.Blocks.{blocks, Block, transaction}
-use Rattle.aero_model.specs.Cycle.{HasTellingCycle, IsClosing, IsOpener}
-use Rattle.aero_model.specs.Graph.{BeginsCycle}
+use Rattle.aero_model.specs.Blocks.{blocks, Block}
 use Rattle.aero_model.specs.Named.{Named}
 use Rattle.aero_model.specs.Numbering.{with_name, tables_of}
 use Rattle.aero_model.specs.Shape.{IsLawful, IsWellFormed}
-use Rattle.aero_model.proofs.Begins.{open_number}
-use Rattle.aero_model.proofs.Cycles.{begins_open}
-use Rattle.aero_model.proofs.Ends.{open_deep}
-use Rattle.aero_model.proofs.Stability.{Agree, agree_back, agree_less, blocks_same}
-use Rattle.aero_model.proofs.Telling.{telling_from_begins, begins_from_telling, none_begins}
-use Rattle.aero_model.proofs.Walks.{begins_same}
-use Rattle.aero_model.proofs.WellFormed.{slice_get-take}
 use Rattle.aero_grammar.specs.Reading.{Reading}
 use Rattle.aero_verdict.specs.declared.checker.Checker.{Checker}
 use Rattle.aero_verdict.specs.declared.checker.Stop.{Stop}
 use Rattle.aero_verdict.specs.declared.checker.Stop.TheVariants.{Refused, Closed}
 use Rattle.aero_verdict.specs.Begun.{begin_line}
-use Rattle.aero_verdict.specs.Kept.{names_of, LastBegins, StopsIn, TellsStop}
+use Rattle.aero_verdict.specs.Kept.{LastBegins, StopsIn, TellsStop}
 use Rattle.aero_verdict.specs.Limited.{names_in}
-use Rattle.aero_verdict.specs.Verdict.{IsVerdict, IsViolation, BeginsOnLine, counted_events, events_of, checked_trace}
+use Rattle.aero_verdict.specs.Verdict.{IsVerdict, IsViolation, counted_events, events_of, checked_trace}
 use Rattle.aero_verdict.proofs.Steps.{front_and_rest}
 use Rattle.aero_verdict.proofs.Fronts.{tables_extended}
+use Rattle.aero_verdict.proofs.Openers.{opener_number}
 
 -- a name keeps its place, whatever names come later
 
@@ -50,19 +42,6 @@ named_still events n t y at =
     let extends = tables_extended (take n events) (drop n events) in
     subst (λ es. slice_get (tables_of es).threads t ≡ Some y) (front_and_rest events n)
     (ap (λ ns. slice_get ns t) extends.threads.1 ∙ still_at (tables_of (take n events)).threads extends.threads.0 t y at)
-
--- the opener is the latest block of its thread
-pub opener_number : (trace : List Numbered) (n t k : ℕ) → IsWellFormed (take (suc n) trace) → IsClosing trace n → IsOpener trace (suc n) t k → (0 < blocks trace t (suc n)) × (blocks trace t (suc n) ≡ k)
-opener_number trace n t k well closing o =
-    let front = take (suc n) trace in
-    let agree : Agree (suc n) front trace = record { same = λ i less. slice_get-take trace (suc n) i less } in
-    let begins : BeginsCycle front (suc n) (Block t k) = begins_same (suc n) trace front (agree_back (suc n) front trace agree) (suc n) (le_refl (suc n)) (Block t k) o.begins in
-    let none : ¬ HasTellingCycle front n =
-    λ c. closing.before n (le_refl n) (telling_from_begins trace n (transaction front (c.0).enters) (begins_same n front trace (agree_less n (suc n) front trace (omega arith) agree) n (le_refl n) (transaction front (c.0).enters) (begins_from_telling front n c))) in
-    let deep = open_deep front (suc n) t k (begins_open front n well (none_begins front n none) (Block t k) begins) in
-    let some : 0 < blocks front t (suc n) = open_number front t (suc n) deep.0 in
-    let same : blocks front t (suc n) ≡ blocks trace t (suc n) = blocks_same (suc n) front trace agree t (suc n) (le_refl (suc n)) in
-    (omega (arith, some, same), sym same ∙ deep.1)
 
 module _ (limits : Limits) (parts : List Reading) (new : Checker) (n before : ℕ) (more : List (ℕ × Named)) (line : ℕ) where
   abbrev events : List (ℕ × Named)

@@ -1,14 +1,17 @@
 -- The verdict at traces whose verdict is known.
-use Rattle.std.proofs.Common.{◌≡◌, ℕ, zero, suc, ◌<◌, ◌≤◌, ◌^◌, List, [], ◌∷◌, ◌++◌, refl, sym, ◌∙◌, ap, arith, lit<, lit≤}
+use Rattle.std.proofs.Common.{◌≡◌, ◌≢◌, ◌⊎◌, inl, inr, Some, ℕ, zero, suc, ◌<◌, ◌≤◌, ◌^◌, List, [], ◌∷◌, ◌++◌, refl, sym, ◌∙◌, ap, arith, lit<, lit≤}
 use Rattle.std.specs.Prelude.{codes}
 use Rattle.aero_model.specs.declared.limits.Limits.{Limits}
 use Rattle.aero_model.specs.declared.verdict.LineFault.TheVariants.{NoOperation, MissingTarget, TooManyLines}
 use Rattle.aero_model.specs.declared.verdict.ShapeFault.TheVariants.{TooManyThreads, TooManyNames, ThreadJoined, LockHeldByOther, LockNotHeld, ForkStarted, EndWithoutBegin}
-use Rattle.aero_model.specs.declared.verdict.Verdict.TheVariants.{Serializable, Malformed, IllFormed}
+use Rattle.aero_model.specs.declared.verdict.Verdict.TheVariants.{Serializable, Violation, Malformed, IllFormed}
 use Rattle.aero_model.specs.declared.event.Numbered.{Numbered}
-use Rattle.aero_model.specs.Blocks.{Transaction, Block, transaction}
+use Rattle.aero_model.specs.declared.event.What.TheVariants.{Begin, Read, Write}
+use Rattle.aero_access.specs.StateWords.{event}
+use Rattle.aero_model.specs.Blocks.{Transaction, Block, Unary, transaction}
 use Rattle.aero_model.specs.Cycle.{HasTellingCycle}
-use Rattle.aero_model.specs.Graph.{Visit, GoesOn, IsTelling, last_visit}
+use Rattle.aero_model.specs.Graph.{Conflicts, same_thread, write_read, read_write, write_write, release_acquire, forks, joined, Conflict, last_visit}
+use Rattle.aero_model.proofs.Telling.{closing_from}
 use Rattle.aero_model.proofs.Walks.{last_is}
 use Rattle.aero_grammar.specs.Reading.{reading_of}
 use Rattle.aero_verdict.specs.Verdict.{IsVerdict}
@@ -154,4 +157,98 @@ inner_begins_do_not_count =
       events_are = refl;
       blocks_are = refl;
       open_are = refl;
+    }
+
+-- a violation
+
+-- nor have events of two transactions, where no conflict leads from the second to the first
+none_one_way :
+    (trace : List Numbered) (n : ℕ) (x y : Transaction)
+    → ((i : ℕ) → i < n → (transaction trace i ≡ x) ⊎ (transaction trace i ≡ y))
+    → ((i j : ℕ) → j < n → Conflict trace i j → transaction trace j ≡ x → transaction trace i ≡ x)
+    → ¬ HasTellingCycle trace n
+none_one_way trace n x y either into_first (first, [], telling) = telling.ends_apart refl
+none_one_way trace n x y either into_first (first, w ∷ ws, telling) =
+    let last = last_is trace n first (w ∷ ws) telling.visit telling.walk in
+    let on = telling.walk.0 in
+    let entered = telling.walk.1.enters in
+    elim (either first.enters telling.visit.enters) [
+      | inl here ↦ telling.ends_apart (last.one ∙ into_first (last_visit first (w ∷ ws)).leaves first.enters telling.visit.enters telling.closed here ∙ sym here)
+      | inr here ↦
+          elim (either w.enters entered) [
+            | inl there ↦ telling.apart.0 (telling.visit.one ∙ into_first first.leaves w.enters entered on there ∙ sym there)
+            | inr there ↦ telling.apart.0 (here ∙ sym there)
+          ]
+    ]
+
+abbrev crossed : List Numbered
+crossed = event 0 Begin ∷ event 1 Begin ∷ event 0 (Write 0) ∷ event 1 (Read 0) ∷ event 1 (Write 1) ∷ event 0 (Read 1) ∷ []
+
+begin_and_write : (a b : Numbered) → a ≡ event 1 Begin → b ≡ event 0 (Write 0) → ¬ Conflicts a b
+begin_and_write a b a_is b_is (same_thread same) = let first = ap (λ (e : Numbered). e.thread) a_is in let second = ap (λ (e : Numbered). e.thread) b_is in omega (arith, first, second, same)
+begin_and_write a b a_is b_is (write_read x first second) = let is = ap (λ (e : Numbered). e.what) a_is in cc
+begin_and_write a b a_is b_is (read_write x first second) = let is = ap (λ (e : Numbered). e.what) a_is in cc
+begin_and_write a b a_is b_is (write_write x first second) = let is = ap (λ (e : Numbered). e.what) a_is in cc
+begin_and_write a b a_is b_is (release_acquire l first second) = let is = ap (λ (e : Numbered). e.what) a_is in cc
+begin_and_write a b a_is b_is (forks first) = let is = ap (λ (e : Numbered). e.what) a_is in cc
+begin_and_write a b a_is b_is (joined second) = let is = ap (λ (e : Numbered). e.what) b_is in cc
+
+thread_of : Transaction → ℕ
+thread_of (Block t k) = t
+thread_of (Unary place) = place
+
+other_block : Block 1 1 ≢ Block 0 1
+unfolding thread_of
+other_block same = let threads = ap thread_of same in omega (arith, threads)
+
+into_first_block : (i j : ℕ) → j < 5 → Conflict crossed i j → transaction crossed j ≡ Block 0 1 → transaction crossed i ≡ Block 0 1
+into_first_block i zero less c is = absurd (omega (arith, c.earlier))
+into_first_block i (suc zero) less c is = absurd (other_block is)
+into_first_block zero (suc (suc zero)) less c is = refl
+into_first_block (suc zero) (suc (suc zero)) less c is =
+    let first : Some (event 1 Begin) ≡ Some c.first = c.first_at in
+    let second : Some (event 0 (Write 0)) ≡ Some c.second = c.second_at in
+    absurd (begin_and_write c.first c.second (cc) (cc) c.conflict)
+into_first_block (suc (suc i)) (suc (suc zero)) less c is = absurd (omega (arith, c.earlier))
+into_first_block i (suc (suc (suc zero))) less c is = absurd (other_block is)
+into_first_block i (suc (suc (suc (suc zero)))) less c is = absurd (other_block is)
+into_first_block i (suc (suc (suc (suc (suc j))))) less c is = absurd (omega (arith, less))
+
+one_block_or_the_other : (i : ℕ) → i < 5 → (transaction crossed i ≡ Block 0 1) ⊎ (transaction crossed i ≡ Block 1 1)
+one_block_or_the_other = below_suc _ 4 (below_suc _ 3 (below_suc _ 2 (below_suc _ 1 (below_suc _ 0 (none_below _) (inl refl)) (inr refl)) (inl refl)) (inr refl)) (inr refl)
+
+crossed_telling : HasTellingCycle crossed 6
+crossed_telling = (
+  record { enters = 5; leaves = 2 },
+  record { enters = 3; leaves = 4 } ∷ [],
+  record {
+    visit = record { enters = lit< tt; leaves = lit< tt; one = refl };
+    walk = (
+      record { earlier = lit< tt; first = event 0 (Write 0); first_at = refl; second = event 1 (Read 0); second_at = refl; conflict = write_read 0 refl refl },
+      record { enters = lit< tt; leaves = lit< tt; one = refl },
+      inl (lit≤ tt),
+      tt,
+    );
+    closed = record { earlier = lit< tt; first = event 1 (Write 1); first_at = refl; second = event 0 (Read 1); second_at = refl; conflict = write_read 1 refl refl };
+    apart = (λ same. other_block (sym same), tt);
+    ends_apart = λ same. other_block same;
+  },
+)
+
+crossed_blocks : IsVerdict (reading_of (text (codes "T1|begin" ∷ codes "T2|begin" ∷ codes "T1|w(x)" ∷ codes "T2|r(x)" ∷ codes "T2|w(y)" ∷ codes "T1|r(y)" ∷ [])) ∷ []) greatest (Violation 6 (codes "T1") 1)
+unfolding crossed_telling
+crossed_blocks =
+    record {
+      place = 5;
+      lawful = below_suc _ 5 (below_suc _ 4 (below_suc _ 3 (below_suc _ 2 (below_suc _ 1 (below_suc _ 0 (none_below _) refl) refl) refl) refl) refl) refl;
+      closing = closing_from crossed 5 (none_one_way crossed 5 (Block 0 1) (Block 1 1) one_block_or_the_other into_first_block) crossed_telling;
+      line_of = refl;
+      t = 0;
+      number = 1;
+      opener = record {
+        begins = (crossed_telling.0, crossed_telling.1, crossed_telling.2, refl);
+        least = λ first rest e telling at. omega arith;
+      };
+      name = refl;
+      begins = record { place = 0; outermost = refl; block = refl; line_of = refl };
     }

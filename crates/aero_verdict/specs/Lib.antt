@@ -5,3 +5,4 @@ pub mod Judging
 pub mod Kept
 pub mod Verdict
 pub mod Finding
+pub mod Laws

@@ -17,6 +17,7 @@ mod blocks;
 mod check;
 mod checker;
 mod judge;
+pub mod laws;
 mod numbering;
 
 pub use check::check_trace;

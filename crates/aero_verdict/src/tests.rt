@@ -1,6 +1,7 @@
 ghost use Rattle.std.specs.Prelude.{◌<◌, length};
 
 use crate::check_trace;
+use aero_grammar::block::parse_block;
 use aero_grammar::parsed::Parsed;
 use aero_model::limits::Limits;
 use aero_model::name::Name;
@@ -151,6 +152,10 @@ const LOCKED: [Line; 8] = [BEGIN, BEGIN, ACQUIRE, ACQUIRE, RELEASE, RELEASE, END
 
 const BEGIN_2: Line = ("T2", Op::Begin, "");
 
+const END_2: Line = ("T2", Op::End, "");
+
+const BEGIN_3: Line = ("T3", Op::Begin, "");
+
 const READ_2: Line = ("T2", Op::Read, "x");
 
 const OTHER_2: Line = ("T2", Op::Write, "y");
@@ -165,6 +170,8 @@ const BOTH_OPEN: [Line; 6] = [BEGIN, BEGIN_2, OTHER_2, WRITE, READ_2, READ_OTHER
 
 const BOTH_OPEN_THEN_END: [Line; 7] = [BEGIN, BEGIN_2, OTHER_2, WRITE, READ_2, READ_OTHER, END];
 
+const CROSSED_BUT_THE_LAST: [Line; 5] = [BEGIN, BEGIN_2, WRITE, READ_2, OTHER_2];
+
 const CROSSED_ONE_WAY: [Line; 5] = [BEGIN, BEGIN_2, WRITE, OTHER_2, READ_OTHER];
 
 const FORK_2: Line = ("T1", Op::Fork, "T2");
@@ -177,6 +184,68 @@ const FORKED: [Line; 4] = [
     ("T1", Op::Join, "T2"),
     WRITE,
 ];
+
+// The blocks of T2 and of T3 both begin a cycle that the end closes.
+const BOTH_CLOSE: [Line; 11] = [
+    BEGIN,
+    BEGIN_2,
+    BEGIN_3,
+    ("T2", Op::Write, "a"),
+    ("T3", Op::Write, "b"),
+    WRITE,
+    READ_2,
+    ("T3", Op::Read, "x"),
+    ("T1", Op::Read, "a"),
+    ("T1", Op::Read, "b"),
+    END,
+];
+
+// Through the block of T2, once it has ended, that of T3 leads to what T1 wrote last.
+const SPREAD: [Line; 9] = [
+    BEGIN_3,
+    BEGIN_2,
+    OTHER_2,
+    READ_OTHER,
+    ("T1", Op::Write, "v"),
+    THIRD,
+    READ_2,
+    END_2,
+    ("T3", Op::Read, "v"),
+];
+
+const SPREAD_WITHOUT_THE_LAST: [Line; 8] = [
+    BEGIN_3,
+    BEGIN_2,
+    OTHER_2,
+    READ_OTHER,
+    ("T1", Op::Write, "v"),
+    THIRD,
+    READ_2,
+    END_2,
+];
+
+const SPREAD_WITHOUT_THE_LAST_TWO: [Line; 7] = [
+    BEGIN_3,
+    BEGIN_2,
+    OTHER_2,
+    READ_OTHER,
+    ("T1", Op::Write, "v"),
+    THIRD,
+    READ_2,
+];
+
+// The lock goes to another thread and comes back.
+const LOCK_BACK: [Line; 6] = [
+    BEGIN,
+    ACQUIRE,
+    RELEASE,
+    ("T2", Op::Acquire, "l"),
+    ("T2", Op::Release, "l"),
+    ACQUIRE,
+];
+
+// A read by T2 stands between the block's two writes.
+const READ_BETWEEN: [Line; 5] = [BEGIN, OTHER, ("T2", Op::Read, "y"), READ_2, WRITE];
 
 const fn whole(events: &'static [Line]) -> Part {
     Part {
@@ -223,9 +292,11 @@ fn events_and_outermost_begins_are_counted(rt: HostRuntime) -> Result<(), Fail> 
 
 #[test]
 fn open_blocks_are_pending(rt: HostRuntime) -> Result<(), Fail> {
-    let cases: [(&[Part], u32, u32, u32); 4] = [
+    let cases: [(&[Part], u32, u32, u32); 6] = [
         (&[whole(&CROSSED_ONE_WAY)], 5, 2, 2),
         (&[whole(&BOTH_OPEN)], 6, 2, 2),
+        (&[whole(&SPREAD_WITHOUT_THE_LAST)], 8, 2, 1),
+        (&[whole(&SPREAD_WITHOUT_THE_LAST_TWO)], 7, 2, 2),
         (&[whole(&[BEGIN]), whole(&[BEGIN, END])], 3, 1, 1),
         (&[whole(&BLOCK), whole(&[BEGIN])], 6, 2, 1),
     ];
@@ -238,10 +309,27 @@ fn open_blocks_are_pending(rt: HostRuntime) -> Result<(), Fail> {
 
 #[test]
 fn a_violation_is_told_where_a_cycle_closes(rt: HostRuntime) -> Result<(), Fail> {
-    let cases: [(&[Part], u32, &str, u32); 7] = [
+    let cases: [(&[Part], u32, &str, u32); 12] = [
         (&[whole(&CROSSED)], 6, "T1", 1),
+        (
+            &[
+                whole(&[BEGIN]),
+                whole(&[BEGIN_2]),
+                whole(&[WRITE]),
+                whole(&[READ_2]),
+                whole(&[OTHER_2]),
+                whole(&[READ_OTHER]),
+            ],
+            6,
+            "T1",
+            1,
+        ),
         (&[whole(&BOTH_OPEN_THEN_END)], 7, "T2", 2),
-        (&[whole(&[BEGIN, FORK_2, SECOND, JOIN_2])], 4, "T1", 1),
+        (&[whole(&BOTH_CLOSE)], 11, "T2", 2),
+        (&[whole(&SPREAD)], 9, "T3", 1),
+        (&[whole(&LOCK_BACK)], 6, "T1", 1),
+        (&[whole(&READ_BETWEEN)], 5, "T1", 1),
+        (&[whole(&[BEGIN, FORK_2, SECOND, JOIN_2, END])], 4, "T1", 1),
         (&[faulty(&CROSSED)], 6, "T1", 1),
         (&[whole(&CROSSED), whole(&[END, END])], 6, "T1", 1),
         (&[whole(&BLOCK), blank(&[]), whole(&CROSSED)], 12, "T1", 7),
@@ -259,6 +347,28 @@ fn a_violation_is_told_where_a_cycle_closes(rt: HostRuntime) -> Result<(), Fail>
         let wanted = Wanted::Violation(line, thread, begun);
         expect(&rt, rt.alloc(), &Limits::greatest(), parts, wanted)?;
     }
+    Ok(())
+}
+
+#[test]
+fn a_malformed_line_goes_before_a_later_violation(rt: HostRuntime) -> Result<(), Fail> {
+    let wanted = Wanted::Malformed(6, LineFault::NoOperation);
+    let parts = [faulty(&CROSSED_BUT_THE_LAST), whole(&[READ_OTHER])];
+    expect(&rt, rt.alloc(), &Limits::greatest(), &parts, wanted)
+}
+
+#[test]
+fn many_blocks_of_two_threads_are_serializable(rt: HostRuntime) -> Result<(), Fail> {
+    let lines = b"T1|begin\nT1|w(x)\nT1|end\nT2|begin\nT2|w(x)\nT2|end\n";
+    let mut text = Vec::new(rt.alloc());
+    for _ in 0..15000 {
+        text.extend_from_slice(lines)?;
+    }
+    assert!(rt; text.len() < 1_000_000);
+    let mut parts = Vec::new(rt.alloc());
+    parts.push(parse_block(rt.alloc(), &text)?)?;
+    let verdict = check_trace(rt.alloc(), &parts, &Limits::greatest())?;
+    assert!(rt; is_wanted(&verdict, Wanted::Serializable(90000, 30000)));
     Ok(())
 }
 

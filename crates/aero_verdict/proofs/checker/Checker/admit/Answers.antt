@@ -1,4 +1,4 @@
-use Rattle.std.proofs.Common.{◌+◌, refl, sym, ◌∙◌, arith}
+use Rattle.std.proofs.Common.{refl, sym, arith}
 use Rattle.std.proofs.lemmas.Result.{err_from_is_err_and}
 use Rattle.aero_verdict.proofs.Steps.{refused_by_limit, refused_by_shape, short_enough, comes_after, judged, few_events, few_begun, few_ended, on_ok_here}
 use Rattle.aero_verdict.proofs.checker.Checker.admit.Goals as goal

@@ -1,0 +1,33 @@
+//! A bounded queue of jobs, with one `Poster` and several `Taker`s.
+//!
+//! The `Poster` posts jobs, and stops, each of which ends a `Taker`. It can take jobs back. A `Taker`
+//! takes jobs until it meets a stop. Each take hands out the front of the queue. Whatever the ends
+//! do, on whatever threads and in whatever order, a job that was posted is in the queue, was taken
+//! back or is in one `Taker`'s hand, each as often as it was posted, and in the order of the posts.
+//! A call that finds the queue full gives the job back.
+//!
+//! `specs/Rule.antt` is the rule that each change of the queue keeps, and the functions of `laws` say
+//! which step of the schedule of `aero_pieces` each change is. Nothing is said of waiting: not that
+//! a take returns, nor which `Taker` gets which job.
+//!
+//! ```text
+//! let (mut poster, mut takers) = stage(alloc, 2, 1)?;
+//! let mut taker = takers.remove(0);
+//! assert!(rt; poster.post(&rt, Job { number: 7, question }).is_ok());
+//! assert!(rt; poster.stop(&rt));
+//! assert_eq!(rt; taker.take(&rt).map(|job| job.number), Some(7));
+//! assert!(rt; taker.take(&rt).is_none());
+//! poster.rejoin(taker);
+//! assert!(rt; poster.take_back(&rt).is_none());
+//! ```
+#![tactic(auto)]
+
+mod ends;
+mod job;
+pub mod laws;
+mod rule;
+#[cfg(test)]
+mod tests;
+
+pub use ends::{Full, Poster, Taker, stage};
+pub use job::Job;

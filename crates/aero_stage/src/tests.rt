@@ -1,0 +1,114 @@
+ghost use Rattle.std.specs.Prelude.{◌≡◌};
+
+use crate::{Job, Poster, Taker, stage};
+use aero_pieces::question::{Bytes, Question};
+use std::alloc::Global;
+use std::sync::Wait;
+use std::test::Fail;
+
+// A job with this number, and a question about the block with this one.
+fn job(alloc: Global, number: u64, block: u64) -> Result<Job, Fail> {
+    let bytes = Bytes::new(b"T1|r(x)".to_vec(alloc)?).ok_or("too many bytes")?;
+    let question = Question::Parse {
+        trace: 0,
+        number: block,
+        bytes,
+    };
+    Ok(Job {
+        number,
+        question: question.share(alloc)?,
+    })
+}
+
+// The numbers of the job, and of the block that it asks about.
+fn numbers(job: Job) -> (u64, u64) {
+    let block = match &*job.question {
+        Question::Parse { number, .. } => *number,
+        Question::Check { .. } => u64::MAX,
+    };
+    (job.number, block)
+}
+
+fn take<R: Wait>(rt: &R, taker: &mut Taker) -> Option<(u64, u64)>
+    ensures { taker.new.stage ≡ taker.old.stage }
+{
+    taker.take(rt).map(numbers)
+}
+
+fn take_back<R: Wait>(rt: &R, poster: &mut Poster) -> Option<(u64, u64)>
+    ensures { poster.new.stage ≡ poster.old.stage }
+{
+    poster.take_back(rt).map(numbers)
+}
+
+fn post<R: Wait>(rt: &R, poster: &mut Poster, job: Job) -> Result<(), (u64, u64)>
+    ensures { poster.new.stage ≡ poster.old.stage }
+{
+    poster.post(rt, job).map_err(|full| numbers(full.job))
+}
+
+#[test]
+fn a_full_queue_gives_the_job_back(rt: HostRuntime) -> Result<(), Fail> {
+    let alloc = rt.alloc();
+    let (mut poster, mut takers) = stage(alloc, 2, 1)?;
+    let mut taker = takers.remove(0);
+    assert_eq!(rt; post(&rt, &mut poster, job(alloc, 1, 11)?), Ok(()));
+    assert_eq!(rt; post(&rt, &mut poster, job(alloc, 2, 12)?), Ok(()));
+    assert_eq!(rt; post(&rt, &mut poster, job(alloc, 3, 13)?), Err((3, 13)));
+    assert!(rt; !poster.stop(&rt));
+    assert_eq!(rt; take(&rt, &mut taker), Some((1, 11)));
+    assert!(rt; poster.stop(&rt));
+    assert_eq!(rt; take(&rt, &mut taker), Some((2, 12)));
+    assert_eq!(rt; take(&rt, &mut taker), None);
+    assert_eq!(rt; take(&rt, &mut taker), None);
+    poster.rejoin(taker);
+    assert_eq!(rt; take_back(&rt, &mut poster), None);
+    Ok(())
+}
+
+#[test]
+fn a_stop_that_nobody_took_is_dropped(rt: HostRuntime) -> Result<(), Fail> {
+    let alloc = rt.alloc();
+    let (mut poster, _takers) = stage(alloc, 2, 1)?;
+    assert!(rt; poster.stop(&rt));
+    assert_eq!(rt; post(&rt, &mut poster, job(alloc, 1, 11)?), Ok(()));
+    assert_eq!(rt; take_back(&rt, &mut poster), Some((1, 11)));
+    assert_eq!(rt; take_back(&rt, &mut poster), None);
+    Ok(())
+}
+
+#[test]
+fn a_taker_takes_what_a_poster_left(rt: HostRuntime) -> Result<(), Fail> {
+    let alloc = rt.alloc();
+    let (mut poster, mut takers) = stage(alloc, 1, 1)?;
+    let mut taker = takers.remove(0);
+    assert_eq!(rt; post(&rt, &mut poster, job(alloc, 7, 17)?), Ok(()));
+    drop(poster);
+    assert_eq!(rt; take(&rt, &mut taker), Some((7, 17)));
+    assert_eq!(rt; take(&rt, &mut taker), None);
+    Ok(())
+}
+
+#[test]
+fn two_takers_and_the_poster_share_a_queue(rt: HostRuntime) -> Result<(), Fail> {
+    let alloc = rt.alloc();
+    let (mut poster, mut takers) = stage(alloc, 64, 2)?;
+    let mut first = takers.remove(0);
+    let mut second = takers.remove(0);
+    assert_eq!(rt; post(&rt, &mut poster, job(alloc, 1, 11)?), Ok(()));
+    assert_eq!(rt; post(&rt, &mut poster, job(alloc, 2, 12)?), Ok(()));
+    assert_eq!(rt; post(&rt, &mut poster, job(alloc, 3, 13)?), Ok(()));
+    assert_eq!(rt; post(&rt, &mut poster, job(alloc, 4, 14)?), Ok(()));
+    assert_eq!(rt; take(&rt, &mut second), Some((1, 11)));
+    assert_eq!(rt; take(&rt, &mut first), Some((2, 12)));
+    assert_eq!(rt; take_back(&rt, &mut poster), Some((3, 13)));
+    assert!(rt; poster.stop(&rt));
+    assert_eq!(rt; take(&rt, &mut second), Some((4, 14)));
+    assert_eq!(rt; take(&rt, &mut second), None);
+    poster.rejoin(second);
+    assert_eq!(rt; post(&rt, &mut poster, job(alloc, 5, 15)?), Ok(()));
+    assert_eq!(rt; take(&rt, &mut first), Some((5, 15)));
+    poster.rejoin(first);
+    assert_eq!(rt; take_back(&rt, &mut poster), None);
+    Ok(())
+}
