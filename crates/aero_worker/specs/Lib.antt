@@ -1,0 +1,3 @@
+pub mod Crews
+pub mod Laws
+pub mod Shifts

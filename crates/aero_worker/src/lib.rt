@@ -1,0 +1,37 @@
+//! A crew of workers, which answer questions in threads of their own.
+//!
+//! A `Crew` holds a queue of jobs. Each of its workers takes a job, works out the answer of its
+//! question, and sends a `Reply`, until the crew is closed. A job's number is its poster's own, and
+//! the workers keep account of the numbers that they take: after `close` each number that was posted
+//! stands in the list of one worker, or among those that were left, as often as it was posted.
+//!
+//! A `Gate` is a caller's own code, which each worker runs before it works an answer out, and after.
+//!
+//! Of a reply its type alone tells something: the answer that it holds is that of the question which
+//! the answer carries. Nothing is promised on how many replies come, in what order, from which worker
+//! or when, nor that a call which waits returns.
+//!
+//! ```text
+//! let mut crew = Crew::start(rt, alloc, 2, Arc::new(alloc, NoGate)?)?;
+//! crew.post(&rt, Job { number: 0, question })?;
+//! match crew.next_answer(&rt) {
+//!     Some(Reply::Done(answer)) => keep(answer),
+//!     Some(Reply::Missed(number)) => work_out_here(number),
+//!     None => work_all_out_here(),
+//! }
+//! let CrewReport { by_worker, left } = crew.close(&rt);
+//! ```
+#![tactic(auto)]
+
+mod crew;
+mod gate;
+pub mod laws;
+mod reply;
+mod seed;
+mod shift;
+#[cfg(test)]
+mod tests;
+
+pub use crew::{Crew, CrewReport};
+pub use gate::{Gate, NoGate};
+pub use reply::Reply;

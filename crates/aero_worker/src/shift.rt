@@ -1,0 +1,77 @@
+// What one worker does.
+ghost use Rattle.std.specs.Prelude.{◌≡◌, [], map};
+ghost use Rattle.aero_worker.specs.Shifts.{IsShiftOf, number_of};
+
+use crate::gate::Gate;
+use crate::reply::{Reply, reply_to};
+use aero_stage::Taker;
+use crossbeam_channel::Sender;
+use std::alloc::Global;
+use std::snapshot::Snapshot;
+use std::sync::Wait;
+use std::sync::atomic::{AtomicBool, Ordering};
+use std::thread;
+use std::thread::Promise;
+
+// What a worker gives back: its Taker, and the numbers of the jobs that it took, in order.
+#[derive(Drop)]
+pub(crate) struct Shift {
+    pub(crate) taker: Taker,
+    pub(crate) numbers: Vec<u64>,
+}
+
+// The promise that a worker is started with. The snapshot is of its Taker before.
+#[derive(Drop)]
+pub(crate) struct Honest(pub(crate) Snapshot<Taker>);
+
+impl Promise<Shift> for Honest {
+    ghost kept_by = { λ p r. IsShiftOf p.0.value r };
+}
+
+// Sends a reply, and again where memory was refused. Where the receiver is gone it is given up.
+fn tell<R: Wait>(rt: &R, replies: &Sender<Reply>, reply: Reply) {
+    let mut reply = reply;
+    for _ in rt.forever() {
+        match replies.send(rt, reply) {
+            Ok(()) => return,
+            Err(e) => {
+                if e.is_disconnected() {
+                    return;
+                }
+                reply = e.into_inner();
+                thread::yield_now();
+            }
+        }
+    }
+}
+
+// Takes jobs and replies to them until there are none, or memory for one number more is refused.
+// With the flag set it takes none.
+pub(crate) fn work<G: Gate, R: Wait>(
+    rt: &R,
+    alloc: Global,
+    taker: Taker,
+    replies: &Sender<Reply>,
+    gate: &G,
+    unused: &AtomicBool,
+) -> Shift
+    requires { taker.hand.jobs ≡ [] }
+    ensures { IsShiftOf taker result }
+{
+    let mut taker = taker;
+    let mut numbers = Vec::new(alloc);
+    if unused.load(Ordering::SeqCst) {
+        return Shift { taker, numbers };
+    }
+    for _ in rt.forever() {
+        if numbers.reserve(1).is_err() {
+            break;
+        }
+        let Some(job) = taker.take(rt) else {
+            break;
+        };
+        numbers.push_reserved(job.number);
+        tell(rt, replies, reply_to(alloc, gate, &job));
+    }
+    Shift { taker, numbers }
+}
