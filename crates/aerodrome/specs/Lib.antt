@@ -1,3 +1,3 @@
+pub mod Asking
 pub mod OneRun
-pub mod Source
 pub mod Status

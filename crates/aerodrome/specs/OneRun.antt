@@ -7,17 +7,17 @@ use Rattle.aero_model.specs.declared.verdict.Finding.{Finding}
 use Rattle.aero_model.specs.Counts.{Seen}
 use Rattle.aero_report.specs.Texts.{source_line}
 use Rattle.aero_verdict.specs.Finding.{IsFinding}
-use Rattle.aerodrome.specs.Source.{WasRead}
+use Rattle.aero_batch.specs.Source.{WasRead}
 use Rattle.aerodrome.specs.declared.one.OneFault.{OneFault}
 use Rattle.aerodrome.specs.declared.one.OneFault.TheVariants.{Memory, Write}
 
--- So many bytes were read, and this is the finding on them and on how they ended.
+-- So many bytes were read, and this is the finding on them and on how they ended. What shows the verdict isn't kept.
 pub record WasFound (before after : Seen) (limits : Limits) (count : ℕ) (finding : Finding) : Type 0 where
   pub bytes : List ℕ
   pub ending : Ending
   pub read : WasRead before after limits.bytes bytes ending
   pub counted : count ≡ length bytes
-  pub found : IsFinding bytes ending limits finding
+  pub found : ∥ IsFinding bytes ending limits finding ∥₁
 
 -- The whole text went out, and no write failed.
 pub record WasWritten (before after : Seen) (text : List ℕ) : Type 0 where

@@ -10,8 +10,9 @@
 //! too large, and 4 where memory was refused, or a write or the flush failed.
 #![tactic(auto)]
 
+mod asker;
 pub mod one;
-pub mod source;
+mod source;
 pub mod status;
 #[cfg(test)]
 mod tests;

@@ -1,18 +1,21 @@
 //! A run over one source.
-ghost use Rattle.std.specs.Prelude.{◌≡◌, ◌<◌, ◌≤◌, ◌^◌, length, IfOk, IfErr};
-ghost use Rattle.aero_model.specs.Counts.{seen_by};
+ghost use Rattle.std.specs.Prelude.{◌≡◌, ◌<◌, ◌≤◌, ◌^◌, ℕ, List, [], ◌∷◌, map, length, IfOk, IfErr};
+ghost use Rattle.std.specs.List.{concat};
+ghost use Rattle.aero_model.specs.Counts.{Seen, seen_by};
 ghost use Rattle.aero_report.specs.Texts.{source_line};
-ghost use Rattle.aero_verdict.specs.Finding.{IsFinding};
+ghost use Rattle.aero_verdict.specs.Verdict.{IsVerdict};
+ghost use Rattle.aero_grammar.specs.Reading.{reading_of};
+ghost use Rattle.aero_batch.specs.Intake.{IsTaken};
+ghost use Rattle.aerodrome.specs.Asking.{IsIdle, IsReceived};
 ghost use Rattle.aerodrome.specs.OneRun.{WasFound, WasWritten, WasLeft};
-ghost use Rattle.aerodrome.specs.Source.{FitsLimit};
 
+use crate::asker::Asker;
 use crate::source::{Received, read_source};
-use aero_grammar::block::parse_block;
+use aero_batch::intake::Intake;
 use aero_model::counting::Counting;
 use aero_model::limits::Limits;
-use aero_model::verdict::{Ending, Finding};
+use aero_model::verdict::{Ending, Finding, Verdict};
 use aero_report::{put, trace_text};
-use aero_verdict::check_trace;
 use std::alloc::{AllocError, Global};
 use std::io::{Read, Write};
 
@@ -29,8 +32,11 @@ pub enum OneFault {
 /// reading broke off, or that there were too many bytes. The name stands in the line as it is.
 /// The answer is the number of bytes that were read, and the finding.
 ///
-/// `piece` is how many bytes one read asks for at most. A refused run has read the source as far
-/// as it came.
+/// The source is cut into blocks of whole lines as it comes. Each block is a question, asked and
+/// settled at once, and where the source is whole the verdict is the last one.
+///
+/// `piece` is how many bytes one read asks for at most: 1 to 2^20. A refused run has read the source
+/// as far as it came.
 pub fn run_one<R: Read, W: Write>(
     alloc: Global,
     name: &[u8],
@@ -48,9 +54,7 @@ pub fn run_one<R: Read, W: Write>(
         (seen_by W.contents writer.old) (seen_by W.contents writer.new)
         name.now limits.now) }
 {
-    let received = read_source(alloc, reader, limits.bytes, piece).map_err(|_| OneFault::Memory)?;
-    let count = received.bytes.len() as u64;
-    let finding = finding_of(alloc, &received, limits).map_err(|_| OneFault::Memory)?;
+    let (count, finding) = find(alloc, reader, limits, piece).map_err(|_| OneFault::Memory)?;
     let text = trace_text(alloc, name, &finding).map_err(|_| OneFault::Memory)?;
     match put(writer, &text) {
         Ok(()) => Ok((count, finding)),
@@ -58,17 +62,49 @@ pub fn run_one<R: Read, W: Write>(
     }
 }
 
-// What is found of a source: the verdict on its bytes where they are all there.
-fn finding_of(alloc: Global, received: &Received, limits: &Limits) -> Result<Finding, AllocError>
-    requires { FitsLimit limits.now.bytes received.now.ending (length received.now.bytes.items) }
-    ensures { IfOk result (IsFinding received.now.bytes.items received.now.ending limits.now) }
+// Reads the source to its end: how many bytes came, and what is found of it.
+fn find<R: Read>(
+    alloc: Global,
+    reader: &mut Counting<R>,
+    limits: &Limits,
+    piece: u32,
+) -> Result<(u64, Finding), AllocError>
+    requires some_piece { 0 < piece }
+    requires piece { piece ≤ 2 ^ 20 }
+    ensures { IfOk result (λ told. WasFound (seen_by R.remaining reader.old) (seen_by R.remaining reader.new) limits.now told.0 told.1) }
 {
-    match received.ending {
-        Ending::Whole => {
-            let parsed = [parse_block(alloc, &received.bytes)?];
-            Ok(Finding::Judged(check_trace(alloc, &parsed, limits)?))
-        }
-        Ending::Broken => Ok(Finding::Broken(received.bytes.len() as u64)),
-        Ending::TooLarge => Ok(Finding::TooLarge),
+    let received = read_source(alloc, reader, limits.bytes, piece)?;
+    finding_of(received, limits)
+}
+
+// How many bytes of a source came, and what is found of it: the verdict where they are all there.
+fn finding_of(received: Received, limits: &Limits) -> Result<(u64, Finding), AllocError>
+    requires { IsIdle received.asker.gather (length received.asker.parts.items) }
+    ensures { IfOk result (λ told. (before after : Seen) →
+        IsReceived before after limits.now.bytes received.intake received.asker.parts.items received.ending → WasFound before after limits.now told.0 told.1) }
+{
+    let Received {
+        intake,
+        asker,
+        ending,
+    } = received;
+    let count = u64::from(intake.count());
+    let finding = match ending {
+        Ending::Whole => Finding::Judged(verdict_of(intake, asker, limits)?),
+        Ending::Broken => Finding::Broken(count),
+        Ending::TooLarge => Finding::TooLarge,
+    };
+    Ok((count, finding))
+}
+
+// The verdict on a source that is whole, once its last block is asked about too.
+fn verdict_of(intake: Intake, mut asker: Asker, limits: &Limits) -> Result<Verdict, AllocError>
+    requires { IsIdle asker.gather (length asker.parts.items) }
+    ensures { IfOk result (λ verdict. (pieces blocks : List (List ℕ)) →
+        IsTaken intake pieces blocks → asker.parts.items ≡ map reading_of blocks → ∥ IsVerdict (reading_of (concat pieces) ∷ []) limits.now verdict ∥₁) }
+{
+    if let Some(block) = intake.finish()? {
+        asker.parse(block)?;
     }
+    asker.check(limits)
 }

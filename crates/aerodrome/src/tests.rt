@@ -21,6 +21,11 @@ const NOT_YET_CROSSED: &[u8] = b"T1|begin\nT2|begin\nT1|w(x)\nT2|w(y)\nT1|r(y)";
 
 const CROSSED_THEN_MALFORMED: &[u8] = b"T1|begin\nT2|begin\nT1|w(x)\nT2|r(x)\nT2|w(y)\nT1|r(y)\nT1";
 
+// The cycle passes two open blocks against their order, until the first of them ends.
+const CYCLE_OF_OPEN_BLOCKS: &[u8] = b"T1|begin\nT2|begin\nT2|w(y)\nT1|w(x)\nT2|r(x)\nT1|r(y)";
+
+const CYCLE_WITH_AN_END: &[u8] = b"T1|begin\nT2|begin\nT2|w(y)\nT1|w(x)\nT2|r(x)\nT1|r(y)\nT1|end";
+
 // The end of one block closes the blocks of two threads.
 const CLOSED_AT_ONE_END: &[u8] =
     b"T1|begin\nT2|begin\nT3|begin\nT2|w(a)\nT3|w(b)\nT1|w(x)\nT2|r(x)\nT3|r(x)\nT1|r(a)\nT1|r(b)\nT1|end";
@@ -28,6 +33,16 @@ const CLOSED_AT_ONE_END: &[u8] =
 // What an ended block leads to shows in a last write alone.
 const SPREAD_TO_A_WRITE: &[u8] =
     b"T3|begin\nT2|begin\nT2|w(y)\nT1|r(y)\nT1|w(v)\nT3|w(x)\nT2|r(x)\nT2|end\nT3|r(v)";
+
+const IDLE_JOIN: &[u8] = b"T1|begin\nT1|fork(T2)\nT1|join(T2)\nT1|end";
+
+// The thread that is forked and joined in a block acts in between.
+const FORK_AND_JOIN: &[u8] = b"T1|begin\nT1|fork(T2)\nT2|w(x)\nT1|join(T2)\nT1|end";
+
+const LOCK_HELD_BETWEEN: &[u8] = b"T1|begin\nT1|acq(l)\nT1|rel(l)\nT2|acq(l)\nT2|rel(l)\nT1|acq(l)";
+
+// What leads to the last write shows in a reader alone.
+const READ_BETWEEN: &[u8] = b"T1|begin\nT1|w(y)\nT2|r(y)\nT2|r(x)\nT1|w(x)";
 
 // A block in a block, and a lock that is acquired again.
 const NESTED: &[u8] =
@@ -151,7 +166,7 @@ fn expect_line<R: Read + Drop>(
 // Each text with its line and status, under the greatest limits.
 #[test]
 fn a_source_has_its_line(rt: HostRuntime) -> Result<(), Fail> {
-    let rows: [(&[u8], &[u8], u8); 9] = [
+    let rows: [(&[u8], &[u8], u8); 15] = [
         (b"", b"n: serializable (0 events, 0 blocks)\n", 0),
         (
             b"T1|w(x)|5\nT2|r(x)|6",
@@ -174,6 +189,16 @@ fn a_source_has_its_line(rt: HostRuntime) -> Result<(), Fail> {
             0,
         ),
         (
+            CYCLE_OF_OPEN_BLOCKS,
+            b"n: no violation, 2 blocks open (6 events, 2 blocks)\n",
+            0,
+        ),
+        (
+            CYCLE_WITH_AN_END,
+            b"n: violation at line 7: block of T2 from line 2\n",
+            1,
+        ),
+        (
             CLOSED_AT_ONE_END,
             b"n: violation at line 11: block of T2 from line 2\n",
             1,
@@ -181,6 +206,22 @@ fn a_source_has_its_line(rt: HostRuntime) -> Result<(), Fail> {
         (
             SPREAD_TO_A_WRITE,
             b"n: violation at line 9: block of T3 from line 1\n",
+            1,
+        ),
+        (IDLE_JOIN, b"n: serializable (4 events, 1 blocks)\n", 0),
+        (
+            FORK_AND_JOIN,
+            b"n: violation at line 4: block of T1 from line 1\n",
+            1,
+        ),
+        (
+            LOCK_HELD_BETWEEN,
+            b"n: violation at line 6: block of T1 from line 1\n",
+            1,
+        ),
+        (
+            READ_BETWEEN,
+            b"n: violation at line 5: block of T1 from line 1\n",
             1,
         ),
         (NESTED, b"n: serializable (8 events, 1 blocks)\n", 0),

@@ -1,20 +1,18 @@
-use Rattle.std.proofs.Common.{◌≡◌, ◌<◌, ◌≤◌, ◌+◌, ◌-◌, length, vec_len}
-use Rattle.std.specs.Io.KnownBytes.{Consumes}
+use Rattle.std.proofs.Common.{◌≡◌, ◌≤◌, ◌+◌, ◌-◌, length}
 use Rattle.aero_model.specs.Counts.{seen_by}
-use Rattle.aerodrome.specs.Source.{IsQuiet}
+use Rattle.aerodrome.specs.Asking.{IsIdle, IsAsked}
 use Rattle.aerodrome.proofs.source.read_source.Given as goal
 
--- what has come so far came from the reader, and no read has failed or found the end
-abbrev pub invariant-loop-buffer : goal.invariant-loop-buffer
-invariant-loop-buffer g l =
+-- each block so far was asked about, and no more came than may
+abbrev pub invariant-loop-asker : goal.invariant-loop-asker
+invariant-loop-asker g l =
     let known = g.R.Read.remaining in
     record {
-      came : Consumes (seen_by known l.fn.reader).bytes (seen_by known l.reader).bytes l.bytes.items;
-      quiet : IsQuiet (seen_by known l.fn.reader) (seen_by known l.reader);
-      room : 0 < length l.buffer.items;
-      most : l.most ≡ l.limit + 1;
-      within : length l.bytes.items ≤ l.most;
+      asked : IsAsked (seen_by known l.fn.reader) (seen_by known l.reader) l.intake l.asker.parts.items;
+      idle : IsIdle l.asker.gather (length l.asker.parts.items);
+      room : length l.buffer.items ≡ l.piece;
+      within : l.intake.count ≤ l.limit + 1;
     }
 
-abbrev pub decreases-loop-buffer : goal.decreases-loop-buffer
-decreases-loop-buffer g l = l.most - vec_len l.bytes
+abbrev pub decreases-loop-asker : goal.decreases-loop-asker
+decreases-loop-asker g l = (l.limit + 1) - l.intake.count

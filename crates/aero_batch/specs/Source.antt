@@ -1,5 +1,5 @@
 -- What was read of a source.
-use Rattle.std.specs.Prelude.{◌≡◌, ◌≢◌, ℕ, ◌+◌, ◌<◌, ◌≤◌, Bool, true, false, if◌then◌else◌, List, [], ◌++◌, length, Option, Some, None}
+use Rattle.std.specs.Prelude.{◌≡◌, ℕ, ◌+◌, ◌≤◌, Bool, true, false, if◌then◌else◌, List, length}
 use Rattle.std.specs.Io.KnownBytes.{Consumes}
 use Rattle.aero_model.specs.declared.verdict.Ending.{Ending}
 use Rattle.aero_model.specs.declared.verdict.Ending.TheVariants.{Whole, Broken, TooLarge}
@@ -29,10 +29,3 @@ pub record WasRead (before after : Seen) (limit : ℕ) (bytes : List ℕ) (endin
 pub record IsQuiet (before after : Seen) : Type 0 where
   pub faults : after.faults ≡ before.faults
   pub ends : after.ends ≡ before.ends
-
--- One read: where it gave a piece of at least one byte, the bytes grow by it, and else the reading has ended and they stay.
-abbrev pub Gives : (before after : Seen) (old new : List ℕ) (room : ℕ) → Option Ending → Type 0
-Gives before after old new room None =
-    (piece : List ℕ) × Consumes before.bytes after.bytes piece × (new ≡ old ++ piece) × (0 < length piece) × (length piece ≤ room) × IsQuiet before after
-Gives before after old new room (Some ending) =
-    Consumes before.bytes after.bytes [] × (new ≡ old) × (ending ≢ TooLarge) × (after.faults ≡ before.faults + (if is_broken ending then 1 else 0)) × (after.ends ≡ before.ends + (if is_whole ending then 1 else 0))
