@@ -19,6 +19,7 @@ test:
 
 install: bin/aerodrome
 	install -D -m 755 bin/aerodrome $(DESTDIR)$(PREFIX)/bin/aerodrome
+	install -D -m 644 docs/aerodrome.1 $(DESTDIR)$(PREFIX)/share/man/man1/aerodrome.1
 
 clean:
 	rm -rf bin crates/*/out

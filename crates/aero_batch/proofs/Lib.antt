@@ -1,3 +1,11 @@
 pub mod Judged
+pub mod Questions
+pub mod Readers
+pub mod Readings
+pub mod Retold
+pub mod Standing
+pub mod Stepping
+pub mod Sums
 pub mod Taken
+pub mod Tracked
 pub mod Values

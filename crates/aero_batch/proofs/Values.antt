@@ -5,7 +5,9 @@ use Rattle.std.specs.Coded.{Coded, Coded-set, codes}
 use Rattle.aero_model.specs.declared.limits.Limits.{Limits}
 use Rattle.aero_model.specs.declared.verdict.Verdict.{Verdict}
 use Rattle.aero_grammar.specs.Reading.{Reading, reading_of}
+use Rattle.aero_pieces.specs.declared.question.Question.{Question}
 use Rattle.aero_pieces.specs.declared.question.Question.TheVariants.{Parse, Check}
+use Rattle.aero_pieces.specs.declared.answer.Value.{Value}
 use Rattle.aero_pieces.specs.declared.answer.Value.TheVariants.{Parsed, Judged}
 use Rattle.aero_pieces.specs.Values.{IsValueOf}
 

@@ -1,24 +1,40 @@
-//! How a source is read: piece by piece, each cut into blocks of whole lines as it comes, so that no
-//! source has to be held as a whole, and each block can be read by whoever is free.
+//! A run over many sources: each is read and judged, and the report is written.
+//!
+//! `run` reads the sources one after the other. Each is cut into blocks of whole lines as it comes, and
+//! a crew of workers reads the blocks and finds the verdicts. The lines of the report stand in the order
+//! of the sources, and each says what the definitions say of the bytes that were read, whatever the
+//! pieces, the number of workers and the order of their answers: `specs/Founds.antt` has it in full.
+//! `run_over` is the same with any helpers, of whom nothing is promised.
 //!
 //! An `Intake` takes the pieces of one source, and tells how the source ended: whole, by a read that
 //! failed, or by one byte more than the limit allows. `laws` says that the blocks of a source have
 //! the verdict of its text, however its bytes came.
 //!
 //! ```text
-//! let mut intake = Intake::new(alloc);
-//! loop {
-//!     match intake.take(&mut reader, &mut buffer, limit)? {
-//!         Taken::Piece(None) => {}
-//!         Taken::Piece(Some(block)) => read(block),
-//!         Taken::Ended(ending) => break ending,
-//!     }
-//! }
-//! let last = intake.finish()?;
+//! let plan = Plan::new(4, 65_536, Limits::greatest()).ok_or("no such plan")?;
+//! let reader = Counting::new(b"T1|begin\nT1|w(x)\nT1|end\n".as_slice());
+//! let mut sources = [Source { name: b"a".to_vec(alloc)?, reader }];
+//! let mut writer = Counting::new(Vec::new(alloc));
+//! let gate = Arc::new(alloc, NoGate)?;
+//! let outcome = run(rt, alloc, &mut sources, &mut writer, &plan, gate);
+//! // a: serializable (3 events, 1 blocks)
+//! // traces 1: serializable 1, open 0, violations 0, faults 0
 //! ```
 #![tactic(auto)]
 
+mod checking;
+pub mod helpers;
+mod inquiry;
 pub mod intake;
 pub mod laws;
+pub mod outcome;
+pub mod plan;
+mod progress;
+mod reading;
+pub mod run;
+pub mod source;
+mod step;
 #[cfg(test)]
 mod tests;
+mod told;
+mod track;

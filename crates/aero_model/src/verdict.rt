@@ -56,7 +56,10 @@ pub enum ShapeFault {
 #[derive(Drop)]
 pub enum Verdict {
     /// Every line and every event is in order, every block has ended, and no violation is found.
-    Serializable { events: u32, blocks: u32 },
+    Serializable {
+        events: u32,
+        blocks: u32,
+    },
     /// The same, but so many blocks are still open.
     Pending {
         events: u32,
@@ -72,10 +75,16 @@ pub enum Verdict {
     },
     /// The first malformed line stands before anything else that is wrong. Its fault is not
     /// `Memory`.
-    Malformed { line: u32, fault: LineFault },
+    Malformed {
+        line: u32,
+        fault: LineFault,
+    },
     /// The first ill-formed event stands on this line, before anything else that is wrong. Its
     /// fault is not `Memory`.
-    IllFormed { line: u32, fault: ShapeFault },
+    IllFormed {
+        line: u32,
+        fault: ShapeFault,
+    },
 }
 
 /// How the reading of a source ended.

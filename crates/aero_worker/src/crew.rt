@@ -113,7 +113,8 @@ impl Model for Crew {
 }
 
 impl Crew {
-    /// Starts as many of the `n` workers as the system gives, perhaps none. Nothing is posted yet.
+    /// Starts as many of the `n` workers, 1 to 16, as the system gives, perhaps none. Nothing is posted
+    /// yet.
     ///
     /// # Errors
     ///

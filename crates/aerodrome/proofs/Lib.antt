@@ -1,1 +1,3 @@
-pub mod Asked
+mod Built
+mod Numbers
+mod Passed

@@ -1,3 +1,4 @@
-pub mod Asking
-pub mod OneRun
+pub mod Failure
+pub mod Inputs
 pub mod Status
+pub mod Words

@@ -1,19 +1,13 @@
--- The exit status of a run over one source: the greatest number that applies.
-use Rattle.std.specs.Prelude.{ℕ, Result, Ok, Err}
-use Rattle.aero_model.specs.declared.verdict.Finding.{Finding}
-use Rattle.aero_model.specs.declared.verdict.Finding.TheVariants.{Judged, Broken, TooLarge}
-use Rattle.aero_model.specs.declared.verdict.Verdict.TheVariants.{Serializable, Pending, Violation, Malformed, IllFormed}
-use Rattle.aerodrome.specs.declared.one.OneFault.{OneFault}
+-- The exit status of a run: the greatest number that applies.
+use Rattle.std.specs.Prelude.{ℕ, nat_lt, if◌then◌else◌, Option, Some, None}
+use Rattle.aero_batch.specs.declared.outcome.Cause.{Cause}
+use Rattle.aero_model.specs.declared.verdict.Counts.{Counts}
 
-abbrev pub finding_status : Finding → ℕ
-finding_status (Judged (Serializable events blocks)) = 0
-finding_status (Judged (Pending events blocks pending)) = 0
-finding_status (Judged (Violation line thread begun)) = 1
-finding_status (Judged (Malformed line fault)) = 2
-finding_status (Judged (IllFormed line fault)) = 2
-finding_status (Broken bytes) = 2
-finding_status TooLarge = 2
+-- of a run that wrote its summary
+abbrev pub counts_status : Counts → ℕ
+counts_status counts = if nat_lt 0 counts.faults then 2 else if nat_lt 0 counts.violations then 1 else 0
 
-abbrev pub status_of : Result (ℕ × Finding) OneFault → ℕ
-status_of (Ok told) = finding_status told.1
-status_of (Err fault) = 4
+-- of a run that may have stopped before
+abbrev pub status_of : Option Cause → Counts → ℕ
+status_of (Some cause) counts = 4
+status_of None counts = counts_status counts

@@ -2,18 +2,20 @@
 ghost use Rattle.std.specs.Prelude.{◌≡◌};
 ghost use Rattle.aerodrome.specs.Status.{status_of};
 
-use crate::one::OneFault;
-use aero_model::verdict::{Finding, Verdict};
+use aero_batch::outcome::Outcome;
 
-/// The exit status of a run over one source: 4 where it was refused, 2 for a source that is
-/// malformed, ill-formed, broken or too large, 1 for a violation, else 0.
-pub fn one_status(outcome: &Result<(u64, Finding), OneFault>) -> u8
-    ensures { result ≡ status_of outcome.now }
+/// The exit status of a run: 4 where it stopped before its summary was written, else 2 where a
+/// source is malformed, ill-formed, broken or too large, else 1 where one has a violation, else 0.
+pub fn status(outcome: &Outcome) -> u8
+    ensures { result ≡ status_of outcome.now.cause outcome.now.counts }
 {
-    match outcome {
-        Err(_) => 4,
-        Ok((_, Finding::Judged(Verdict::Serializable { .. } | Verdict::Pending { .. }))) => 0,
-        Ok((_, Finding::Judged(Verdict::Violation { .. }))) => 1,
-        Ok(_) => 2,
+    if outcome.cause.is_some() {
+        4
+    } else if outcome.counts.faults > 0 {
+        2
+    } else if outcome.counts.violations > 0 {
+        1
+    } else {
+        0
     }
 }

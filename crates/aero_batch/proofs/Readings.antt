@@ -1,0 +1,197 @@
+-- A step of reading keeps what holds of the sources.
+use Rattle.std.proofs.Common.{◌≡◌, ℕ, zero, suc, ◌+◌, ◌<◌, ◌≤◌, List, [], ◌∷◌, ◌++◌, map, length, slice_get, Option, Some, None, refl, sym, ◌∙◌, ap, ap₂, subst, inl, inr, arith}
+use Rattle.std.specs.Prelude.{option_to_list, ◌⊎◌}
+use Rattle.std.specs.List.{concat}
+use Rattle.std.proofs.lemmas.Bool.{cases_eq}
+use Rattle.std.proofs.lemmas.Grind.{merely}
+use Rattle.std.proofs.lemmas.List.{append-nil, length-append}
+use Rattle.aero_model.specs.declared.limits.Limits.{Limits}
+use Rattle.aero_model.specs.declared.verdict.Ending.{Ending}
+use Rattle.aero_model.specs.declared.verdict.Ending.TheVariants.{Whole, Broken, TooLarge}
+use Rattle.aero_model.specs.declared.verdict.Finding.TheVariants as findings
+use Rattle.aero_model.specs.Counts.{Seen}
+use Rattle.aero_grammar.specs.Reading.{Reading, reading_of}
+use Rattle.aero_lines.specs.Cutting.{Cutting, block_of, last_block, nothing_yet, blocks_from}
+use Rattle.aero_pieces.specs.declared.question.Question.{Question}
+use Rattle.aero_batch.specs.declared.progress.Progress.{Progress}
+use Rattle.aero_batch.specs.declared.track.Track.{Track}
+use Rattle.aero_batch.specs.declared.track.Track.TheVariants.{Arriving, Arrived, Checking, Found}
+use Rattle.aero_batch.specs.Founds.{Sighted}
+use Rattle.aero_batch.specs.Holding.{Holds, HasEnded, HaveComeFrom, nothing_known}
+use Rattle.aero_batch.specs.Inquiries.{Inquired}
+use Rattle.aero_batch.specs.Intake.{Taking, IsTaken, HaveCome, with_piece, nothing_taken, Ends}
+use Rattle.aero_batch.specs.Source.{WasRead}
+use Rattle.aero_batch.specs.Steps.{EndsSource, TakesPiece, ReadsOn, IsReadFrom, with_block, last_of, ended_track}
+use Rattle.aero_batch.specs.Tracks.{Story, HasArrived, IsTracked, AreTracked, changed}
+use Rattle.aero_batch.proofs.Retold.{retold, retold_there, retold_same, retold_elsewhere, with_pieces, block_tracked, still_arriving}
+use Rattle.aero_batch.proofs.Taken.{nothing_is_taken, piece_is_taken, blocks_with_last, nothing_has_come, piece_has_come, source_was_read}
+use Rattle.aero_batch.proofs.Tracked.{changed_there, changed_elsewhere, before_change}
+
+the_some : {A : Type 0} (x y : A) → Some x ≡ Some y → x ≡ y
+the_some x y p = cc p
+
+-- what became of the other sources stays
+ended_stays : (limits : Limits) (old now after : List Sighted) (place s : ℕ) (story : Story) → ((s : ℕ) → (place ≡ s → ⊥) → slice_get after s ≡ slice_get now s) → (place ≡ s → ⊥) →
+    HasEnded limits old now s story → HasEnded limits old after s story
+ended_stays limits old now after place s story others other has = record {
+  before = has.before;
+  after = has.after;
+  ending = has.ending;
+  was = has.was;
+  is = others s other ∙ has.is;
+  ended = has.ended;
+  read = has.read;
+}
+
+block_count : (p : Progress) (o : Option (List ℕ)) (blocks : List (List ℕ)) → p.blocks ≡ length blocks → (with_block p o).blocks ≡ length (blocks ++ option_to_list o)
+block_count p None blocks is = is ∙ ap length (sym (append-nil blocks))
+block_count p (Some b) blocks is = omega (arith, is, length-append blocks (b ∷ []))
+
+pub piece_holds : (limits : Limits) (old now after : List Sighted) (p q : Progress) (tale : ℕ → Story) (before_read after_read : Seen) →
+    IsReadFrom now after p.read before_read after_read → TakesPiece limits before_read after_read p q → Holds limits old now p tale → (new : ℕ → Story) × Holds limits old after q new × ((s : ℕ) → s < p.read → new s ≡ tale s)
+piece_holds limits old now after p q tale before_read after_read from takes holds =
+    let o = block_of p.intake.cutting takes.piece in
+    let pieces = (tale p.read).pieces ++ takes.piece ∷ [] in
+    let story = with_pieces (tale p.read) pieces o in
+    let new : ℕ → Story = retold tale p.read story in
+    let there : new p.read ≡ story = retold_there tale p.read story in
+    let there' : new q.read ≡ story = ap new takes.read ∙ there in
+    let elsewhere : (s : ℕ) → (p.read ≡ s → ⊥) → new s ≡ tale s = λ s other. retold_elsewhere tale p.read s story other in
+    let tracked = block_tracked limits p tale pieces o holds.not_ended holds.tracked in (
+      new,
+      record {
+        tracked = subst (λ (i : Inquired). AreTracked limits i.open_ones new q.tracks.items) (sym takes.inquiry)
+            (subst (λ ts. AreTracked limits (with_block p o).inquiry.open_ones new ts) (sym takes.tracks) tracked);
+        ended = λ s below.
+            let less : s < p.read = subst (λ r. s < r) takes.read below in
+            let other : p.read ≡ s → ⊥ = λ e. omega (arith, less, e) in
+            subst (λ (x : Story). HasEnded limits old after s x) (sym (elsewhere s other)) (ended_stays limits old now after p.read s (tale s) from.others other (holds.ended s less));
+        taken = subst (λ (x : Story). IsTaken q.intake x.pieces x.blocks) (sym there')
+            (subst (λ (i : Taking). IsTaken i pieces ((tale p.read).blocks ++ option_to_list o)) (sym takes.intake)
+            (piece_is_taken p.intake (tale p.read).pieces (tale p.read).blocks takes.piece holds.taken));
+        come = subst (λ (x : Story). HaveComeFrom old after q.read x) (sym there') (subst (λ r. HaveComeFrom old after r story) (sym takes.read)
+            (λ before last was is.
+            let same : record { name = from.was.name; reader = after_read } ≡ last = the_some (record { name = from.was.name; reader = after_read }) last (sym from.is_there ∙ is) in
+            let mid = holds.come before from.was was from.was_there in
+            let come = piece_has_come before.reader before_read after_read (tale p.read).pieces _ limits.bytes p.intake.count takes.piece (subst (λ (x : Seen). HaveCome before.reader x (tale p.read).pieces) from.used mid) takes.comes in
+            subst (λ (x : Sighted). HaveCome before.reader x.reader pieces) same come));
+        asked = takes.blocks ∙ (block_count p o (tale p.read).blocks holds.asked ∙ ap (λ (x : Story). length x.blocks) (sym there'));
+        not_ended = ap (λ (x : Story). x.ending) there';
+        later = λ s above.
+            let less : p.read < s = subst (λ r. r < s) takes.read above in
+            let other : p.read ≡ s → ⊥ = λ e. omega (arith, less, e) in
+            (elsewhere s other ∙ (holds.later s less).0, from.others s other ∙ (holds.later s less).1);
+      },
+      λ s less. elsewhere s (λ e. omega (arith, less, e)),
+    )
+
+-- a source that was arriving has ended
+ended_track_fits : (limits : Limits) (qs : List Question) (s count blocks : ℕ) (ending : Ending) (i : Taking) (pieces cut all : List (List ℕ)) (readings : List Reading) →
+    IsTaken i pieces cut → count ≡ i.count → all ≡ cut ++ option_to_list (last_of i.cutting ending) → blocks ≡ length all →
+    IsTracked limits qs s (record { pieces = pieces; blocks = all; ending = None }) (Arriving readings) →
+    IsTracked limits qs s (record { pieces = pieces; blocks = all; ending = Some ending }) (ended_track ending count blocks (Arriving readings))
+ended_track_fits limits qs s count blocks Whole i pieces cut all readings taken is_count is_all is_blocks is = (
+  is.0,
+  is.1,
+  record {
+    ended = refl;
+    all = is_all ∙ blocks_with_last i pieces cut taken;
+    byte_count = is_count ∙ taken.count;
+    block_count = is_blocks;
+  },
+)
+ended_track_fits limits qs s count blocks Broken i pieces cut all readings taken is_count is_all is_blocks is =
+    (refl, is_count ∙ taken.count, merely (ap findings.Broken (is_count ∙ taken.count)))
+ended_track_fits limits qs s count blocks TooLarge i pieces cut all readings taken is_count is_all is_blocks is =
+    (refl, is_count ∙ taken.count, merely refl)
+
+ended_tracked : (limits : Limits) (p : Progress) (tale : ℕ → Story) (ending : Ending) (o : Option (List ℕ)) (all : List (List ℕ)) → all ≡ (tale p.read).blocks ++ option_to_list (last_of p.intake.cutting ending) →
+    IsTaken p.intake (tale p.read).pieces (tale p.read).blocks → (with_block p o).blocks ≡ length all →
+    AreTracked limits (with_block p o).inquiry.open_ones (retold tale p.read (record { pieces = (tale p.read).pieces; blocks = all; ending = None })) p.tracks.items →
+    AreTracked limits (with_block p o).inquiry.open_ones (retold tale p.read (record { pieces = (tale p.read).pieces; blocks = all; ending = Some ending }))
+    (changed p.read (ended_track ending p.intake.count (with_block p o).blocks) p.tracks.items)
+ended_tracked limits p tale ending o all is_all taken blocks tracked s t at =
+    let qs = (with_block p o).inquiry.open_ones in
+    let f : Track → Track = ended_track ending p.intake.count (with_block p o).blocks in
+    let mid : Story = record { pieces = (tale p.read).pieces; blocks = all; ending = None } in
+    let story : Story = record { pieces = (tale p.read).pieces; blocks = all; ending = Some ending } in
+    elim (cases_eq p.read s) [
+      | inl same ↦
+          (let at_place = subst (λ n. slice_get (changed n f p.tracks.items) s ≡ Some t) same at in
+          let was = before_change f (slice_get p.tracks.items s) t (sym (changed_there s f p.tracks.items) ∙ at_place) in
+          let is = subst (λ x. IsTracked limits qs s x was.0) (retold_same tale p.read s mid same) (tracked s was.0 was.1) in
+          let arriving = still_arriving limits qs s mid was.0 refl is in
+          let fits = ended_track_fits limits qs s p.intake.count (with_block p o).blocks ending p.intake (tale p.read).pieces (tale p.read).blocks all arriving.0 taken refl is_all blocks
+          (subst (λ x. IsTracked limits qs s mid x) arriving.1 is) in
+          subst (λ x. IsTracked limits qs s x t) (sym (retold_same tale p.read s story same))
+          (subst (λ x. IsTracked limits qs s story x) (sym (was.2 ∙ ap f arriving.1)) fits))
+      | inr other ↦
+          subst (λ x. IsTracked limits qs s x t) (retold_elsewhere tale p.read s mid other ∙ sym (retold_elsewhere tale p.read s story other))
+          (tracked s t (sym (changed_elsewhere p.read s f p.tracks.items other) ∙ at))
+    ]
+
+-- the sources that have ended, the one that was being read among them
+ended_before : (limits : Limits) (old now after : List Sighted) (p q : Progress) (tale : ℕ → Story) (before_read after_read : Seen) (ending : Ending) (first : Sighted) (story : Story) (new : ℕ → Story) →
+    slice_get old p.read ≡ Some first → IsReadFrom now after p.read before_read after_read → Ends before_read after_read limits.bytes p.intake.count ending →
+    Holds limits old now p tale → story.pieces ≡ (tale p.read).pieces → story.ending ≡ Some ending → new p.read ≡ story → ((s : ℕ) → (p.read ≡ s → ⊥) → new s ≡ tale s) →
+    (s : ℕ) → s < p.read + 1 → HasEnded limits old after s (new s)
+ended_before limits old now after p q tale before_read after_read ending first story new was from ends holds pieces is_ended there elsewhere s below =
+    elim (cases_eq p.read s) [
+      | inl same ↦
+          (let mid = subst (λ (x : Seen). HaveCome first.reader x (tale p.read).pieces) from.used (holds.come first from.was was from.was_there) in
+          let read = source_was_read first.reader before_read after_read limits.bytes p.intake (tale p.read).pieces (tale p.read).blocks ending mid holds.taken ends in
+          subst (λ n. HasEnded limits old after n (new n)) same
+          (subst (λ (x : Story). HasEnded limits old after p.read x) (sym there)
+          (record {
+            before = first;
+            after = record { name = from.was.name; reader = after_read };
+            ending = ending;
+            was = was;
+            is = from.is_there;
+            ended = is_ended;
+            read = subst (λ ps. WasRead first.reader after_read limits.bytes (concat ps) ending) (sym pieces) read;
+          })))
+      | inr other ↦
+          (let less : s < p.read = omega (arith, below, other) in
+          subst (λ (x : Story). HasEnded limits old after s x) (sym (elsewhere s other)) (ended_stays limits old now after p.read s (tale s) from.others other (holds.ended s less)))
+    ]
+
+pub ending_holds : (limits : Limits) (old now after : List Sighted) (p q : Progress) (tale : ℕ → Story) (before_read after_read : Seen) (ending : Ending) (first : Sighted) →
+    slice_get old p.read ≡ Some first → IsReadFrom now after p.read before_read after_read → Ends before_read after_read limits.bytes p.intake.count ending → EndsSource ending p q →
+    Holds limits old now p tale → (new : ℕ → Story) × Holds limits old after q new × ((s : ℕ) → s < p.read → new s ≡ tale s)
+ending_holds limits old now after p q tale before_read after_read ending first was from ends is holds =
+    let o = last_of p.intake.cutting ending in
+    let pieces = (tale p.read).pieces in
+    let all = (tale p.read).blocks ++ option_to_list o in
+    let mid : Story = with_pieces (tale p.read) pieces o in
+    let story : Story = record { pieces = pieces; blocks = all; ending = Some ending } in
+    let arriving : ℕ → Story = retold tale p.read mid in
+    let new : ℕ → Story = retold tale p.read story in
+    let there : new p.read ≡ story = retold_there tale p.read story in
+    let elsewhere : (s : ℕ) → (p.read ≡ s → ⊥) → new s ≡ tale s = λ s other. retold_elsewhere tale p.read s story other in
+    let tracked = block_tracked limits p tale pieces o holds.not_ended holds.tracked in
+    let blocks = block_count p o (tale p.read).blocks holds.asked in
+    let qs = (with_block p o).inquiry.open_ones in
+    let next_other : p.read ≡ q.read → ⊥ = λ e. omega (arith, e, is.read) in
+    let next_above : p.read < q.read = omega (arith, is.read) in
+    let next_known : new q.read ≡ nothing_known = elsewhere q.read next_other ∙ (holds.later q.read next_above).0 in (
+      new,
+      record {
+        tracked = subst (λ (i : Inquired). AreTracked limits i.open_ones new q.tracks.items) (sym is.inquiry)
+            (subst (λ ts. AreTracked limits qs new ts) (sym is.tracks)
+            (ended_tracked limits p tale ending o all refl holds.taken blocks tracked));
+        ended = λ s below. ended_before limits old now after p q tale before_read after_read ending first story new was from ends holds refl refl there elsewhere s (omega (arith, below, is.read));
+        taken = subst (λ (x : Story). IsTaken q.intake x.pieces x.blocks) (sym next_known) (subst (λ (i : Taking). IsTaken i [] []) (sym is.intake) nothing_is_taken);
+        come = subst (λ (x : Story). HaveComeFrom old after q.read x) (sym next_known)
+            (λ before last at_old at_new.
+            let same : before ≡ last = the_some before last (sym at_old ∙ (sym (holds.later q.read next_above).1 ∙ (sym (from.others q.read next_other) ∙ at_new))) in
+            subst (λ (x : Sighted). HaveCome before.reader x.reader []) same (nothing_has_come before.reader));
+        asked = is.blocks ∙ ap (λ (x : Story). length x.blocks) (sym next_known);
+        not_ended = ap (λ (x : Story). x.ending) next_known;
+        later = λ s above.
+            let less : p.read < s = omega (arith, above, is.read) in
+            let other : p.read ≡ s → ⊥ = λ e. omega (arith, less, e) in
+            (elsewhere s other ∙ (holds.later s less).0, from.others s other ∙ (holds.later s less).1);
+      },
+      λ s less. elsewhere s (λ e. omega (arith, less, e)),
+    )

@@ -1,0 +1,451 @@
+-- What holds between two steps is kept by each, and says what was written where the run stops.
+use Rattle.std.proofs.Common.{◌≡◌, ℕ, zero, suc, ◌+◌, ◌*◌, ◌<◌, ◌≤◌, Bool, true, false, List, [], ◌∷◌, ◌++◌, map, length, take, slice_get, Option, Some, None, Result, Ok, Err, refl, sym, ◌∙◌, ap, ap₂, subst, append_assoc, inl, inr, arith}
+use Rattle.std.specs.Prelude.{◌^◌, IfOk, IfErr, OnOk, replicate, ◌⊎◌, flat_map, fold, option_to_list, vec_len, vec_capacity}
+use Rattle.std.specs.List.{concat}
+use Rattle.std.specs.Io.KnownBytes.{Appends}
+use Rattle.std.proofs.KnownBytes.{Appends-nil, Appends-trans}
+use Rattle.std.proofs.lemmas.Bool.{cases_eq}
+use Rattle.std.proofs.lemmas.List.{append-nil, length-append, length-map, map-append, length_push, length-replicate}
+use Rattle.std.proofs.lemmas.Grind.{flat_map-append}
+use Rattle.std.proofs.lemmas.List.Sums.{fold-append}
+use Rattle.std.proofs.lemmas.Option.{slice_get_within, slice_get_past}
+use Rattle.aero_model.specs.declared.limits.Limits.{Limits}
+use Rattle.aero_model.specs.declared.verdict.Counts.{Counts}
+use Rattle.aero_model.specs.declared.verdict.Ending.{Ending}
+use Rattle.aero_model.specs.declared.verdict.Finding.{Finding}
+use Rattle.aero_model.specs.Counts.{Seen}
+use Rattle.aero_report.specs.Texts.{source_line, source_lines, summary_line, counts_of, counted, no_counts, report}
+use Rattle.aero_verdict.specs.Finding.{IsFinding}
+use Rattle.aero_batch.specs.declared.outcome.Cause.{Cause}
+use Rattle.aero_batch.specs.declared.outcome.Cause.TheVariants.{Memory, Write}
+use Rattle.aero_batch.specs.declared.progress.Progress.{Progress}
+use Rattle.aero_batch.specs.declared.told.Told.{Told}
+use Rattle.aero_batch.specs.declared.track.Track.{Track}
+use Rattle.aero_batch.specs.declared.track.Track.TheVariants as tracks
+use Rattle.aero_batch.specs.Founds.{Sighted, Found, IsFoundOf, IsFoundAt, AreOfTheFirst, told, ending_of, lines_of_all, counts_of_all, Took, IsNextText, WasCutOff, IsWritten, WasRun}
+use Rattle.aero_batch.specs.Holding.{Holds, HasEnded, AreTold, Tells, Counted, Stands, HasNumbers, IsBegun, nothing_known}
+use Rattle.aero_batch.specs.Inquiries.{Inquired}
+use Rattle.aero_batch.specs.Intake.{Taking, IsTaken, HaveCome}
+use Rattle.aero_batch.specs.Source.{WasRead}
+use Rattle.aero_batch.specs.Steps.{Steps, ReadsOn}
+use Rattle.aero_batch.specs.Telling.{WasCut, TellsText, TellsNext, IsOneMore, cause_of, total}
+use Rattle.aero_batch.specs.Tracks.{Story, IsTracked}
+use Rattle.aero_batch.proofs.Readings.{piece_holds, ending_holds}
+use Rattle.aero_batch.proofs.Taken.{nothing_is_taken, nothing_has_come}
+use Rattle.aero_batch.proofs.Retold.{settling_holds, checking_holds}
+use Rattle.aero_batch.proofs.Sums.{settling_counted, checking_counted, piece_counted, ending_counted}
+
+the_some : {A : Type 0} (x y : A) → Some x ≡ Some y → x ≡ y
+the_some x y p = cc p
+
+-- the element at a place of a list with one more
+get_push : {A : Type 0} (xs : List A) (x : A) (s : ℕ) (y : A) → slice_get (xs ++ x ∷ []) s ≡ Some y → (slice_get xs s ≡ Some y) ⊎ ((s ≡ length xs) × (y ≡ x))
+get_push [] x zero y at = inr (refl, sym (the_some x y at))
+get_push [] x (suc s) y at = cc
+get_push (c ∷ xs) x zero y at = inl at
+get_push (c ∷ xs) x (suc s) y at = elim (get_push xs x s y at) [ inl is ↦ inl is | inr is ↦ inr (ap suc is.0, is.1) ]
+
+-- what is told of one more source
+
+lines_more : (founds : List Found) (f : Found) → lines_of_all (founds ++ f ∷ []) ≡ lines_of_all founds ++ source_line f.name f.finding
+lines_more founds f =
+    ap source_lines (map-append told founds (f ∷ []))
+    ∙ (flat_map-append (λ s. source_line s.0 s.1) (map told founds) (told f ∷ [])
+    ∙ ap (λ bs. lines_of_all founds ++ bs) (append-nil (source_line f.name f.finding)))
+
+counts_more : (founds : List Found) (f : Found) → counts_of_all (founds ++ f ∷ []) ≡ counted (counts_of_all founds) f.finding
+counts_more founds f =
+    ap counts_of (map-append (λ x. x.finding) founds (f ∷ [])) ∙ fold-append counted no_counts (map (λ x. x.finding) founds) (f.finding ∷ [])
+
+-- the tracks that may be told are those of sources that have ended
+found_tells : (limits : Limits) (old now : List Sighted) (p : Progress) (tale : ℕ → Story) (place bytes : ℕ) (ending : Ending) (finding : Finding) → Holds limits old now p tale → place < p.read →
+    slice_get p.tracks.items place ≡ Some (tracks.Found bytes ending finding) → (name : List ℕ) → ((b : Sighted) → slice_get old place ≡ Some b → b.name ≡ name) →
+    Tells limits old place (tale place) (record { name = name; bytes = concat (tale place).pieces; ending = ending; finding = finding })
+found_tells limits old now p tale place bytes ending finding holds below at name named =
+    let is = holds.tracked place (tracks.Found bytes ending finding) at in
+    let has = holds.ended place below in
+    record {
+      before = has.before;
+      was = has.was;
+      name = sym (named has.before has.was);
+      bytes = refl;
+      ending = is.0;
+      finding = is.2;
+    }
+
+-- what is told of the first sources was found of them
+found_first : (limits : Limits) (old now : List Sighted) (p : Progress) (tale : ℕ → Story) (founds : List Found) → Holds limits old now p tale → ((s : ℕ) (f : Found) → slice_get founds s ≡ Some f → Tells limits old s (tale s) f) →
+    length founds ≤ p.read → AreOfTheFirst limits old now founds
+found_first limits old now p tale founds holds tells few place f at =
+    let within = slice_get_within founds place f at in
+    let below : place < p.read = omega (arith, within, few) in
+    let has = holds.ended place below in
+    let t = tells place f at in
+    let same : t.before ≡ has.before = the_some t.before has.before (sym t.was ∙ has.was) in
+    let ends : has.ending ≡ f.ending = the_some has.ending f.ending (sym has.ended ∙ t.ending) in
+    record {
+      before = has.before;
+      after = has.after;
+      was = has.was;
+      is = has.is;
+      found_of = record {
+        name = t.name ∙ ap (λ (b : Sighted). b.name) same;
+        read = subst (λ e. WasRead has.before.reader has.after.reader limits.bytes f.bytes e) ends
+            (subst (λ bs. WasRead has.before.reader has.after.reader limits.bytes bs has.ending) (sym t.bytes) has.read);
+        finding = t.finding;
+      };
+    }
+
+-- a text after those that were written
+
+took_more : (before mid after : Seen) (text more : List ℕ) → Took before mid text → Took mid after more → Took before after (text ++ more)
+took_more before mid after text more first then = record {
+  went = Appends-trans before.bytes mid.bytes after.bytes text more first.went then.went;
+  faults = then.faults ∙ first.faults;
+}
+
+took_nothing : (before mid after : Seen) (text : List ℕ) → Took before mid text → Took mid after [] → Took before after text
+took_nothing before mid after text first then = subst (λ t. Took before after t) (append-nil text) (took_more before mid after text [] first then)
+
+-- a source keeps its name
+name_then : (old now : List Sighted) (s : ℕ) (b : Sighted) {name : List ℕ} → map (λ x. x.name) now ≡ map (λ x. x.name) old → slice_get old s ≡ Some b →
+    ((x : Sighted) → slice_get now s ≡ Some x → x.name ≡ name) → b.name ≡ name
+name_then old [] s b names was named = absurd (no_less old s b names was)
+  where
+    no_less : (old : List Sighted) (s : ℕ) (b : Sighted) → [] ≡ map (λ x. x.name) old → slice_get old s ≡ Some b → ⊥
+    no_less [] s b names was = cc (was)
+    no_less (c ∷ old) s b names was = cc (names)
+name_then [] (x ∷ now) s b names was named = cc (was)
+name_then (c ∷ old) (x ∷ now) zero b names was named =
+    let first : x.name ≡ c.name = cc names in
+    sym (first ∙ ap (λ (y : Sighted). y.name) (the_some c b was)) ∙ named x refl
+name_then (c ∷ old) (x ∷ now) (suc s) b names was named =
+    let rest : map (λ y. y.name) now ≡ map (λ y. y.name) old = cc names in
+    name_then old now s b rest was named
+
+-- one more source is told
+pub told_stands : (limits : Limits) (old now : List Sighted) (before mid after : Seen) (p : Progress) (a b : Told) (bytes : ℕ) (ending : Ending) (finding : Finding) (name : List ℕ) →
+    vec_len a.endings < p.checked → slice_get p.tracks.items (vec_len a.endings) ≡ Some (tracks.Found bytes ending finding) →
+    ((x : Sighted) → slice_get now (vec_len a.endings) ≡ Some x → x.name ≡ name) →
+    Took mid after (source_line name finding) → IsOneMore a b bytes ending finding → Stands limits old now before mid p a → Stands limits old now before after p b
+told_stands limits old now before mid after p a b bytes ending finding name below at named took more st =
+    let t = st.are_told in
+    let place = vec_len a.endings in
+    let same_place : place ≡ length st.founds = a.endings.ok.0 ∙ (ap length t.endings ∙ length-map st.founds ending_of) in
+    let f : Found = record { name = name; bytes = concat (st.tale place).pieces; ending = ending; finding = finding } in
+    let is = st.holds.tracked place (tracks.Found bytes ending finding) at in
+    let read_below : place < p.read = omega (arith, below, st.counted.checked) in
+    let tells = found_tells limits old now p st.tale place bytes ending finding st.holds read_below at name (λ b was. name_then old now place b st.names was named) in
+    record {
+      tale = st.tale;
+      founds = st.founds ++ f ∷ [];
+      holds = st.holds;
+      are_told = record {
+        tells = λ s found there. elim (get_push st.founds f s found there) [
+          | inl was ↦ t.tells s found was
+          | inr is ↦ subst (λ x. Tells limits old s (st.tale s) x) (sym is.1) (subst (λ n. Tells limits old n (st.tale n) f) (same_place ∙ sym is.0) tells)
+        ];
+        few = omega (arith, length_push st.founds f, below, same_place);
+        took = subst (λ text. Took before after text) (sym (lines_more st.founds f)) (took_more before mid after (lines_of_all st.founds) (source_line name finding) t.took took);
+        endings = more.endings ∙ (ap₂ (λ es n. es ++ (n, ending) ∷ []) t.endings is.1 ∙ sym (map-append ending_of st.founds (f ∷ [])));
+        counts = more.counts ∙ (ap (λ c. counted c finding) t.counts ∙ sym (counts_more st.founds f));
+        total_is = omega (arith, more.counted_one, t.total_is, length_push st.founds f);
+        room = more.room ∙ t.room;
+      };
+      counted = st.counted;
+      names = st.names;
+    }
+
+-- the run stops: what stands, and why
+
+stopped : (limits : Limits) (old now now' : List Sighted) (before mid after : Seen) (p : Progress) (a : Told) (st : Stands limits old now before mid p a) (cause : Option Cause) →
+    ((s : ℕ) → s < p.read → slice_get now' s ≡ slice_get now s) → map (λ x. x.name) now' ≡ map (λ x. x.name) now →
+    IsWritten limits old now' st.founds before after cause → WasRun limits old now' before after a.endings.items a.counts cause
+stopped limits old now now' before mid after p a st cause same names written = record {
+  founds = st.founds;
+  found = λ place f at.
+      let few : length st.founds ≤ p.read = omega (arith, st.are_told.few, st.counted.checked) in
+      let is = found_first limits old now p st.tale st.founds st.holds st.are_told.tells few place f at in
+      let within = slice_get_within st.founds place f at in
+      record { before = is.before; after = is.after; was = is.was; is = same place (omega (arith, within, few)) ∙ is.is; found_of = is.found_of };
+  names = names ∙ st.names;
+  ended = st.are_told.endings;
+  counted = st.are_told.counts;
+  written = written;
+}
+
+pub memory_stops : (limits : Limits) (old now now' : List Sighted) (before mid after : Seen) (p : Progress) (a : Told) → Stands limits old now before mid p a →
+    ((s : ℕ) → s < p.read → slice_get now' s ≡ slice_get now s) → map (λ x. x.name) now' ≡ map (λ x. x.name) now → Took mid after [] →
+    WasRun limits old now' before after a.endings.items a.counts (Some Memory)
+memory_stops limits old now now' before mid after p a st same names took =
+    stopped limits old now now' before mid after p a st (Some Memory) same names (took_nothing before mid after (lines_of_all st.founds) st.are_told.took took)
+
+cut_off : (limits : Limits) (old now : List Sighted) (before mid after : Seen) (founds : List Found) (text : List ℕ) → IsNextText limits old now founds text → Took before mid (lines_of_all founds) → WasCut mid after text →
+    WasCutOff limits old now founds before after
+cut_off limits old now before mid after founds text next took cut = record {
+  text = text;
+  next = next;
+  written = cut.written;
+  part = cut.part;
+  went = Appends-trans before.bytes mid.bytes after.bytes (lines_of_all founds) (take cut.written text) took.went cut.went;
+  faults = cut.faults ∙ ap (λ n. n + 1) took.faults;
+}
+
+-- a write of the next source's line failed
+pub line_stops : (limits : Limits) (old now : List Sighted) (before mid after : Seen) (p : Progress) (a : Told) (bytes : ℕ) (ending : Ending) (finding : Finding) (name : List ℕ) →
+    vec_len a.endings < p.checked → slice_get p.tracks.items (vec_len a.endings) ≡ Some (tracks.Found bytes ending finding) →
+    ((x : Sighted) → slice_get now (vec_len a.endings) ≡ Some x → x.name ≡ name) → WasCut mid after (source_line name finding) → Stands limits old now before mid p a →
+    WasRun limits old now before after a.endings.items a.counts (Some Write)
+line_stops limits old now before mid after p a bytes ending finding name below at named cut st =
+    let t = st.are_told in
+    let place = vec_len a.endings in
+    let same_place : place ≡ length st.founds = a.endings.ok.0 ∙ (ap length t.endings ∙ length-map st.founds ending_of) in
+    let f : Found = record { name = name; bytes = concat (st.tale place).pieces; ending = ending; finding = finding } in
+    let read_below : place < p.read = omega (arith, below, st.counted.checked) in
+    let tells = found_tells limits old now p st.tale place bytes ending finding st.holds read_below at name (λ b was. name_then old now place b st.names was named) in
+    let has = st.holds.ended place read_below in
+    let ends : has.ending ≡ ending = the_some has.ending ending (sym has.ended ∙ tells.ending) in
+    let same : tells.before ≡ has.before = the_some tells.before has.before (sym tells.was ∙ has.was) in
+    let is : IsFoundAt limits old now place f = record {
+      before = has.before;
+      after = has.after;
+      was = has.was;
+      is = has.is;
+      found_of = record {
+        name = tells.name ∙ ap (λ (b : Sighted). b.name) same;
+        read = subst (λ e. WasRead has.before.reader has.after.reader limits.bytes f.bytes e) ends has.read;
+        finding = tells.finding;
+      };
+    } in
+    stopped limits old now now before mid after p a st (Some Write) (λ s less. refl) refl
+    (cut_off limits old now before mid after st.founds (source_line name finding) (inl (f, subst (λ n. IsFoundAt limits old now n f) same_place is, refl)) t.took cut)
+
+findings_told : (founds : List Found) → map (λ s. s.1) (map told founds) ≡ map (λ f. f.finding) founds
+findings_told [] = refl
+findings_told (f ∷ founds) = ap (λ fs. f.finding ∷ fs) (findings_told founds)
+
+-- all sources are told, and the summary is written, or not
+pub summary_stops : (limits : Limits) (old now : List Sighted) (before mid after : Seen) (p : Progress) (a : Told) → vec_len a.endings ≡ length old → Stands limits old now before mid p a →
+    (r : Result Unit Cause) → TellsText (summary_line a.counts) mid after r → (cause : Option Cause) → cause ≡ cause_of r → WasRun limits old now before after a.endings.items a.counts cause
+summary_stops limits old now before mid after p a all st r tells cause is = go r tells cause is
+  where
+    told_all : length st.founds ≡ length old
+    told_all = sym (a.endings.ok.0 ∙ (ap length st.are_told.endings ∙ length-map st.founds ending_of)) ∙ all
+
+    go : (r : Result Unit Cause) → TellsText (summary_line a.counts) mid after r → (cause : Option Cause) → cause ≡ cause_of r → WasRun limits old now before after a.endings.items a.counts cause
+    go (Ok u) tells cause is = subst (λ c. WasRun limits old now before after a.endings.items a.counts c) (sym is)
+        (stopped limits old now now before mid after p a st None (λ s less. refl) refl (
+          told_all,
+          subst (λ c. Took before after (lines_of_all st.founds ++ summary_line c)) (st.are_told.counts ∙ sym (ap counts_of (findings_told st.founds)))
+              (took_more before mid after (lines_of_all st.founds) (summary_line a.counts) st.are_told.took tells),
+        ))
+    go (Err Memory) tells cause is = subst (λ c. WasRun limits old now before after a.endings.items a.counts c) (sym is)
+        (memory_stops limits old now now before mid after p a st (λ s less. refl) refl tells)
+    go (Err Write) tells cause is = subst (λ c. WasRun limits old now before after a.endings.items a.counts c) (sym is)
+        (stopped limits old now now before mid after p a st (Some Write) (λ s less. refl) refl
+        (cut_off limits old now before mid after st.founds (summary_line (counts_of_all st.founds)) (inr (told_all, refl)) st.are_told.took
+        (subst (λ c. WasCut mid after (summary_line c)) st.are_told.counts tells)))
+
+-- what is told stays true where another source's story goes on
+still_told : (limits : Limits) (old : List Sighted) (before mid : Seen) (p q : Progress) (a : Told) (tale new : ℕ → Story) (founds : List Found) → p.checked ≤ p.read → p.checked ≤ q.checked →
+    ((s : ℕ) → s < p.read → new s ≡ tale s) → AreTold limits old before mid p a tale founds → AreTold limits old before mid q a new founds
+still_told limits old before mid p q a tale new founds below more same t = record {
+  tells = λ s f at.
+      let within = slice_get_within founds s f at in
+      subst (λ (x : Story). Tells limits old s x f) (sym (same s (omega (arith, within, t.few, below)))) (t.tells s f at);
+  few = omega (arith, t.few, more);
+  took = t.took;
+  endings = t.endings;
+  counts = t.counts;
+  total_is = t.total_is;
+  room = t.room;
+}
+
+slice_get_some : {A : Type 0} (xs : List A) (i : ℕ) → i < length xs → (x : A) × (slice_get xs i ≡ Some x)
+slice_get_some [] i less = absurd (omega (arith, less))
+slice_get_some (x ∷ xs) zero less = (x, refl)
+slice_get_some (x ∷ xs) (suc i) less = slice_get_some xs i (omega (arith, less))
+
+-- One step keeps what holds.
+pub step_stands : (limits : Limits) (old now after : List Sighted) (before mid : Seen) (p q : Progress) (a : Told) → Steps limits now after p q → map (λ x. x.name) after ≡ map (λ x. x.name) now →
+    Stands limits old now before mid p a → Stands limits old after before mid q a
+step_stands limits old now after before mid p q a (inl is) names st = record {
+  tale = st.tale;
+  founds = st.founds;
+  holds = subst (λ l. Holds limits old l q st.tale) (sym is.0) (settling_holds limits old now p q st.tale is.1 st.holds);
+  are_told = still_told limits old before mid p q a st.tale st.tale st.founds st.counted.checked (omega (arith, is.1.checked)) (λ s less. refl) st.are_told;
+  counted = settling_counted limits (length old) p q is.1 st.counted;
+  names = names ∙ st.names;
+}
+step_stands limits old now after before mid p q a (inr (inl is)) names st = record {
+  tale = st.tale;
+  founds = st.founds;
+  holds = subst (λ l. Holds limits old l q st.tale) (sym is.0) (checking_holds limits old now p q st.tale is.3 st.holds);
+  are_told = still_told limits old before mid p q a st.tale st.tale st.founds st.counted.checked (omega (arith, is.3.checked)) (λ s less. refl) st.are_told;
+  counted = checking_counted limits (length old) p q is.1 is.2 is.3 st.counted;
+  names = names ∙ st.names;
+}
+step_stands limits old now after before mid p q a (inr (inr is)) names st = go is.reads
+  where
+    same_length : length now ≡ length old
+    same_length = sym (length-map now (λ x. x.name)) ∙ (ap length st.names ∙ length-map old (λ x. x.name))
+
+    go : ReadsOn limits is.before_read is.after_read p q → Stands limits old after before mid q a
+    go (inl takes) =
+        let new = piece_holds limits old now after p q st.tale is.before_read is.after_read is.from takes st.holds in
+        record {
+          tale = new.0;
+          founds = st.founds;
+          holds = new.1;
+          are_told = still_told limits old before mid p q a st.tale new.0 st.founds st.counted.checked (omega (arith, takes.checked)) new.2 st.are_told;
+          counted = piece_counted limits (length old) p q is.before_read is.after_read is.may takes st.counted;
+          names = names ∙ st.names;
+        }
+    go (inr ends) =
+        let within : p.read < length old = omega (arith, is.unread, same_length) in
+        let first = slice_get_some old p.read within in
+        let new = ending_holds limits old now after p q st.tale is.before_read is.after_read ends.0 first.0 first.1 is.from ends.1 ends.2 st.holds in
+        record {
+          tale = new.0;
+          founds = st.founds;
+          holds = new.1;
+          are_told = still_told limits old before mid p q a st.tale new.0 st.founds st.counted.checked (omega (arith, ends.2.checked)) new.2 st.are_told;
+          counted = ending_counted limits (length old) p q ends.0 within is.may ends.2 st.counted;
+          names = names ∙ st.names;
+        }
+
+-- Telling the next source
+
+module _ (limits : Limits) (now : List Sighted) (mid after : Seen) (p : Progress) (a b : Told) (name : List ℕ) (below : vec_len a.endings < p.checked)
+    (named : (x : Sighted) → slice_get now (vec_len a.endings) ≡ Some x → x.name ≡ name) where
+  abbrev KeepsStanding : Result Bool Cause → Type 0
+  KeepsStanding r = IfOk r (λ is_told. is_told ≡ true → (old : List Sighted) (before : Seen) → Stands limits old now before mid p a → Stands limits old now before after p b)
+
+  abbrev Untouched : Result Bool Cause → Type 0
+  Untouched r = IfOk r (λ is_told. is_told ≡ false → (after ≡ mid) × (b ≡ a))
+
+  abbrev Stops : Result Bool Cause → Type 0
+  Stops r = IfErr r (λ cause. (old : List Sighted) (before : Seen) → Stands limits old now before mid p a → WasRun limits old now before after b.endings.items b.counts (Some cause))
+
+  abbrev Tellings : Result Bool Cause → Type 0
+  Tellings r = KeepsStanding r × Untouched r × Stops r
+
+  not_told : (after ≡ mid) × (b ≡ a) → Tellings (Ok false)
+  not_told same = ((λ e old before st. cc (e)), (λ e. same), tt)
+
+  found_told : (bytes : ℕ) (ending : Ending) (finding : Finding) (r : Result Bool Cause) → slice_get p.tracks.items (vec_len a.endings) ≡ Some (tracks.Found bytes ending finding) →
+      TellsNext name (tracks.Found bytes ending finding) mid after a b r → Tellings r
+  found_told bytes ending finding (Ok true) at tells =
+      ((λ e old before st. told_stands limits old now before mid after p a b bytes ending finding name below at named tells.0 tells.1 st), (λ e. cc (e)), tt)
+  found_told bytes ending finding (Ok false) at tells = absurd tells
+  found_told bytes ending finding (Err Memory) at tells = (
+    tt,
+    tt,
+    λ old before st. subst (λ (t : Told). WasRun limits old now before after t.endings.items t.counts (Some Memory)) (sym tells.1)
+        (memory_stops limits old now now before mid after p a st (λ s less. refl) refl tells.0),
+  )
+  found_told bytes ending finding (Err Write) at tells = (
+    tt,
+    tt,
+    λ old before st. subst (λ (t : Told). WasRun limits old now before after t.endings.items t.counts (Some Write)) (sym tells.1)
+        (line_stops limits old now before mid after p a bytes ending finding name below at named tells.0 st),
+  )
+
+  pub telling : (track : Track) (r : Result Bool Cause) → slice_get p.tracks.items (vec_len a.endings) ≡ Some track → TellsNext name track mid after a b r → Tellings r
+  telling (tracks.Found bytes ending finding) r at tells = found_told bytes ending finding r at tells
+  telling (tracks.Arriving readings) (Ok false) at tells = not_told tells
+  telling (tracks.Arriving readings) (Ok true) at tells = absurd tells
+  telling (tracks.Arriving readings) (Err cause) at tells = absurd tells
+  telling (tracks.Arrived bytes blocks readings) (Ok false) at tells = not_told tells
+  telling (tracks.Arrived bytes blocks readings) (Ok true) at tells = absurd tells
+  telling (tracks.Arrived bytes blocks readings) (Err cause) at tells = absurd tells
+  telling (tracks.Checking bytes) (Ok false) at tells = not_told tells
+  telling (tracks.Checking bytes) (Ok true) at tells = absurd tells
+  telling (tracks.Checking bytes) (Err cause) at tells = absurd tells
+
+-- the numbers of what stands
+pub standing_numbers : (limits : Limits) (old now : List Sighted) (before mid : Seen) (p : Progress) (a : Told) → Stands limits old now before mid p a → HasNumbers limits (length old) p a
+standing_numbers limits old now before mid p a st =
+    let same : vec_len a.endings ≡ length st.founds = a.endings.ok.0 ∙ (ap length st.are_told.endings ∙ length-map st.founds ending_of) in
+    record {
+      counted = st.counted;
+      told_few = omega (arith, same, st.are_told.few);
+      total_is = st.are_told.total_is ∙ sym same;
+      room = st.are_told.room;
+    }
+
+get_replicate : {A : Type 0} (n s : ℕ) (x y : A) → slice_get (replicate n x) s ≡ Some y → y ≡ x
+get_replicate zero s x y at = cc (at)
+get_replicate (suc n) zero x y at = sym (the_some x y at)
+get_replicate (suc n) (suc s) x y at = get_replicate n s x y at
+
+-- before the first step
+pub begun_stands : (limits : Limits) (old : List Sighted) (before : Seen) (p : Progress) (a : Told) → IsBegun limits (length old) p a → Stands limits old old before before p a
+begun_stands limits old before p a is =
+    let start = is.start.1 in
+    let count : p.intake.count ≡ 0 = ap (λ (i : Taking). i.count) start.intake in
+    let asked : p.inquiry.asked ≡ 0 = ap (λ (i : Inquired). i.asked) start.inquiry in
+    let questions : length p.inquiry.open_ones ≡ 0 = ap (λ (i : Inquired). length i.open_ones) start.inquiry in
+    record {
+      tale = λ s. nothing_known;
+      founds = [];
+      holds = record {
+        tracked = λ s t at.
+            let track : t ≡ tracks.Arriving [] = get_replicate (length old) s (tracks.Arriving []) t (subst (λ ts. slice_get ts s ≡ Some t) start.tracks at) in
+            subst (λ (i : Inquired). IsTracked limits i.open_ones s nothing_known t) (sym start.inquiry) (subst (λ x. IsTracked limits [] s nothing_known x) (sym track) (refl, refl, refl));
+        ended = λ s below. absurd (omega (arith, below, start.none_read));
+        taken = subst (λ (i : Taking). IsTaken i [] []) (sym start.intake) nothing_is_taken;
+        come = λ x y at_old at_now. subst (λ (z : Sighted). HaveCome x.reader z.reader []) (the_some x y (sym at_old ∙ at_now)) (nothing_has_come x.reader);
+        asked = start.no_blocks;
+        not_ended = refl;
+        later = λ s above. (refl, refl);
+      };
+      are_told = record {
+        tells = λ s f at. cc (at);
+        few = omega arith;
+        took = record { went = Appends-nil before.bytes; faults = refl };
+        endings = is.endings;
+        counts = is.counts;
+        total_is = ap total is.counts;
+        room = is.room;
+      };
+      counted = record {
+        tracks = ap length start.tracks ∙ length-replicate (length old) (tracks.Arriving []);
+        few_sources = is.few;
+        read = omega (arith, start.none_read);
+        checked = omega (arith, start.none_checked);
+        open_few = omega (arith, questions);
+        within = omega (arith, count);
+        few_bytes = is.few_bytes;
+        blocks = omega (arith, start.no_blocks);
+        asked = omega (arith, asked);
+        some_room = omega (arith, start.buffer, is.start.2);
+        short = subst (λ m. m ≤ 2 ^ 20) (sym start.buffer) is.start.3;
+      };
+      names = refl;
+    }
+
+-- memory was refused before the first step
+pub refused_at_once : (limits : Limits) (old : List Sighted) (before : Seen) → WasRun limits old old before before [] no_counts (Some Memory)
+refused_at_once limits old before = record {
+  founds = [];
+  found = λ place f at. cc (at);
+  names = refl;
+  ended = refl;
+  counted = refl;
+  written = record { went = Appends-nil before.bytes; faults = refl };
+}
+
+-- at the end: all sources are told, and the summary is written, or not
+pub summary_done : (limits : Limits) (old now : List Sighted) (before mid after : Seen) (p : Progress) (a : Told) → vec_len a.endings ≡ length now → Stands limits old now before mid p a →
+    (r : Result Unit Cause) → TellsText (summary_line a.counts) mid after r →
+    OnOk r (WasRun limits old now before after a.endings.items a.counts None) × IfErr r (λ cause. WasRun limits old now before after a.endings.items a.counts (Some cause))
+summary_done limits old now before mid after p a all st r tells = go r (summary_stops limits old now before mid after p a told_all st r tells)
+  where
+    told_all : vec_len a.endings ≡ length old
+    told_all = all ∙ (sym (length-map now (λ x. x.name)) ∙ (ap length st.names ∙ length-map old (λ x. x.name)))
+
+    go : (r : Result Unit Cause) → ((cause : Option Cause) → cause ≡ cause_of r → WasRun limits old now before after a.endings.items a.counts cause) →
+        OnOk r (WasRun limits old now before after a.endings.items a.counts None) × IfErr r (λ cause. WasRun limits old now before after a.endings.items a.counts (Some cause))
+    go (Ok u) all = (all None refl, tt)
+    go (Err cause) all = (tt, all (Some cause) refl)

@@ -1,0 +1,81 @@
+-- What the code of a step does is the step.
+use Rattle.std.proofs.Common.{◌≡◌, ℕ, ◌+◌, ◌<◌, List, [], ◌∷◌, ◌++◌, length, slice_get, slice_set, Option, Some, None, refl, sym, ◌∙◌, ap, ap₂, subst}
+use Rattle.std.specs.Vec.{with_item}
+use Rattle.std.proofs.lemmas.Option.{some_pair_parts}
+use Rattle.aero_model.specs.declared.verdict.Ending.{Ending}
+use Rattle.aero_pieces.specs.declared.question.Question.{Question}
+use Rattle.aero_pieces.specs.declared.answer.Value.{Value}
+use Rattle.aero_batch.specs.declared.progress.Progress.{Progress}
+use Rattle.aero_batch.specs.declared.track.Track.{Track}
+use Rattle.aero_batch.specs.Inquiries.{Inquired, Gives, trace_of}
+use Rattle.aero_batch.specs.Intake.{Taking, nothing_taken}
+use Rattle.aero_batch.specs.Steps.{EndsSource, with_block, last_of, ended_track}
+use Rattle.aero_batch.specs.Tracks.{Settles, changed, with_value}
+use Rattle.aero_batch.proofs.Tracked.{set_changed}
+
+-- asking about a block changes the questions and the number of blocks alone
+
+block_tracks : (p : Progress) (o : Option (List ℕ)) → (with_block p o).tracks ≡ p.tracks
+block_tracks p None = refl
+block_tracks p (Some b) = refl
+
+pub block_read : (p : Progress) (o : Option (List ℕ)) → (with_block p o).read ≡ p.read
+block_read p None = refl
+block_read p (Some b) = refl
+
+block_checked : (p : Progress) (o : Option (List ℕ)) → (with_block p o).checked ≡ p.checked
+block_checked p None = refl
+block_checked p (Some b) = refl
+
+block_intake : (p : Progress) (o : Option (List ℕ)) → (with_block p o).intake ≡ p.intake
+block_intake p None = refl
+block_intake p (Some b) = refl
+
+block_buffer : (p : Progress) (o : Option (List ℕ)) → (with_block p o).buffer ≡ p.buffer
+block_buffer p None = refl
+block_buffer p (Some b) = refl
+
+block_inquiry : (p : Progress) (i : Taking) (o : Option (List ℕ)) → (with_block (record p { intake = i }) o).inquiry ≡ (with_block p o).inquiry
+block_inquiry p i None = refl
+block_inquiry p i (Some b) = refl
+
+block_blocks : (p : Progress) (i : Taking) (o : Option (List ℕ)) → (with_block (record p { intake = i }) o).blocks ≡ (with_block p o).blocks
+block_blocks p i None = refl
+block_blocks p i (Some b) = refl
+
+pub ends_source : (ending : Ending) (p mid : Progress) (fresh taken : Taking) (last : Option (List ℕ)) (bytes : ℕ) (x y : Track) →
+    fresh ≡ nothing_taken → taken ≡ p.intake → bytes ≡ taken.count → last ≡ last_of taken.cutting ending → mid ≡ with_block (record p { intake = fresh }) last →
+    slice_get mid.tracks.items mid.read ≡ Some x → y ≡ ended_track ending bytes mid.blocks x →
+    EndsSource ending p (record mid { tracks = with_item mid.tracks mid.read y; read = mid.read + 1; blocks = 0 })
+ends_source ending p mid fresh taken last bytes x y is_fresh is_taken count is_last is at ended =
+    let q : Progress = record p { intake = fresh } in
+    let block : last ≡ last_of p.intake.cutting ending = is_last ∙ ap (λ (i : Taking). last_of i.cutting ending) is_taken in
+    let read_is : mid.read ≡ p.read = ap (λ (m : Progress). m.read) is ∙ block_read q last in
+    let tracks_are : mid.tracks.items ≡ p.tracks.items = ap (λ (m : Progress). m.tracks.items) is ∙ ap (λ v. v.items) (block_tracks q last) in
+    let blocks_are : mid.blocks ≡ (with_block p (last_of p.intake.cutting ending)).blocks =
+    ap (λ (m : Progress). m.blocks) is ∙ (block_blocks p fresh last ∙ ap (λ o. (with_block p o).blocks) block) in
+    let bytes_are : bytes ≡ p.intake.count = count ∙ ap (λ (i : Taking). i.count) is_taken in
+    record {
+      inquiry = ap (λ (m : Progress). m.inquiry) is ∙ (block_inquiry p fresh last ∙ ap (λ o. (with_block p o).inquiry) block);
+      tracks = set_changed mid.tracks.items mid.read x y (ended_track ending bytes mid.blocks) at ended
+          ∙ (ap₂ (λ r ts. changed r (ended_track ending bytes mid.blocks) ts) read_is tracks_are
+          ∙ ap₂ (λ b k. changed p.read (ended_track ending b k) p.tracks.items) bytes_are blocks_are);
+      read = ap (λ r. r + 1) read_is;
+      checked = ap (λ (m : Progress). m.checked) is ∙ block_checked q last;
+      intake = ap (λ (m : Progress). m.intake) is ∙ (block_intake q last ∙ is_fresh);
+      blocks = refl;
+      buffer = ap (λ (m : Progress). m.buffer.len) is ∙ ap (λ v. v.len) (block_buffer q last);
+    }
+
+pub settles_from_gives : (qs : List Question) (asked : ℕ) (new : Inquired) (trace : ℕ) (v : Value) (old_tracks new_tracks : List Track) →
+    Gives qs asked new (Some (trace, v)) → new_tracks ≡ changed trace (λ t. with_value t v) old_tracks → Settles qs asked new old_tracks new_tracks
+settles_from_gives [] asked new trace v old_tracks new_tracks is given = cc (is.0)
+settles_from_gives (q ∷ rest) asked new trace v old_tracks new_tracks is given =
+    let parts = some_pair_parts trace (trace_of q) v is.0 is.2 in (
+      is.3,
+      record {
+        value = is.0;
+        known = is.1;
+        tracks = given ∙ ap₂ (λ n w. changed n (λ t. with_value t w) old_tracks) parts.0 parts.1;
+      },
+    )

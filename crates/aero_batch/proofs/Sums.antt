@@ -1,0 +1,143 @@
+-- The numbers of a run stay within their bounds.
+use Rattle.std.proofs.Common.{◌≡◌, ℕ, zero, suc, ◌+◌, ◌*◌, ◌<◌, ◌≤◌, ◌^◌, List, [], ◌∷◌, ◌++◌, map, length, Option, Some, None, refl, sym, ◌∙◌, ap, subst, arith}
+use Rattle.std.specs.Prelude.{option_to_list, vec_len}
+use Rattle.std.proofs.lemmas.List.{length_push, length-append}
+use Rattle.aero_model.specs.declared.limits.Limits.{Limits}
+use Rattle.aero_model.specs.declared.verdict.Ending.{Ending}
+use Rattle.aero_model.specs.Counts.{Seen}
+use Rattle.aero_grammar.specs.Reading.{Reading}
+use Rattle.aero_lines.specs.Cutting.{block_of}
+use Rattle.aero_pieces.specs.declared.question.Question.{Question}
+use Rattle.aero_pieces.specs.declared.question.Question.TheVariants.{Parse, Check}
+use Rattle.aero_batch.specs.declared.progress.Progress.{Progress}
+use Rattle.aero_batch.specs.declared.track.Track.{Track}
+use Rattle.aero_batch.specs.Holding.{Counted}
+use Rattle.aero_batch.specs.Inquiries.{Inquired, with_question, trace_of}
+use Rattle.aero_batch.specs.Intake.{Taking, with_piece, nothing_taken}
+use Rattle.aero_batch.specs.Steps.{ChecksNext, SettlesNext, TakesPiece, EndsSource, MayAsk, with_block, with_check, last_of, ended_track}
+use Rattle.aero_batch.specs.Tracks.{Settles, changed, with_value}
+use Rattle.aero_batch.proofs.Tracked.{changed_length}
+
+pub record Fewer (qs : List Question) (asked : ℕ) (new : Inquired) (old_tracks new_tracks : List Track) : Type 0 where
+  pub questions : length new.open_ones ≤ length qs
+  pub same_asked : new.asked ≡ asked
+  pub tracks : length new_tracks ≡ length old_tracks
+
+settled_fewer : (qs : List Question) (asked : ℕ) (new : Inquired) (old_tracks new_tracks : List Track) → Settles qs asked new old_tracks new_tracks → Fewer qs asked new old_tracks new_tracks
+settled_fewer [] asked new old_tracks new_tracks is =
+    let open_is : length new.open_ones ≡ 0 = ap (λ (i : Inquired). length i.open_ones) is.0 in
+    record { questions = omega (arith, open_is); same_asked = ap (λ (i : Inquired). i.asked) is.0; tracks = ap length is.1 }
+settled_fewer (q ∷ rest) asked new old_tracks new_tracks is =
+    let open_is : length new.open_ones ≡ length rest = ap (λ (i : Inquired). length i.open_ones) is.0 in
+    record {
+      questions = omega (arith, open_is);
+      same_asked = ap (λ (i : Inquired). i.asked) is.0;
+      tracks = ap length is.1.tracks ∙ changed_length (trace_of q) (λ t. with_value t is.1.value) old_tracks;
+    }
+
+pub settling_counted : (limits : Limits) (n : ℕ) (p q : Progress) → SettlesNext p q → Counted limits n p → Counted limits n q
+settling_counted limits n p q is c =
+    let few = settled_fewer p.inquiry.open_ones p.inquiry.asked q.inquiry p.tracks.items q.tracks.items is.settles in
+    let count : q.intake.count ≡ p.intake.count = ap (λ (i : Taking). i.count) is.intake in
+    record {
+      tracks = few.tracks ∙ c.tracks;
+      few_sources = c.few_sources;
+      read = omega (arith, c.read, is.read);
+      checked = omega (arith, c.checked, is.checked, is.read);
+      open_few = omega (arith, few.questions, c.open_few);
+      within = omega (arith, c.within, count);
+      few_bytes = c.few_bytes;
+      blocks = omega (arith, c.blocks, is.blocks, count);
+      asked = omega (arith, few.same_asked, c.asked, is.read, is.blocks, is.checked);
+      some_room = omega (arith, c.some_room, is.buffer);
+      short = subst (λ m. m ≤ 2 ^ 20) (sym is.buffer) c.short;
+    }
+
+pub record OneMore (i j : Inquired) (k : ℕ) : Type 0 where
+  pub one : k ≤ 1
+  pub questions : length j.open_ones ≡ length i.open_ones + k
+  pub more_asked : j.asked ≡ i.asked + k
+
+check_more : (limits : Limits) (i : Inquired) (place : ℕ) (o : Option (List Reading)) → (k : ℕ) × OneMore i (with_check limits i place o) k
+check_more limits i place None = (0, record { one = omega arith; questions = omega arith; more_asked = omega arith })
+check_more limits i place (Some rs) = (1, record { one = omega arith; questions = length_push i.open_ones (Check place rs limits); more_asked = refl })
+
+pub checking_counted : (limits : Limits) (n : ℕ) (p q : Progress) → p.checked < p.read → MayAsk p → ChecksNext limits p q → Counted limits n p → Counted limits n q
+checking_counted limits n p q below may is c =
+    let more = check_more limits p.inquiry p.checked is.readings in
+    let k = more.0 in
+    let m = more.1 in
+    let count : q.intake.count ≡ p.intake.count = ap (λ (i : Taking). i.count) is.intake in
+    let questions : length q.inquiry.open_ones ≡ length p.inquiry.open_ones + k = ap (λ (i : Inquired). length i.open_ones) is.inquiry ∙ m.questions in
+    let more_asked : q.inquiry.asked ≡ p.inquiry.asked + k = ap (λ (i : Inquired). i.asked) is.inquiry ∙ m.more_asked in
+    record {
+      tracks = ap length is.tracks ∙ (changed_length p.checked (λ t. is.after) p.tracks.items ∙ c.tracks);
+      few_sources = c.few_sources;
+      read = omega (arith, c.read, is.read);
+      checked = omega (arith, below, is.checked, is.read);
+      open_few = omega (arith, questions, m.one, may.room);
+      within = omega (arith, c.within, count);
+      few_bytes = c.few_bytes;
+      blocks = omega (arith, c.blocks, is.blocks, count);
+      asked = omega (arith, more_asked, m.one, c.asked, is.read, is.blocks, is.checked);
+      some_room = omega (arith, c.some_room, is.buffer);
+      short = subst (λ m. m ≤ 2 ^ 20) (sym is.buffer) c.short;
+    }
+
+block_more : (p : Progress) (o : Option (List ℕ)) → (k : ℕ) × OneMore p.inquiry (with_block p o).inquiry k × ((with_block p o).blocks ≡ p.blocks + k)
+block_more p None = (0, record { one = omega arith; questions = omega arith; more_asked = omega arith }, omega arith)
+block_more p (Some b) = (1, record { one = omega arith; questions = length_push p.inquiry.open_ones (Parse p.read p.blocks b); more_asked = refl }, refl)
+
+pub piece_counted : (limits : Limits) (n : ℕ) (p q : Progress) (before after : Seen) → MayAsk p → TakesPiece limits before after p q → Counted limits n p → Counted limits n q
+piece_counted limits n p q before after may is c =
+    let more = block_more p (block_of p.intake.cutting is.piece) in
+    let k = more.0 in
+    let m = more.1 in
+    let count : q.intake.count ≡ p.intake.count + length is.piece = ap (λ (i : Taking). i.count) is.intake in
+    let questions : length q.inquiry.open_ones ≡ length p.inquiry.open_ones + k = ap (λ (i : Inquired). length i.open_ones) is.inquiry ∙ m.questions in
+    let more_asked : q.inquiry.asked ≡ p.inquiry.asked + k = ap (λ (i : Inquired). i.asked) is.inquiry ∙ m.more_asked in
+    let blocks : q.blocks ≡ p.blocks + k = is.blocks ∙ more.2 in
+    record {
+      tracks = ap length is.tracks ∙ c.tracks;
+      few_sources = c.few_sources;
+      read = omega (arith, c.read, is.read);
+      checked = omega (arith, c.checked, is.checked, is.read);
+      open_few = omega (arith, questions, m.one, may.room);
+      within = omega (arith, is.comes.within, count);
+      few_bytes = c.few_bytes;
+      blocks = omega (arith, c.blocks, blocks, count, m.one, is.comes.some);
+      asked = omega (arith, more_asked, c.asked, blocks, is.read, is.checked);
+      some_room = omega (arith, c.some_room, is.buffer);
+      short = subst (λ m. m ≤ 2 ^ 20) (sym is.buffer) c.short;
+    }
+
+pub ending_counted : (limits : Limits) (n : ℕ) (p q : Progress) (ending : Ending) → p.read < n → MayAsk p → EndsSource ending p q → Counted limits n p → Counted limits n q
+ending_counted limits n p q ending unread may is c =
+    let more = block_more p (last_of p.intake.cutting ending) in
+    let k = more.0 in
+    let m = more.1 in
+    let count : q.intake.count ≡ 0 = ap (λ (i : Taking). i.count) is.intake in
+    let questions : length q.inquiry.open_ones ≡ length p.inquiry.open_ones + k = ap (λ (i : Inquired). length i.open_ones) is.inquiry ∙ m.questions in
+    let more_asked : q.inquiry.asked ≡ p.inquiry.asked + k = ap (λ (i : Inquired). i.asked) is.inquiry ∙ m.more_asked in
+    let few : limits.bytes ≤ 1073741824 = c.few_bytes in
+    record {
+      tracks = ap length is.tracks ∙ (changed_length p.read (ended_track ending p.intake.count ((with_block p (last_of p.intake.cutting ending)).blocks)) p.tracks.items ∙ c.tracks);
+      few_sources = c.few_sources;
+      read = omega (arith, unread, is.read);
+      checked = omega (arith, c.checked, is.checked, is.read);
+      open_few = omega (arith, questions, m.one, may.room);
+      within = omega (arith, count);
+      few_bytes = c.few_bytes;
+      blocks = omega (arith, is.blocks);
+      asked = omega (arith, more_asked, m.one, c.asked, c.blocks, c.within, few, is.blocks, is.read, is.checked);
+      some_room = omega (arith, c.some_room, is.buffer);
+      short = subst (λ m. m ≤ 2 ^ 20) (sym is.buffer) c.short;
+    }
+
+-- there is always room for one more question's number
+pub may_ask : (limits : Limits) (n : ℕ) (p : Progress) → Counted limits n p → length p.inquiry.open_ones < 64 → MayAsk p
+may_ask limits n p c room =
+    let few : limits.bytes ≤ 1073741824 = c.few_bytes in
+    let asked : p.inquiry.asked < 18446744073709551615 = omega (arith, c.asked, c.read, c.few_sources, c.blocks, c.within, few, c.checked) in
+    let blocks : p.blocks < 18446744073709551615 = omega (arith, c.blocks, c.within, few) in
+    record { room = room; few = asked; few_blocks = blocks }

@@ -1,0 +1,16 @@
+use Rattle.std.proofs.Common.{List, Option, Some, subst}
+use Rattle.aero_pieces.specs.declared.question.Question.{Question}
+use Rattle.aero_pieces.specs.declared.answer.Value.{Value}
+use Rattle.aero_batch.specs.Inquiries.{Gives, SettlesKnown, questions_of, trace_of}
+use Rattle.aero_batch.proofs.Questions.{gives_front}
+use Rattle.aero_batch.proofs.inquiry.Inquiry.settle.Goals as goal
+
+pub returns : goal.returns
+returns g c =
+    let mid = c.await_oldest.new.gather in
+    let new = c.settle_known.new.gather in
+    let asked = c.self.inside.gather.tally.asked in
+    let is = subst (λ (o : Option Value). SettlesKnown mid mid.entries new o) c.in-Some-2.is c.in_ok-value.ensures.known in
+    let gives = gives_front mid new mid.entries c.in-Some.question.now c.in-Some-2.value c.in-Some.ensures is asked c.await_oldest.ensures.asked in
+    rw (← c.self.view_is, c.trace_number-trace.ensures)
+    (subst (λ (qs : List Question). Gives qs asked (record { open_ones = questions_of new; asked = new.tally.asked }) (Some (trace_of c.in-Some.question.now, c.in-Some-2.value))) c.await_oldest.ensures.questions gives)

@@ -1,0 +1,6 @@
+use Rattle.std.proofs.Common.{◌≡◌, replicate, []}
+use Rattle.aero_batch.specs.declared.track.Track.TheVariants.{Arriving}
+use Rattle.aero_batch.proofs.progress.new_tracks.Given as goal
+
+abbrev pub invariant-loop-i : goal.invariant-loop-i
+invariant-loop-i l = l.tracks.items ≡ replicate l.i (Arriving [])

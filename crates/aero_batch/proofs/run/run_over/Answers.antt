@@ -1,0 +1,10 @@
+use Rattle.std.proofs.Common.{map, sym, subst}
+use Rattle.aero_model.specs.Counts.{seen_by}
+use Rattle.aero_batch.specs.Founds.{sighted, WasRun}
+use Rattle.aero_batch.proofs.Standing.{refused_at_once}
+use Rattle.aero_batch.proofs.run.run_over.Goals as goal
+
+pub returns-in_default-clause-ran : goal.returns-in_default-clause-ran
+returns-in_default-clause-ran g c =
+    rw (c.refused.ensures.endings, c.refused.ensures.counts, c.refused.ensures.cause)
+    (refused_at_once c.args.plan.now.limits (map (sighted g.R.Read.remaining) c.args.sources.now) (seen_by g.W.Write.contents c.args.writer.now))

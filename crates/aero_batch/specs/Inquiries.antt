@@ -1,0 +1,39 @@
+-- The questions that are open, as contracts see them: whatever the helpers reply, they stay in their order until they are given back.
+use Rattle.std.specs.Prelude.{◌≡◌, ℕ, ◌+◌, List, [], ◌∷◌, ◌++◌, map, Option, Some, None, length}
+use Rattle.aero_pieces.specs.declared.question.Question.{Question}
+use Rattle.aero_pieces.specs.declared.question.Question.TheVariants.{Parse, Check}
+use Rattle.aero_pieces.specs.declared.answer.Value.{Value}
+use Rattle.aero_pieces.specs.Values.{IsValueOf}
+use Rattle.aero_pieces.specs.Schedule.{Entry}
+use Rattle.aero_gather.specs.Gathered.{Gathered}
+
+-- the open questions, the oldest first, and how many were asked
+pub record Inquired : Type 0 where
+  pub open_ones : List Question
+  pub asked : ℕ
+
+abbrev pub questions_of : Gathered → List Question
+questions_of g = map (λ e. e.question) g.entries
+
+abbrev pub nothing_asked : Inquired
+nothing_asked = record { open_ones = []; asked = 0 }
+
+abbrev pub with_question : Inquired → Question → Inquired
+with_question i q = record { open_ones = i.open_ones ++ q ∷ []; asked = i.asked + 1 }
+
+-- the number of the trace that a question is about
+abbrev pub trace_of : Question → ℕ
+trace_of (Parse trace number bytes) = trace
+trace_of (Check trace parts limits) = trace
+
+-- the oldest open question leaves, and its value is given with the number of its trace
+abbrev pub Gives : List Question → ℕ → Inquired → Option (ℕ × Value) → Type 0
+Gives [] asked new given = (given ≡ None) × (new ≡ record { open_ones = []; asked = asked })
+Gives (q ∷ rest) asked new given =
+    (v : Value) × IsValueOf q v × (given ≡ Some (trace_of q, v)) × (new ≡ record { open_ones = rest; asked = asked })
+
+-- The oldest open question leaves the gatherer, and one of its values is given.
+abbrev pub SettlesKnown : Gathered → List Entry → Gathered → Option Value → Type 0
+SettlesKnown old [] new given = (given ≡ None) × (new ≡ old)
+SettlesKnown old (e ∷ more) new given =
+    (v : Value) × IsValueOf e.question v × (given ≡ Some v) × (new.entries ≡ more) × (new.tally.asked ≡ old.tally.asked) × (new.window ≡ old.window)

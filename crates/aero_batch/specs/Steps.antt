@@ -1,0 +1,132 @@
+-- The steps of a run.
+use Rattle.std.specs.Prelude.{◌≡◌, ℕ, ◌+◌, ◌-◌, ◌*◌, ◌<◌, ◌≤◌, ◌^◌, ◌⊎◌, List, [], ◌∷◌, ◌++◌, map, length, replicate, slice_get, Option, Some, None, option_to_list, vec_len}
+use Rattle.aero_model.specs.declared.limits.Limits.{Limits}
+use Rattle.aero_model.specs.declared.verdict.Ending.{Ending}
+use Rattle.aero_model.specs.declared.verdict.Ending.TheVariants as endings
+use Rattle.aero_model.specs.declared.verdict.Finding.TheVariants as findings
+use Rattle.aero_model.specs.Counts.{Seen}
+use Rattle.aero_grammar.specs.Reading.{Reading}
+use Rattle.aero_lines.specs.Cutting.{Cutting, block_of, last_block}
+use Rattle.aero_pieces.specs.declared.question.Question.{Question}
+use Rattle.aero_pieces.specs.declared.question.Question.TheVariants.{Parse, Check}
+use Rattle.aero_batch.specs.declared.progress.Progress.{Progress}
+use Rattle.aero_batch.specs.declared.track.Track.{Track}
+use Rattle.aero_batch.specs.declared.track.Track.TheVariants.{Arriving, Arrived, Checking, Found}
+use Rattle.aero_batch.specs.Founds.{Sighted}
+use Rattle.aero_batch.specs.Inquiries.{Inquired, nothing_asked, with_question}
+use Rattle.aero_batch.specs.Intake.{Taking, nothing_taken, with_piece, Comes, Ends}
+use Rattle.aero_batch.specs.Tracks.{with_arrival, changed, IsReady, GivesReadings, Settles}
+
+-- before the first step
+pub record IsStart (piece sources : ℕ) (progress : Progress) : Type 0 where
+  pub inquiry : progress.inquiry ≡ nothing_asked
+  pub tracks : progress.tracks.items ≡ replicate sources (Arriving [])
+  pub none_read : progress.read ≡ 0
+  pub none_checked : progress.checked ≡ 0
+  pub intake : progress.intake ≡ nothing_taken
+  pub no_blocks : progress.blocks ≡ 0
+  pub buffer : vec_len progress.buffer ≡ piece
+
+-- one more question may be asked
+pub record MayAsk (progress : Progress) : Type 0 where
+  pub room : length progress.inquiry.open_ones < 64
+  pub few : progress.inquiry.asked < 2 ^ 64 - 1
+  pub few_blocks : progress.blocks < 2 ^ 64 - 1
+
+-- the next block of the source that is being read is asked about, if there is one
+abbrev pub with_block : Progress → Option (List ℕ) → Progress
+with_block p None = p
+with_block p (Some block) = record p { inquiry = with_question p.inquiry (Parse p.read p.blocks block); blocks = p.blocks + 1 }
+
+-- the last block of a source that is whole
+abbrev pub last_of : Cutting → Ending → Option (List ℕ)
+last_of cutting endings.Whole = last_block cutting
+last_of cutting endings.Broken = None
+last_of cutting endings.TooLarge = None
+
+-- the track of a source that has ended
+abbrev pub ended_track : Ending → ℕ → ℕ → Track → Track
+ended_track endings.Whole bytes blocks t = with_arrival t bytes blocks
+ended_track endings.Broken bytes blocks t = Found bytes endings.Broken (findings.Broken bytes)
+ended_track endings.TooLarge bytes blocks t = Found bytes endings.TooLarge findings.TooLarge
+
+-- The source that was being read has ended so, and the next one is to be read.
+pub record EndsSource (ending : Ending) (old new : Progress) : Type 0 where
+  pub inquiry : new.inquiry ≡ (with_block old (last_of old.intake.cutting ending)).inquiry
+  pub tracks : new.tracks.items ≡ changed old.read (ended_track ending old.intake.count ((with_block old (last_of old.intake.cutting ending)).blocks)) old.tracks.items
+  pub read : new.read ≡ old.read + 1
+  pub checked : new.checked ≡ old.checked
+  pub intake : new.intake ≡ nothing_taken
+  pub blocks : new.blocks ≡ 0
+  pub buffer : vec_len new.buffer ≡ vec_len old.buffer
+
+-- A piece came, and the block that it gave, if it gave one, is asked about.
+pub record TakesPiece (limits : Limits) (before after : Seen) (old new : Progress) : Type 0 where
+  pub piece : List ℕ
+  pub comes : Comes before after (vec_len old.buffer) limits.bytes old.intake.count piece
+  pub inquiry : new.inquiry ≡ (with_block old (block_of old.intake.cutting piece)).inquiry
+  pub blocks : new.blocks ≡ (with_block old (block_of old.intake.cutting piece)).blocks
+  pub intake : new.intake ≡ with_piece old.intake piece
+  pub tracks : new.tracks.items ≡ old.tracks.items
+  pub read : new.read ≡ old.read
+  pub checked : new.checked ≡ old.checked
+  pub buffer : vec_len new.buffer ≡ vec_len old.buffer
+
+-- One step of reading: a piece comes, or the source ends.
+abbrev pub ReadsOn : Limits → Seen → Seen → Progress → Progress → Type 0
+ReadsOn limits before after old new =
+    TakesPiece limits before after old new
+    ⊎ ((ending : Ending) × Ends before after limits.bytes old.intake.count ending × EndsSource ending old new)
+
+-- the verdict is asked for on what the blocks of a source say
+abbrev pub with_check : Limits → Inquired → ℕ → Option (List Reading) → Inquired
+with_check limits i trace None = i
+with_check limits i trace (Some readings) = with_question i (Check trace readings limits)
+
+-- The verdict on the next source is asked for, where it needs one.
+pub record ChecksNext (limits : Limits) (old new : Progress) : Type 0 where
+  pub before : Track
+  pub after : Track
+  pub readings : Option (List Reading)
+  pub was : slice_get old.tracks.items old.checked ≡ Some before
+  pub ready : IsReady before
+  pub gives : GivesReadings before after readings
+  pub tracks : new.tracks.items ≡ changed old.checked (λ t. after) old.tracks.items
+  pub inquiry : new.inquiry ≡ with_check limits old.inquiry old.checked readings
+  pub checked : new.checked ≡ old.checked + 1
+  pub read : new.read ≡ old.read
+  pub intake : new.intake ≡ old.intake
+  pub blocks : new.blocks ≡ old.blocks
+  pub buffer : vec_len new.buffer ≡ vec_len old.buffer
+
+-- The oldest open question is settled, if there is one.
+pub record SettlesNext (old new : Progress) : Type 0 where
+  pub settles : Settles old.inquiry.open_ones old.inquiry.asked new.inquiry old.tracks.items new.tracks.items
+  pub read : new.read ≡ old.read
+  pub checked : new.checked ≡ old.checked
+  pub intake : new.intake ≡ old.intake
+  pub blocks : new.blocks ≡ old.blocks
+  pub buffer : vec_len new.buffer ≡ vec_len old.buffer
+
+-- The reader of one source was used, and nothing else was done to the sources.
+pub record IsReadFrom (now after : List Sighted) (place : ℕ) (before_read after_read : Seen) : Type 0 where
+  pub was : Sighted
+  pub was_there : slice_get now place ≡ Some was
+  pub used : was.reader ≡ before_read
+  pub is_there : slice_get after place ≡ Some (record { name = was.name; reader = after_read })
+  pub others : (s : ℕ) → (place ≡ s → ⊥) → slice_get after s ≡ slice_get now s
+
+-- A step of reading.
+pub record ReadsNext (limits : Limits) (now after : List Sighted) (old new : Progress) : Type 0 where
+  pub before_read : Seen
+  pub after_read : Seen
+  pub reads : ReadsOn limits before_read after_read old new
+  pub from : IsReadFrom now after old.read before_read after_read
+  pub may : MayAsk old
+  pub unread : old.read < length now
+
+-- One step of a run: it asks for a verdict, reads, or settles.
+abbrev pub Steps : Limits → List Sighted → List Sighted → Progress → Progress → Type 0
+Steps limits now after old new =
+    ((after ≡ now) × SettlesNext old new)
+    ⊎ (((after ≡ now) × (old.checked < old.read) × MayAsk old × ChecksNext limits old new) ⊎ ReadsNext limits now after old new)

@@ -1,0 +1,56 @@
+-- Telling what was found of the sources, one after the other.
+use Rattle.std.specs.Prelude.{◌≡◌, ℕ, ◌+◌, ◌<◌, Bool, true, false, List, [], ◌∷◌, ◌++◌, length, take, vec_len, vec_capacity, Option, None, Some, Result, Ok, Err}
+use Rattle.std.specs.Io.KnownBytes.{Appends}
+use Rattle.aero_model.specs.declared.verdict.Counts.{Counts}
+use Rattle.aero_model.specs.declared.verdict.Ending.{Ending}
+use Rattle.aero_model.specs.declared.verdict.Finding.{Finding}
+use Rattle.aero_model.specs.Counts.{Seen}
+use Rattle.aero_report.specs.Texts.{source_line, counted}
+use Rattle.aero_batch.specs.declared.outcome.Cause.{Cause}
+use Rattle.aero_batch.specs.declared.outcome.Cause.TheVariants.{Memory, Write}
+use Rattle.aero_batch.specs.declared.told.Told.{Told}
+use Rattle.aero_batch.specs.declared.track.Track.{Track}
+use Rattle.aero_batch.specs.declared.track.Track.TheVariants.{Arriving, Arrived, Checking, Found}
+use Rattle.aero_batch.specs.Founds.{Took}
+
+abbrev pub total : Counts → ℕ
+total counts = counts.serializable + counts.pending + counts.violations + counts.faults
+
+-- one more source may be told
+pub record HasRoom (told : Told) : Type 0 where
+  pub reserved : vec_len told.endings < vec_capacity told.endings
+  pub few : total told.counts < 65536
+
+-- A part of the text went out, and then a write failed.
+pub record WasCut (before after : Seen) (text : List ℕ) : Type 0 where
+  pub written : ℕ
+  pub part : written < length text
+  pub went : Appends before.bytes after.bytes (take written text)
+  pub faults : after.faults ≡ before.faults + 1
+
+-- The text goes out, or nothing where memory is refused, or a part where a write fails.
+abbrev pub TellsText : List ℕ → Seen → Seen → Result Unit Cause → Type 0
+TellsText text before after (Ok u) = Took before after text
+TellsText text before after (Err Memory) = Took before after []
+TellsText text before after (Err Write) = WasCut before after text
+
+-- One more source is told.
+pub record IsOneMore (old new : Told) (bytes : ℕ) (ending : Ending) (finding : Finding) : Type 0 where
+  pub endings : new.endings.items ≡ old.endings.items ++ (bytes, ending) ∷ []
+  pub room : vec_capacity new.endings ≡ vec_capacity old.endings
+  pub counts : new.counts ≡ counted old.counts finding
+  pub counted_one : total new.counts ≡ total old.counts + 1
+
+-- The source is told where it is found what is to be said of it, and else nothing happens.
+abbrev pub TellsNext : List ℕ → Track → Seen → Seen → Told → Told → Result Bool Cause → Type 0
+TellsNext name (Found bytes ending finding) before after old new (Ok true) = Took before after (source_line name finding) × IsOneMore old new bytes ending finding
+TellsNext name (Found bytes ending finding) before after old new (Err Memory) = Took before after [] × (new ≡ old)
+TellsNext name (Found bytes ending finding) before after old new (Err Write) = WasCut before after (source_line name finding) × (new ≡ old)
+TellsNext name (Found bytes ending finding) before after old new (Ok false) = ⊥
+TellsNext name track before after old new (Ok false) = (after ≡ before) × (new ≡ old)
+TellsNext name track before after old new _ = ⊥
+
+-- why a run stopped, if it did
+abbrev pub cause_of : Result Unit Cause → Option Cause
+cause_of (Ok u) = None
+cause_of (Err cause) = Some cause

@@ -1,0 +1,91 @@
+//! Asking for the verdicts of whole sources, and settling what was asked.
+ghost use Rattle.std.specs.Prelude.{◌≡◌, ◌<◌, ◌-◌, ◌^◌, length, vec_len, slice_get, OnOk};
+ghost use Rattle.aero_batch.specs.Steps.{MayAsk, ChecksNext, SettlesNext, with_check};
+ghost use Rattle.aero_batch.specs.Tracks.{IsReady, changed, with_value};
+
+use crate::helpers::Helpers;
+use crate::inquiry::Inquiry;
+use crate::progress::Progress;
+use crate::track::{Readings, Track, take_readings, take_value};
+use aero_model::limits::Limits;
+use aero_pieces::answer::Value;
+use aero_pieces::question::Question;
+use std::alloc::{AllocError, Global};
+use std::sync::Wait;
+
+/// Asks for the verdict on the next source, where it needs one.
+pub fn check_next<H: Helpers, T: Wait>(
+    rt: &T,
+    alloc: Global,
+    limits: &Limits,
+    helpers: &mut H,
+    progress: &mut Progress,
+) -> Result<(), AllocError>
+    requires may { MayAsk progress.old }
+    requires unchecked { progress.old.checked < vec_len progress.old.tracks }
+    requires ready { (t : Track) → slice_get progress.old.tracks.items progress.old.checked ≡ Some t → IsReady t }
+    ensures { OnOk result (ChecksNext limits.now progress.old progress.new) }
+{
+    let place = progress.checked;
+    let readings = take_readings(&mut progress.tracks[place]);
+    ask_check(
+        rt,
+        alloc,
+        limits,
+        helpers,
+        &mut progress.inquiry,
+        place as u64,
+        readings,
+    )?;
+    progress.checked += 1;
+    Ok(())
+}
+
+fn ask_check<H: Helpers, T: Wait>(
+    rt: &T,
+    alloc: Global,
+    limits: &Limits,
+    helpers: &mut H,
+    inquiry: &mut Inquiry,
+    trace: u64,
+    readings: Option<Readings>,
+) -> Result<(), AllocError>
+    requires room { length inquiry.old.open_ones < 64 }
+    requires few { inquiry.old.asked < 2 ^ 64 - 1 }
+    ensures { OnOk result (inquiry.new ≡ with_check limits.now inquiry.old trace readings) }
+{
+    let Some(readings) = readings else {
+        return Ok(());
+    };
+    let question = Question::Check {
+        trace,
+        parsed: readings.into_parts(),
+        limits: *limits,
+    }
+    .share(alloc)?;
+    inquiry.ask(rt, helpers, question)
+}
+
+/// Settles the oldest open question, if there is one: its value goes to the track of its source.
+pub fn settle_next<H: Helpers, T: Wait>(
+    rt: &T,
+    helpers: &mut H,
+    progress: &mut Progress,
+) -> Result<(), AllocError>
+    ensures { OnOk result (SettlesNext progress.old progress.new) }
+{
+    let Some((trace, value)) = progress.inquiry.settle(rt, helpers)? else {
+        return Ok(());
+    };
+    give_value(&mut progress.tracks, trace, value)
+}
+
+// Gives a value to the track of its source, if there is one.
+fn give_value(tracks: &mut Vec<Track>, trace: u64, value: Value) -> Result<(), AllocError>
+    ensures { OnOk result (tracks.new.items ≡ changed trace (λ t. with_value t value) tracks.old.items) }
+{
+    if trace >= tracks.len() as u64 {
+        return Ok(());
+    }
+    take_value(&mut tracks[trace as usize], value)
+}

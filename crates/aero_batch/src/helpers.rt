@@ -1,0 +1,49 @@
+//! Those who may answer questions while the sources are read.
+use aero_stage::{Full, Job};
+use aero_worker::{Crew, Reply};
+use std::sync::Wait;
+
+/// Those to whom jobs are posted, and who may reply, in any order, more than once, or never. Nothing
+/// is promised of them.
+pub trait Helpers {
+    /// How many there are.
+    fn workers(&self) -> u32;
+
+    /// Posts a job, or gives it back.
+    fn post<R: Wait>(&mut self, rt: &R, job: Job) -> Result<(), Full>;
+
+    /// Waits for a reply. `None` says that none is to be awaited any more.
+    fn next_answer<R: Wait>(&mut self, rt: &R) -> Option<Reply>;
+}
+
+impl Helpers for Crew {
+    fn workers(&self) -> u32 {
+        self.workers()
+    }
+
+    fn post<R: Wait>(&mut self, rt: &R, job: Job) -> Result<(), Full> {
+        self.post(rt, job)
+    }
+
+    fn next_answer<R: Wait>(&mut self, rt: &R) -> Option<Reply> {
+        self.next_answer(rt)
+    }
+}
+
+/// Nobody helps: all is worked out by the caller's own thread.
+#[derive(Drop)]
+pub struct Nobody;
+
+impl Helpers for Nobody {
+    fn workers(&self) -> u32 {
+        0
+    }
+
+    fn post<R: Wait>(&mut self, _rt: &R, job: Job) -> Result<(), Full> {
+        Err(Full { job })
+    }
+
+    fn next_answer<R: Wait>(&mut self, _rt: &R) -> Option<Reply> {
+        None
+    }
+}

@@ -1,0 +1,207 @@
+//! The questions that are open, and those who may answer them.
+ghost use Rattle.std.specs.Prelude.{◌≡◌, ◌<◌, ◌-◌, ◌+◌, ◌^◌, ◌↔◌, [], length, map, IfOk, OnOk, OnErr, IsTrue};
+ghost use Rattle.std.specs.Arc.{arc_value};
+ghost use Rattle.aero_batch.specs.Inquiries.{nothing_asked, with_question, Gives, SettlesKnown, questions_of, trace_of};
+
+use crate::helpers::Helpers;
+use aero_gather::gather::{Gather, Oldest, Tally, Ticket};
+use aero_pieces::answer::Value;
+use aero_pieces::question::Question;
+use aero_stage::Job;
+use aero_worker::Reply;
+use std::alloc::{AllocError, Global};
+use std::marker::Model;
+use std::sync::{Arc, Wait};
+
+/// How many questions may be open.
+const WINDOW: u32 = 64;
+
+/// Questions that were asked of helpers, in their order. Each is given back with its value, the
+/// oldest first, whatever the helpers reply.
+#[derive(Drop)]
+pub struct Inquiry {
+    gather: Gather,
+    open_count: u32,
+    is_alone: bool,
+}
+
+impl Model for Inquiry {
+    ghost use Rattle.aero_batch.specs.Inquiries.{Inquired};
+
+    ghost Value = { Inquired };
+
+    ghost use Rattle.std.specs.Prelude.{◌≡◌, length};
+    ghost use Rattle.aero_batch.specs.Inquiries.{questions_of};
+
+    ghost view = { λ i. record { open_ones = questions_of i.gather; asked = i.gather.tally.asked } };
+
+    ghost invariant = { λ i. record { window : i.gather.window ≡ 64; count : i.open_count ≡ length i.gather.entries } };
+}
+
+impl Inquiry {
+    /// Nothing is asked yet. Where nobody helps, nothing is posted and no reply is awaited.
+    pub fn new(alloc: Global, is_alone: bool) -> Result<Inquiry, AllocError>
+        ensures { IfOk result (λ inquiry. inquiry ≡ nothing_asked) }
+    {
+        Ok(Inquiry {
+            gather: Gather::new(alloc, WINDOW)?,
+            open_count: 0,
+            is_alone,
+        })
+    }
+
+    /// Whether one more question may be asked: fewer than 64 are open.
+    pub fn has_room(&self) -> bool
+        ensures { IsTrue result ↔ (length self.now.open_ones < 64) }
+    {
+        self.open_count < WINDOW
+    }
+
+    /// Whether no question is open.
+    pub fn is_settled(&self) -> bool
+        ensures { IsTrue result ↔ (length self.now.open_ones ≡ 0) }
+    {
+        self.open_count == 0
+    }
+
+    /// How many questions were asked, answers kept, and values worked out here.
+    pub fn tally(&self) -> Tally
+        ensures { length self.now.open_ones ≡ 0 → result.asked ≡ result.kept + result.done_here }
+    {
+        self.gather.tally()
+    }
+
+    /// Asks a question, and posts it as a job with the number of its ticket. Where it can't be
+    /// posted no reply is awaited.
+    pub fn ask<H: Helpers, R: Wait>(
+        &mut self,
+        rt: &R,
+        helpers: &mut H,
+        question: Arc<Question, Global>,
+    ) -> Result<(), AllocError>
+        requires room { length self.old.open_ones < 64 }
+        requires few { self.old.asked < 2 ^ 64 - 1 }
+        ensures { OnOk result (self.new ≡ with_question self.old (arc_value question)) }
+    {
+        let shared = Arc::try_clone(&question)?;
+        let Ok(ticket) = self.gather.ask(question) else {
+            unreachable!()
+        };
+        self.open_count += 1;
+        post(rt, helpers, &mut self.gather, self.is_alone, ticket, shared);
+        Ok(())
+    }
+
+    /// Takes the oldest open question away, and gives the number of its trace and its value. Waits
+    /// for its answer as long as one is to be awaited, and else works the value out. `None` where no
+    /// question is open.
+    pub fn settle<H: Helpers, R: Wait>(
+        &mut self,
+        rt: &R,
+        helpers: &mut H,
+    ) -> Result<Option<(u64, Value)>, AllocError>
+        ensures { IfOk result (λ given. Gives self.old.open_ones self.old.asked self.new given) }
+    {
+        self.is_alone = !await_oldest(rt, helpers, &mut self.gather, self.is_alone);
+        let trace = match self.gather.front() {
+            Some(question) => trace_number(question),
+            None => return Ok(None),
+        };
+        let Some(value) = settle_known(&mut self.gather)? else {
+            return Ok(None);
+        };
+        self.open_count -= 1;
+        Ok(Some((trace, value)))
+    }
+}
+
+// Posts the question, unless nobody helps. Where it can't be posted no answer is awaited.
+fn post<H: Helpers, R: Wait>(
+    rt: &R,
+    helpers: &mut H,
+    gather: &mut Gather,
+    is_alone: bool,
+    ticket: Ticket,
+    question: Arc<Question, Global>,
+)
+    ensures questions { questions_of gather.new ≡ questions_of gather.old }
+    ensures asked { gather.new.tally.asked ≡ gather.old.tally.asked }
+    ensures window { gather.new.window ≡ gather.old.window }
+{
+    if !is_alone && is_posted(rt, helpers, ticket, question) {
+        return;
+    }
+    gather.note_missed(ticket);
+}
+
+// Whether the helpers took the job.
+fn is_posted<H: Helpers, R: Wait>(
+    rt: &R,
+    helpers: &mut H,
+    ticket: Ticket,
+    question: Arc<Question, Global>,
+) -> bool {
+    let job = Job {
+        number: ticket.number,
+        question,
+    };
+    helpers.post(rt, job).is_ok()
+}
+
+// Takes replies until the oldest open question awaits none, and says whether there may be more.
+fn await_oldest<H: Helpers, R: Wait>(
+    rt: &R,
+    helpers: &mut H,
+    gather: &mut Gather,
+    is_alone: bool,
+) -> bool
+    ensures questions { questions_of gather.new ≡ questions_of gather.old }
+    ensures asked { gather.new.tally.asked ≡ gather.old.tally.asked }
+    ensures window { gather.new.window ≡ gather.old.window }
+{
+    if is_alone {
+        return false;
+    }
+    'replies: for _ in rt.forever() {
+        if gather.oldest() != Oldest::Awaited {
+            break 'replies;
+        }
+        match helpers.next_answer(rt) {
+            Some(reply) => take_reply(gather, reply),
+            None => return false,
+        }
+    }
+    true
+}
+
+// Takes the oldest open question away, and gives its value.
+fn settle_known(gather: &mut Gather) -> Result<Option<Value>, AllocError>
+    ensures known { IfOk result (λ given. SettlesKnown gather.old gather.old.entries gather.new given) }
+    ensures unchanged { OnErr result (gather.new ≡ gather.old) }
+{
+    // The kept values are those of their questions.
+    let _ = gather.tally();
+    gather.settle()
+}
+
+fn take_reply(gather: &mut Gather, reply: Reply)
+    ensures questions { questions_of gather.new ≡ questions_of gather.old }
+    ensures asked { gather.new.tally.asked ≡ gather.old.tally.asked }
+    ensures window { gather.new.window ≡ gather.old.window }
+{
+    match reply {
+        Reply::Done(answer) => {
+            gather.accept(answer);
+        }
+        Reply::Missed(number) => gather.note_missed(Ticket { number }),
+    }
+}
+
+fn trace_number(question: &Question) -> u64
+    ensures { result ≡ trace_of question.now }
+{
+    match question {
+        Question::Parse { trace, .. } => *trace,
+        Question::Check { trace, .. } => *trace,
+    }
+}

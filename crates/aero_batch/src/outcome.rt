@@ -1,0 +1,27 @@
+//! What a run comes to.
+use aero_gather::gather::Tally;
+use aero_model::verdict::{Counts, Ending};
+
+/// Why a run stopped before its end.
+#[derive(Clone, Copy, Debug, PartialEq, Eq)]
+pub enum Cause {
+    /// Memory was refused.
+    Memory,
+    /// A write failed, or took nothing.
+    Write,
+}
+
+/// What a run came to. It speaks of the sources whose text was written whole, in their order: how
+/// many bytes were read of each and how its reading ended, and how many were found to be what.
+#[derive(Drop)]
+pub struct Outcome {
+    pub endings: Vec<(u64, Ending)>,
+    pub counts: Counts,
+    /// Why it stopped before the summary was written, if it did.
+    pub cause: Option<Cause>,
+    /// How many questions were asked, how many answers were kept, and how many values were worked
+    /// out by the caller's own thread.
+    pub tally: Tally,
+    /// How many workers there were at the start.
+    pub workers: u32,
+}

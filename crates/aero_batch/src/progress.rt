@@ -1,0 +1,59 @@
+//! How far a run is.
+ghost use Rattle.std.specs.Prelude.{◌≡◌, replicate, length, IfOk, []};
+ghost use Rattle.aero_batch.specs.Steps.{IsStart};
+
+use crate::inquiry::Inquiry;
+use crate::intake::Intake;
+use crate::plan::Plan;
+use crate::track::{Readings, Track};
+use std::alloc::{AllocError, Global};
+
+/// How far a run is. The sources are read one after the other, and their verdicts are asked for in
+/// the same order.
+#[derive(Drop)]
+pub struct Progress {
+    pub inquiry: Inquiry,
+    /// What is known of each source.
+    pub tracks: Vec<Track>,
+    /// How many sources have ended. The next one is being read.
+    pub read: usize,
+    /// Of how many sources the verdict was asked for, where they need one.
+    pub checked: usize,
+    /// The source that is being read, and how many of its blocks were asked about.
+    pub intake: Intake,
+    pub blocks: u64,
+    /// Room for one piece.
+    pub buffer: Vec<u8>,
+}
+
+impl Progress {
+    /// Nothing is read yet of so many sources. Where nobody helps, nothing is posted.
+    pub fn new(
+        alloc: Global,
+        plan: &Plan,
+        sources: usize,
+        is_alone: bool,
+    ) -> Result<Progress, AllocError>
+        ensures { IfOk result (IsStart plan.now.piece sources) }
+    {
+        Ok(Progress {
+            inquiry: Inquiry::new(alloc, is_alone)?,
+            tracks: new_tracks(alloc, sources)?,
+            read: 0,
+            checked: 0,
+            intake: Intake::new(alloc),
+            blocks: 0,
+            buffer: vec![in alloc; 0u8; plan.piece as usize]?,
+        })
+    }
+}
+
+fn new_tracks(alloc: Global, sources: usize) -> Result<Vec<Track>, AllocError>
+    ensures { IfOk result (λ tracks. tracks.items ≡ replicate sources (Track.Arriving [])) }
+{
+    let mut tracks = Vec::with_capacity(alloc, sources)?;
+    for i in 0..sources {
+        tracks.push(Track::Arriving(Readings::new(alloc)))?;
+    }
+    Ok(tracks)
+}

@@ -1,0 +1,217 @@
+//! A run over many sources.
+ghost use Rattle.std.specs.Prelude.{◌≡◌, ◌<◌, ◌≤◌, ◌+◌, ℕ, List, None, Some, true, false, length, map, vec_len, vec_capacity, [], IfOk, IfErr, OnOk};
+ghost use Rattle.aero_report.specs.Texts.{no_counts};
+ghost use Rattle.aero_model.specs.Counts.{Seen, seen_by};
+ghost use Rattle.aero_batch.specs.Founds.{Sighted, sighted, WasRun};
+ghost use Rattle.aero_batch.specs.Holding.{HasNumbers, IsBegun, Stands};
+
+use crate::helpers::{Helpers, Nobody};
+use crate::outcome::{Cause, Outcome};
+use crate::plan::Plan;
+use crate::progress::Progress;
+use crate::source::Source;
+use crate::step::step;
+use crate::told::{Told, nothing_counted, tell_next, tell_summary};
+use aero_gather::gather::Tally;
+use aero_model::counting::Counting;
+use aero_model::limits::Limits;
+use aero_worker::{Crew, Gate};
+use std::alloc::{AllocError, Global};
+use std::io::{Read, Write};
+use std::sync::{Arc, Wait};
+use std::thread::Threads;
+
+/// Reads the sources, one after the other, and writes the report: the line of each source, in their
+/// order, and the summary. As many workers as the plan says read blocks and find verdicts, or as many
+/// as the system gives, and the gate runs in each of them. Where none can be started all is done
+/// here. However many they are, and in whatever order they answer, the report is the same.
+///
+/// A source is whole where a read gives 0 bytes, broken where a read fails, of whatever kind, and
+/// too large once one byte more has come than the limit. Where memory is refused, or a write fails,
+/// the run stops: the outcome tells of the sources whose lines were written whole, and says why.
+/// How far later sources were read isn't said. Nothing is flushed.
+pub fn run<R: Read, W: Write, G: Gate + Drop + 'static, T: Threads + Wait + Copy + Send + 'static>(
+    rt: T,
+    alloc: Global,
+    sources: &mut [Source<R>],
+    writer: &mut Counting<W>,
+    plan: &Plan,
+    gate: Arc<G>,
+) -> Outcome
+    requires { length sources.old ≤ 65536 }
+    ensures ran { WasRun plan.now.limits (map (sighted R.remaining) sources.old) (map (sighted R.remaining) sources.new)
+        (seen_by W.contents writer.old) (seen_by W.contents writer.new) result.endings.items result.counts result.cause }
+    ensures all_settled { result.cause ≡ None → result.tally.asked ≡ result.tally.kept + result.tally.done_here }
+{
+    let Ok(mut crew) = Crew::start(rt, alloc, plan.workers, gate) else {
+        return run_over(&rt, alloc, sources, writer, plan, &mut Nobody);
+    };
+    let outcome = run_over(&rt, alloc, sources, writer, plan, &mut crew);
+    crew.close(&rt);
+    outcome
+}
+
+/// The same with helpers of the caller's own, of whom nothing is promised: whatever they reply, in
+/// whatever order, and whether they reply at all, the report is the same.
+pub fn run_over<R: Read, W: Write, H: Helpers, T: Wait>(
+    rt: &T,
+    alloc: Global,
+    sources: &mut [Source<R>],
+    writer: &mut Counting<W>,
+    plan: &Plan,
+    helpers: &mut H,
+) -> Outcome
+    requires { length sources.old ≤ 65536 }
+    ensures ran { WasRun plan.now.limits (map (sighted R.remaining) sources.old) (map (sighted R.remaining) sources.new)
+        (seen_by W.contents writer.old) (seen_by W.contents writer.new) result.endings.items result.counts result.cause }
+    ensures all_settled { result.cause ≡ None → result.tally.asked ≡ result.tally.kept + result.tally.done_here }
+{
+    let workers = helpers.workers();
+    let Ok((mut progress, mut told)) = begin(alloc, plan, sources.len(), workers == 0) else {
+        return refused(alloc, workers);
+    };
+    match run_on(
+        rt,
+        alloc,
+        &plan.limits,
+        sources,
+        writer,
+        helpers,
+        &mut progress,
+        &mut told,
+    ) {
+        Ok(()) => outcome_of(told, None, progress.inquiry.tally(), workers),
+        Err(cause) => outcome_of(told, Some(cause), progress.inquiry.tally(), workers),
+    }
+}
+
+// What stands before the first step, over so many sources.
+fn begin(
+    alloc: Global,
+    plan: &Plan,
+    sources: usize,
+    is_alone: bool,
+) -> Result<(Progress, Told), AllocError>
+    requires { sources ≤ 65536 }
+    ensures { IfOk result (λ begun. IsBegun plan.now.limits sources begun.0 begun.1) }
+{
+    let told = Told::new(alloc, sources)?;
+    let progress = Progress::new(alloc, plan, sources, is_alone)?;
+    Ok((progress, told))
+}
+
+// Where memory was refused before the first step.
+fn refused(alloc: Global, workers: u32) -> Outcome
+    ensures endings { result.endings.items ≡ [] }
+    ensures counts { result.counts ≡ no_counts }
+    ensures cause { result.cause ≡ Some Cause.Memory }
+{
+    let tally = Tally {
+        asked: 0,
+        kept: 0,
+        done_here: 0,
+    };
+    let told = Told {
+        endings: Vec::new(alloc),
+        counts: nothing_counted(),
+    };
+    outcome_of(told, Some(Cause::Memory), tally, workers)
+}
+
+fn outcome_of(told: Told, cause: Option<Cause>, tally: Tally, workers: u32) -> Outcome
+    ensures endings { result.endings ≡ told.endings }
+    ensures counts { result.counts ≡ told.counts }
+    ensures cause { result.cause ≡ cause }
+    ensures tally { result.tally ≡ tally }
+{
+    let Told { endings, counts } = told;
+    Outcome {
+        endings,
+        counts,
+        cause,
+        tally,
+        workers,
+    }
+}
+
+// All steps, and the summary.
+fn run_on<R: Read, W: Write, H: Helpers, T: Wait>(
+    rt: &T,
+    alloc: Global,
+    limits: &Limits,
+    sources: &mut [Source<R>],
+    writer: &mut Counting<W>,
+    helpers: &mut H,
+    progress: &mut Progress,
+    told: &mut Told,
+) -> Result<(), Cause>
+    requires { IsBegun limits.now (length sources.old) progress.old told.old }
+    ensures done { OnOk result (WasRun limits.now (map (sighted R.remaining) sources.old) (map (sighted R.remaining) sources.new)
+        (seen_by W.contents writer.old) (seen_by W.contents writer.new) told.new.endings.items told.new.counts None) }
+    ensures stopped { IfErr result (λ cause. WasRun limits.now (map (sighted R.remaining) sources.old) (map (sighted R.remaining) sources.new)
+        (seen_by W.contents writer.old) (seen_by W.contents writer.new) told.new.endings.items told.new.counts (Some cause)) }
+    ensures settled { OnOk result (length progress.new.inquiry.open_ones ≡ 0) }
+{
+    'steps: for _ in rt.forever() {
+        if advance(rt, alloc, limits, sources, writer, helpers, progress, told)? {
+            return tell_summary(alloc, &told.counts, writer);
+        }
+    }
+    unreachable!()
+}
+
+// The next line is written, or else one step is done. The answer says whether all is done but for
+// the summary.
+fn advance<R: Read, W: Write, H: Helpers, T: Wait>(
+    rt: &T,
+    alloc: Global,
+    limits: &Limits,
+    sources: &mut [Source<R>],
+    writer: &mut Counting<W>,
+    helpers: &mut H,
+    progress: &mut Progress,
+    told: &mut Told,
+) -> Result<bool, Cause>
+    requires { HasNumbers limits.now (length sources.old) progress.old told.old }
+    ensures stands { OnOk result ((old : List Sighted) (before : Seen) → Stands limits.now old (map (sighted R.remaining) sources.old) before (seen_by W.contents writer.old) progress.old told.old
+        → Stands limits.now old (map (sighted R.remaining) sources.new) before (seen_by W.contents writer.new) progress.new told.new) }
+    ensures stopped { IfErr result (λ cause. (old : List Sighted) (before : Seen) → Stands limits.now old (map (sighted R.remaining) sources.old) before (seen_by W.contents writer.old) progress.old told.old
+        → WasRun limits.now old (map (sighted R.remaining) sources.new) before (seen_by W.contents writer.new) told.new.endings.items told.new.counts (Some cause)) }
+    ensures all_told { IfOk result (λ is_done. is_done ≡ true → vec_len told.new.endings ≡ length sources.new) }
+    ensures all_settled { IfOk result (λ is_done. is_done ≡ true → length progress.new.inquiry.open_ones ≡ 0) }
+{
+    if tell_ready(alloc, limits, sources, progress, writer, told)? {
+        return Ok(false);
+    }
+    if told.endings.len() == sources.len() && progress.inquiry.is_settled() {
+        return Ok(true);
+    }
+    match step(rt, alloc, limits, sources, helpers, progress) {
+        Ok(()) => Ok(false),
+        Err(_) => Err(Cause::Memory),
+    }
+}
+
+// Writes the next line, where it is found what it is to say. The answer says whether it is.
+fn tell_ready<R: Read, W: Write>(
+    alloc: Global,
+    limits: &Limits,
+    sources: &[Source<R>],
+    progress: &Progress,
+    writer: &mut Counting<W>,
+    told: &mut Told,
+) -> Result<bool, Cause>
+    requires { HasNumbers limits.now (length sources.now) progress.now told.old }
+    ensures stands { IfOk result (λ is_told. is_told ≡ true → (old : List Sighted) (before : Seen) → Stands limits.now old (map (sighted R.remaining) sources.now) before (seen_by W.contents writer.old) progress.now told.old
+        → Stands limits.now old (map (sighted R.remaining) sources.now) before (seen_by W.contents writer.new) progress.now told.new) }
+    ensures unchanged { IfOk result (λ is_told. is_told ≡ false → (seen_by W.contents writer.new ≡ seen_by W.contents writer.old) × (told.new ≡ told.old)) }
+    ensures stopped { IfErr result (λ cause. (old : List Sighted) (before : Seen) → Stands limits.now old (map (sighted R.remaining) sources.now) before (seen_by W.contents writer.old) progress.now told.old
+        → WasRun limits.now old (map (sighted R.remaining) sources.now) before (seen_by W.contents writer.new) told.new.endings.items told.new.counts (Some cause)) }
+{
+    let place = told.endings.len();
+    if place >= progress.checked {
+        return Ok(false);
+    }
+    let name = sources[place].name.as_slice();
+    tell_next(alloc, name, &progress.tracks[place], writer, told)
+}

@@ -1,0 +1,111 @@
+//! What was told so far of the sources, and telling it.
+ghost use Rattle.std.specs.Prelude.{◌≡◌, ◌<◌, ◌≤◌, ◌+◌, ◌++◌, ◌∷◌, [], vec_len, vec_capacity, Ok, Err, IfOk, IfErr, OnOk};
+ghost use Rattle.aero_model.specs.Counts.{seen_by};
+ghost use Rattle.aero_report.specs.Texts.{no_counts, counted, summary_line};
+ghost use Rattle.aero_batch.specs.Telling.{TellsNext, TellsText, HasRoom, total};
+
+use crate::outcome::Cause;
+use crate::track::Track;
+use aero_model::counting::Counting;
+use aero_model::verdict::{Counts, Ending, Finding, Verdict};
+use aero_report::{put, summary_text, trace_text};
+use std::alloc::{AllocError, Global};
+use std::io::Write;
+
+/// The endings of the sources that were told, in order, and how many were found to be what.
+#[derive(Drop)]
+pub struct Told {
+    pub endings: Vec<(u64, Ending)>,
+    pub counts: Counts,
+}
+
+impl Told {
+    /// Nothing is told yet, and there is room for so many sources.
+    pub fn new(alloc: Global, sources: usize) -> Result<Told, AllocError>
+        ensures endings { IfOk result (λ told. told.endings.items ≡ []) }
+        ensures room { IfOk result (λ told. vec_capacity told.endings ≡ sources) }
+        ensures counts { IfOk result (λ told. told.counts ≡ no_counts) }
+    {
+        Ok(Told {
+            endings: Vec::with_capacity(alloc, sources)?,
+            counts: nothing_counted(),
+        })
+    }
+}
+
+/// No source is counted yet.
+pub fn nothing_counted() -> Counts
+    ensures { result ≡ no_counts }
+{
+    Counts {
+        serializable: 0,
+        pending: 0,
+        violations: 0,
+        faults: 0,
+    }
+}
+
+/// Writes the text of the next source, where it is found what is to be said of it, and notes its
+/// ending. The answer says whether it is. A refusal changes nothing that was told.
+pub fn tell_next<W: Write>(
+    alloc: Global,
+    name: &[u8],
+    track: &Track,
+    writer: &mut Counting<W>,
+    told: &mut Told,
+) -> Result<bool, Cause>
+    requires room { HasRoom told.old }
+    ensures { TellsNext name.now track.now (seen_by W.contents writer.old) (seen_by W.contents writer.new) told.old told.new result }
+{
+    let Track::Found {
+        bytes,
+        ending,
+        finding,
+    } = track
+    else {
+        return Ok(false);
+    };
+    let text = trace_text(alloc, name, finding).map_err(|_| Cause::Memory)?;
+    tell(writer, &text)?;
+    told.endings.push_reserved((*bytes, *ending));
+    told.counts = with_finding(&told.counts, finding);
+    Ok(true)
+}
+
+/// Writes the summary.
+pub fn tell_summary<W: Write>(
+    alloc: Global,
+    counts: &Counts,
+    writer: &mut Counting<W>,
+) -> Result<(), Cause>
+    ensures { TellsText (summary_line counts.now) (seen_by W.contents writer.old) (seen_by W.contents writer.new) result }
+{
+    let text = summary_text(alloc, counts).map_err(|_| Cause::Memory)?;
+    tell(writer, &text)
+}
+
+// Writes a text.
+fn tell<W: Write>(writer: &mut Counting<W>, text: &[u8]) -> Result<(), Cause>
+    ensures { TellsText text.now (seen_by W.contents writer.old) (seen_by W.contents writer.new) result }
+{
+    match put(writer, text) {
+        Ok(()) => Ok(()),
+        Err(_) => Err(Cause::Write),
+    }
+}
+
+// The counts with one more source.
+fn with_finding(counts: &Counts, finding: &Finding) -> Counts
+    requires { total counts.now < 65536 }
+    ensures counts { result ≡ counted counts.now finding.now }
+    ensures total { total result ≡ total counts.now + 1 }
+{
+    let mut counts = *counts;
+    match finding {
+        Finding::Judged(Verdict::Serializable { .. }) => counts.serializable += 1,
+        Finding::Judged(Verdict::Pending { .. }) => counts.pending += 1,
+        Finding::Judged(Verdict::Violation { .. }) => counts.violations += 1,
+        _ => counts.faults += 1,
+    }
+    counts
+}

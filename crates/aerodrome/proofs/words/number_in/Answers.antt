@@ -1,0 +1,14 @@
+use Rattle.std.specs.Str.Parse.{ParsesUnsigned, ExplainsUnsignedError, HasUnsignedDigitsIfOk}
+use Rattle.clap.specs.Words.{found_of}
+use Rattle.aerodrome.proofs.Numbers.{number_within}
+use Rattle.aerodrome.proofs.words.number_in.Goals as goal
+
+pub returns-in-Some-clause-some : goal.returns-in-Some-clause-some
+returns-in-Some-clause-some c =
+    (number_within _ (λ bs r. ParsesUnsigned 32 10 bs r × ExplainsUnsignedError 10 bs r × HasUnsignedDigitsIfOk bs r) c.args.most c.in-Some.number (found_of c.args.matches.now) c.args.name.now
+    c.requires.reads c.in-Some.ensures.none c.in-Some.ensures.value (λ u x g. g.0) c.ranges.most.fits).0
+
+pub returns-in-Some-clause-within : goal.returns-in-Some-clause-within
+returns-in-Some-clause-within c =
+    (number_within _ (λ bs r. ParsesUnsigned 32 10 bs r × ExplainsUnsignedError 10 bs r × HasUnsignedDigitsIfOk bs r) c.args.most c.in-Some.number (found_of c.args.matches.now) c.args.name.now
+    c.requires.reads c.in-Some.ensures.none c.in-Some.ensures.value (λ u x g. g.0) c.ranges.most.fits).1

@@ -1,0 +1,177 @@
+//! The words of the command line, and what they ask for.
+ghost use Rattle.std.specs.Prelude.{◌≡◌, ◌<◌, ◌≤◌, ◌^◌, [], Some, IfOk, codes, false, length, pos, vec_len};
+ghost use Rattle.clap.specs.Words.{found_of};
+ghost use Rattle.clap.specs.declared.builder.value_parser.ValueParser.TheVariants as vp;
+ghost use Rattle.aerodrome.specs.Words.{IsCommandLine, ReadsWithin};
+
+use crate::help;
+use clap::error::ErrorKind;
+use clap::{Arg, ArgAction, ArgMatches, Command, Error, value_parser};
+use std::alloc::{AllocError, Global};
+
+/// How many files one run judges at most.
+pub const MOST_FILES: usize = 65_536;
+
+const MOST_WORKERS: u32 = 16;
+
+const DEFAULT_WORKERS: u32 = 4;
+
+const MOST_PIECE: u32 = 1_048_576;
+
+const DEFAULT_PIECE: u32 = 65_536;
+
+/// What a command line asks for: 1 to 16 workers, reads of 1 to 1,048,576 bytes, and at most
+/// 65,536 files, in the order of the words. No files at all means standard input.
+#[derive(Drop)]
+pub struct Config {
+    pub workers: u32,
+    pub piece: u32,
+    pub files: Vec<String>,
+    ghost some_workers: { 0 < workers },
+    ghost most_workers: { workers ≤ 16 },
+    ghost some_piece: { 0 < piece },
+    ghost most_piece: { piece ≤ 2 ^ 20 },
+    ghost most_files: { vec_len files ≤ 2 ^ 16 },
+}
+
+/// Why a command line gives no `Config`. In checking order.
+#[derive(Debug, Drop)]
+pub enum Refused {
+    /// It asks for the help or the version, which is this text, with its last line end.
+    Help(String),
+    /// It is no command line of this program. The text says why, with its last line end.
+    Usage(String),
+    /// It names more than 65,536 files.
+    TooManyFiles,
+    /// Memory was refused.
+    Memory,
+}
+
+impl From<AllocError> for Refused {
+    ghost use Rattle.std.specs.Prelude.{◌≡◌};
+    ghost use Rattle.aerodrome.specs.declared.words.Refused.{Refused};
+    ghost use Rattle.aerodrome.specs.declared.words.Refused.TheVariants.{Memory};
+
+    ghost from_gives = { λ _ refused. refused ≡ Memory };
+
+    fn from(_error: AllocError) -> Refused {
+        Refused::Memory
+    }
+}
+
+/// Reads the words that follow the program's name.
+pub fn settle_words(alloc: Global, words: &[String]) -> Result<Config, Refused> {
+    let matches = matches_of(alloc, words)?;
+    settle(alloc, &matches)
+}
+
+fn matches_of<'a>(alloc: Global, words: &'a [String]) -> Result<ArgMatches<'a>, Refused>
+    ensures { IfOk result (λ m. ReadsWithin (found_of m) (codes "workers") 16 × ReadsWithin (found_of m) (codes "piece") (2 ^ 20)) }
+{
+    let line = command_line(alloc)?;
+    match line.try_get_matches_from(words) {
+        Ok(matches) => Ok(matches),
+        Err(error) => Err(refusal_of(alloc, &error)),
+    }
+}
+
+// The command line as its reader knows it.
+fn command_line<'a>(alloc: Global) -> Result<Command<'a>, AllocError>
+    ensures { IfOk result IsCommandLine }
+{
+    let workers = number_option(alloc, "workers", MOST_WORKERS)
+        .default_value("4")
+        .help(help::WORKERS);
+    let piece = number_option(alloc, "piece", MOST_PIECE)
+        .default_value("65536")
+        .help(help::PIECE);
+    let files = Arg::new(alloc, "files")
+        .value_name("FILE")
+        .action(ArgAction::Append)
+        .num_args(0..)
+        .help(help::FILES);
+    Command::new(alloc, "aerodrome")
+        .no_binary_name(true)
+        .version(help::VERSION)
+        .about(help::ABOUT)
+        .long_about(help::LONG_ABOUT)
+        .after_long_help(help::REPORT)
+        .arg(workers)?
+        .arg(piece)?
+        .arg(files)
+}
+
+// An option with a number from 1 to `most`.
+fn number_option<'a>(alloc: Global, name: &'a str, most: u32) -> Arg<'a>
+    ensures id { result.id ≡ name.entry }
+    ensures parser { result.value_parser ≡ Some (vp.Signed (pos 1) (pos most)) }
+    ensures groups { result.groups.items ≡ [] }
+    ensures global { result.global ≡ false }
+{
+    Arg::new(alloc, name)
+        .long(name)
+        .value_name("N")
+        .action(ArgAction::Set)
+        .value_parser(value_parser!(u32).range(1..=i64::from(most)))
+}
+
+// Why the words were refused, with the text for it.
+fn refusal_of(alloc: Global, error: &Error) -> Refused {
+    let kind = error.kind();
+    if kind == ErrorKind::OutOfMemory {
+        return Refused::Memory;
+    }
+    match error.to_string(alloc) {
+        Err(_) => Refused::Memory,
+        Ok(text) => {
+            if error.use_stderr() {
+                Refused::Usage(text)
+            } else {
+                Refused::Help(text)
+            }
+        }
+    }
+}
+
+fn settle(alloc: Global, matches: &ArgMatches<'_>) -> Result<Config, Refused>
+    requires workers { ReadsWithin (found_of matches.now) (codes "workers") 16 }
+    requires piece { ReadsWithin (found_of matches.now) (codes "piece") (2 ^ 20) }
+{
+    let workers = number_in(matches, "workers", MOST_WORKERS, DEFAULT_WORKERS);
+    let piece = number_in(matches, "piece", MOST_PIECE, DEFAULT_PIECE);
+    let given = matches.get_strs("files").unwrap_or(&[]);
+    if given.len() > MOST_FILES {
+        return Err(Refused::TooManyFiles);
+    }
+    let files = owned(alloc, given)?;
+    Ok(Config {
+        workers,
+        piece,
+        files,
+    })
+}
+
+// The number of an option, from 1 to `most`.
+fn number_in(matches: &ArgMatches<'_>, name: &str, most: u32, fallback: u32) -> u32
+    requires reads { ReadsWithin (found_of matches.now) name.now most }
+    requires some { 0 < fallback }
+    requires within { fallback ≤ most }
+    ensures some { 0 < result }
+    ensures within { result ≤ most }
+{
+    match matches.get_one::<u32>(name) {
+        Some(number) => number,
+        None => fallback,
+    }
+}
+
+// Copies of the texts.
+fn owned(alloc: Global, texts: &[&str]) -> Result<Vec<String>, AllocError>
+    ensures { IfOk result (λ all. vec_len all ≡ length texts.now) }
+{
+    let mut all = Vec::new(alloc);
+    for text in texts {
+        all.push(String::from_str(alloc, text)?)?;
+    }
+    Ok(all)
+}
