@@ -1,3 +1,5 @@
+ghost use Rattle.std.specs.Prelude.{◌≤◌, IfOk, vec_len};
+
 use crate::input::Input;
 use crate::status::status;
 use aero_batch::outcome::{Cause, Outcome};
@@ -9,7 +11,8 @@ use aero_model::counting::Counting;
 use aero_model::limits::Limits;
 use aero_model::verdict::{Counts, Ending};
 use aero_worker::NoGate;
-use std::alloc::Global;
+use std::alloc::{AllocError, Global};
+use std::rt::Files;
 use std::sync::Arc;
 use std::test::Fail;
 
@@ -51,14 +54,25 @@ fn the_highest_status_that_applies(rt: HostRuntime) {
     }
 }
 
-#[test]
-fn a_file_that_is_not_there_is_broken_after_0_bytes(rt: HostRuntime) -> Result<(), Fail> {
-    let alloc = rt.alloc();
+// One source, a file that isn't there.
+fn missing<'a, R: Files + Drop>(
+    alloc: Global,
+    files: &'a R,
+) -> Result<Vec<Source<Input<&'a R>>>, AllocError>
+    ensures { IfOk result (λ sources. vec_len sources ≤ 1) }
+{
     let mut sources = Vec::new(alloc);
     sources.push(Source {
         name: Vec::from_slice(alloc, b"none")?,
-        reader: Counting::new(Input::path(alloc, &rt, "none")?),
+        reader: Counting::new(Input::path(alloc, files, "none")?),
     })?;
+    Ok(sources)
+}
+
+#[test]
+fn a_file_that_is_not_there_is_broken_after_0_bytes(rt: HostRuntime) -> Result<(), Fail> {
+    let alloc = rt.alloc();
+    let mut sources = missing(alloc, &rt)?;
     let Some(plan) = Plan::new(4, 65_536, Limits::greatest()) else {
         return Err(Fail::from("no plan"));
     };
