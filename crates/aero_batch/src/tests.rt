@@ -8,6 +8,7 @@ use crate::outcome::{Cause, Outcome};
 use crate::plan::Plan;
 use crate::run::run_over;
 use crate::source::Source;
+use crate::tests::gates::expect_by_crew;
 use aero_model::counting::Counting;
 use aero_model::limits::Limits;
 use aero_model::verdict::Ending;
@@ -20,6 +21,7 @@ use std::io::{Read, Write};
 use std::process::Abort;
 use std::sync::Wait;
 use std::test::Fail;
+use std::thread::Threads;
 
 const PIECES: [u32; 4] = [1, 2, 7, 65_536];
 
@@ -247,8 +249,9 @@ fn expect_line<R: Read + Drop, H: Helpers, T: Abort + AllocGlobal + Wait>(
     Ok(outcome)
 }
 
-// The line of a text is the same at each size of a piece, and whatever helps.
-fn expect_text<T: Abort + AllocGlobal + Wait>(
+// The line of a text is the same at each size of a piece, by every number of workers, and whatever
+// helps.
+fn expect_text<T: Abort + AllocGlobal + Threads + Wait + Copy + Send + 'static>(
     rt: &T,
     text: &[u8],
     limits: Limits,
@@ -256,6 +259,9 @@ fn expect_text<T: Abort + AllocGlobal + Wait>(
 ) -> Result<(), Fail> {
     for piece in PIECES {
         expect_line(rt, text, limits, piece, &mut Nobody, line)?;
+    }
+    for workers in [1, 2, 16] {
+        expect_by_crew(*rt, text, limits, workers, line)?;
     }
     let mut newest = helper_with(rt.alloc(), Habit::Newest);
     expect_line(rt, text, limits, 7, &mut newest, line)?;

@@ -112,6 +112,29 @@ fn plan_with(workers: u32, piece: u32) -> Result<Plan, Fail> {
     }
 }
 
+// One source with the name n, by so many workers: this is its line, and the workers did it all.
+pub(crate) fn expect_by_crew<T: Abort + AllocGlobal + Threads + Wait + Copy + Send + 'static>(
+    rt: T,
+    text: &[u8],
+    limits: Limits,
+    workers: u32,
+    line: &[u8],
+) -> Result<(), Fail> {
+    let Some(plan) = Plan::new(workers, 7, limits) else {
+        return Err("no such plan".into());
+    };
+    let mut sources = [source_of(rt.alloc(), b"n", text)?];
+    let mut writer = Counting::new(Vec::new(rt.alloc()));
+    let gate = Arc::new(rt.alloc(), NoGate)?;
+    let outcome = run(rt, rt.alloc(), &mut sources, &mut writer, &plan, gate);
+    let written = writer.into_inner();
+    assert!(rt; written.as_slice().starts_with(line));
+    assert_eq!(rt; outcome.cause, None);
+    assert_eq!(rt; outcome.workers, workers);
+    assert_eq!(rt; outcome.tally.done_here, 0);
+    Ok(())
+}
+
 // Three sources, by so many workers, under the gate.
 fn expect_three<
     G: Gate + Drop + 'static,
