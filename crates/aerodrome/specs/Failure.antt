@@ -1,5 +1,7 @@
 -- What the program says and answers where it stops without a whole report.
 use Rattle.std.specs.Prelude.{ℕ, List, codes}
+use Rattle.aerodrome.specs.declared.arguments.Unread.{Unread}
+use Rattle.aerodrome.specs.declared.arguments.Unread.TheVariants as unread
 use Rattle.aerodrome.specs.declared.failure.Failure.{Failure}
 use Rattle.aerodrome.specs.declared.failure.Failure.TheVariants.{Memory, Write, TooManyFiles, NotUtf8}
 
@@ -16,3 +18,8 @@ failure_status Memory = 4
 failure_status Write = 4
 failure_status TooManyFiles = 3
 failure_status NotUtf8 = 3
+
+-- the words that can't be had stop the program so
+abbrev pub failure_of : Unread → Failure
+failure_of unread.NotUtf8 = NotUtf8
+failure_of unread.Memory = Memory

@@ -1,5 +1,5 @@
--- How far an input has come, and what one read does to that.
-use Rattle.std.specs.Prelude.{◌≡◌, ◌<◌, ℕ, List, Result, Ok, Err, ⊤, IsErr, string_bytes}
+-- The names of the sources, how far an input has come, and what one read does to that.
+use Rattle.std.specs.Prelude.{◌≡◌, ◌<◌, ℕ, List, [], ◌∷◌, Result, Ok, Err, ⊤, IsErr, codes, string_bytes}
 use Rattle.aerodrome.specs.declared.input.Input.{Input}
 use Rattle.aerodrome.specs.declared.input.Stage.{Stage}
 use Rattle.aerodrome.specs.declared.input.Stage.TheVariants as stage
@@ -37,3 +37,8 @@ StepsTo Reading new room result = Leaves new room result
 StepsTo Ended Ended room result = result ≡ Ok 0
 StepsTo Failed Failed room result = IsErr result
 StepsTo old new room result = ⊥
+
+-- the sources are named as the files that the words name, in order, or `-` where they name none
+abbrev pub source_names : List (List ℕ) → List (List ℕ)
+source_names [] = codes "-" ∷ []
+source_names (file ∷ more) = file ∷ more

@@ -43,12 +43,23 @@ impl Failure {
 }
 
 impl From<AllocError> for Failure {
+    ghost use Rattle.std.specs.Prelude.{◌≡◌};
+    ghost use Rattle.aerodrome.specs.declared.failure.Failure.{Failure};
+    ghost use Rattle.aerodrome.specs.declared.failure.Failure.TheVariants.{Memory};
+
+    ghost from_gives = { λ _ failure. failure ≡ Memory };
+
     fn from(_error: AllocError) -> Failure {
         Failure::Memory
     }
 }
 
 impl From<Unread> for Failure {
+    ghost use Rattle.std.specs.Prelude.{◌≡◌};
+    ghost use Rattle.aerodrome.specs.Failure.{failure_of};
+
+    ghost from_gives = { λ unread failure. failure ≡ failure_of unread };
+
     fn from(unread: Unread) -> Failure {
         match unread {
             Unread::NotUtf8 => Failure::NotUtf8,

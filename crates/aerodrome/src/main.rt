@@ -24,7 +24,8 @@ mod tests;
 mod tests_words;
 pub mod words;
 
-ghost use Rattle.std.specs.Prelude.{◌≤◌, ◌^◌, IfOk, vec_len};
+ghost use Rattle.std.specs.Prelude.{◌≡◌, ◌≤◌, ◌^◌, IfOk, map, string_bytes, vec_len};
+ghost use Rattle.aerodrome.specs.Inputs.{source_names};
 
 use aero_batch::outcome::Cause;
 use aero_batch::plan::Plan;
@@ -108,20 +109,33 @@ fn sources_of<'a, R: Files + Drop>(
     stdin: Stdin,
     config: &Config,
 ) -> Result<Vec<Source<Input<&'a R>>>, AllocError>
-    ensures { IfOk result (λ sources. vec_len sources ≤ 2 ^ 16) }
+    ensures few { IfOk result (λ sources. vec_len sources ≤ 2 ^ 16) }
+    ensures names { IfOk result (λ sources. map (λ s. s.name.items) sources.items ≡ source_names (map string_bytes config.now.files.items)) }
+{
+    if !config.files.is_empty() {
+        return files_of(alloc, files, &config.files);
+    }
+    let mut sources = Vec::new(alloc);
+    sources.push(Source {
+        name: Vec::from_slice(alloc, b"-")?,
+        reader: Counting::new(Input::standard(stdin)),
+    })?;
+    Ok(sources)
+}
+
+// Each file, named as its word.
+fn files_of<'a, R: Files + Drop>(
+    alloc: Global,
+    files: &'a R,
+    words: &[String],
+) -> Result<Vec<Source<Input<&'a R>>>, AllocError>
+    ensures names { IfOk result (λ sources. map (λ s. s.name.items) sources.items ≡ map string_bytes words.now) }
 {
     let mut sources = Vec::new(alloc);
-    if config.files.is_empty() {
+    for word in words {
         sources.push(Source {
-            name: Vec::from_slice(alloc, b"-")?,
-            reader: Counting::new(Input::standard(stdin)),
-        })?;
-        return Ok(sources);
-    }
-    for file in &config.files {
-        sources.push(Source {
-            name: Vec::from_slice(alloc, file.as_bytes())?,
-            reader: Counting::new(Input::path(alloc, files, file.as_str())?),
+            name: Vec::from_slice(alloc, word.as_bytes())?,
+            reader: Counting::new(Input::path(alloc, files, word.as_str())?),
         })?;
     }
     Ok(sources)
