@@ -23,3 +23,4 @@ pub mod WriteSteps
 pub mod OtherSteps
 pub mod Standings
 pub mod SlotNumbers
+pub mod Heeding

@@ -17,7 +17,7 @@ use Rattle.aero_access.specs.Kept.{kept_clock, kept_thread, same_slot}
 use Rattle.aero_access.specs.Threads.{number_in, thread_clock, thread_begin, thread_begins, thread_acted, IsClosedBy, TakesClock}
 use Rattle.aero_access.specs.TableWords.{kept_of, labels_of, JoinsSlot}
 use Rattle.aero_access.specs.StateWords.{clock_in, state_in, slot_or, slot_in, JoinsClock}
-use Rattle.aero_access.specs.Standing.{state_of, is_spent, closed_by, slot_at, ClosesBack, ClosesBlock}
+use Rattle.aero_access.specs.Standing.{state_of, is_spent, closed_by, slot_at, ClosesBack, ClosesBlock, IsFinished}
 use Rattle.aero_access.proofs.KeptLists.{same_slot_is, same_slot_self}
 use Rattle.aero_access.proofs.OwnSteps.{written, closed_from, closed_to}
 
@@ -154,6 +154,37 @@ closes_block old new t th after at items table unspent closed clock begin begins
 
     slots_same : (n : ℕ) → slot_at new n ≡ slot_at old n
     slots_same n = ap (λ m. if nat_lt n m then OfThread n else slot_or n (slice_get (labels_of new.table) (n - m))) (ap length items ∙ kept_length) ∙ ap (λ (a : Table). slot_in old.threads.items a n) table
+
+-- a thread has acted
+pub finishes : (old new : Clocks) (t : ℕ) (th after : Thread) → slice_get old.threads.items t ≡ Some th → new.threads.items ≡ slice_set old.threads.items t after → new.table ≡ old.table → is_spent new ≡ false → closed_by new ≡ closed_by old
+    → after.clock ≡ th.clock → after.begin ≡ th.begin → after.begins ≡ th.begins → after.acted ≡ true → IsFinished old new t
+finishes old new t th after at items table unspent closed clock begin begins acted = record {
+  spent = unspent;
+  closed = closed;
+  clock = clocks;
+  actor = λ r. ap (λ (a : Table). kept_thread (kept_of a r)) table;
+  begin_clock = λ u v. same (λ o. number_in (thread_begin o) v) u (ap (λ b. number_in b v) begin);
+  in_block = λ u. same (λ o. is_some (thread_begin o)) u (ap is_some begin);
+  begins = λ u. same thread_begins u begins;
+  acted = λ u. at_thread thread_acted u ∙ ap (λ b. if t == u then b else thread_acted (slice_get old.threads.items u)) acted;
+}
+  where
+    at_thread : {X : Type 0} (f : Option Thread → X) (u : ℕ) → f (slice_get new.threads.items u) ≡ (if t == u then f (Some after) else f (slice_get old.threads.items u))
+    at_thread f u = ap (λ xs. f (slice_get xs u)) items ∙ written old.threads.items t th after at f u
+
+    same : {X : Type 0} (f : Option Thread → X) (u : ℕ) → f (Some after) ≡ f (Some th) → f (slice_get new.threads.items u) ≡ f (slice_get old.threads.items u)
+    same f u h =
+        at_thread f u
+        ∙ ⊎_elim
+        (λ e. cond-true (t == u) _ _ (eq-eqb t u e) ∙ h ∙ sym (ap f at) ∙ ap (λ m. f (slice_get old.threads.items m)) e)
+        (λ ne. cond-false (t == u) _ _ (ne_eqb t u ne))
+        (cases_eq t u)
+
+    clocks : (r : Slot) (u : ℕ) → (state_of new).clock r u ≡ (state_of old).clock r u
+    clocks (OfThread v) u = same (λ o. thread_clock o u) v (ap (λ c. number_at c u) clock)
+    clocks (LastWrite x) u = ap (λ (a : Table). kept_clock (kept_of a (LastWrite x)) u) table
+    clocks (LastRead x v) u = ap (λ (a : Table). kept_clock (kept_of a (LastRead x v)) u) table
+    clocks (LastRelease l) u = ap (λ (a : Table). kept_clock (kept_of a (LastRelease l)) u) table
 
 pub unlabelled : (table : Table) (i : ℕ) (s : Slot) → slice_get (labels_of table) i ≡ Some s → None ≡ kept_of table s → ⊥
 unlabelled table i s h none = both_ways (is_some (kept_of table s)) (sym (ap is_some none)) (label_kept table i s h)

@@ -8,5 +8,6 @@ pub mod Threads
 pub mod Table
 pub mod TableWords
 pub mod States
+pub mod Heeds
 pub mod StateWords
 pub mod Standing

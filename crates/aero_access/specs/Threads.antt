@@ -1,5 +1,5 @@
 -- What contracts see of a thread.
-use Rattle.std.specs.Prelude.{◌≡◌, ◌≢◌, ℕ, ◌≤◌, Bool, false, max, List, Option, Some, None, slice_get}
+use Rattle.std.specs.Prelude.{◌≡◌, ◌≢◌, ℕ, ◌≤◌, Bool, true, false, is_some, max, List, Option, Some, None, slice_get}
 use Rattle.aero_clock.specs.declared.clock.Clock.{Clock}
 use Rattle.aero_clock.specs.Numbers.{number_at}
 use Rattle.aero_access.specs.declared.kept.Kept.{Kept}
@@ -60,3 +60,8 @@ pub record ClosesOne (begin : Option Clock) (t : ℕ) (ks : List Kept) : Type 0 
 -- none of them does
 pub record ClosesNone (begin : Option Clock) (t : ℕ) (ks : List Kept) : Type 0 where
   pub none : (i : ℕ) (k : Kept) → slice_get ks i ≡ Some k → k.thread ≢ t → ¬ IsClosedBy begin (number_at k.clock)
+
+-- For thread t and this clock the number at t is a test: it is at least the thread's begins exactly where the whole clock is at least the begin clock.
+pub record CountIsTest (thread : Thread) (t : ℕ) (K : ℕ → ℕ) : Type 0 where
+  pub counted : IsClosedBy thread.begin K → thread.begins ≤ K t
+  pub closed : is_some thread.begin ≡ true → thread.begins ≤ K t → IsClosedBy thread.begin K

@@ -5,7 +5,8 @@ ghost use Rattle.aero_model.specs.declared.event.What.{What};
 ghost use Rattle.aero_model.specs.declared.event.What.TheVariants.{Read, Write, Acquire, Release, Fork, Join, Begin};
 ghost use Rattle.aero_model.specs.Shape.{IsWellFormed};
 ghost use Rattle.aero_access.specs.declared.slot.Slot.{Slot};
-ghost use Rattle.aero_access.specs.StateWords.{event, IsIdle};
+ghost use Rattle.aero_access.specs.StateWords.{event, state_in, IsIdle};
+ghost use Rattle.aero_access.specs.Heeds.{AreHeeded};
 
 use crate::moves;
 use crate::table::Table;
@@ -35,6 +36,7 @@ pub struct Clocks {
     closed: Option<u32>,
     spent: bool,
     ghost few: { vec_len threads ≤ 2 ^ 32 },
+    ghost heeded: { AreHeeded (state_in threads.items table) },
 }
 
 impl Clocks {
@@ -220,10 +222,7 @@ impl Clocks {
         requires slot { slot < slots_of self.now }
         ensures { IsTrue result ↔ IsBehind self.now t (clock_of self.now (slot_at self.now slot)) }
     {
-        match self.threads.get(t as usize) {
-            Some(thread) => moves::leads(thread, &self.threads, &self.table, slot),
-            None => false,
-        }
+        moves::leads(&self.threads, &self.table, t, slot)
     }
 
     /// Joins the clock of the slot with this number with the clock of thread `t`, which is in a
@@ -243,9 +242,10 @@ impl Clocks {
             return Err(Spent);
         }
         self.spent = true;
-        self.closed = moves::absorb(&mut self.threads, &mut self.table, t, slot)?;
+        let told = moves::absorb(&mut self.threads, &mut self.table, t, slot)?;
+        self.closed = told;
         self.spent = false;
-        Ok(self.closed)
+        Ok(told)
     }
 
     /// Ends the open block of thread `t`. After a refusal it changes nothing.

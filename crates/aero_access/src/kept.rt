@@ -1,5 +1,5 @@
 //! What is kept of a last event.
-ghost use Rattle.std.specs.Prelude.{◌≡◌, ◌≢◌, ◌↔◌, false, IsTrue, IfOk};
+ghost use Rattle.std.specs.Prelude.{◌≡◌, ◌≢◌, ◌≤◌, ◌↔◌, ℕ, false, IsTrue, IfOk};
 ghost use Rattle.aero_clock.specs.Numbers.{number_at};
 
 use crate::thread::Thread;
@@ -15,18 +15,23 @@ pub struct Kept {
 
 impl Kept {
     ghost use Rattle.aero_access.specs.Kept.{clock_but};
-    ghost use Rattle.aero_access.specs.Threads.{IsClosedBy, HasSameBlock, TakesClock};
+    ghost use Rattle.aero_access.specs.Threads.{IsClosedBy, CountIsTest, HasSameBlock, TakesClock};
+    ghost use Rattle.aero_access.specs.States.{State};
+    ghost use Rattle.aero_access.specs.Heeds.{Heeds};
 
     /// Thread `t` takes the clock, unless the event is its own, or the clock closes a cycle: then
     /// the answer is true.
     pub fn give(&self, thread: &mut Thread, t: u32) -> Result<bool, AllocError>
+        requires { CountIsTest thread.old t (number_at self.now.clock) }
         ensures closing { IfOk result (λ closes. IsTrue closes ↔ ((self.now.thread ≢ t) × IsClosedBy thread.old.begin (number_at self.now.clock))) }
         ensures takes { IfOk result (λ closes. closes ≡ false → TakesClock thread.old thread.new (clock_but t self.now)) }
         ensures same { HasSameBlock thread.old thread.new }
+        ensures grows { (u : ℕ) → number_at thread.old.clock u ≤ number_at thread.new.clock u }
+        ensures heeds { (w : State) → Heeds w (number_at thread.old.clock) → Heeds w (number_at self.now.clock) → Heeds w (number_at thread.new.clock) }
     {
         if self.thread == t {
             return Ok(false);
         }
-        thread.take(&self.clock)
+        thread.take(t, &self.clock)
     }
 }

@@ -3,9 +3,13 @@
 ghost use Rattle.std.specs.Prelude.{◌≡◌, ◌≢◌, ◌<◌, ◌≤◌, ◌+◌, ◌↔◌, ◌-◌, ◌^◌, ℕ, true, false, None, Some, length, slice_get, IsTrue, IfOk, OnOk, OnErr, is_some};
 ghost use Rattle.aero_clock.specs.Numbers.{number_at};
 ghost use Rattle.aero_model.specs.declared.event.What.TheVariants.{Read, Write, Acquire, Release, Fork, Join, Begin};
-ghost use Rattle.aero_access.specs.Kept.{is_kept, greatest_but};
-ghost use Rattle.aero_access.specs.Threads.{HasSameBlock, TakesClock, ClosesOne, ClosesNone, IsClosedBy, thread_clock, thread_acted, thread_begin, thread_begins};
+ghost use Rattle.aero_access.specs.Kept.{is_kept, greatest_but, kept_clock};
+ghost use Rattle.aero_access.specs.Threads.{CountIsTest, HasSameBlock, TakesClock, ClosesOne, ClosesNone, IsClosedBy, thread_clock, thread_acted, thread_begin, thread_begins};
+ghost use Rattle.aero_access.specs.declared.kept.Kept.{Kept};
+ghost use Rattle.aero_access.specs.declared.slot.Slot.{Slot};
 ghost use Rattle.aero_access.specs.TableWords.{kept_of, readers_of, labels_of};
+ghost use Rattle.aero_access.specs.States.{State};
+ghost use Rattle.aero_access.specs.Heeds.{Heeds, AreHeeded};
 ghost use Rattle.aero_access.specs.StateWords.{event, clock_in, state_in, slot_in, JoinsClock, Moves, HaveSameBlocks, ClosesLast, last_but, KeepsClock};
 
 use crate::kept::Kept;
@@ -16,9 +20,11 @@ use std::alloc::AllocError;
 
 /// Thread `t` reads variable `x`.
 pub fn read(threads: &mut [Thread], table: &mut Table, t: u32, x: u32) -> Result<bool, AllocError>
-    requires { t < length threads.old }
+    requires actor { t < length threads.old }
+    requires heeded { AreHeeded (state_in threads.old table.old) }
     ensures moves { IfOk result (Moves (state_in threads.old table.old) (state_in threads.new table.new) (event t (Read x))) }
     ensures same { HaveSameBlocks threads.old threads.new }
+    ensures heeded { AreHeeded (state_in threads.new table.new) }
 {
     let thread = &mut threads[t as usize];
     if take_last(thread, table, t, Slot::LastWrite(x))? {
@@ -30,9 +36,11 @@ pub fn read(threads: &mut [Thread], table: &mut Table, t: u32, x: u32) -> Result
 
 /// Thread `t` writes variable `x`.
 pub fn write(threads: &mut [Thread], table: &mut Table, t: u32, x: u32) -> Result<bool, AllocError>
-    requires { t < length threads.old }
+    requires actor { t < length threads.old }
+    requires heeded { AreHeeded (state_in threads.old table.old) }
     ensures moves { IfOk result (Moves (state_in threads.old table.old) (state_in threads.new table.new) (event t (Write x))) }
     ensures same { HaveSameBlocks threads.old threads.new }
+    ensures heeded { AreHeeded (state_in threads.new table.new) }
 {
     let thread = &mut threads[t as usize];
     if take_last(thread, table, t, Slot::LastWrite(x))? {
@@ -47,17 +55,21 @@ pub fn write(threads: &mut [Thread], table: &mut Table, t: u32, x: u32) -> Resul
 
 /// Thread `t` acquires lock `l`.
 pub fn acquire(threads: &mut [Thread], table: &Table, t: u32, l: u32) -> Result<bool, AllocError>
-    requires { t < length threads.old }
+    requires actor { t < length threads.old }
+    requires heeded { AreHeeded (state_in threads.old table.now) }
     ensures moves { IfOk result (Moves (state_in threads.old table.now) (state_in threads.new table.now) (event t (Acquire l))) }
     ensures same { HaveSameBlocks threads.old threads.new }
+    ensures heeded { AreHeeded (state_in threads.new table.now) }
 {
     take_last(&mut threads[t as usize], table, t, Slot::LastRelease(l))
 }
 
 /// Thread `t` releases lock `l`.
 pub fn release(threads: &[Thread], table: &mut Table, t: u32, l: u32) -> Result<(), AllocError>
-    requires { t < length threads.now }
-    ensures { OnOk result (Moves (state_in threads.now table.old) (state_in threads.now table.new) (event t (Release l)) false) }
+    requires actor { t < length threads.now }
+    requires heeded { AreHeeded (state_in threads.now table.old) }
+    ensures moves { OnOk result (Moves (state_in threads.now table.old) (state_in threads.now table.new) (event t (Release l)) false) }
+    ensures heeded { AreHeeded (state_in threads.now table.new) }
 {
     keep(&threads[t as usize], table, t, Slot::LastRelease(l))
 }
@@ -67,8 +79,10 @@ pub fn fork(threads: &mut [Thread], table: &Table, t: u32, u: u32) -> Result<(),
     requires actor { t < length threads.old }
     requires target { u < length threads.old }
     requires other { u ≢ t }
+    requires heeded { AreHeeded (state_in threads.old table.now) }
     ensures moves { OnOk result (Moves (state_in threads.old table.now) (state_in threads.new table.now) (event t (Fork u)) false) }
     ensures same { HaveSameBlocks threads.old threads.new }
+    ensures heeded { AreHeeded (state_in threads.new table.now) }
 {
     let clock = threads[t as usize].clock.copy()?;
     threads[u as usize].join(&clock)
@@ -80,11 +94,13 @@ pub fn join(threads: &mut [Thread], table: &Table, t: u32, u: u32) -> Result<boo
     requires target { u < length threads.old }
     requires other { u ≢ t }
     requires acted { thread_acted (slice_get threads.old u) ≡ true }
+    requires heeded { AreHeeded (state_in threads.old table.now) }
     ensures moves { IfOk result (Moves (state_in threads.old table.now) (state_in threads.new table.now) (event t (Join u))) }
     ensures same { HaveSameBlocks threads.old threads.new }
+    ensures heeded { AreHeeded (state_in threads.new table.now) }
 {
     let clock = threads[u as usize].clock.copy()?;
-    threads[t as usize].take(&clock)
+    threads[t as usize].take(t, &clock)
 }
 
 /// Thread `t` begins a block, and is in none.
@@ -92,22 +108,27 @@ pub fn begin(threads: &mut [Thread], table: &Table, t: u32) -> Result<(), AllocE
     requires actor { t < length threads.old }
     requires outside { thread_begin (slice_get threads.old t) ≡ None }
     requires count { thread_begins (slice_get threads.old t) < 2 ^ 32 - 1 }
+    requires heeded { AreHeeded (state_in threads.old table.now) }
     ensures moves { OnOk result (Moves (state_in threads.old table.now) (state_in threads.new table.now) (event t Begin) false) }
     ensures err { OnErr result (HaveSameBlocks threads.old threads.new) }
+    ensures heeded { AreHeeded (state_in threads.new table.now) }
 {
     threads[t as usize].open(t)
 }
 
-/// Whether the clock of the slot with this number is at least the thread's begin clock.
-pub fn leads(thread: &Thread, threads: &[Thread], table: &Table, slot: usize) -> bool
-    requires { slot < length threads.now + length (labels_of table.now) }
-    ensures { IsTrue result ↔ IsClosedBy thread.now.begin (clock_in threads.now table.now (slot_in threads.now table.now slot)) }
+/// Whether the clock of the slot with this number is at least the begin clock of thread `t`.
+pub fn leads(threads: &[Thread], table: &Table, t: u32, slot: usize) -> bool
+    requires actor { t < length threads.now }
+    requires slot { slot < length threads.now + length (labels_of table.now) }
+    requires heeded { AreHeeded (state_in threads.now table.now) }
+    ensures { IsTrue result ↔ IsClosedBy (thread_begin (slice_get threads.now t)) (clock_in threads.now table.now (slot_in threads.now table.now slot)) }
 {
+    let thread = &threads[t as usize];
     if slot < threads.len() {
-        return thread.is_closed_by(&threads[slot].clock);
+        return thread.is_closed_by(t, &threads[slot].clock);
     }
     match table.get(table.label(slot - threads.len())) {
-        Some(kept) => thread.is_closed_by(&kept.clock),
+        Some(kept) => thread.is_closed_by(t, &kept.clock),
         None => false,
     }
 }
@@ -124,14 +145,16 @@ pub fn absorb(
     requires actor { t < length threads.old }
     requires slot { slot < length threads.old + length (labels_of table.old) }
     requires other { slot ≢ t }
+    requires heeded { AreHeeded (state_in threads.old table.old) }
     ensures same { HaveSameBlocks threads.old threads.new }
     ensures labels { OnOk result (labels_of table.new ≡ labels_of table.old) }
     ensures told { IfOk result (λ o. (u : ℕ) → (o ≡ Some u) ↔ ((slot_in threads.old table.old slot ≡ Slot.OfThread u) × IsClosedBy (thread_begin (slice_get threads.old u)) (thread_clock (slice_get threads.old t)))) }
     ensures absorbed { IfOk result (λ o. o ≡ None → JoinsClock (state_in threads.old table.old) (state_in threads.new table.new) t (slot_in threads.old table.old slot)) }
+    ensures heeded { AreHeeded (state_in threads.new table.new) }
 {
     let clock = threads[t as usize].clock.copy()?;
     if slot < threads.len() {
-        let closes = threads[slot].take(&clock)?;
+        let closes = threads[slot].take(slot as u32, &clock)?;
         return Ok(if closes { Some(slot as u32) } else { None });
     }
     let label = table.label(slot - threads.len());
@@ -141,10 +164,13 @@ pub fn absorb(
 
 // Takes the clocks of the variable's last reads by other threads.
 fn take_reads(thread: &mut Thread, table: &Table, t: u32, x: u32) -> Result<bool, AllocError>
+    requires { (i : ℕ) (k : Kept) → slice_get (readers_of table.now x) i ≡ Some k → CountIsTest thread.old t (number_at k.clock) }
     ensures closing { IfOk result (λ closes. closes ≡ true → ClosesOne thread.old.begin t (readers_of table.now x)) }
     ensures none { IfOk result (λ closes. closes ≡ false → ClosesNone thread.old.begin t (readers_of table.now x)) }
     ensures takes { IfOk result (λ closes. closes ≡ false → TakesClock thread.old thread.new (greatest_but t (readers_of table.now x))) }
     ensures same { HasSameBlock thread.old thread.new }
+    ensures grows { (u : ℕ) → number_at thread.old.clock u ≤ number_at thread.new.clock u }
+    ensures heeds { (w : State) → Heeds w (number_at thread.old.clock) → ((i : ℕ) (k : Kept) → slice_get (readers_of table.now x) i ≡ Some k → Heeds w (number_at k.clock)) → Heeds w (number_at thread.new.clock) }
 {
     match table.readers(x) {
         Some(readers) => readers.give(thread, t),
@@ -154,9 +180,12 @@ fn take_reads(thread: &mut Thread, table: &Table, t: u32, x: u32) -> Result<bool
 
 // Takes the clock of the slot's last event, unless that is by thread t itself.
 fn take_last(thread: &mut Thread, table: &Table, t: u32, slot: Slot) -> Result<bool, AllocError>
+    requires { (k : Kept) → kept_of table.now slot ≡ Some k → CountIsTest thread.old t (number_at k.clock) }
     ensures closing { IfOk result (λ closes. IsTrue closes ↔ ClosesLast thread.old.begin t (kept_of table.now slot)) }
     ensures takes { IfOk result (λ closes. closes ≡ false → TakesClock thread.old thread.new (last_but t (kept_of table.now slot))) }
     ensures same { HasSameBlock thread.old thread.new }
+    ensures grows { (u : ℕ) → number_at thread.old.clock u ≤ number_at thread.new.clock u }
+    ensures heeds { (w : State) → Heeds w (number_at thread.old.clock) → ((k : Kept) → kept_of table.now slot ≡ Some k → Heeds w (number_at k.clock)) → Heeds w (number_at thread.new.clock) }
 {
     match table.get(slot) {
         Some(kept) => kept.give(thread, t),
@@ -168,7 +197,8 @@ fn take_last(thread: &mut Thread, table: &Table, t: u32, slot: Slot) -> Result<b
 fn keep(thread: &Thread, table: &mut Table, t: u32, slot: Slot) -> Result<(), AllocError>
     requires kept { is_kept slot ≡ true }
     requires reader { (x u : ℕ) → slot ≡ Slot.LastRead x u → t ≡ u }
-    ensures { OnOk result (KeepsClock table.old table.new slot t (number_at thread.now.clock)) }
+    ensures keeps { OnOk result (KeepsClock table.old table.new slot t (number_at thread.now.clock)) }
+    ensures heeds { (w : State) → Heeds w (number_at thread.now.clock) → ((s : Slot) → Heeds w (kept_clock (kept_of table.old s))) → (s : Slot) → Heeds w (kept_clock (kept_of table.new s)) }
 {
     let clock = thread.clock.copy()?;
     table.set(slot, Kept { thread: t, clock })

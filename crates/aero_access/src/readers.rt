@@ -14,10 +14,14 @@ pub struct Readers {
 }
 
 impl Readers {
-    ghost use Rattle.std.specs.Prelude.{◌==◌, ℕ, true, false, Some, if◌then◌else◌, find, IfOk};
+    ghost use Rattle.std.specs.Prelude.{◌==◌, ◌≤◌, ℕ, true, false, Some, if◌then◌else◌, find, slice_get, IfOk};
     ghost use Rattle.std.specs.Option.{option_copied};
     ghost use Rattle.aero_access.specs.Kept.{greatest_but};
-    ghost use Rattle.aero_access.specs.Threads.{ClosesOne, ClosesNone, HasSameBlock, TakesClock};
+    ghost use Rattle.aero_access.specs.Threads.{ClosesOne, ClosesNone, CountIsTest, HasSameBlock, TakesClock};
+    ghost use Rattle.aero_access.specs.States.{State};
+    ghost use Rattle.aero_access.specs.Heeds.{Heeds};
+    ghost use Rattle.aero_access.specs.declared.kept.Kept.{Kept};
+    ghost use Rattle.aero_clock.specs.Numbers.{number_at};
 
     /// Nobody yet.
     pub fn new(alloc: Global) -> Readers
@@ -50,10 +54,13 @@ impl Readers {
     /// Thread `t` takes the clocks of the others, up to one that closes a cycle: then the answer
     /// is true.
     pub fn give(&self, thread: &mut Thread, t: u32) -> Result<bool, AllocError>
+        requires { (i : ℕ) (k : Kept) → slice_get self.now.kept.items i ≡ Some k → CountIsTest thread.old t (number_at k.clock) }
         ensures closing { IfOk result (λ closes. closes ≡ true → ClosesOne thread.old.begin t self.now.kept.items) }
         ensures none { IfOk result (λ closes. closes ≡ false → ClosesNone thread.old.begin t self.now.kept.items) }
         ensures takes { IfOk result (λ closes. closes ≡ false → TakesClock thread.old thread.new (greatest_but t self.now.kept.items)) }
         ensures same { HasSameBlock thread.old thread.new }
+        ensures grows { (u : ℕ) → number_at thread.old.clock u ≤ number_at thread.new.clock u }
+        ensures heeds { (w : State) → Heeds w (number_at thread.old.clock) → ((i : ℕ) (k : Kept) → slice_get self.now.kept.items i ≡ Some k → Heeds w (number_at k.clock)) → Heeds w (number_at thread.new.clock) }
     {
         for kept in self.kept.iter() {
             if kept.give(thread, t)? {

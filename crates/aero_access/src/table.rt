@@ -64,6 +64,7 @@ impl Table {
         requires kept { is_kept slot ≡ true }
         requires reader { (x t : ℕ) → slot ≡ Slot.LastRead x t → kept.thread ≡ t }
         ensures ok { OnOk result (Keeps self.old self.new slot kept) }
+        ensures err { OnErr result ((s : Slot) → kept_of self.new s ≡ kept_of self.old s) }
         ensures labels { OnOk result (labels_of self.new ≡ (if is_some (kept_of self.old slot) then labels_of self.old else labels_of self.old ++ slot ∷ [])) }
     {
         let is_new = self.get(slot).is_none();
@@ -81,7 +82,8 @@ impl Table {
     /// Joins the clock that is kept of the slot with this one.
     pub fn join(&mut self, slot: Slot, clock: &Clock) -> Result<(), AllocError>
         requires { IsSome (kept_of self.old slot) }
-        ensures { OnOk result (JoinsSlot self.old self.new slot (number_at clock.now)) }
+        ensures joins { OnOk result (JoinsSlot self.old self.new slot (number_at clock.now)) }
+        ensures err { OnErr result ((s : Slot) → kept_of self.new s ≡ kept_of self.old s) }
     {
         let Some(kept) = self.get(slot) else {
             return Ok(());

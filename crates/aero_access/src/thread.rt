@@ -1,7 +1,9 @@
 //! What is kept of a thread.
 ghost use Rattle.std.specs.Prelude.{◌≡◌, ◌+◌, ◌-◌, ◌^◌, ◌<◌, ◌≤◌, ◌==◌, ◌↔◌, ℕ, true, false, Some, None, IsTrue, IfOk, OnOk, OnErr, IsSome, vec_len, if◌then◌else◌, nat_lt, max};
 ghost use Rattle.aero_clock.specs.Numbers.{number_at, IsZero, IsSame, IsRaised};
-ghost use Rattle.aero_access.specs.Threads.{IsClosedBy, HasSameBlock, TakesClock, AreSameThreads, number_in};
+ghost use Rattle.aero_access.specs.Threads.{IsClosedBy, CountIsTest, HasSameBlock, TakesClock, AreSameThreads, number_in};
+ghost use Rattle.aero_access.specs.States.{State};
+ghost use Rattle.aero_access.specs.Heeds.{Heeds};
 
 use aero_clock::clock::Clock;
 use std::alloc::{AllocError, Global};
@@ -32,23 +34,27 @@ impl Thread {
         }
     }
 
-    /// Whether the begin clock of the thread's open block is at most this clock in every place.
-    pub fn is_closed_by(&self, clock: &Clock) -> bool
+    /// Whether the begin clock of the thread's open block is at most this clock in every place,
+    /// which the number at the thread's own number `t` tells.
+    #[inline(always)]
+    pub fn is_closed_by(&self, t: u32, clock: &Clock) -> bool
+        requires { CountIsTest self.now t (number_at clock.now) }
         ensures { IsTrue result ↔ IsClosedBy self.now.begin (number_at clock.now) }
     {
-        match &self.begin {
-            Some(begin) => begin.at_most(clock),
-            None => false,
-        }
+        self.begin.is_some() && self.begins <= clock.get(t)
     }
 
-    /// Takes the clock, unless it closes a cycle: then the answer is true.
-    pub fn take(&mut self, clock: &Clock) -> Result<bool, AllocError>
+    /// Thread `t`, which this is, takes the clock, unless it closes a cycle: then the answer is
+    /// true.
+    pub fn take(&mut self, t: u32, clock: &Clock) -> Result<bool, AllocError>
+        requires { CountIsTest self.old t (number_at clock.now) }
         ensures closing { IfOk result (λ closes. IsTrue closes ↔ IsClosedBy self.old.begin (number_at clock.now)) }
         ensures takes { IfOk result (λ closes. closes ≡ false → TakesClock self.old self.new (number_at clock.now)) }
         ensures same { HasSameBlock self.old self.new }
+        ensures grows { (u : ℕ) → number_at self.old.clock u ≤ number_at self.new.clock u }
+        ensures heeds { (w : State) → Heeds w (number_at self.old.clock) → Heeds w (number_at clock.now) → Heeds w (number_at self.new.clock) }
     {
-        if self.is_closed_by(clock) {
+        if self.is_closed_by(t, clock) {
             return Ok(true);
         }
         self.join(clock)?;
@@ -59,6 +65,8 @@ impl Thread {
     pub fn join(&mut self, clock: &Clock) -> Result<(), AllocError>
         ensures ok { OnOk result (TakesClock self.old self.new (number_at clock.now)) }
         ensures same { HasSameBlock self.old self.new }
+        ensures grows { (u : ℕ) → number_at self.old.clock u ≤ number_at self.new.clock u }
+        ensures heeds { (w : State) → Heeds w (number_at self.old.clock) → Heeds w (number_at clock.now) → Heeds w (number_at self.new.clock) }
     {
         self.clock.join(clock)
     }
@@ -66,19 +74,20 @@ impl Thread {
     /// Begins a block: raises the clock at the thread's own number `t`, where it counts the
     /// thread's outermost begins, and remembers it. A refusal begins none.
     pub fn open(&mut self, t: u32) -> Result<(), AllocError>
-        requires { self.old.begins < 2 ^ 32 - 1 }
-        ensures raised { number_at self.old.clock t < 2 ^ 32 - 1 → OnOk result (IsRaised self.new.clock self.old.clock t) }
+        requires begins { self.old.begins < 2 ^ 32 - 1 }
+        requires number { number_at self.old.clock t < 2 ^ 32 - 1 }
+        ensures raised { OnOk result (IsRaised self.new.clock self.old.clock t) }
         ensures begin { OnOk result ((u : ℕ) → number_in self.new.begin u ≡ number_at self.new.clock u) }
         ensures open { OnOk result (IsSome self.new.begin) }
         ensures begins { OnOk result (self.new.begins ≡ self.old.begins + 1) }
         ensures acted { self.new.acted ≡ self.old.acted }
         ensures err { OnErr result (HasSameBlock self.old self.new) }
+        ensures err_clock { OnErr result ((u : ℕ) → number_at self.new.clock u ≡ number_at self.old.clock u) }
     {
-        if self.clock.get(t) < u32::MAX {
-            self.clock.raise(t)?;
-        }
-        let clock = self.clock.copy()?;
-        self.begin = Some(clock);
+        let mut begin = self.clock.copy()?;
+        begin.raise(t)?;
+        self.clock.raise(t)?;
+        self.begin = Some(begin);
         self.begins += 1;
         Ok(())
     }

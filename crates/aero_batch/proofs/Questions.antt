@@ -1,6 +1,7 @@
 -- Whatever is replied, the open questions stay as they are, and so does the number of those that were asked.
-use Rattle.std.proofs.Common.{◌≡◌, ℕ, zero, suc, ◌-◌, Bool, true, false, List, [], ◌∷◌, map, slice_get, slice_set, Option, Some, None, refl, sym, ◌∙◌, ap, ap₂}
+use Rattle.std.proofs.Common.{◌≡◌, ℕ, zero, suc, ◌-◌, Bool, true, false, List, [], ◌∷◌, map, slice_get, slice_set, Option, Some, None, refl, sym, ◌∙◌, ap, ap₂, arith}
 use Rattle.std.specs.Prelude.{is_none, nat_le, if◌then◌else◌, length}
+use Rattle.std.proofs.lemmas.List.{length-map}
 use Rattle.std.proofs.lemmas.List.Elements.{All-head}
 use Rattle.aero_pieces.specs.declared.question.Question.{Question}
 use Rattle.aero_pieces.specs.declared.answer.Value.{Value}
@@ -90,3 +91,15 @@ gives_front old new (e ∷ more) q v front is asked same = (
 pub settled_one_less : (old new : Gathered) (entries : List Entry) (v : Value) → SettlesKnown old entries new (Some v) → length entries ≡ suc (length new.entries)
 settled_one_less old new [] v is = cc
 settled_one_less old new (e ∷ more) v is = ap (λ es. suc (length es)) (sym is.3)
+
+-- one question less is open once the oldest has left
+pub settled_count : (before mid new : Gathered) (entries : List Entry) (v : Value) (count : ℕ) → mid.entries ≡ entries → SettlesKnown mid entries new (Some v) → count ≡ length before.entries → questions_of mid ≡ questions_of before →
+    (new.window ≡ mid.window) × (count - 1 ≡ length new.entries)
+settled_count before mid new [] v count are is many same = absurd (let no : Some v ≡ None = is.0 in cc)
+settled_count before mid new (e ∷ more) v count are is many same =
+    let of_mid : length (questions_of mid) ≡ length mid.entries = length-map mid.entries (λ x. x.question) in
+    let of_before : length (questions_of before) ≡ length before.entries = length-map before.entries (λ x. x.question) in
+    let all : length (questions_of mid) ≡ length (questions_of before) = ap length same in
+    let left : length mid.entries ≡ suc (length more) = ap length are in
+    let rest : length new.entries ≡ length more = ap length is.3 in
+    (is.5, omega (arith, of_mid, of_before, all, left, rest, many))

@@ -15,5 +15,6 @@
 #![tactic(auto)]
 
 pub mod clock;
+mod pairs;
 #[cfg(test)]
 mod tests;

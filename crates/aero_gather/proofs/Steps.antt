@@ -9,8 +9,8 @@ use Rattle.std.proofs.lemmas.Option.{get_or_from_slice_get, slice_get_read}
 use Rattle.aero_pieces.specs.declared.question.Question.{Question}
 use Rattle.aero_pieces.specs.declared.answer.Value.{Value}
 use Rattle.aero_pieces.specs.Values.{IsValueOf}
-use Rattle.aero_pieces.specs.Schedule.{Entry, IsWaiting, Keeps, noted, with_note}
-use Rattle.aero_gather.specs.Gathered.{Gathered, IsGathered, IsOldestWaiting, Settles}
+use Rattle.aero_pieces.specs.Schedule.{Entry, IsWaiting, NoneWaits, Keeps, noted, with_note}
+use Rattle.aero_gather.specs.Gathered.{Gathered, IsGathered, IsOldestWaiting, IsOpenQuestion, Settles}
 
 abbrev pub waiting : Entry → ℕ
 waiting e = cond (is_none e.value) 1 0
@@ -130,3 +130,10 @@ kept_settles g (e ∷ tail) more f s some first same has_value rest =
 
 pub settles_of : (g h : Gathered) (new : Gathered) (given : Option Value) → g ≡ h → Settles g g.entries new given → Settles h h.entries new given
 settles_of g h new given same settles = subst (λ x. Settles x x.entries new given) same settles
+
+-- the same question and entries
+pub same_open : (q p : Question) (xs ys : List Entry) → q ≡ p → xs ≡ ys → IsOpenQuestion q xs → IsOpenQuestion p ys
+same_open q p xs ys same are is_open = subst (λ r. IsOpenQuestion r ys) same (subst (IsOpenQuestion q) are is_open)
+
+pub same_waits : (q p : Question) (xs ys : List Entry) → q ≡ p → xs ≡ ys → NoneWaits q xs (length xs) → NoneWaits p ys (length ys)
+same_waits q p xs ys same are none = subst (λ r. NoneWaits r ys (length ys)) same (subst (λ zs. NoneWaits q zs (length zs)) are none)

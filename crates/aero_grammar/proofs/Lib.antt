@@ -1,7 +1,9 @@
+pub mod Events
 pub mod Fields
 pub mod Joined
 pub mod LinesRead
 pub mod OwnFaults
 pub mod Places
 pub mod Readings
+pub mod TablesGrown
 pub mod Vectors

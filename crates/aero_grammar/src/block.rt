@@ -1,9 +1,13 @@
-ghost use Rattle.std.specs.Prelude.{◌≡◌, ◌≢◌, ◌<◌, ◌≤◌, ◌^◌, ◌∷◌, length, IfOk, OnOk, OnErr};
+ghost use Rattle.std.specs.Prelude.{◌≡◌, ◌<◌, ◌≤◌, ◌^◌, ◌∷◌, length, IfOk};
 ghost use Rattle.aero_model.specs.Lines.{lines_of};
+ghost use Rattle.aero_grammar.specs.Lists.{lists_in};
 ghost use Rattle.aero_grammar.specs.Reading.{reading_of};
+ghost use Rattle.aero_grammar.specs.Tabled.{lines_in, IsBlock};
 
-use crate::line::parse_line;
+use crate::line::words_of;
 use crate::parsed::Parsed;
+use crate::tables::Tables;
+use aero_model::event::Numbered;
 use aero_model::verdict::LineFault;
 use memchr::memchr;
 use std::alloc::{AllocError, Global};
@@ -18,6 +22,7 @@ pub fn parse_block(alloc: Global, bytes: &[u8]) -> Result<Parsed, AllocError>
     ensures reading { IfOk result (λ parsed. parsed ≡ reading_of bytes.now) }
     ensures lines { IfOk result (λ parsed. parsed.lines ≤ length bytes.now) }
 {
+    let mut tables = Tables::new(alloc);
     let mut events = Vec::new(alloc);
     let mut lines = 0;
     let mut rest = bytes;
@@ -25,24 +30,38 @@ pub fn parse_block(alloc: Global, bytes: &[u8]) -> Result<Parsed, AllocError>
         let (line, behind) = first_line(rest);
         rest = behind;
         lines += 1;
-        match parse_line(alloc, line) {
+        match words_of(line) {
             Ok(None) => {}
-            Ok(Some(event)) => events.push((lines, event))?,
-            Err(fault) => {
-                let fault = Some((lines, own_fault(fault)?));
-                return Ok(Parsed {
-                    events,
-                    lines,
-                    fault,
-                });
-            }
+            Ok(Some(words)) => events.push((lines, tables.number(words)?))?,
+            Err(fault) => return Ok(parsed(tables, events, lines, Some((lines, fault)))),
         }
     }
-    Ok(Parsed {
+    Ok(parsed(tables, events, lines, None))
+}
+
+// What the block says, by its parts.
+fn parsed(
+    tables: Tables,
+    events: Vec<(u32, Numbered)>,
+    lines: u32,
+    fault: Option<(u32, LineFault)>,
+) -> Parsed
+    requires { IsBlock (lists_in tables) events.items lines fault }
+    ensures { result ≡ record { events = lines_in (lists_in tables) events.items; lines = lines; fault = fault } }
+{
+    let Tables {
+        threads,
+        variables,
+        locks,
+    } = tables;
+    Parsed {
+        threads,
+        variables,
+        locks,
         events,
         lines,
-        fault: None,
-    })
+        fault,
+    }
 }
 
 // The text's first line, without its byte 10, and what follows that.
@@ -55,17 +74,5 @@ fn first_line(text: &[u8]) -> (&[u8], &[u8])
     match memchr(b'\n', text) {
         Some(end) => (&text[..end], &text[end + 1..]),
         None => (text, &text[text.len()..]),
-    }
-}
-
-// The fault, where the line has it by itself.
-fn own_fault(fault: LineFault) -> Result<LineFault, AllocError>
-    ensures same { IfOk result (λ own. own ≡ fault) }
-    ensures not_memory { OnOk result (fault ≢ LineFault.Memory) }
-    ensures memory { OnErr result (fault ≡ LineFault.Memory) }
-{
-    match fault {
-        LineFault::Memory => Err(AllocError),
-        fault => Ok(fault),
     }
 }

@@ -11,9 +11,9 @@
 //!
 //! ```text
 //! let parsed = parse_block(rt.alloc(), b"\nT1|r(x)|12\nT1\nT2|w(y)")?;
-//! let (line, event) = &parsed.events[0];
-//! assert_eq!(rt; *line, 2);
-//! assert_eq!(rt; event.thread.bytes(), b"T1".as_slice());
+//! let (line, event) = parsed.events[0];
+//! assert_eq!(rt; line, 2);
+//! assert!(rt; parsed.threads.name(event.thread) == Some(b"T1"));
 //! assert_eq!(rt; parsed.fault, Some((3, LineFault::NoOperation)));
 //! ```
 #![tactic(auto)]
@@ -25,5 +25,7 @@ pub mod line;
 mod names;
 mod operation;
 pub mod parsed;
+mod tables;
 #[cfg(test)]
 mod tests;
+mod words;

@@ -1,7 +1,9 @@
 ghost use Rattle.aero_grammar.specs.Meaning.{TellsMeaning, meaning};
+ghost use Rattle.aero_grammar.specs.Words.{ReadsMeaning};
 
 use crate::bytes::{fields, has_bad_byte, is_all_blank, without_return};
 use crate::operation::parse_operation;
+use crate::words::{Words, event_of};
 use aero_model::named::Event;
 use aero_model::verdict::LineFault;
 use std::alloc::Global;
@@ -26,6 +28,18 @@ const MOST_LINE_BYTES: usize = 4096;
 pub fn parse_line(alloc: Global, line: &[u8]) -> Result<Option<Event>, LineFault>
     ensures { TellsMeaning result (meaning line.now) }
 {
+    match words_of(line) {
+        Ok(None) => Ok(None),
+        Ok(Some(words)) => event_of(alloc, words).map(Some),
+        Err(fault) => Err(fault),
+    }
+}
+
+// The words of one line, with no name copied.
+#[inline(always)]
+pub fn words_of(line: &[u8]) -> Result<Option<Words<'_>>, LineFault>
+    ensures { ReadsMeaning result (meaning line.now) }
+{
     if line.len() > MOST_LINE_BYTES {
         return Err(LineFault::TooLong);
     }
@@ -42,5 +56,5 @@ pub fn parse_line(alloc: Global, line: &[u8]) -> Result<Option<Event>, LineFault
     if thread.is_empty() {
         return Err(LineFault::EmptyThread);
     }
-    parse_operation(alloc, thread, field).map(Some)
+    parse_operation(thread, field).map(Some)
 }

@@ -2,22 +2,19 @@
 ghost use Rattle.std.specs.Prelude.{◌≡◌, ◌==◌, ◌<◌, ◌≤◌, ◌||◌, true, false, length, is_none, IfSome, None, Some, if◌then◌else◌};
 ghost use Rattle.std.specs.List.{list_any, position_or_len};
 ghost use Rattle.aero_model.specs.Named.{stands_alone as is_alone};
-ghost use Rattle.aero_model.specs.Names.{is_barred};
-ghost use Rattle.aero_grammar.specs.Meaning.{Means, Faulty, TellsEvent, is_parenthesis, operation_word, operation_of as operation_of_word, is_unclosed, target_bytes, is_long_name as is_long, word_meaning};
+ghost use Rattle.aero_grammar.specs.Meaning.{Means, Faulty, is_parenthesis, operation_word, operation_of as operation_of_word, is_unclosed, target_bytes, is_long_name as is_long, word_meaning};
+ghost use Rattle.aero_grammar.specs.Words.{ReadsEvent};
 
 use crate::bytes::place_of;
-use crate::names::{is_long_name, read_name};
-use aero_model::named::{Event, Op};
+use crate::names::is_long_name;
+use crate::words::Words;
+use aero_model::named::Op;
 use aero_model::verdict::LineFault;
-use std::alloc::Global;
 
-// The event of a thread and of what its operation's field says.
+// The words of a thread's event, by what its operation's field says.
 #[inline(always)]
-pub fn parse_operation(alloc: Global, thread: &[u8], field: &[u8]) -> Result<Event, LineFault>
-    requires some_thread { 0 < length thread.now }
-    requires thread_bytes { list_any is_barred thread.now ≡ false }
-    requires field_bytes { list_any is_barred field.now ≡ false }
-    ensures { TellsEvent result (word_meaning thread.now field.now (operation_of_word (operation_word field.now))) }
+pub fn parse_operation<'a>(thread: &'a [u8], field: &'a [u8]) -> Result<Words<'a>, LineFault>
+    ensures { ReadsEvent result (word_meaning thread.now field.now (operation_of_word (operation_word field.now))) }
 {
     let end = place_of(b'(', field);
     let Some(op) = operation_of(&field[..end]) else {
@@ -27,9 +24,9 @@ pub fn parse_operation(alloc: Global, thread: &[u8], field: &[u8]) -> Result<Eve
         return Err(LineFault::BadParenthesis);
     };
     if stands_alone(op) {
-        event_alone(alloc, thread, op)
+        event_alone(thread, op)
     } else {
-        event_with_target(alloc, thread, op, target)
+        event_with_target(thread, op, target)
     }
 }
 
@@ -78,38 +75,22 @@ fn enclosed(field: &[u8], place: usize) -> Option<&[u8]>
 }
 
 #[inline(always)]
-fn event_alone(alloc: Global, thread: &[u8], op: Op) -> Result<Event, LineFault>
-    requires alone { is_alone op ≡ true }
-    requires some_thread { 0 < length thread.now }
-    requires thread_bytes { list_any is_barred thread.now ≡ false }
-    ensures { TellsEvent result (if is_long thread.now then Faulty LineFault.NameTooLong else
+fn event_alone(thread: &[u8], op: Op) -> Result<Words<'_>, LineFault>
+    requires { is_alone op ≡ true }
+    ensures { ReadsEvent result (if is_long thread.now then Faulty LineFault.NameTooLong else
         Means (record { thread = thread.now; op = op; target = None })) }
 {
     if is_long_name(thread) {
         return Err(LineFault::NameTooLong);
     }
-    let Ok(thread) = read_name(alloc, thread) else {
-        return Err(LineFault::Memory);
-    };
-    Ok(Event {
-        thread,
-        op,
-        target: None,
-    })
+    let target = None;
+    Ok(Words { thread, op, target })
 }
 
 #[inline(always)]
-fn event_with_target(
-    alloc: Global,
-    thread: &[u8],
-    op: Op,
-    target: &[u8],
-) -> Result<Event, LineFault>
-    requires targeted { is_alone op ≡ false }
-    requires some_thread { 0 < length thread.now }
-    requires thread_bytes { list_any is_barred thread.now ≡ false }
-    requires target_bytes { list_any is_barred target.now ≡ false }
-    ensures { TellsEvent result (if length target.now == 0 then Faulty LineFault.MissingTarget else
+fn event_with_target<'a>(thread: &'a [u8], op: Op, target: &'a [u8]) -> Result<Words<'a>, LineFault>
+    requires { is_alone op ≡ false }
+    ensures { ReadsEvent result (if length target.now == 0 then Faulty LineFault.MissingTarget else
         if is_long thread.now || is_long target.now then Faulty LineFault.NameTooLong else
         Means (record { thread = thread.now; op = op; target = Some target.now })) }
 {
@@ -119,12 +100,6 @@ fn event_with_target(
     if is_long_name(thread) || is_long_name(target) {
         return Err(LineFault::NameTooLong);
     }
-    let Ok(thread) = read_name(alloc, thread) else {
-        return Err(LineFault::Memory);
-    };
-    let Ok(target) = read_name(alloc, target) else {
-        return Err(LineFault::Memory);
-    };
     let target = Some(target);
-    Ok(Event { thread, op, target })
+    Ok(Words { thread, op, target })
 }

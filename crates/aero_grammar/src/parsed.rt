@@ -1,13 +1,22 @@
-use aero_model::named::Event;
+use aero_model::event::Numbered;
 use aero_model::verdict::LineFault;
+use aero_names::names::Names;
 use std::marker::Model;
 
 /// What a block of lines says, up to its first fault.
+///
+/// The block has tables of its own for the names of its threads, variables and locks, each in order
+/// of first appearance, the actor before the target. No name stands in a table twice, nor one that
+/// no event has. Contracts see the events by their names.
 #[derive(Drop)]
 pub struct Parsed {
-    /// The events, in the order of their lines, each with its line's number. Lines count from 1
-    /// within the block, and the numbers rise, since blank lines count and have no event.
-    pub events: Vec<(u32, Event)>,
+    pub threads: Names,
+    pub variables: Names,
+    pub locks: Names,
+    /// The events, in the order of their lines, each with its line's number, and by its names'
+    /// places in the tables. Lines count from 1 within the block, and the numbers rise, since blank
+    /// lines count and have no event.
+    pub events: Vec<(u32, Numbered)>,
     /// How many lines there are, blank ones with them, or the faulty line's number where there is
     /// a fault.
     pub lines: u32,
@@ -18,10 +27,15 @@ pub struct Parsed {
 
 impl Model for Parsed {
     ghost use Rattle.aero_grammar.specs.Reading.{Reading, IsReading};
+    ghost use Rattle.aero_grammar.specs.Tabled.{lines_in, IsBlock};
 
     ghost Value = { Reading };
 
-    ghost view = { λ p. record { events = p.events.items; lines = p.lines; fault = p.fault } };
+    ghost view = { λ p. record {
+      events = lines_in (record { threads = p.threads.names; variables = p.variables.names; locks = p.locks.names }) p.events.items;
+      lines = p.lines;
+      fault = p.fault;
+    } };
 
-    ghost invariant = { λ p. IsReading (record { events = p.events.items; lines = p.lines; fault = p.fault }) };
+    ghost invariant = { λ p. IsBlock (record { threads = p.threads.names; variables = p.variables.names; locks = p.locks.names }) p.events.items p.lines p.fault };
 }

@@ -1,7 +1,9 @@
 use crate::block::parse_block;
 use crate::line::parse_line;
+use aero_model::event::{Numbered, What};
 use aero_model::named::{Event, Op};
 use aero_model::verdict::LineFault;
+use aero_names::names::Names;
 use std::alloc::{AllocError, Global};
 use std::test::Fail;
 
@@ -144,15 +146,72 @@ fn long_names_and_lines_meet_their_limits(rt: HostRuntime) -> Result<(), Fail> {
     Ok(())
 }
 
+// Whether the table has these names, in this order.
+fn has_names(names: &Names, wanted: &[&str]) -> bool {
+    let mut number = 0u32;
+    for name in wanted {
+        if names.name(number) != Some(name.as_bytes()) {
+            return false;
+        }
+        number = number.saturating_add(1);
+    }
+    names.len() == number
+}
+
 #[test]
 fn a_block_is_read_up_to_its_first_fault(rt: HostRuntime) -> Result<(), Fail> {
     let parsed = parse_block(rt.alloc(), b"\nT1|r(x)\nT1\nT2|w(y)")?;
     assert_eq!(rt; parsed.lines, 3);
     assert_eq!(rt; parsed.fault, Some((3, LineFault::NoOperation)));
-    assert_eq!(rt; parsed.events.len(), 1);
-    let (line, event) = &parsed.events[0];
-    assert_eq!(rt; *line, 2);
-    assert!(rt; is_event(event, "T1", Op::Read, Some("x")));
+    assert_eq!(rt;
+        parsed.events.as_slice(),
+        [event(2, 0, What::Read(0))].as_slice()
+    );
+    assert!(rt; has_names(&parsed.threads, &["T1"]));
+    assert!(rt; has_names(&parsed.variables, &["x"]));
+    assert!(rt; has_names(&parsed.locks, &[]));
+    Ok(())
+}
+
+fn event(line: u32, thread: u32, what: What) -> (u32, Numbered) {
+    (line, Numbered { thread, what })
+}
+
+#[test]
+fn names_are_numbered_in_order_of_first_appearance(rt: HostRuntime) -> Result<(), Fail> {
+    let parsed = parse_block(rt.alloc(), b"T2|fork(T1)\nT2|r(x)\nT1|w(x)")?;
+    assert_eq!(rt; parsed.lines, 3);
+    assert_eq!(rt; parsed.fault, None);
+    assert!(rt; has_names(&parsed.threads, &["T2", "T1"]));
+    assert!(rt; has_names(&parsed.variables, &["x"]));
+    assert!(rt; has_names(&parsed.locks, &[]));
+    let events = [
+        event(1, 0, What::Fork(1)),
+        event(2, 0, What::Read(0)),
+        event(3, 1, What::Write(0)),
+    ];
+    assert_eq!(rt; parsed.events.as_slice(), events.as_slice());
+    Ok(())
+}
+
+#[test]
+fn each_operation_has_its_own_names(rt: HostRuntime) -> Result<(), Fail> {
+    let text = b"a|acq(b)\nb|join(a)\n\na|rel(b)\na|begin(b)\nc|end\nc|w(a)\nc|r(b)\nb|acq(c)";
+    let parsed = parse_block(rt.alloc(), text)?;
+    assert!(rt; has_names(&parsed.threads, &["a", "b", "c"]));
+    assert!(rt; has_names(&parsed.variables, &["a", "b"]));
+    assert!(rt; has_names(&parsed.locks, &["b", "c"]));
+    let events = [
+        event(1, 0, What::Acquire(0)),
+        event(2, 1, What::Join(0)),
+        event(4, 0, What::Release(0)),
+        event(5, 0, What::Begin),
+        event(6, 2, What::End),
+        event(7, 2, What::Write(0)),
+        event(8, 2, What::Read(1)),
+        event(9, 1, What::Acquire(1)),
+    ];
+    assert_eq!(rt; parsed.events.as_slice(), events.as_slice());
     Ok(())
 }
 

@@ -1,2 +1,5 @@
+pub mod Fronts
 pub mod Listings
+pub mod NewNames
+pub mod SameNames
 pub mod Vectors

@@ -1,4 +1,4 @@
-ghost use Rattle.std.specs.Prelude.{◌≡◌, OnOk, OnErr};
+ghost use Rattle.std.specs.Prelude.{◌≡◌, ◌↔◌, IsTrue, option_copied, OnOk, OnErr};
 ghost use Rattle.aero_model.specs.Numbering.{with_name};
 ghost use Rattle.aero_names.specs.Listing.{bytes_of};
 
@@ -71,7 +71,19 @@ impl Names {
         ensures err { OnErr result (self.new ≡ self.old) }
         ensures listing { IsListing self.new }
     {
-        let bytes = name.bytes();
+        self.number_of_bytes(name.bytes())
+    }
+
+    /// The same of the name with these bytes: only where the name is new is it copied.
+    pub fn number_of_bytes(&mut self, bytes: &[u8]) -> Result<u32, NamesFault>
+        ensures number { IfOk result (λ number. number ≡ number_of self.new.names bytes.now) }
+        ensures place { IfOk result (λ number. slice_get self.new.names number ≡ Some bytes.now) }
+        ensures names { OnOk result (self.new ≡ record self.old { names = with_name self.old.names bytes.now }) }
+        ensures known { is_listed self.old bytes.now ≡ true → IsOk result }
+        ensures full { IsErrOf result NamesFault.Full ↔ HasNoRoom self.old bytes.now }
+        ensures err { OnErr result (self.new ≡ self.old) }
+        ensures listing { IsListing self.new }
+    {
         if let Some(index) = self.keys.get_index_of(bytes) {
             return Ok(index as u32);
         }
@@ -93,6 +105,21 @@ impl Names {
         Some(key.as_slice())
     }
 
+    /// Whether both lists have the same names, each with the same number.
+    pub fn has_same_names(&self, other: &Names) -> bool
+        ensures { IsTrue result ↔ (self.now.names ≡ other.now.names) }
+    {
+        if self.len() != other.len() {
+            return false;
+        }
+        for number in 0..self.len() {
+            if !is_same_name(self.name(number), other.name(number)) {
+                return false;
+            }
+        }
+        true
+    }
+
     /// How many names there are.
     pub fn len(&self) -> u32
         ensures value { result ≡ length self.now.names }
@@ -106,6 +133,18 @@ impl Names {
         ensures { IsTrue result ↔ (self.now.names ≡ []) }
     {
         self.keys.is_empty()
+    }
+}
+
+// Whether both are the same name, or both are none.
+#[inline(always)]
+fn is_same_name(a: Option<&[u8]>, b: Option<&[u8]>) -> bool
+    ensures { IsTrue result ↔ (option_copied a.entry ≡ option_copied b.entry) }
+{
+    match (a, b) {
+        (Some(a), Some(b)) => a == b,
+        (None, None) => true,
+        _ => false,
     }
 }
 

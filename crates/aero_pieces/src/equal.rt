@@ -2,12 +2,11 @@ ghost use Rattle.std.specs.Prelude.{◌≡◌, ◌↔◌, IsTrue};
 
 use crate::question::Question;
 use aero_grammar::parsed::Parsed;
+use aero_model::event::Numbered;
 use aero_model::limits::Limits;
-use aero_model::name::Name;
-use aero_model::named::Event;
 
 /// Whether the questions have the same content. The numbers and lengths are compared first, and the
-/// bytes or events only where those agree.
+/// bytes, or the names and events, only where those agree.
 pub fn same(a: &Question, b: &Question) -> bool
     ensures { IsTrue result ↔ (a.now ≡ b.now) }
 {
@@ -67,50 +66,35 @@ fn are_same_parts(a: &[Parsed], b: &[Parsed]) -> bool
     true
 }
 
+// The tables and numbers tell the events by their names: what has the same events has the same of both.
 fn is_same_parsed(a: &Parsed, b: &Parsed) -> bool
     ensures { IsTrue result ↔ (a.now ≡ b.now) }
 {
-    a.lines == b.lines && a.fault == b.fault && are_same_events(&a.events, &b.events)
+    a.lines == b.lines
+        && a.fault == b.fault
+        && are_same_events(&a.events, &b.events)
+        && a.threads.has_same_names(&b.threads)
+        && a.variables.has_same_names(&b.variables)
+        && a.locks.has_same_names(&b.locks)
 }
 
-fn are_same_events(a: &[(u32, Event)], b: &[(u32, Event)]) -> bool
+fn are_same_events(a: &[(u32, Numbered)], b: &[(u32, Numbered)]) -> bool
     ensures { IsTrue result ↔ (a.now ≡ b.now) }
 {
     if a.len() != b.len() {
         return false;
     }
     for i in 0..a.len() {
-        if !is_same_line(&a[i], &b[i]) {
+        if !is_same_line(a[i], b[i]) {
             return false;
         }
     }
     true
 }
 
-fn is_same_line(a: &(u32, Event), b: &(u32, Event)) -> bool
-    ensures { IsTrue result ↔ (a.now ≡ b.now) }
+#[inline(always)]
+fn is_same_line(a: (u32, Numbered), b: (u32, Numbered)) -> bool
+    ensures { IsTrue result ↔ (a ≡ b) }
 {
-    a.0 == b.0 && is_same_event(&a.1, &b.1)
-}
-
-fn is_same_event(a: &Event, b: &Event) -> bool
-    ensures { IsTrue result ↔ (a.now ≡ b.now) }
-{
-    a.op == b.op && is_same_name(&a.thread, &b.thread) && is_same_target(&a.target, &b.target)
-}
-
-fn is_same_target(a: &Option<Name>, b: &Option<Name>) -> bool
-    ensures { IsTrue result ↔ (a.now ≡ b.now) }
-{
-    match (a, b) {
-        (Some(a), Some(b)) => is_same_name(a, b),
-        (None, None) => true,
-        _ => false,
-    }
-}
-
-fn is_same_name(a: &Name, b: &Name) -> bool
-    ensures { IsTrue result ↔ (a.now ≡ b.now) }
-{
-    a.bytes() == b.bytes()
+    a.0 == b.0 && a.1 == b.1
 }

@@ -2,8 +2,8 @@ use crate::answer::{Answer, Value};
 use crate::question::{Bytes, Parts, Question};
 use crate::same;
 use aero_grammar::block::parse_block;
+use aero_model::event::What;
 use aero_model::limits::Limits;
-use aero_model::named::Op;
 use aero_model::verdict::Verdict;
 use std::alloc::Global;
 use std::process::Abort;
@@ -44,14 +44,11 @@ fn assert_read(rt: &impl Abort, value: &Value) {
             assert_eq!(rt; parsed.lines, 1);
             assert_eq!(rt; parsed.fault, None);
             assert_eq!(rt; parsed.events.len(), 1);
-            let (line, event) = &parsed.events[0];
-            assert_eq!(rt; *line, 1);
-            assert_eq!(rt; event.op, Op::Read);
-            assert!(rt; event.thread.bytes() == b"T1".as_slice());
-            match &event.target {
-                Some(target) => assert!(rt; target.bytes() == b"x".as_slice()),
-                None => assert!(rt; false, "no target"),
-            }
+            let (line, event) = parsed.events[0];
+            assert_eq!(rt; line, 1);
+            assert_eq!(rt; event.what, What::Read(0));
+            assert!(rt; parsed.threads.name(event.thread) == Some(b"T1".as_slice()));
+            assert!(rt; parsed.variables.name(0) == Some(b"x".as_slice()));
         }
         Value::Judged(_) => assert!(rt; false, "a verdict"),
     }

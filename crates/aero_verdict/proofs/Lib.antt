@@ -1,5 +1,5 @@
-pub mod NewNames
-pub mod Fronts
+pub mod KnownNames
+pub mod KnownLines
 pub mod Targets
 pub mod Judging
 pub mod Steps
@@ -8,6 +8,5 @@ pub mod Openers
 pub mod Readings
 pub mod Stops
 pub mod Parts
-pub mod Written
 pub mod OneVerdict
 pub mod Vectors

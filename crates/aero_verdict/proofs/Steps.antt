@@ -37,9 +37,9 @@ use Rattle.aero_verdict.specs.Begun.{begin_line, begins_block, ends_block, Count
 use Rattle.aero_verdict.specs.Judging.{ComesAfter, IsAdmitted}
 use Rattle.aero_verdict.specs.Kept.{names_of, trace_in, LastBegins, Counts, StandsFor, IsNext, Refuses, Judged}
 use Rattle.aero_verdict.specs.Limited.{names_in, IsLimited, NumbersEvent, RefusesEvent}
-use Rattle.aero_verdict.specs.Numbers.{with_event, numbered_after}
+use Rattle.aero_names.specs.Numbers.{with_event, numbered_after}
 use Rattle.aero_verdict.proofs.Judging.{begins_as, ends_as}
-use Rattle.aero_verdict.proofs.Fronts.{Extends, tables_pushed, tables_extended, numbered_kept}
+use Rattle.aero_names.proofs.Fronts.{Extends, tables_pushed, tables_extended, numbered_kept}
 
 -- the front of a list with its next element, and what comes after it
 pub take_pushed : {A : Type 0} (xs : List A) (n : ℕ) (x : A) → slice_get xs n ≡ Some x → take (suc n) xs ≡ take n xs ++ x ∷ []

@@ -19,7 +19,7 @@ use Rattle.aero_verdict.specs.Kept.{LastBegins, StopsIn, TellsStop}
 use Rattle.aero_verdict.specs.Limited.{names_in}
 use Rattle.aero_verdict.specs.Verdict.{IsVerdict, IsViolation, counted_events, events_of, checked_trace}
 use Rattle.aero_verdict.proofs.Steps.{front_and_rest}
-use Rattle.aero_verdict.proofs.Fronts.{tables_extended}
+use Rattle.aero_names.proofs.Fronts.{tables_extended}
 use Rattle.aero_verdict.proofs.Openers.{opener_number}
 
 -- a name keeps its place, whatever names come later

@@ -2,6 +2,7 @@ pub mod Numbers
 pub mod Limited
 pub mod Begun
 pub mod Judging
+pub mod Known
 pub mod Kept
 pub mod Verdict
 pub mod Finding

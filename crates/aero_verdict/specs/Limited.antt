@@ -1,5 +1,5 @@
 -- What a `Numbering` stands for, and what its calls do.
-use Rattle.std.specs.Prelude.{◌≡◌, ◌≢◌, ℕ, List, Some, None}
+use Rattle.std.specs.Prelude.{◌≡◌, ◌≢◌, ℕ, List, Option, Some, None}
 use Rattle.aero_model.specs.declared.event.Numbered.{Numbered}
 use Rattle.aero_model.specs.declared.event.What.{What}
 use Rattle.aero_model.specs.declared.limits.Limits.{Limits}
@@ -10,7 +10,8 @@ use Rattle.aero_model.specs.Named.{Named}
 use Rattle.aero_model.specs.Numbering.{Tables}
 use Rattle.aero_model.specs.Shape.{target_limit_fault, limit_fault}
 use Rattle.aero_verdict.specs.declared.numbering.Numbering.{Numbering}
-use Rattle.aero_verdict.specs.Numbers.{IsWithin, with_target, with_event, what_after, numbered_after}
+use Rattle.aero_names.specs.Numbers.{with_target, with_event, what_after, numbered_after}
+use Rattle.aero_verdict.specs.Numbers.{IsWithin}
 
 abbrev pub names_in : Numbering → Tables
 names_in n = record { threads = n.threads.names; variables = n.variables.names; locks = n.locks.names }
@@ -21,16 +22,16 @@ pub record IsLimited (limits : Limits) (n : Numbering) : Type 0 where
   pub variables : IsWithin limits.names n.variables
   pub locks : IsWithin limits.names n.locks
 
--- the target of such an operation gets its number, and no list outgrows its limit
-pub record NumbersTarget (old new : Numbering) (op : Op) (target : List ℕ) (what : What) : Type 0 where
-  pub what_is : what ≡ what_after (names_in old) op (Some target)
-  pub names_are : names_in new ≡ with_target (names_in old) op (Some target)
+-- the target of such an operation, if there is one, gets its number, and no list outgrows its limit
+pub record NumbersTarget (old new : Numbering) (op : Op) (target : Option (List ℕ)) (what : What) : Type 0 where
+  pub what_is : what ≡ what_after (names_in old) op target
+  pub names_are : names_in new ≡ with_target (names_in old) op target
   pub within : (limits : Limits) → IsLimited limits old → IsLimited limits new × (target_limit_fault limits what ≡ None)
 
 -- the target gets no number: this is the fault, or memory was refused
-abbrev pub RefusesTarget : Numbering → Op → List ℕ → ShapeFault → Type 0
+abbrev pub RefusesTarget : Numbering → Op → Option (List ℕ) → ShapeFault → Type 0
 RefusesTarget old op target fault =
-    (limits : Limits) → IsLimited limits old → fault ≢ Memory → target_limit_fault limits (what_after (names_in old) op (Some target)) ≡ Some fault
+    (limits : Limits) → IsLimited limits old → fault ≢ Memory → target_limit_fault limits (what_after (names_in old) op target) ≡ Some fault
 
 -- the names of the event get their numbers, and no list outgrows its limit
 pub record NumbersEvent (old new : Numbering) (e : Named) (numbered : Numbered) : Type 0 where

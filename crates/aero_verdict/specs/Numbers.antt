@@ -1,22 +1,15 @@
--- The names that are numbered, and what one more name or event adds to them.
-use Rattle.std.specs.Prelude.{◌≡◌, ◌≢◌, ℕ, ◌≤◌, nat_le, true, false, List, [], length, fold, Option, unwrap_or}
-use Rattle.aero_model.specs.declared.event.Numbered.{Numbered}
-use Rattle.aero_model.specs.declared.event.What.{What}
-use Rattle.aero_model.specs.declared.named.Op.{Op}
+-- The names that are numbered, and what one more name adds to them.
+use Rattle.std.specs.Prelude.{◌≡◌, ◌≢◌, ℕ, ◌≤◌, nat_le, true, false, List, length}
 use Rattle.aero_model.specs.declared.verdict.ShapeFault.{ShapeFault}
 use Rattle.aero_model.specs.declared.verdict.ShapeFault.TheVariants.{Memory}
-use Rattle.aero_model.specs.Named.{Named}
-use Rattle.aero_model.specs.Numbering.{with_name, number_of, thread_target, variable_target, lock_target, Tables, what_of, numbered}
+use Rattle.aero_model.specs.Numbering.{with_name}
 use Rattle.aero_names.specs.Listing.{Listing}
+use Rattle.aero_names.specs.Numbers.{number_after}
 
 -- the list has this limit, and keeps to it
 pub record IsWithin (limit : ℕ) (l : Listing) : Type 0 where
   pub limit_is : l.limit ≡ limit
   pub few : length l.names ≤ limit
-
--- the name's number, where it comes after these names
-abbrev pub number_after : List (List ℕ) → List ℕ → ℕ
-number_after names name = number_of (with_name names name) name
 
 -- the name gets its number, and the list keeps to its limit
 pub record NumbersName (old new : Listing) (name : List ℕ) (number : ℕ) : Type 0 where
@@ -27,28 +20,3 @@ pub record NumbersName (old new : Listing) (name : List ℕ) (number : ℕ) : Ty
 -- the name gets no number: it is one too many, which is this fault, or memory was refused
 abbrev pub RefusesName : Listing → List ℕ → ShapeFault → ShapeFault → Type 0
 RefusesName old name full fault = fault ≢ Memory → (fault ≡ full) × (nat_le old.limit (number_after old.names name) ≡ true)
-
--- the names, and the event's actor
-abbrev pub with_actor : Tables → Named → Tables
-with_actor tables e = record tables { threads = with_name tables.threads e.thread }
-
--- the names, and the target of such an operation
-abbrev pub with_target : Tables → Op → Option (List ℕ) → Tables
-with_target tables op target =
-    record {
-      threads = fold with_name tables.threads (thread_target op target);
-      variables = fold with_name tables.variables (variable_target op target);
-      locks = fold with_name tables.locks (lock_target op target);
-    }
-
--- the names, and all those of the event
-abbrev pub with_event : Tables → Named → Tables
-with_event tables e = with_target (with_actor tables e) e.op e.target
-
--- what such an operation on the target does, where it comes after these names
-abbrev pub what_after : Tables → Op → Option (List ℕ) → What
-what_after tables op target = what_of (with_target tables op target) op (unwrap_or target [])
-
--- the event by its numbers, where it comes after these names
-abbrev pub numbered_after : Tables → Named → Numbered
-numbered_after tables e = numbered (with_event tables e) e

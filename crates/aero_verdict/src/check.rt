@@ -5,6 +5,7 @@ ghost use Rattle.aero_verdict.specs.Verdict.{IsVerdict, IsFaultless};
 ghost use Rattle.aero_verdict.specs.Kept.{TellsStop};
 
 use crate::checker::{Checker, Stop};
+use crate::known::BlockNames;
 use aero_grammar::parsed::Parsed;
 use aero_model::limits::Limits;
 use aero_model::verdict::{LineFault, ShapeFault, Verdict};
@@ -38,7 +39,12 @@ pub fn check_trace(alloc: Global, parts: &[Parsed], limits: &Limits) -> Result<V
     let mut lines = 0u32;
     for part in parts {
         let most = limits.lines.saturating_sub(lines);
-        if let Err((line, stop)) = checker.admit_all(&part.events, lines, most) {
+        let block = BlockNames {
+            threads: &part.threads,
+            variables: &part.variables,
+            locks: &part.locks,
+        };
+        if let Err((line, stop)) = checker.admit_all(alloc, block, &part.events, lines, most) {
             return stopped_at(alloc, &checker, line, stop);
         }
         if let Some((line, fault)) = part.fault {

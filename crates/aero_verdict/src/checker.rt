@@ -4,11 +4,12 @@ ghost use Rattle.aero_verdict.specs.declared.checker.Stop.{Stop};
 
 use crate::blocks::Blocks;
 use crate::judge::judge;
+use crate::known::{BlockNames, Known};
 use crate::numbering::Numbering;
 use aero_access::clocks::Clocks;
+use aero_model::event::Numbered;
 use aero_model::limits::Limits;
 use aero_model::name::Name;
-use aero_model::named::Event;
 use aero_model::verdict::ShapeFault;
 use aero_shape::shape::Shape;
 use std::alloc::{AllocError, Global};
@@ -38,6 +39,8 @@ impl Checker {
     ghost use Rattle.aero_model.specs.Named.{Named};
     ghost use Rattle.aero_verdict.specs.Begun.{begin_line};
     ghost use Rattle.aero_verdict.specs.Kept.{StandsFor, IsNext, IsExpected, Refuses, Judged, up_to, AreNext, AreExpected, StopsIn};
+    ghost use Rattle.aero_grammar.specs.Tabled.{named_in, lines_in};
+    ghost use Rattle.aero_verdict.specs.Known.{tables_in, Knows};
     ghost use Rattle.aero_verdict.specs.Limited.{names_in};
 
     // No event was admitted yet.
@@ -88,19 +91,27 @@ impl Checker {
         self.blocks.begin_line(t)
     }
 
-    // Admits the next event, which stands on this line: the thread in whose open block a cycle begins
+    // Admits the next event, which stands on this line and has these numbers in its block: the thread in whose open block a cycle begins
     // that closes with it, if there is one. Or says why the event is ill-formed, or that memory was
     // refused. No event is admitted after an error or a thread.
     #[inline(always)]
-    fn admit(&mut self, line: u32, event: &Event) -> Result<Option<u32>, ShapeFault>
-        requires { IsExpected self.old (line, event.now) }
+    fn admit(
+        &mut self,
+        known: &mut Known,
+        block: BlockNames<'_>,
+        line: u32,
+        event: Numbered,
+    ) -> Result<Option<u32>, ShapeFault>
+        requires next { IsExpected self.old (line, named_in (tables_in block) event) }
+        requires known { Knows self.old.numbering (tables_in block) known.old }
         ensures counted { OnOk result (self.new.shape.admitted ≡ self.old.shape.admitted + 1) }
-        ensures judged { IfOk result (λ told. (limits : Limits) (events : List (ℕ × Named)) → IsNext limits self.old events (line, event.now) →
+        ensures judged { IfOk result (λ told. (limits : Limits) (events : List (ℕ × Named)) → IsNext limits self.old events (line, named_in (tables_in block.entry) event) →
             Judged limits self.new events self.old.shape.admitted told) }
         ensures refused { IfErr result (λ fault. (limits : Limits) (events : List (ℕ × Named)) →
-            IsNext limits self.old events (line, event.now) → Refuses limits self.old events fault) }
+            IsNext limits self.old events (line, named_in (tables_in block.entry) event) → Refuses limits self.old events fault) }
+        ensures known { OnOk result (Knows self.new.numbering (tables_in block.entry) known.new) }
     {
-        let numbered = self.numbering.number(event)?;
+        let numbered = self.numbering.number(known, block, event)?;
         let admitted = self.shape.admit(&numbered)?;
         if self.blocks.count(admitted, numbered.thread, line).is_err() {
             return Err(ShapeFault::Memory);
@@ -116,25 +127,28 @@ impl Checker {
     // events, and count in the number.
     pub(crate) fn admit_all(
         &mut self,
-        events: &[(u32, Event)],
+        alloc: Global,
+        block: BlockNames<'_>,
+        events: &[(u32, Numbered)],
         before: u32,
         most: u32,
     ) -> Result<(), (u32, Stop)>
-        requires next { AreExpected self.old before (up_to most events.now) }
+        requires next { AreExpected self.old before (up_to most (lines_in (tables_in block) events.now)) }
         requires lines { before + most < 2 ^ 32 }
-        ensures counted { OnOk result (self.new.shape.admitted ≡ self.old.shape.admitted + length (up_to most events.now)) }
+        ensures counted { OnOk result (self.new.shape.admitted ≡ self.old.shape.admitted + length (up_to most (lines_in (tables_in block.entry) events.now))) }
         ensures kept { OnOk result ((limits : Limits) (all : List (ℕ × Named)) →
-            AreNext limits self.old all before (up_to most events.now) → StandsFor limits self.new all) }
+            AreNext limits self.old all before (up_to most (lines_in (tables_in block.entry) events.now)) → StandsFor limits self.new all) }
         ensures stopped { IfErr result (λ stopped. (limits : Limits) (all : List (ℕ × Named)) →
-            AreNext limits self.old all before (up_to most events.now) →
-            StopsIn limits self.new all self.old.shape.admitted before (up_to most events.now) stopped.0 stopped.1) }
+            AreNext limits self.old all before (up_to most (lines_in (tables_in block.entry) events.now)) →
+            StopsIn limits self.new all self.old.shape.admitted before (up_to most (lines_in (tables_in block.entry) events.now)) stopped.0 stopped.1) }
     {
+        let mut known = Known::new(alloc);
         for (line, event) in events {
             if *line > most {
                 continue;
             }
             let line = before + *line;
-            match self.admit(line, event) {
+            match self.admit(&mut known, block, line, *event) {
                 Ok(None) => {}
                 Ok(Some(t)) => return Err((line, Stop::Closed(t))),
                 Err(fault) => return Err((line, Stop::Refused(fault))),

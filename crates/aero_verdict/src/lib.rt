@@ -17,6 +17,7 @@ mod blocks;
 mod check;
 mod checker;
 mod judge;
+mod known;
 pub mod laws;
 mod numbering;
 

@@ -1,16 +1,11 @@
 //! The numbers of names: threads, variables and locks each for themselves, in order of first
 //! appearance, and no more of each than the limits allow.
-ghost use Rattle.std.specs.Prelude.{◌≡◌, ℕ, List, true, IfOk, IfErr};
-ghost use Rattle.aero_model.specs.Named.{stands_alone};
-ghost use Rattle.aero_model.specs.Numbering.{Tables, what_of};
-ghost use Rattle.aero_verdict.specs.Numbers.{NumbersName, RefusesName};
-
+use crate::known::{BlockNames, Known, number_known};
 use aero_model::event::{Numbered, What};
 use aero_model::limits::Limits;
 use aero_model::name::Name;
-use aero_model::named::{Event, Op};
 use aero_model::verdict::ShapeFault;
-use aero_names::names::{Names, NamesFault};
+use aero_names::names::Names;
 use std::alloc::{AllocError, Global};
 
 // The names of the events so far.
@@ -22,8 +17,9 @@ pub(crate) struct Numbering {
 }
 
 impl Numbering {
-    ghost use Rattle.std.specs.Prelude.{◌≡◌, [], slice_get, Some, IfOk};
-    ghost use Rattle.aero_model.specs.Named.{HasItsTarget};
+    ghost use Rattle.std.specs.Prelude.{◌≡◌, [], slice_get, Some, IfOk, IfErr, OnOk};
+    ghost use Rattle.aero_grammar.specs.Tabled.{op_of, target_in, named_in};
+    ghost use Rattle.aero_verdict.specs.Known.{tables_in, Knows};
     ghost use Rattle.aero_verdict.specs.Limited.{names_in, IsLimited, NumbersTarget, RefusesTarget, NumbersEvent, RefusesEvent};
 
     // No names yet.
@@ -51,68 +47,107 @@ impl Numbering {
         }
     }
 
-    // The event by its numbers, of which new names get the next. The actor comes before the target.
+    // The event by its numbers in the trace, of which new names get the next. It comes by its numbers
+    // in its block, whose names these are. The actor comes before the target.
     //
     // An error is `TooManyThreads` or `TooManyNames` where a name is one too many, or `Memory`.
     #[inline(always)]
-    pub(crate) fn number(&mut self, event: &Event) -> Result<Numbered, ShapeFault>
-        ensures ok { IfOk result (λ numbered. NumbersEvent self.old self.new event.now numbered) }
-        ensures err { IfErr result (λ fault. RefusesEvent self.old event.now fault) }
-
-        // as every event
-        ensures target { HasItsTarget event.now.op event.now.target }
+    pub(crate) fn number(
+        &mut self,
+        known: &mut Known,
+        block: BlockNames<'_>,
+        event: Numbered,
+    ) -> Result<Numbered, ShapeFault>
+        requires { Knows self.old (tables_in block) known.old }
+        ensures ok { IfOk result (λ numbered. NumbersEvent self.old self.new (named_in (tables_in block.entry) event) numbered) }
+        ensures err { IfErr result (λ fault. RefusesEvent self.old (named_in (tables_in block.entry) event) fault) }
+        ensures known { OnOk result (Knows self.new (tables_in block.entry) known.new) }
     {
-        let thread = number_in(&mut self.threads, &event.thread, ShapeFault::TooManyThreads)?;
-        let what = match &event.target {
-            Some(target) => self.number_target(event.op, target)?,
-            None => what_alone(event.op),
-        };
+        let full = ShapeFault::TooManyThreads;
+        let threads = &mut self.threads;
+        let thread = number_known(
+            threads,
+            &mut known.threads,
+            block.threads,
+            event.thread,
+            full,
+        )?;
+        let what = self.number_target(known, block, event.what)?;
         Ok(Numbered { thread, what })
     }
 
-    // What an event with this operation and target does, by the target's number.
+    // What an event does, by its target's number in the trace.
     #[inline(always)]
-    fn number_target(&mut self, op: Op, target: &Name) -> Result<What, ShapeFault>
-        ensures ok { IfOk result (λ what. NumbersTarget self.old self.new op target.now what) }
-        ensures err { IfErr result (λ fault. RefusesTarget self.old op target.now fault) }
+    fn number_target(
+        &mut self,
+        known: &mut Known,
+        block: BlockNames<'_>,
+        what: What,
+    ) -> Result<What, ShapeFault>
+        requires { Knows self.old (tables_in block) known.old }
+        ensures ok { IfOk result (λ numbered. NumbersTarget self.old self.new (op_of what) (target_in (tables_in block.entry) what) numbered) }
+        ensures err { IfErr result (λ fault. RefusesTarget self.old (op_of what) (target_in (tables_in block.entry) what) fault) }
+        ensures known { OnOk result (Knows self.new (tables_in block.entry) known.new) }
     {
-        let threads = ShapeFault::TooManyThreads;
-        let names = ShapeFault::TooManyNames;
-        match op {
-            Op::Read => Ok(What::Read(number_in(&mut self.variables, target, names)?)),
-            Op::Write => Ok(What::Write(number_in(&mut self.variables, target, names)?)),
-            Op::Acquire => Ok(What::Acquire(number_in(&mut self.locks, target, names)?)),
-            Op::Release => Ok(What::Release(number_in(&mut self.locks, target, names)?)),
-            Op::Fork => Ok(What::Fork(number_in(&mut self.threads, target, threads)?)),
-            Op::Join => Ok(What::Join(number_in(&mut self.threads, target, threads)?)),
-            Op::Begin => Ok(What::Begin),
-            Op::End => Ok(What::End),
+        let many_threads = ShapeFault::TooManyThreads;
+        let many_names = ShapeFault::TooManyNames;
+        match what {
+            What::Read(x) => {
+                let names = &mut self.variables;
+                let number = number_known(
+                    names,
+                    &mut known.variables,
+                    block.variables,
+                    x,
+                    many_names,
+                )?;
+                Ok(What::Read(number))
+            }
+            What::Write(x) => {
+                let names = &mut self.variables;
+                let number = number_known(
+                    names,
+                    &mut known.variables,
+                    block.variables,
+                    x,
+                    many_names,
+                )?;
+                Ok(What::Write(number))
+            }
+            What::Acquire(l) => {
+                let names = &mut self.locks;
+                let number = number_known(names, &mut known.locks, block.locks, l, many_names)?;
+                Ok(What::Acquire(number))
+            }
+            What::Release(l) => {
+                let names = &mut self.locks;
+                let number = number_known(names, &mut known.locks, block.locks, l, many_names)?;
+                Ok(What::Release(number))
+            }
+            What::Fork(u) => {
+                let names = &mut self.threads;
+                let number = number_known(
+                    names,
+                    &mut known.threads,
+                    block.threads,
+                    u,
+                    many_threads,
+                )?;
+                Ok(What::Fork(number))
+            }
+            What::Join(u) => {
+                let names = &mut self.threads;
+                let number = number_known(
+                    names,
+                    &mut known.threads,
+                    block.threads,
+                    u,
+                    many_threads,
+                )?;
+                Ok(What::Join(number))
+            }
+            What::Begin => Ok(What::Begin),
+            What::End => Ok(What::End),
         }
-    }
-}
-
-// What an event without a target does.
-#[inline(always)]
-fn what_alone(op: Op) -> What
-    requires { stands_alone op ≡ true }
-    ensures { (tables : Tables) (target : List ℕ) → result ≡ what_of tables op target }
-{
-    if op == Op::Begin {
-        What::Begin
-    } else {
-        What::End
-    }
-}
-
-// The number of the name in the list, or the fault `full` where it is one too many.
-#[inline(always)]
-fn number_in(names: &mut Names, name: &Name, full: ShapeFault) -> Result<u32, ShapeFault>
-    ensures ok { IfOk result (λ number. NumbersName names.old names.new name.now number) }
-    ensures err { IfErr result (λ fault. RefusesName names.old name.now full fault) }
-{
-    match names.number(name) {
-        Ok(number) => Ok(number),
-        Err(NamesFault::Full) => Err(full),
-        Err(NamesFault::Memory) => Err(ShapeFault::Memory),
     }
 }

@@ -1,11 +1,8 @@
-ghost use Rattle.std.specs.Prelude.{◌<◌, length};
-
 use crate::check_trace;
 use aero_grammar::block::parse_block;
 use aero_grammar::parsed::Parsed;
 use aero_model::limits::Limits;
-use aero_model::name::Name;
-use aero_model::named::{Event, Op};
+use aero_model::named::Op;
 use aero_model::verdict::{LineFault, ShapeFault, Verdict};
 use std::alloc::Global;
 use std::process::Abort;
@@ -22,47 +19,43 @@ struct Part {
     is_faulty: bool,
 }
 
-fn event(alloc: Global, thread: &str, op: Op, target: &str) -> Result<Event, Fail> {
-    let thread = Name::read(alloc, thread.as_bytes())?;
-    if matches!(op, Op::Begin | Op::End) {
-        return Ok(Event {
-            thread,
-            op,
-            target: None,
-        });
+// The operation's word in a line.
+fn word(op: Op) -> &'static str {
+    match op {
+        Op::Read => "r",
+        Op::Write => "w",
+        Op::Acquire => "acq",
+        Op::Release => "rel",
+        Op::Fork => "fork",
+        Op::Join => "join",
+        Op::Begin => "begin",
+        Op::End => "end",
     }
-    let target = Name::read(alloc, target.as_bytes())?;
-    Ok(Event {
-        thread,
-        op,
-        target: Some(target),
-    })
 }
 
-fn parsed(alloc: Global, part: Part) -> Result<Parsed, Fail>
-    requires few_events { length part.events.now < 1000 }
-    requires few_lines { part.blank_lines < 1000 }
-{
-    let mut events = Vec::new(alloc);
-    let mut lines = 0u32;
+fn parsed(alloc: Global, part: Part) -> Result<Parsed, Fail> {
+    let mut text = Vec::new(alloc);
     for (thread, op, target) in part.events {
-        lines += 1;
-        events.push((lines, event(alloc, thread, *op, target)?))?;
+        text.extend_from_slice(thread.as_bytes())?;
+        text.push(b'|')?;
+        text.extend_from_slice(word(*op).as_bytes())?;
+        if !target.is_empty() {
+            text.push(b'(')?;
+            text.extend_from_slice(target.as_bytes())?;
+            text.push(b')')?;
+        }
+        text.push(b'\n')?;
     }
-    lines += part.blank_lines;
-    if !part.is_faulty {
-        return Ok(Parsed {
-            events,
-            lines,
-            fault: None,
-        });
+    for _ in 0..part.blank_lines {
+        text.push(b'\n')?;
     }
-    lines += 1;
-    Ok(Parsed {
-        events,
-        lines,
-        fault: Some((lines, LineFault::NoOperation)),
-    })
+    if part.is_faulty {
+        text.push(b'T')?;
+    }
+    if text.len() > 1 << 30 {
+        return Err("too many bytes".into());
+    }
+    Ok(parse_block(alloc, &text)?)
 }
 
 // A verdict, where a thread is told by its name in text.
@@ -369,6 +362,39 @@ fn many_blocks_of_two_threads_are_serializable(rt: HostRuntime) -> Result<(), Fa
     parts.push(parse_block(rt.alloc(), &text)?)?;
     let verdict = check_trace(rt.alloc(), &parts, &Limits::greatest())?;
     assert!(rt; is_wanted(&verdict, Wanted::Serializable(90000, 30000)));
+    Ok(())
+}
+
+// Checks a text in which this many threads make a block of one write each, to a variable of its own.
+fn check_blocks(alloc: Global, threads: u32) -> Result<Option<Verdict>, Fail> {
+    let mut text = Vec::new(alloc);
+    for i in 1..=threads {
+        let lines = format!(in alloc; "T{i}|begin\nT{i}|w(v{i})\nT{i}|end\n")?;
+        text.extend_from_slice(lines.as_bytes())?;
+    }
+    if text.len() > 1_000_000 {
+        return Ok(None);
+    }
+    let mut parts = Vec::new(alloc);
+    parts.push(parse_block(alloc, &text)?)?;
+    Ok(Some(check_trace(alloc, &parts, &Limits::greatest())?))
+}
+
+#[test]
+fn as_many_threads_as_the_limit_allows_are_serializable(rt: HostRuntime) -> Result<(), Fail> {
+    let Some(verdict) = check_blocks(rt.alloc(), 1024)? else {
+        return Err(Fail::from("the text is too long"));
+    };
+    assert!(rt; is_wanted(&verdict, Wanted::Serializable(3072, 1024)));
+    let Some(verdict) = check_blocks(rt.alloc(), 1025)? else {
+        return Err(Fail::from("the text is too long"));
+    };
+    assert!(rt;
+        is_wanted(
+            &verdict,
+            Wanted::IllFormed(3073, ShapeFault::TooManyThreads)
+        )
+    );
     Ok(())
 }
 

@@ -1,43 +1,90 @@
-use Rattle.std.proofs.Common.{rules, true, length, ◌≡◌, ◌==◌, ◌+◌, None, sym, ◌∙◌, ap, subst, arith}
+use Rattle.std.proofs.Common.{◌≡◌, ◌+◌, ◌++◌, ◌∷◌, [], ◌==◌, true, length, None, Ok, sym, ◌∙◌, ap, ap₂, subst, arith}
+use Rattle.aero_names.specs.Numbers.{with_event, numbered_after}
+use Rattle.aero_grammar.specs.Lists.{lists_in}
+use Rattle.aero_grammar.specs.Meaning.{Means, meaning}
 use Rattle.aero_grammar.specs.Reading.{IsReading, followed_by, reading_of}
-use Rattle.aero_grammar.specs.Meaning.{meaning, Faulty}
+use Rattle.aero_grammar.specs.Tabled.{lines_in, IsTabled, AreNames}
+use Rattle.aero_grammar.specs.Words.{named_of, ReadsMeaning}
+use Rattle.aero_grammar.proofs.Events.{event_of_line}
 use Rattle.aero_grammar.proofs.Joined.{reading, nothing_followed_by}
-use Rattle.aero_grammar.proofs.LinesRead.{one_more_line, after_blank, after_event, read_to_end, read_to_fault, tells_fault}
+use Rattle.aero_grammar.proofs.LinesRead.{one_more_line, after_blank, after_event, read_to_end, read_to_fault}
 use Rattle.aero_grammar.proofs.Readings.{IsReading-of}
+use Rattle.aero_grammar.proofs.TablesGrown.{nothing_tabled, no_names, lines_pushed, tabled_pushed, names_added}
 use Rattle.aero_grammar.proofs.block.parse_block.Goals as goal
 
 pub lines-init : goal.lines-init
 lines-init c = record {
-  read = sym (ap (λ events. followed_by (reading events 0 None) (reading_of c.args.bytes.now)) c.new-events.ensures.items ∙ nothing_followed_by (reading_of c.args.bytes.now));
+  read =
+      sym (ap₂ (λ t es. followed_by (reading (lines_in t es) 0 None) (reading_of c.args.bytes.now)) c.new-tables.ensures c.new-events.ensures.items
+      ∙ nothing_followed_by (reading_of c.args.bytes.now));
+  tabled = subst (λ t. IsTabled t c.new-events.result.items) (sym c.new-tables.ensures) (subst (IsTabled _) (sym c.new-events.ensures.items) nothing_tabled);
+  names = subst AreNames (sym c.new-tables.ensures) no_names;
   counted = omega arith;
 }
 
 pub lines-preserved-in-Ok-None : goal.lines-preserved-in-Ok-None
-lines-preserved-in-Ok-None c = record {
-  read =
-      one_more_line c.lines.events.items c.lines.lines (reading_of c.args.bytes.now) c.lines.rest.now c.first_line.result.0.now c.first_line.result.1.now c.lines.invariant.read c.first_line.ensures.lines
-      ∙ ap (λ r. followed_by r (reading_of c.first_line.result.1.now)) (after_blank c.lines.events.items c.lines.lines c.first_line.result.0.now (search rules));
-  counted = omega (arith, c.lines.invariant.counted, c.first_line.ensures.shorter);
-}
+lines-preserved-in-Ok-None c =
+    let so_far = lines_in (lists_in c.lines.tables) c.lines.events.items in
+    record {
+      read =
+          one_more_line so_far c.lines.lines (reading_of c.args.bytes.now) c.lines.rest.now c.first_line.result.0.now c.first_line.result.1.now c.lines.invariant.read c.first_line.ensures.lines
+          ∙ ap (λ r. followed_by r (reading_of c.first_line.result.1.now)) (after_blank so_far c.lines.lines c.first_line.result.0.now (subst (λ o. ReadsMeaning (Ok o) (meaning c.first_line.result.0.now)) c.in-Ok-None.field-0-is c.in-Ok-None.ensures));
+      tabled = c.lines.invariant.tabled;
+      names = c.lines.invariant.names;
+      counted = omega (arith, c.lines.invariant.counted, c.first_line.ensures.shorter);
+    }
+
+pub number-requires : goal.number-requires
+number-requires c =
+    event_of_line c.first_line.result.0.now (named_of c.in-Ok-Some.words) (subst (λ o. ReadsMeaning (Ok o) (meaning c.first_line.result.0.now)) c.in-Ok-Some.field-0-is c.in-Ok-Some.ensures)
 
 pub lines-preserved : goal.lines-preserved
-lines-preserved c = record {
-  read =
-      one_more_line c.lines.events.items c.lines.lines (reading_of c.args.bytes.now) c.lines.rest.now c.first_line.result.0.now c.first_line.result.1.now c.lines.invariant.read c.first_line.ensures.lines
-      ∙ ap (λ r. followed_by r (reading_of c.first_line.result.1.now)) (after_event c.lines.events.items c.lines.lines c.first_line.result.0.now c.in-Ok-Some.event (search rules))
-      ∙ ap (λ events. followed_by (reading events (c.lines.lines + 1) None) (reading_of c.first_line.result.1.now)) (sym c.in_ok-push-in-Ok-Some.ensures.items);
-  counted = omega (arith, c.lines.invariant.counted, c.first_line.ensures.shorter);
-}
+lines-preserved c =
+    let tables = lists_in c.lines.tables in
+    let events = c.lines.events.items in
+    let so_far = lines_in tables events in
+    let n = c.lines.lines + 1 in
+    let e = named_of c.in-Ok-Some.words in
+    let means : meaning c.first_line.result.0.now ≡ Means e = subst (λ o. ReadsMeaning (Ok o) (meaning c.first_line.result.0.now)) c.in-Ok-Some.field-0-is c.in-Ok-Some.ensures in
+    let event = event_of_line c.first_line.result.0.now e means in
+    let tables_are : lists_in c.number.new.self ≡ with_event tables e = c.in_ok-number-in-Ok-Some.ensures.names in
+    let events_are : c.push.new.self.items ≡ events ++ (n, numbered_after tables e) ∷ [] =
+    c.in_ok-push-in-Ok-Some.ensures.items ∙ ap (λ x. events ++ (n, x) ∷ []) c.in_ok-number-in-Ok-Some.ensures.numbered in
+    record {
+      read =
+          one_more_line so_far c.lines.lines (reading_of c.args.bytes.now) c.lines.rest.now c.first_line.result.0.now c.first_line.result.1.now c.lines.invariant.read c.first_line.ensures.lines
+          ∙ ap (λ r. followed_by r (reading_of c.first_line.result.1.now)) (after_event so_far c.lines.lines c.first_line.result.0.now e means)
+          ∙ ap (λ es. followed_by (reading es n None) (reading_of c.first_line.result.1.now))
+          (sym (ap₂ lines_in tables_are events_are ∙ lines_pushed tables events c.lines.invariant.tabled n e event.has_target));
+      tabled = subst (λ t. IsTabled t c.push.new.self.items) (sym tables_are) (subst (IsTabled (with_event tables e)) (sym events_are) (tabled_pushed tables events c.lines.invariant.tabled n e event.has_target));
+      names = subst AreNames (sym tables_are) (names_added tables e event c.lines.invariant.names);
+      counted = omega (arith, c.lines.invariant.counted, c.first_line.ensures.shorter);
+    }
 
-pub invariant_of-result : goal.invariant_of-result
-invariant_of-result c =
-    let own : meaning c.first_line.result.0.now ≡ Faulty c.in-Err.fault = tells_fault c.in-Err.fault (meaning c.first_line.result.0.now) c.in-Err.ensures c.in_ok-own_fault-in-Err.ensures.not_memory in
-    let same : meaning c.first_line.result.0.now ≡ Faulty c.in_ok-own_fault-in-Err.field-0 = own ∙ ap Faulty (sym c.in_ok-own_fault-in-Err.ensures.same) in
-    subst IsReading
-    (read_to_fault c.lines.events.items c.lines.lines (reading_of c.args.bytes.now) c.lines.rest.now c.first_line.result.0.now c.first_line.result.1.now c.in_ok-own_fault-in-Err.field-0 c.lines.invariant.read c.first_line.ensures.lines same)
-    (IsReading-of c.args.bytes.now)
+pub parsed-requires : goal.parsed-requires
+parsed-requires c =
+    record {
+      reading =
+          subst IsReading
+          (read_to_fault (lines_in (lists_in c.lines.tables) c.lines.events.items) c.lines.lines (reading_of c.args.bytes.now) c.lines.rest.now c.first_line.result.0.now c.first_line.result.1.now c.in-Err.fault c.lines.invariant.read
+          c.first_line.ensures.lines c.in-Err.ensures)
+          (IsReading-of c.args.bytes.now);
+      tabled = c.lines.invariant.tabled;
+      names = c.lines.invariant.names;
+    }
 
-pub invariant_of-result-2 : goal.invariant_of-result-2
-invariant_of-result-2 c =
+pub parsed-requires-2 : goal.parsed-requires-2
+parsed-requires-2 c =
     let end : (length c.lines.rest.now == 0) ≡ true = cc in
-    subst IsReading (read_to_end c.lines.events.items c.lines.lines (reading_of c.args.bytes.now) c.lines.rest.now c.lines.invariant.read end) (IsReading-of c.args.bytes.now)
+    record {
+      reading =
+          subst IsReading (read_to_end (lines_in (lists_in c.lines.tables) c.lines.events.items) c.lines.lines (reading_of c.args.bytes.now) c.lines.rest.now c.lines.invariant.read end) (IsReading-of c.args.bytes.now);
+      tabled = c.lines.invariant.tabled;
+      names = c.lines.invariant.names;
+    }
+
+pub returns-clause-reading : goal.returns-clause-reading
+returns-clause-reading c =
+    let end : (length c.lines.rest.now == 0) ≡ true = cc in
+    c.parsed-2.ensures
+    ∙ sym (read_to_end (lines_in (lists_in c.lines.tables) c.lines.events.items) c.lines.lines (reading_of c.args.bytes.now) c.lines.rest.now c.lines.invariant.read end)

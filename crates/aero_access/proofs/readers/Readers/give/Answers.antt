@@ -7,7 +7,17 @@ use Rattle.aero_access.specs.declared.kept.Kept.{Kept}
 use Rattle.aero_access.specs.Threads.{IsClosedBy}
 use Rattle.aero_access.proofs.KeptLists.{greatest_but-more}
 use Rattle.aero_access.proofs.Outcomes.{not_true}
+use Rattle.aero_access.proofs.Heeding.{test_still}
 use Rattle.aero_access.proofs.readers.Readers.give.Goals as goal
+
+pub give-requires : goal.give-requires
+give-requires c =
+    let at : slice_get c.args.self.now.kept.items c.loop-kept.kept-index ≡ Some c.kept-item.result =
+    ap (λ xs. slice_get xs c.loop-kept.kept-index) (sym c.deref-kept-items.ensures.value)
+    ∙ slice_get-get_or c.deref-kept-items.result.now c.loop-kept.kept-index c.kept-item.result c.loop-kept-test.true
+    ∙ ap Some (sym c.kept-item.is)
+    in
+    test_still c.args.thread.now c.loop-kept.thread c.args.t (number_at c.kept-item.result.clock) c.loop-kept.invariant.same (c.requires c.loop-kept.kept-index c.kept-item.result at)
 
 pub loop-kept-preserved : goal.loop-kept-preserved
 loop-kept-preserved c =
@@ -36,6 +46,7 @@ loop-kept-preserved c =
           (λ ne. c.loop-kept.invariant.none j k (omega (arith, ne)) at_j other closed)
           (cases_eq j c.loop-kept.kept-index);
       clock = λ u. omega (arith, (c.in_ok-give.ensures.takes c.if-branch.false).clock u, c.loop-kept.invariant.clock u, greatest_but-more c.args.t c.args.self.now.kept.items c.loop-kept.kept-index c.kept-item.result u at);
+      heeds = λ w own all. c.give.ensures.heeds w (c.loop-kept.invariant.heeds w own all) (all c.loop-kept.kept-index c.kept-item.result at);
     }
 
 pub returns-then-branch-clause-closing : goal.returns-then-branch-clause-closing
@@ -61,3 +72,12 @@ returns-clause-none c = λ is_false. record {
       let all : length c.deref-kept-items.result.now ≡ length c.args.self.now.kept.items = ap length c.deref-kept-items.ensures.value in
       c.loop-kept.invariant.none i k (omega (arith, c.loop-kept-test.false, all, within)) at other closed;
 }
+
+pub returns-then-branch-clause-heeds : goal.returns-then-branch-clause-heeds
+returns-then-branch-clause-heeds c = λ w own all.
+    let at : slice_get c.args.self.now.kept.items c.loop-kept.kept-index ≡ Some c.kept-item.result =
+    ap (λ xs. slice_get xs c.loop-kept.kept-index) (sym c.deref-kept-items.ensures.value)
+    ∙ slice_get-get_or c.deref-kept-items.result.now c.loop-kept.kept-index c.kept-item.result c.loop-kept-test.true
+    ∙ ap Some (sym c.kept-item.is)
+    in
+    c.give.ensures.heeds w (c.loop-kept.invariant.heeds w own all) (all c.loop-kept.kept-index c.kept-item.result at)

@@ -1,5 +1,6 @@
-use Rattle.std.proofs.Common.{rules, ◌<◌, refl}
-use Rattle.aero_gather.proofs.Steps.{kept_below_asked, kept_gathered, keeps_at, same_place, same_slot}
+use Rattle.std.proofs.Common.{rules, ◌<◌, ◌∙◌, ap, refl}
+use Rattle.aero_gather.specs.Gathered.{Gathered}
+use Rattle.aero_gather.proofs.Steps.{kept_below_asked, kept_gathered, keeps_at, same_open, same_place, same_slot, same_waits}
 use Rattle.aero_gather.proofs.gather.Gather.accept.Goals as goal
 
 pub overflow_add-self : goal.overflow_add-self
@@ -22,3 +23,13 @@ returns-in-Some c =
     let w = same_place _ _ _ _ c.in-Some.place c.question.ensures c.deref.ensures.value c.in-Some.ensures.some in
     let at = same_slot _ c.in-Some.place _ _ c.slot.view_is c.index_mut-slot.ensures.value in
     rw (← c.self.view_is, ← c.into_value.ensures.value) (keeps_at _ _ _ _ _ w at, refl)
+
+pub returns-in-None : goal.returns-in-None
+returns-in-None c =
+    let slots = ap (λ (g : Gathered). g.entries) c.self.view_is in
+    let first = c.deref.ensures.value ∙ slots in
+    let second = c.deref-in-None-oldest_waiting.ensures.value ∙ slots in (
+      same_open _ c.args.answer.question _ c.args.self.now.entries c.question-in-None-oldest_waiting.ensures second (c.has_question.ensures.0 c.if-has_question.true),
+      same_waits c.question.result.now c.args.answer.question c.deref.result.now c.args.self.now.entries c.question.ensures first c.in-None.ensures.none,
+      refl,
+    )

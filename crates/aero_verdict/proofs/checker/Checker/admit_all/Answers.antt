@@ -1,22 +1,61 @@
-use Rattle.aero_verdict.proofs.Lines.{expected, one_more, refused_in, closed_in}
+use Rattle.std.proofs.Common.{ℕ}
+use Rattle.std.specs.Prelude.{slice_index_or}
+use Rattle.aero_model.specs.declared.event.Numbered.{Numbered}
+use Rattle.aero_model.specs.declared.event.What.TheVariants.{Read}
+use Rattle.aero_grammar.specs.Tabled.{line_in, lines_in}
+use Rattle.aero_verdict.specs.Known.{tables_in}
+use Rattle.aero_verdict.proofs.KnownLines.{line_at, line_less}
+use Rattle.aero_verdict.proofs.Lines.{passed_over, expected, one_more, refused_in, closed_in}
 use Rattle.aero_verdict.proofs.checker.Checker.admit_all.Goals as goal
 
-pub admit-requires : goal.admit-requires
-admit-requires c =
-    expected c.args.self.now c.loop-line.self c.args.events.now c.args.before c.args.most c.loop-line.line-index c.loop-line.invariant c.loop-line-test.true c.loop-line-item.result c.loop-line-item.is
+-- what is read past the end
+abbrev no_line : ℕ × Numbered
+no_line = (0, record { thread = 0; what = Read 0 })
+
+pub admit-requires-clause-next : goal.admit-requires-clause-next
+admit-requires-clause-next c =
+    let t = tables_in c.args.block in
+    let less = c.loop-line-test.true in
+    expected c.args.self.now c.loop-line.self (lines_in t c.args.events.now) c.args.before c.args.most c.loop-line.line-index c.loop-line.invariant.admits (line_less t c.args.events.now c.loop-line.line-index less)
+    (line_in t (slice_index_or c.args.events.now c.loop-line.line-index no_line)) (line_at t c.args.events.now c.loop-line.line-index no_line less)
     c.if-line-most.false c.requires.next
 
 pub returns-in-Ok-Some-clause-stopped : goal.returns-in-Ok-Some-clause-stopped
 returns-in-Ok-Some-clause-stopped c =
-    closed_in c.args.self.now c.loop-line.self c.args.events.now c.args.before c.args.most c.loop-line.line-index c.loop-line.invariant c.loop-line-test.true c.loop-line-item.result c.loop-line-item.is
+    let t = tables_in c.args.block in
+    let less = c.loop-line-test.true in
+    closed_in c.args.self.now c.loop-line.self (lines_in t c.args.events.now) c.args.before c.args.most c.loop-line.line-index c.loop-line.invariant.admits (line_less t c.args.events.now c.loop-line.line-index less)
+    (line_in t (slice_index_or c.args.events.now c.loop-line.line-index no_line)) (line_at t c.args.events.now c.loop-line.line-index no_line less)
     c.if-line-most.false c.admit.new.self c.in-Ok-Some.t c.in-Ok-Some.field-0 c.in-Ok-Some.field-0-is c.in-Ok-Some.ensures.counted c.in-Ok-Some.ensures.judged
 
 pub returns-in-Err-clause-stopped : goal.returns-in-Err-clause-stopped
 returns-in-Err-clause-stopped c =
-    refused_in c.args.self.now c.loop-line.self c.args.events.now c.args.before c.args.most c.loop-line.line-index c.loop-line.invariant c.loop-line-test.true c.loop-line-item.result c.loop-line-item.is
+    let t = tables_in c.args.block in
+    let less = c.loop-line-test.true in
+    refused_in c.args.self.now c.loop-line.self (lines_in t c.args.events.now) c.args.before c.args.most c.loop-line.line-index c.loop-line.invariant.admits (line_less t c.args.events.now c.loop-line.line-index less)
+    (line_in t (slice_index_or c.args.events.now c.loop-line.line-index no_line)) (line_at t c.args.events.now c.loop-line.line-index no_line less)
     c.if-line-most.false c.admit.new.self c.in-Err.fault c.in-Err.ensures.refused
+
+pub loop-line-preserved-then-line-most : goal.loop-line-preserved-then-line-most
+loop-line-preserved-then-line-most c =
+    let t = tables_in c.args.block in
+    let less = c.loop-line-test.true in
+    record {
+      admits =
+          passed_over c.args.self.now c.loop-line.self (lines_in t c.args.events.now) c.args.before c.args.most c.loop-line.line-index c.loop-line.invariant.admits (line_less t c.args.events.now c.loop-line.line-index less)
+          (line_in t (slice_index_or c.args.events.now c.loop-line.line-index no_line)) (line_at t c.args.events.now c.loop-line.line-index no_line less)
+          c.if-line-most.true;
+      known = c.loop-line.invariant.known;
+    }
 
 pub loop-line-preserved : goal.loop-line-preserved
 loop-line-preserved c =
-    one_more c.args.self.now c.loop-line.self c.args.events.now c.args.before c.args.most c.loop-line.line-index c.loop-line.invariant c.loop-line-test.true c.loop-line-item.result c.loop-line-item.is
-    c.if-line-most.false c.admit.new.self c.in-Ok-None.field-0 c.in-Ok-None.field-0-is c.in-Ok-None.ensures.counted c.in-Ok-None.ensures.judged
+    let t = tables_in c.args.block in
+    let less = c.loop-line-test.true in
+    record {
+      admits =
+          one_more c.args.self.now c.loop-line.self (lines_in t c.args.events.now) c.args.before c.args.most c.loop-line.line-index c.loop-line.invariant.admits (line_less t c.args.events.now c.loop-line.line-index less)
+          (line_in t (slice_index_or c.args.events.now c.loop-line.line-index no_line)) (line_at t c.args.events.now c.loop-line.line-index no_line less)
+          c.if-line-most.false c.admit.new.self c.in-Ok-None.field-0 c.in-Ok-None.field-0-is c.in-Ok-None.ensures.counted c.in-Ok-None.ensures.judged;
+      known = c.in-Ok-None.ensures.known;
+    }

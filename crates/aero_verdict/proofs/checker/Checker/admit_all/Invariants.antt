@@ -1,5 +1,10 @@
+use Rattle.aero_grammar.specs.Tabled.{lines_in}
+use Rattle.aero_verdict.specs.Known.{tables_in, Knows}
 use Rattle.aero_verdict.proofs.Lines.{Admits}
 use Rattle.aero_verdict.proofs.checker.Checker.admit_all.Given as goal
 
 abbrev pub invariant-loop-line : goal.invariant-loop-line
-invariant-loop-line l = Admits l.initial.self l.events l.before l.most l.line-index l.self
+invariant-loop-line l = record {
+  admits : Admits l.initial.self (lines_in (tables_in l.block) l.events) l.before l.most l.line-index l.self;
+  known : Knows l.self.numbering (tables_in l.block) l.known;
+}

@@ -1,0 +1,95 @@
+// The names of a block's events, each numbered in order of first appearance.
+ghost use Rattle.std.specs.Prelude.{◌≡◌, ℕ, List, true, IfOk, OnOk};
+ghost use Rattle.aero_model.specs.Named.{stands_alone};
+ghost use Rattle.aero_model.specs.Numbering.{Tables as Lists, with_name, what_of};
+ghost use Rattle.aero_names.specs.Numbers.{number_after};
+
+use crate::words::Words;
+use aero_model::event::{Numbered, What};
+use aero_model::named::Op;
+use aero_names::names::Names;
+use std::alloc::{AllocError, Global};
+
+#[derive(Drop)]
+pub struct Tables {
+    pub threads: Names,
+    pub variables: Names,
+    pub locks: Names,
+}
+
+impl Tables {
+    ghost use Rattle.std.specs.Prelude.{◌≡◌, [], Some, IfOk, OnOk};
+    ghost use Rattle.aero_model.specs.Named.{HasItsTarget};
+    ghost use Rattle.aero_names.specs.Numbers.{with_event, numbered_after, with_target, what_after};
+    ghost use Rattle.aero_grammar.specs.Words.{named_of, IsEvent};
+    ghost use Rattle.aero_grammar.specs.Lists.{lists_in};
+
+    // No names yet.
+    pub fn new(alloc: Global) -> Tables
+        ensures { lists_in result ≡ record { threads = []; variables = []; locks = [] } }
+    {
+        Tables {
+            threads: Names::new(alloc, u32::MAX),
+            variables: Names::new(alloc, u32::MAX),
+            locks: Names::new(alloc, u32::MAX),
+        }
+    }
+
+    // The event by its numbers, of which new names get the next. The actor comes before the target.
+    #[inline(always)]
+    pub fn number(&mut self, words: Words<'_>) -> Result<Numbered, AllocError>
+        requires { IsEvent (named_of words) }
+        ensures numbered { IfOk result (λ numbered. numbered ≡ numbered_after (lists_in self.old) (named_of words.entry)) }
+        ensures names { OnOk result (lists_in self.new ≡ with_event (lists_in self.old) (named_of words.entry)) }
+    {
+        let thread = number_in(&mut self.threads, words.thread)?;
+        let what = match words.target {
+            Some(target) => self.number_target(words.op, target)?,
+            None => what_alone(words.op),
+        };
+        Ok(Numbered { thread, what })
+    }
+
+    // What an event with this operation and target does, by the target's number.
+    #[inline(always)]
+    fn number_target(&mut self, op: Op, target: &[u8]) -> Result<What, AllocError>
+        ensures what { IfOk result (λ what. what ≡ what_after (lists_in self.old) op (Some target.now)) }
+        ensures names { OnOk result (lists_in self.new ≡ with_target (lists_in self.old) op (Some target.now)) }
+    {
+        match op {
+            Op::Read => Ok(What::Read(number_in(&mut self.variables, target)?)),
+            Op::Write => Ok(What::Write(number_in(&mut self.variables, target)?)),
+            Op::Acquire => Ok(What::Acquire(number_in(&mut self.locks, target)?)),
+            Op::Release => Ok(What::Release(number_in(&mut self.locks, target)?)),
+            Op::Fork => Ok(What::Fork(number_in(&mut self.threads, target)?)),
+            Op::Join => Ok(What::Join(number_in(&mut self.threads, target)?)),
+            Op::Begin => Ok(What::Begin),
+            Op::End => Ok(What::End),
+        }
+    }
+}
+
+// What an event without a target does.
+#[inline(always)]
+fn what_alone(op: Op) -> What
+    requires { stands_alone op ≡ true }
+    ensures { (lists : Lists) (target : List ℕ) → result ≡ what_of lists op target }
+{
+    if op == Op::Begin {
+        What::Begin
+    } else {
+        What::End
+    }
+}
+
+// The number of the name in the list. A block is too short for more names than there are numbers.
+#[inline(always)]
+fn number_in(names: &mut Names, name: &[u8]) -> Result<u32, AllocError>
+    ensures number { IfOk result (λ number. number ≡ number_after names.old.names name.now) }
+    ensures names { OnOk result (names.new.names ≡ with_name names.old.names name.now) }
+{
+    match names.number_of_bytes(name) {
+        Ok(number) => Ok(number),
+        Err(_) => Err(AllocError),
+    }
+}

@@ -1,0 +1,27 @@
+-- What is known of a block's names: the numbers of the first of them in the trace.
+use Rattle.std.specs.Prelude.{◌≡◌, ℕ, true, List, bytes_eq, slice_get, Some}
+use Rattle.std.specs.List.{list_any}
+use Rattle.aero_model.specs.Numbering.{number_of, Tables}
+use Rattle.aero_grammar.specs.Tabled.{name_at}
+use Rattle.aero_verdict.specs.declared.numbering.Numbering.{Numbering}
+use Rattle.aero_verdict.specs.declared.known.BlockNames.{BlockNames}
+use Rattle.aero_verdict.specs.declared.known.Known.{Known}
+
+-- the block's tables
+abbrev pub tables_in : BlockNames → Tables
+tables_in b = record { threads = b.threads.now.names; variables = b.variables.now.names; locks = b.locks.now.names }
+
+-- the name at place n of the block's table is among the trace's, and this is its number there
+pub record IsKnown (trace block : List (List ℕ)) (n number : ℕ) : Type 0 where
+  pub listed : list_any (bytes_eq (name_at block n)) trace ≡ true
+  pub number_is : number ≡ number_of trace (name_at block n)
+
+-- these are the numbers of the block's first names
+abbrev pub AreKnown : List (List ℕ) → List (List ℕ) → List ℕ → Type 0
+AreKnown trace block known = (n number : ℕ) → slice_get known n ≡ Some number → IsKnown trace block n number
+
+-- so it is in each name space
+pub record Knows (numbering : Numbering) (tables : Tables) (known : Known) : Type 0 where
+  pub threads : AreKnown numbering.threads.names tables.threads known.threads.items
+  pub variables : AreKnown numbering.variables.names tables.variables known.variables.items
+  pub locks : AreKnown numbering.locks.names tables.locks known.locks.items

@@ -1,0 +1,112 @@
+//! The numbers of a block's names in the trace, each looked up at the event that first has it.
+ghost use Rattle.std.specs.Prelude.{◌≡◌, ◌==◌, ◌++◌, ◌∷◌, [], ℕ, List, length, if◌then◌else◌, IfOk, IfErr, OnOk};
+ghost use Rattle.aero_grammar.specs.Tabled.{name_at};
+ghost use Rattle.aero_verdict.specs.Known.{AreKnown};
+ghost use Rattle.aero_verdict.specs.Numbers.{NumbersName, RefusesName};
+
+use aero_model::verdict::ShapeFault;
+use aero_names::names::{Names, NamesFault};
+use std::alloc::{AllocError, Global};
+
+// The tables of a block.
+#[derive(Clone, Copy)]
+pub(crate) struct BlockNames<'a> {
+    pub threads: &'a Names,
+    pub variables: &'a Names,
+    pub locks: &'a Names,
+}
+
+// The numbers in the trace of the first names of each of the block's tables.
+#[derive(Drop)]
+pub(crate) struct Known {
+    pub threads: Vec<u32>,
+    pub variables: Vec<u32>,
+    pub locks: Vec<u32>,
+}
+
+impl Known {
+    ghost use Rattle.std.specs.Prelude.{◌≡◌, []};
+
+    // Of no name yet.
+    pub(crate) fn new(alloc: Global) -> Known
+        ensures threads { result.threads.items ≡ [] }
+        ensures variables { result.variables.items ≡ [] }
+        ensures locks { result.locks.items ≡ [] }
+    {
+        Known {
+            threads: Vec::new(alloc),
+            variables: Vec::new(alloc),
+            locks: Vec::new(alloc),
+        }
+    }
+}
+
+// The number in the trace of the name at place `n` of the block's table, or the fault `full` where
+// it is one too many.
+#[inline(always)]
+pub(crate) fn number_known(
+    names: &mut Names,
+    known: &mut Vec<u32>,
+    block: &Names,
+    n: u32,
+    full: ShapeFault,
+) -> Result<u32, ShapeFault>
+    requires { AreKnown names.old.names block.now.names known.old.items }
+    ensures ok { IfOk result (λ number. NumbersName names.old names.new (name_at block.now.names n) number) }
+    ensures err { IfErr result (λ fault. RefusesName names.old (name_at block.now.names n) full fault) }
+    ensures known { OnOk result (AreKnown names.new.names block.now.names known.new.items) }
+{
+    match known.get(n as usize) {
+        Some(number) => Ok(*number),
+        None => number_first(names, known, block, n, full),
+    }
+}
+
+// The same at the event that first has the name.
+fn number_first(
+    names: &mut Names,
+    known: &mut Vec<u32>,
+    block: &Names,
+    n: u32,
+    full: ShapeFault,
+) -> Result<u32, ShapeFault>
+    requires { AreKnown names.old.names block.now.names known.old.items }
+    ensures ok { IfOk result (λ number. NumbersName names.old names.new (name_at block.now.names n) number) }
+    ensures err { IfErr result (λ fault. RefusesName names.old (name_at block.now.names n) full fault) }
+    ensures known { OnOk result (AreKnown names.new.names block.now.names known.new.items) }
+{
+    let Some(name) = block.name(n) else {
+        // No event has a place that its table lacks.
+        return Err(ShapeFault::Memory);
+    };
+    match number_in(names, name, full) {
+        Ok(number) => match note(known, n, number) {
+            Ok(()) => Ok(number),
+            Err(_) => Err(ShapeFault::Memory),
+        },
+        Err(fault) => Err(fault),
+    }
+}
+
+// Puts the number behind the others, where it is that of the next name.
+fn note(known: &mut Vec<u32>, n: u32, number: u32) -> Result<(), AllocError>
+    ensures { OnOk result (known.new.items ≡ (if length known.old.items == n then known.old.items ++ number ∷ [] else known.old.items)) }
+{
+    if known.len() == n as usize {
+        known.push(number)?;
+    }
+    Ok(())
+}
+
+// The number of the name in the list, or the fault `full` where it is one too many.
+#[inline(always)]
+fn number_in(names: &mut Names, name: &[u8], full: ShapeFault) -> Result<u32, ShapeFault>
+    ensures ok { IfOk result (λ number. NumbersName names.old names.new name.now number) }
+    ensures err { IfErr result (λ fault. RefusesName names.old name.now full fault) }
+{
+    match names.number_of_bytes(name) {
+        Ok(number) => Ok(number),
+        Err(NamesFault::Full) => Err(full),
+        Err(NamesFault::Memory) => Err(ShapeFault::Memory),
+    }
+}
