@@ -1,4 +1,3 @@
-pub mod Judged
 pub mod Questions
 pub mod Readers
 pub mod Readings
@@ -6,6 +5,3 @@ pub mod Retold
 pub mod Standing
 pub mod Stepping
 pub mod Sums
-pub mod Taken
-pub mod Tracked
-pub mod Values

@@ -9,11 +9,12 @@ use Rattle.aero_pieces.specs.Schedule.{Entry, noted, with_note}
 use Rattle.aero_gather.specs.Gathered.{Gathered, Accepts, with_missed}
 use Rattle.aero_gather.specs.declared.gather.Accepted.{Accepted}
 use Rattle.aero_gather.specs.declared.gather.Accepted.TheVariants.{Kept, Repeated, Stranger}
-use Rattle.std.specs.Prelude.{IfSome, All, option_map, MatchOption, is_some}
+use Rattle.std.specs.Prelude.{IfSome, All, option_map}
 use Rattle.aero_pieces.specs.Values.{IsValueOf}
 use Rattle.aero_pieces.specs.Schedule.{IsWorkedOut, settled_value}
 use Rattle.aero_gather.specs.Gathered.{Settles}
-use Rattle.aero_batch.specs.Inquiries.{Inquired, Gives, SettlesKnown, questions_of, trace_of}
+use Rattle.aero_batch.specs.Inquiries.{Gives, SettlesKnown, questions_of}
+use Rattle.aero_intake.specs.Stories.{trace_of}
 
 the_some : {A : Type 0} (x y : A) → Some x ≡ Some y → x ≡ y
 the_some x y p = cc p

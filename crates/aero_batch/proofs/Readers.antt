@@ -1,14 +1,14 @@
 -- Using the reader of one source changes nothing else of the sources.
-use Rattle.std.proofs.Common.{◌≡◌, ℕ, zero, suc, ◌<◌, List, [], ◌∷◌, map, length, slice_get, slice_set, Option, Some, None, refl, sym, ◌∙◌, ap}
+use Rattle.std.proofs.Common.{◌≡◌, ℕ, zero, suc, List, [], ◌∷◌, map, slice_get, slice_set, Option, Some, refl, sym, ◌∙◌, ap}
 use Rattle.std.specs.Prelude.{option_map, unwrap_or}
 use Rattle.std.proofs.lemmas.Option.{slice_get-map}
 use Rattle.aero_model.specs.declared.counting.Counting.{Counting}
 use Rattle.aero_model.specs.Counts.{seen_by}
-use Rattle.aero_batch.specs.declared.source.Source.{Source}
+use Rattle.aero_intake.specs.declared.source.Source.{Source}
 use Rattle.aero_batch.specs.Founds.{Sighted, sighted}
 use Rattle.aero_batch.specs.Steps.{IsReadFrom}
-use Rattle.aero_batch.proofs.Tracked.{changed_there, changed_elsewhere, set_changed}
-use Rattle.aero_batch.specs.Tracks.{changed}
+use Rattle.aero_intake.proofs.Tracked.{changed_there, changed_elsewhere, set_changed}
+use Rattle.aero_intake.specs.Stories.{changed}
 
 module _ {R : Type 0} (known : R → Option (List ℕ)) (sources : List (Source R)) (place : ℕ) (x : Source R) (reader : Counting R) (at : slice_get sources place ≡ Some x) where
   abbrev used : Source R

@@ -1,6 +1,6 @@
 -- A step of reading keeps what holds of the sources.
-use Rattle.std.proofs.Common.{◌≡◌, ℕ, zero, suc, ◌+◌, ◌<◌, ◌≤◌, List, [], ◌∷◌, ◌++◌, map, length, slice_get, Option, Some, None, refl, sym, ◌∙◌, ap, ap₂, subst, inl, inr, arith}
-use Rattle.std.specs.Prelude.{option_to_list, ◌⊎◌}
+use Rattle.std.proofs.Common.{◌≡◌, ℕ, ◌+◌, ◌<◌, List, [], ◌∷◌, ◌++◌, length, slice_get, Option, Some, None, refl, sym, ◌∙◌, ap, subst, inl, inr, arith}
+use Rattle.std.specs.Prelude.{option_to_list}
 use Rattle.std.specs.List.{concat}
 use Rattle.std.proofs.lemmas.Bool.{cases_eq}
 use Rattle.std.proofs.lemmas.Grind.{merely}
@@ -10,22 +10,22 @@ use Rattle.aero_model.specs.declared.verdict.Ending.{Ending}
 use Rattle.aero_model.specs.declared.verdict.Ending.TheVariants.{Whole, Broken, TooLarge}
 use Rattle.aero_model.specs.declared.verdict.Finding.TheVariants as findings
 use Rattle.aero_model.specs.Counts.{Seen}
-use Rattle.aero_grammar.specs.Reading.{Reading, reading_of}
-use Rattle.aero_lines.specs.Cutting.{Cutting, block_of, last_block, nothing_yet, blocks_from}
+use Rattle.aero_grammar.specs.Reading.{Reading}
+use Rattle.aero_lines.specs.Cutting.{block_of}
 use Rattle.aero_pieces.specs.declared.question.Question.{Question}
 use Rattle.aero_batch.specs.declared.progress.Progress.{Progress}
-use Rattle.aero_batch.specs.declared.track.Track.{Track}
-use Rattle.aero_batch.specs.declared.track.Track.TheVariants.{Arriving, Arrived, Checking, Found}
+use Rattle.aero_intake.specs.declared.track.Track.{Track}
+use Rattle.aero_intake.specs.declared.track.Track.TheVariants.{Arriving}
 use Rattle.aero_batch.specs.Founds.{Sighted}
 use Rattle.aero_batch.specs.Holding.{Holds, HasEnded, HaveComeFrom, nothing_known}
 use Rattle.aero_batch.specs.Inquiries.{Inquired}
-use Rattle.aero_batch.specs.Intake.{Taking, IsTaken, HaveCome, with_piece, nothing_taken, Ends}
-use Rattle.aero_batch.specs.Source.{WasRead}
-use Rattle.aero_batch.specs.Steps.{EndsSource, TakesPiece, ReadsOn, IsReadFrom, with_block, last_of, ended_track}
-use Rattle.aero_batch.specs.Tracks.{Story, HasArrived, IsTracked, AreTracked, changed}
+use Rattle.aero_intake.specs.Intake.{Taking, IsTaken, HaveCome, Ends}
+use Rattle.aero_intake.specs.Source.{WasRead}
+use Rattle.aero_batch.specs.Steps.{EndsSource, TakesPiece, IsReadFrom, with_block, last_of, ended_track}
+use Rattle.aero_intake.specs.Stories.{Story, IsTracked, AreTracked, changed}
 use Rattle.aero_batch.proofs.Retold.{retold, retold_there, retold_same, retold_elsewhere, with_pieces, block_tracked, still_arriving}
-use Rattle.aero_batch.proofs.Taken.{nothing_is_taken, piece_is_taken, blocks_with_last, nothing_has_come, piece_has_come, source_was_read}
-use Rattle.aero_batch.proofs.Tracked.{changed_there, changed_elsewhere, before_change}
+use Rattle.aero_intake.proofs.Taken.{nothing_is_taken, piece_is_taken, blocks_with_last, nothing_has_come, piece_has_come, source_was_read}
+use Rattle.aero_intake.proofs.Tracked.{changed_there, changed_elsewhere, before_change}
 
 the_some : {A : Type 0} (x y : A) → Some x ≡ Some y → x ≡ y
 the_some x y p = cc p
@@ -122,9 +122,9 @@ ended_tracked limits p tale ending o all is_all taken blocks tracked s t at =
           let is = subst (λ x. IsTracked limits qs s x was.0) (retold_same tale p.read s mid same) (tracked s was.0 was.1) in
           let arriving = still_arriving limits qs s mid was.0 refl is in
           let fits = ended_track_fits limits qs s p.intake.count (with_block p o).blocks ending p.intake (tale p.read).pieces (tale p.read).blocks all arriving.0 taken refl is_all blocks
-          (subst (λ x. IsTracked limits qs s mid x) arriving.1 is) in
-          subst (λ x. IsTracked limits qs s x t) (sym (retold_same tale p.read s story same))
-          (subst (λ x. IsTracked limits qs s story x) (sym (was.2 ∙ ap f arriving.1)) fits))
+          (subst (λ x. IsTracked limits qs s mid x) {y = Arriving arriving.0} arriving.1 is) in
+          subst (λ x. IsTracked limits qs s x t) {y = retold tale p.read story s} (sym (retold_same tale p.read s story same))
+          (subst (λ x. IsTracked limits qs s story x) {y = t} (sym (was.2 ∙ ap f {y = Arriving arriving.0} arriving.1)) fits))
       | inr other ↦
           subst (λ x. IsTracked limits qs s x t) (retold_elsewhere tale p.read s mid other ∙ sym (retold_elsewhere tale p.read s story other))
           (tracked s t (sym (changed_elsewhere p.read s f p.tracks.items other) ∙ at))

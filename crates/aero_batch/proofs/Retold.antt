@@ -1,24 +1,23 @@
 -- A step keeps what holds of the sources: settling, and asking for a verdict.
-use Rattle.std.proofs.Common.{◌≡◌, ℕ, zero, suc, ◌+◌, ◌<◌, ◌≤◌, Bool, true, false, eqb, cond, List, [], ◌∷◌, ◌++◌, map, length, slice_get, slice_set, Option, Some, None, refl, sym, ◌∙◌, ap, ap₂, subst, inl, inr, arith}
-use Rattle.std.specs.Prelude.{option_map, option_to_list}
-use Rattle.std.specs.List.{concat}
+use Rattle.std.proofs.Common.{◌≡◌, ℕ, ◌<◌, eqb, cond, List, [], ◌∷◌, ◌++◌, map, length, slice_get, Option, Some, None, refl, sym, ◌∙◌, ap, subst, inl, inr}
+use Rattle.std.specs.Prelude.{option_to_list}
 use Rattle.std.proofs.lemmas.Bool.{cases_eq, eq-eqb, ne_eqb}
 use Rattle.std.proofs.lemmas.List.{append-nil}
 use Rattle.aero_model.specs.declared.limits.Limits.{Limits}
-use Rattle.aero_model.specs.declared.verdict.Ending.{Ending}
 use Rattle.aero_grammar.specs.Reading.{Reading, reading_of}
 use Rattle.aero_pieces.specs.declared.question.Question.{Question}
 use Rattle.aero_pieces.specs.declared.question.Question.TheVariants.{Parse, Check}
 use Rattle.aero_batch.specs.declared.progress.Progress.{Progress}
-use Rattle.aero_batch.specs.declared.track.Track.{Track}
-use Rattle.aero_batch.specs.declared.track.Track.TheVariants.{Arriving, Arrived, Checking, Found}
+use Rattle.aero_intake.specs.declared.track.Track.{Track}
+use Rattle.aero_intake.specs.declared.track.Track.TheVariants.{Arriving, Arrived, Checking, Found}
 use Rattle.aero_batch.specs.Founds.{Sighted}
-use Rattle.aero_batch.specs.Holding.{Holds, HasEnded, HaveComeFrom, nothing_known}
-use Rattle.aero_batch.specs.Inquiries.{Inquired, with_question}
-use Rattle.aero_batch.specs.Intake.{Taking, IsTaken}
-use Rattle.aero_batch.specs.Steps.{ChecksNext, SettlesNext, with_block, with_check}
-use Rattle.aero_batch.specs.Tracks.{Story, IsTracked, AreTracked, IsReady, GivesReadings, changed}
-use Rattle.aero_batch.proofs.Tracked.{changed_there, changed_elsewhere, before_change, settled_tracked, asked_other, asked_block, asked_check}
+use Rattle.aero_batch.specs.Holding.{Holds, HaveComeFrom}
+use Rattle.aero_batch.specs.Inquiries.{Inquired}
+use Rattle.aero_intake.specs.Intake.{Taking, IsTaken}
+use Rattle.aero_batch.specs.Steps.{ChecksNext, SettlesNext, Settles, with_block, with_check}
+use Rattle.aero_intake.specs.Stories.{Story, IsTracked, AreTracked, changed}
+use Rattle.aero_intake.specs.Tracks.{IsReady, GivesReadings}
+use Rattle.aero_intake.proofs.Tracked.{changed_there, changed_elsewhere, before_change, value_goes, asked_other, asked_block, asked_check}
 
 -- the stories with another one for the source at the place
 abbrev pub retold : (ℕ → Story) → ℕ → Story → ℕ → Story
@@ -45,6 +44,16 @@ without_reading limits old now p q tale read intake blocks tracked holds = recor
   not_ended = ap (λ r. (tale r).ending) read ∙ holds.not_ended;
   later = λ s above. holds.later s (subst (λ r. r < s) read above);
 }
+
+-- Settling the oldest question keeps what is known of each source.
+pub settled_tracked : (limits : Limits) (tale : ℕ → Story) (qs : List Question) (asked : ℕ) (new : Inquired) (old_tracks new_tracks : List Track) →
+    Settles qs asked new old_tracks new_tracks → AreTracked limits qs tale old_tracks → AreTracked limits new.open_ones tale new_tracks
+settled_tracked limits tale [] asked new old_tracks new_tracks is tracked s t at =
+    subst (λ (i : Inquired). IsTracked limits i.open_ones s (tale s) t) (sym is.0)
+    (tracked s t (subst (λ ts. slice_get ts s ≡ Some t) is.1 at))
+settled_tracked limits tale (q ∷ rest) asked new old_tracks new_tracks is tracked s t at =
+    subst (λ (i : Inquired). IsTracked limits i.open_ones s (tale s) t) (sym is.0)
+    (value_goes limits tale q rest is.1.value old_tracks is.1.known tracked s t (subst (λ ts. slice_get ts s ≡ Some t) is.1.tracks at))
 
 pub settling_holds : (limits : Limits) (old now : List Sighted) (p q : Progress) (tale : ℕ → Story) → SettlesNext p q → Holds limits old now p tale → Holds limits old now q tale
 settling_holds limits old now p q tale is holds =

@@ -1,37 +1,33 @@
 -- What holds between two steps is kept by each, and says what was written where the run stops.
-use Rattle.std.proofs.Common.{◌≡◌, ℕ, zero, suc, ◌+◌, ◌*◌, ◌<◌, ◌≤◌, Bool, true, false, List, [], ◌∷◌, ◌++◌, map, length, take, slice_get, Option, Some, None, Result, Ok, Err, refl, sym, ◌∙◌, ap, ap₂, subst, append_assoc, inl, inr, arith}
-use Rattle.std.specs.Prelude.{◌^◌, IfOk, IfErr, OnOk, replicate, ◌⊎◌, flat_map, fold, option_to_list, vec_len, vec_capacity}
+use Rattle.std.proofs.Common.{◌≡◌, ℕ, zero, suc, ◌+◌, ◌<◌, ◌≤◌, Bool, true, false, List, [], ◌∷◌, ◌++◌, map, length, take, slice_get, Option, Some, None, Result, Ok, Err, refl, sym, ◌∙◌, ap, ap₂, subst, inl, inr, arith}
+use Rattle.std.specs.Prelude.{◌^◌, IfOk, IfErr, OnOk, replicate, ◌⊎◌, vec_len}
 use Rattle.std.specs.List.{concat}
-use Rattle.std.specs.Io.KnownBytes.{Appends}
 use Rattle.std.proofs.KnownBytes.{Appends-nil, Appends-trans}
-use Rattle.std.proofs.lemmas.Bool.{cases_eq}
-use Rattle.std.proofs.lemmas.List.{append-nil, length-append, length-map, map-append, length_push, length-replicate}
+use Rattle.std.proofs.lemmas.List.{append-nil, length-map, map-append, length_push, length-replicate}
 use Rattle.std.proofs.lemmas.Grind.{flat_map-append}
 use Rattle.std.proofs.lemmas.List.Sums.{fold-append}
-use Rattle.std.proofs.lemmas.Option.{slice_get_within, slice_get_past}
+use Rattle.std.proofs.lemmas.Option.{slice_get_within}
 use Rattle.aero_model.specs.declared.limits.Limits.{Limits}
-use Rattle.aero_model.specs.declared.verdict.Counts.{Counts}
 use Rattle.aero_model.specs.declared.verdict.Ending.{Ending}
 use Rattle.aero_model.specs.declared.verdict.Finding.{Finding}
 use Rattle.aero_model.specs.Counts.{Seen}
-use Rattle.aero_report.specs.Texts.{source_line, source_lines, summary_line, counts_of, counted, no_counts, report}
-use Rattle.aero_verdict.specs.Finding.{IsFinding}
+use Rattle.aero_report.specs.Texts.{source_line, source_lines, summary_line, counts_of, counted, no_counts}
 use Rattle.aero_batch.specs.declared.outcome.Cause.{Cause}
 use Rattle.aero_batch.specs.declared.outcome.Cause.TheVariants.{Memory, Write}
 use Rattle.aero_batch.specs.declared.progress.Progress.{Progress}
 use Rattle.aero_batch.specs.declared.told.Told.{Told}
-use Rattle.aero_batch.specs.declared.track.Track.{Track}
-use Rattle.aero_batch.specs.declared.track.Track.TheVariants as tracks
-use Rattle.aero_batch.specs.Founds.{Sighted, Found, IsFoundOf, IsFoundAt, AreOfTheFirst, told, ending_of, lines_of_all, counts_of_all, Took, IsNextText, WasCutOff, IsWritten, WasRun}
-use Rattle.aero_batch.specs.Holding.{Holds, HasEnded, AreTold, Tells, Counted, Stands, HasNumbers, IsBegun, nothing_known}
+use Rattle.aero_intake.specs.declared.track.Track.{Track}
+use Rattle.aero_intake.specs.declared.track.Track.TheVariants as tracks
+use Rattle.aero_batch.specs.Founds.{Sighted, Found, IsFoundAt, AreOfTheFirst, told, ending_of, lines_of_all, counts_of_all, Took, IsNextText, WasCutOff, IsWritten, WasRun}
+use Rattle.aero_batch.specs.Holding.{Holds, AreTold, Tells, Stands, HasNumbers, IsBegun, nothing_known}
 use Rattle.aero_batch.specs.Inquiries.{Inquired}
-use Rattle.aero_batch.specs.Intake.{Taking, IsTaken, HaveCome}
-use Rattle.aero_batch.specs.Source.{WasRead}
+use Rattle.aero_intake.specs.Intake.{Taking, IsTaken, HaveCome}
+use Rattle.aero_intake.specs.Source.{WasRead}
 use Rattle.aero_batch.specs.Steps.{Steps, ReadsOn}
 use Rattle.aero_batch.specs.Telling.{WasCut, TellsText, TellsNext, IsOneMore, cause_of, total}
-use Rattle.aero_batch.specs.Tracks.{Story, IsTracked}
+use Rattle.aero_intake.specs.Stories.{Story, IsTracked}
 use Rattle.aero_batch.proofs.Readings.{piece_holds, ending_holds}
-use Rattle.aero_batch.proofs.Taken.{nothing_is_taken, nothing_has_come}
+use Rattle.aero_intake.proofs.Taken.{nothing_is_taken, nothing_has_come}
 use Rattle.aero_batch.proofs.Retold.{settling_holds, checking_holds}
 use Rattle.aero_batch.proofs.Sums.{settling_counted, checking_counted, piece_counted, ending_counted}
 

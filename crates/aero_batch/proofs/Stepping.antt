@@ -1,17 +1,18 @@
 -- What the code of a step does is the step.
-use Rattle.std.proofs.Common.{◌≡◌, ℕ, ◌+◌, ◌<◌, List, [], ◌∷◌, ◌++◌, length, slice_get, slice_set, Option, Some, None, refl, sym, ◌∙◌, ap, ap₂, subst}
+use Rattle.std.proofs.Common.{◌≡◌, ℕ, ◌+◌, List, [], ◌∷◌, slice_get, Option, Some, None, refl, ◌∙◌, ap, ap₂}
 use Rattle.std.specs.Vec.{with_item}
 use Rattle.std.proofs.lemmas.Option.{some_pair_parts}
 use Rattle.aero_model.specs.declared.verdict.Ending.{Ending}
 use Rattle.aero_pieces.specs.declared.question.Question.{Question}
 use Rattle.aero_pieces.specs.declared.answer.Value.{Value}
 use Rattle.aero_batch.specs.declared.progress.Progress.{Progress}
-use Rattle.aero_batch.specs.declared.track.Track.{Track}
-use Rattle.aero_batch.specs.Inquiries.{Inquired, Gives, trace_of}
-use Rattle.aero_batch.specs.Intake.{Taking, nothing_taken}
-use Rattle.aero_batch.specs.Steps.{EndsSource, with_block, last_of, ended_track}
-use Rattle.aero_batch.specs.Tracks.{Settles, changed, with_value}
-use Rattle.aero_batch.proofs.Tracked.{set_changed}
+use Rattle.aero_intake.specs.declared.track.Track.{Track}
+use Rattle.aero_batch.specs.Inquiries.{Inquired, Gives}
+use Rattle.aero_intake.specs.Intake.{Taking, nothing_taken}
+use Rattle.aero_batch.specs.Steps.{EndsSource, with_block, last_of, ended_track, Settles}
+use Rattle.aero_intake.specs.Stories.{changed, trace_of}
+use Rattle.aero_intake.specs.Tracks.{with_value}
+use Rattle.aero_intake.proofs.Tracked.{set_changed}
 
 -- asking about a block changes the questions and the number of blocks alone
 

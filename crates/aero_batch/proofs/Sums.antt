@@ -1,7 +1,6 @@
 -- The numbers of a run stay within their bounds.
-use Rattle.std.proofs.Common.{◌≡◌, ℕ, zero, suc, ◌+◌, ◌*◌, ◌<◌, ◌≤◌, ◌^◌, List, [], ◌∷◌, ◌++◌, map, length, Option, Some, None, refl, sym, ◌∙◌, ap, subst, arith}
-use Rattle.std.specs.Prelude.{option_to_list, vec_len}
-use Rattle.std.proofs.lemmas.List.{length_push, length-append}
+use Rattle.std.proofs.Common.{◌≡◌, ℕ, ◌+◌, ◌<◌, ◌≤◌, ◌^◌, List, [], ◌∷◌, length, Option, Some, None, refl, sym, ◌∙◌, ap, subst, arith}
+use Rattle.std.proofs.lemmas.List.{length_push}
 use Rattle.aero_model.specs.declared.limits.Limits.{Limits}
 use Rattle.aero_model.specs.declared.verdict.Ending.{Ending}
 use Rattle.aero_model.specs.Counts.{Seen}
@@ -10,13 +9,14 @@ use Rattle.aero_lines.specs.Cutting.{block_of}
 use Rattle.aero_pieces.specs.declared.question.Question.{Question}
 use Rattle.aero_pieces.specs.declared.question.Question.TheVariants.{Parse, Check}
 use Rattle.aero_batch.specs.declared.progress.Progress.{Progress}
-use Rattle.aero_batch.specs.declared.track.Track.{Track}
+use Rattle.aero_intake.specs.declared.track.Track.{Track}
 use Rattle.aero_batch.specs.Holding.{Counted}
-use Rattle.aero_batch.specs.Inquiries.{Inquired, with_question, trace_of}
-use Rattle.aero_batch.specs.Intake.{Taking, with_piece, nothing_taken}
-use Rattle.aero_batch.specs.Steps.{ChecksNext, SettlesNext, TakesPiece, EndsSource, MayAsk, with_block, with_check, last_of, ended_track}
-use Rattle.aero_batch.specs.Tracks.{Settles, changed, with_value}
-use Rattle.aero_batch.proofs.Tracked.{changed_length}
+use Rattle.aero_batch.specs.Inquiries.{Inquired}
+use Rattle.aero_intake.specs.Intake.{Taking}
+use Rattle.aero_batch.specs.Steps.{ChecksNext, SettlesNext, TakesPiece, EndsSource, MayAsk, with_block, with_check, last_of, ended_track, Settles}
+use Rattle.aero_intake.specs.Stories.{trace_of}
+use Rattle.aero_intake.specs.Tracks.{with_value}
+use Rattle.aero_intake.proofs.Tracked.{changed_length}
 
 pub record Fewer (qs : List Question) (asked : ℕ) (new : Inquired) (old_tracks new_tracks : List Track) : Type 0 where
   pub questions : length new.open_ones ≤ length qs

@@ -1,5 +1,5 @@
 -- What a run found of its sources.
-use Rattle.std.specs.Prelude.{◌≡◌, ℕ, ◌+◌, ◌<◌, ◌≤◌, ◌⊎◌, List, ◌++◌, map, length, take, slice_get, Option, Some, None}
+use Rattle.std.specs.Prelude.{◌≡◌, ℕ, ◌+◌, ◌<◌, ◌⊎◌, List, ◌++◌, map, length, take, slice_get, Option, Some, None}
 use Rattle.std.specs.Io.KnownBytes.{Appends}
 use Rattle.aero_model.specs.declared.limits.Limits.{Limits}
 use Rattle.aero_model.specs.declared.verdict.Counts.{Counts}
@@ -10,8 +10,8 @@ use Rattle.aero_report.specs.Texts.{source_line, source_lines, summary_line, cou
 use Rattle.aero_verdict.specs.Finding.{IsFinding}
 use Rattle.aero_batch.specs.declared.outcome.Cause.{Cause}
 use Rattle.aero_batch.specs.declared.outcome.Cause.TheVariants.{Memory, Write}
-use Rattle.aero_batch.specs.declared.source.Source.{Source}
-use Rattle.aero_batch.specs.Source.{WasRead}
+use Rattle.aero_intake.specs.declared.source.Source.{Source}
+use Rattle.aero_intake.specs.Source.{WasRead}
 
 -- a source at a moment, as contracts see it: its name, and its reader
 pub record Sighted : Type 0 where

@@ -1,5 +1,5 @@
 -- What holds of a run between two steps.
-use Rattle.std.specs.Prelude.{◌≡◌, ℕ, ◌+◌, ◌*◌, ◌<◌, ◌≤◌, ◌^◌, List, [], map, length, slice_get, Option, Some, None, vec_len, vec_capacity}
+use Rattle.std.specs.Prelude.{◌≡◌, ℕ, ◌+◌, ◌*◌, ◌<◌, ◌≤◌, ◌^◌, List, [], map, length, slice_get, Some, None, vec_len, vec_capacity}
 use Rattle.std.specs.List.{concat}
 use Rattle.aero_model.specs.declared.limits.Limits.{Limits}
 use Rattle.aero_model.specs.declared.verdict.Ending.{Ending}
@@ -9,11 +9,11 @@ use Rattle.aero_verdict.specs.Finding.{IsFinding}
 use Rattle.aero_batch.specs.declared.progress.Progress.{Progress}
 use Rattle.aero_batch.specs.declared.told.Told.{Told}
 use Rattle.aero_batch.specs.Founds.{Sighted, Found, Took, ending_of, counts_of_all, lines_of_all}
-use Rattle.aero_batch.specs.Intake.{IsTaken, HaveCome}
-use Rattle.aero_batch.specs.Source.{WasRead}
+use Rattle.aero_intake.specs.Intake.{IsTaken, HaveCome}
+use Rattle.aero_intake.specs.Source.{WasRead}
 use Rattle.aero_batch.specs.Steps.{IsStart}
 use Rattle.aero_batch.specs.Telling.{total}
-use Rattle.aero_batch.specs.Tracks.{Story, AreTracked}
+use Rattle.aero_intake.specs.Stories.{Story, AreTracked}
 
 -- of a source that was not read yet
 abbrev pub nothing_known : Story

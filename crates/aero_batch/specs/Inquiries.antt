@@ -1,11 +1,11 @@
 -- The questions that are open, as contracts see them: whatever the helpers reply, they stay in their order until they are given back.
-use Rattle.std.specs.Prelude.{◌≡◌, ℕ, ◌+◌, List, [], ◌∷◌, ◌++◌, map, Option, Some, None, length}
+use Rattle.std.specs.Prelude.{◌≡◌, ℕ, ◌+◌, List, [], ◌∷◌, ◌++◌, map, Option, Some, None}
 use Rattle.aero_pieces.specs.declared.question.Question.{Question}
-use Rattle.aero_pieces.specs.declared.question.Question.TheVariants.{Parse, Check}
 use Rattle.aero_pieces.specs.declared.answer.Value.{Value}
 use Rattle.aero_pieces.specs.Values.{IsValueOf}
 use Rattle.aero_pieces.specs.Schedule.{Entry}
 use Rattle.aero_gather.specs.Gathered.{Gathered}
+use Rattle.aero_intake.specs.Stories.{trace_of}
 
 -- the open questions, the oldest first, and how many were asked
 pub record Inquired : Type 0 where
@@ -20,11 +20,6 @@ nothing_asked = record { open_ones = []; asked = 0 }
 
 abbrev pub with_question : Inquired → Question → Inquired
 with_question i q = record { open_ones = i.open_ones ++ q ∷ []; asked = i.asked + 1 }
-
--- the number of the trace that a question is about
-abbrev pub trace_of : Question → ℕ
-trace_of (Parse trace number bytes) = trace
-trace_of (Check trace parts limits) = trace
 
 -- the oldest open question leaves, and its value is given with the number of its trace
 abbrev pub Gives : List Question → ℕ → Inquired → Option (ℕ × Value) → Type 0

@@ -1,10 +1,5 @@
 pub mod Founds
 pub mod Holding
 pub mod Inquiries
-pub mod Intake
-pub mod Laws
-pub mod Plans
-pub mod Source
 pub mod Steps
 pub mod Telling
-pub mod Tracks

@@ -1,5 +1,5 @@
 -- The steps of a run.
-use Rattle.std.specs.Prelude.{◌≡◌, ℕ, ◌+◌, ◌-◌, ◌*◌, ◌<◌, ◌≤◌, ◌^◌, ◌⊎◌, List, [], ◌∷◌, ◌++◌, map, length, replicate, slice_get, Option, Some, None, option_to_list, vec_len}
+use Rattle.std.specs.Prelude.{◌≡◌, ℕ, ◌+◌, ◌-◌, ◌<◌, ◌^◌, ◌⊎◌, List, [], ◌∷◌, length, replicate, slice_get, Option, Some, None, vec_len}
 use Rattle.aero_model.specs.declared.limits.Limits.{Limits}
 use Rattle.aero_model.specs.declared.verdict.Ending.{Ending}
 use Rattle.aero_model.specs.declared.verdict.Ending.TheVariants as endings
@@ -10,12 +10,13 @@ use Rattle.aero_lines.specs.Cutting.{Cutting, block_of, last_block}
 use Rattle.aero_pieces.specs.declared.question.Question.{Question}
 use Rattle.aero_pieces.specs.declared.question.Question.TheVariants.{Parse, Check}
 use Rattle.aero_batch.specs.declared.progress.Progress.{Progress}
-use Rattle.aero_batch.specs.declared.track.Track.{Track}
-use Rattle.aero_batch.specs.declared.track.Track.TheVariants.{Arriving, Arrived, Checking, Found}
+use Rattle.aero_intake.specs.declared.track.Track.{Track}
+use Rattle.aero_intake.specs.declared.track.Track.TheVariants.{Arriving, Found}
 use Rattle.aero_batch.specs.Founds.{Sighted}
 use Rattle.aero_batch.specs.Inquiries.{Inquired, nothing_asked, with_question}
-use Rattle.aero_batch.specs.Intake.{Taking, nothing_taken, with_piece, Comes, Ends}
-use Rattle.aero_batch.specs.Tracks.{with_arrival, changed, IsReady, GivesReadings, Settles}
+use Rattle.aero_intake.specs.Intake.{nothing_taken, with_piece, Comes, Ends}
+use Rattle.aero_intake.specs.Tracks.{with_arrival, IsReady, GivesReadings}
+use Rattle.aero_intake.specs.Stories.{changed, IsSettledWith}
 
 -- before the first step
 pub record IsStart (piece sources : ℕ) (progress : Progress) : Type 0 where
@@ -98,6 +99,11 @@ pub record ChecksNext (limits : Limits) (old new : Progress) : Type 0 where
   pub intake : new.intake ≡ old.intake
   pub blocks : new.blocks ≡ old.blocks
   pub buffer : vec_len new.buffer ≡ vec_len old.buffer
+
+-- The value of the oldest open question, if there is one, goes to the track of its source.
+abbrev pub Settles : List Question → ℕ → Inquired → List Track → List Track → Type 0
+Settles [] asked inquiry old new = (inquiry ≡ record { open_ones = []; asked = asked }) × (new ≡ old)
+Settles (q ∷ rest) asked inquiry old new = (inquiry ≡ record { open_ones = rest; asked = asked }) × IsSettledWith q old new
 
 -- The oldest open question is settled, if there is one.
 pub record SettlesNext (old new : Progress) : Type 0 where

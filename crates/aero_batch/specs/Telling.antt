@@ -9,8 +9,8 @@ use Rattle.aero_report.specs.Texts.{source_line, counted}
 use Rattle.aero_batch.specs.declared.outcome.Cause.{Cause}
 use Rattle.aero_batch.specs.declared.outcome.Cause.TheVariants.{Memory, Write}
 use Rattle.aero_batch.specs.declared.told.Told.{Told}
-use Rattle.aero_batch.specs.declared.track.Track.{Track}
-use Rattle.aero_batch.specs.declared.track.Track.TheVariants.{Arriving, Arrived, Checking, Found}
+use Rattle.aero_intake.specs.declared.track.Track.{Track}
+use Rattle.aero_intake.specs.declared.track.Track.TheVariants.{Found}
 use Rattle.aero_batch.specs.Founds.{Took}
 
 abbrev pub total : Counts → ℕ

@@ -1,12 +1,13 @@
 //! Asking for the verdicts of whole sources, and settling what was asked.
 ghost use Rattle.std.specs.Prelude.{◌≡◌, ◌<◌, ◌-◌, ◌^◌, length, vec_len, slice_get, OnOk};
 ghost use Rattle.aero_batch.specs.Steps.{MayAsk, ChecksNext, SettlesNext, with_check};
-ghost use Rattle.aero_batch.specs.Tracks.{IsReady, changed, with_value};
+ghost use Rattle.aero_intake.specs.Tracks.{IsReady, with_value};
+ghost use Rattle.aero_intake.specs.Stories.{changed};
 
 use crate::helpers::Helpers;
 use crate::inquiry::Inquiry;
 use crate::progress::Progress;
-use crate::track::{Readings, Track, take_readings, take_value};
+use aero_intake::track::{Readings, Track, take_readings, take_value};
 use aero_model::limits::Limits;
 use aero_pieces::answer::Value;
 use aero_pieces::question::Question;

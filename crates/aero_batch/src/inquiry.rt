@@ -1,7 +1,8 @@
 //! The questions that are open, and those who may answer them.
 ghost use Rattle.std.specs.Prelude.{◌≡◌, ◌<◌, ◌-◌, ◌+◌, ◌^◌, ◌↔◌, [], length, map, IfOk, OnOk, OnErr, IsTrue};
 ghost use Rattle.std.specs.Arc.{arc_value};
-ghost use Rattle.aero_batch.specs.Inquiries.{nothing_asked, with_question, Gives, SettlesKnown, questions_of, trace_of};
+ghost use Rattle.aero_batch.specs.Inquiries.{nothing_asked, with_question, Gives, SettlesKnown, questions_of};
+ghost use Rattle.aero_intake.specs.Stories.{trace_of};
 
 use crate::helpers::Helpers;
 use aero_gather::gather::{Gather, Oldest, Tally, Ticket};

@@ -6,9 +6,8 @@
 //! pieces, the number of workers and the order of their answers: `specs/Founds.antt` has it in full.
 //! `run_over` is the same with any helpers, of whom nothing is promised.
 //!
-//! An `Intake` takes the pieces of one source, and tells how the source ended: whole, by a read that
-//! failed, or by one byte more than the limit allows. `laws` says that the blocks of a source have
-//! the verdict of its text, however its bytes came.
+//! How a source is read, and what is known of it, is aero_intake's: its `plan` and its `source` are
+//! those of a run.
 //!
 //! ```text
 //! let plan = Plan::new(4, 65_536, Limits::greatest()).ok_or("no such plan")?;
@@ -25,16 +24,13 @@
 mod checking;
 pub mod helpers;
 mod inquiry;
-pub mod intake;
-pub mod laws;
 pub mod outcome;
-pub mod plan;
 mod progress;
 mod reading;
 pub mod run;
-pub mod source;
 mod step;
 #[cfg(test)]
 mod tests;
 mod told;
-mod track;
+
+pub use aero_intake::{intake, laws, plan, source};

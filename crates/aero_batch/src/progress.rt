@@ -3,9 +3,9 @@ ghost use Rattle.std.specs.Prelude.{◌≡◌, replicate, length, IfOk, []};
 ghost use Rattle.aero_batch.specs.Steps.{IsStart};
 
 use crate::inquiry::Inquiry;
-use crate::intake::Intake;
-use crate::plan::Plan;
-use crate::track::{Readings, Track};
+use aero_intake::intake::Intake;
+use aero_intake::plan::Plan;
+use aero_intake::track::{Readings, Track};
 use std::alloc::{AllocError, Global};
 
 /// How far a run is. The sources are read one after the other, and their verdicts are asked for in

@@ -5,9 +5,9 @@ ghost use Rattle.aero_model.specs.Counts.{seen_by};
 ghost use Rattle.aero_batch.specs.Steps.{MayAsk, ReadsOn, EndsSource, with_block, last_of, ended_track};
 
 use crate::helpers::Helpers;
-use crate::intake::{Intake, Taken};
 use crate::progress::Progress;
-use crate::track::{Track, arrive};
+use aero_intake::intake::{Intake, Taken};
+use aero_intake::track::{Track, arrive};
 use aero_lines::cutter::Block;
 use aero_model::counting::Counting;
 use aero_model::limits::Limits;

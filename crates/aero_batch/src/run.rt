@@ -7,12 +7,12 @@ ghost use Rattle.aero_batch.specs.Holding.{HasNumbers, IsBegun, Stands};
 
 use crate::helpers::{Helpers, Nobody};
 use crate::outcome::{Cause, Outcome};
-use crate::plan::Plan;
 use crate::progress::Progress;
-use crate::source::Source;
 use crate::step::step;
 use crate::told::{Told, nothing_counted, tell_next, tell_summary};
 use aero_gather::gather::Tally;
+use aero_intake::plan::Plan;
+use aero_intake::source::Source;
 use aero_model::counting::Counting;
 use aero_model::limits::Limits;
 use aero_worker::{Crew, Gate};

@@ -1,23 +1,22 @@
-// The rows of a run: what is written, over helpers of several kinds, and readers and writers that
-// fail.
+// The rows of a run: what is written of a text, whoever helps, and where reads and writes fail. In
+// texts and reports `/` stands for the byte 10.
 mod gates;
-mod intake;
+mod habits;
+mod streams;
 
 use crate::helpers::{Helpers, Nobody};
 use crate::outcome::{Cause, Outcome};
-use crate::plan::Plan;
 use crate::run::run_over;
-use crate::source::Source;
 use crate::tests::gates::expect_by_crew;
+use crate::tests::habits::{Habit, helper_with};
+use crate::tests::streams::{BreaksOnce, CutsOnce, Endless};
+use aero_intake::plan::Plan;
+use aero_intake::source::Source;
 use aero_model::counting::Counting;
 use aero_model::limits::Limits;
 use aero_model::verdict::Ending;
-use aero_pieces::question::{Bytes, Question};
-use aero_stage::{Full, Job};
-use aero_worker::Reply;
 use std::alloc::{AllocError, Global};
-use std::io;
-use std::io::{Read, Write};
+use std::io::Read;
 use std::process::Abort;
 use std::sync::Wait;
 use std::test::Fail;
@@ -26,191 +25,34 @@ use std::thread::Threads;
 const PIECES: [u32; 4] = [1, 2, 7, 65_536];
 
 // Two blocks that cross, each before the other.
-const CROSSED: &[u8] = b"T1|begin\nT2|begin\nT1|w(x)\nT2|r(x)\nT2|w(y)\nT1|r(y)";
+const CROSSED: &str = "T1|begin/T2|begin/T1|w(x)/T2|r(x)/T2|w(y)/T1|r(y)";
 
 // A cycle through two open blocks, and the end of one of them.
-const CLOSED_BY_AN_END: &[u8] = b"T1|begin\nT2|begin\nT2|w(y)\nT1|w(x)\nT2|r(x)\nT1|r(y)\nT1|end";
+const CLOSED_BY_AN_END: &str = "T1|begin/T2|begin/T2|w(y)/T1|w(x)/T2|r(x)/T1|r(y)/T1|end";
 
-const ONE_BLOCK: &[u8] = b"T1|begin\nT1|w(x)\nT1|r(x)\nT1|w(x)\nT1|end";
+const ONE_BLOCK: &str = "T1|begin/T1|w(x)/T1|r(x)/T1|w(x)/T1|end";
 
-// What a helper does with the jobs that are posted.
-#[derive(Clone, Copy, PartialEq, Eq)]
-enum Habit {
-    // Answers the newest job first.
-    Newest,
-    // Gives each answer twice.
-    Twice,
-    // Before each answer to a question on a block, gives the answer to one with the same numbers and
-    // other bytes.
-    Forges,
-    // Says that no answer comes.
-    Misses,
-    // Says that there are no more replies.
-    Leaves,
-    // Takes no job.
-    Refuses,
-}
+const LARGE: &str = "n: too large/traces 1: serializable 0, open 0, violations 0, faults 1/";
 
-#[derive(Drop)]
-struct Helper {
-    alloc: Global,
-    habit: Habit,
-    jobs: Vec<Job>,
-    next: Vec<Reply>,
-}
+// What is written of the sources a, b and c, with these two texts and an empty one between them.
+const REPORT_OF_THREE: &str =
+    "a: violation at line 6: block of T1 from line 1/b: serializable (0 events, 0 blocks)/c: violation at line 7: block of T2 from line 2/traces 3: serializable 1, open 0, violations 2, faults 0/";
 
-fn helper_with(alloc: Global, habit: Habit) -> Helper {
-    Helper {
-        alloc,
-        habit,
-        jobs: Vec::new(alloc),
-        next: Vec::new(alloc),
-    }
-}
-
-fn answer(alloc: Global, job: &Job) -> Reply {
-    match Question::answer(&job.question, alloc) {
-        Ok(answer) => Reply::Done(answer),
-        Err(_) => Reply::Missed(job.number),
-    }
-}
-
-// The answer to a question with the same numbers and other bytes.
-fn forged(alloc: Global, question: &Question) -> Result<Option<Reply>, AllocError> {
-    let Question::Parse { trace, number, .. } = question else {
-        return Ok(None);
-    };
-    let Some(bytes) = Bytes::new(b"T9|end\n".to_vec(alloc)?) else {
-        return Ok(None);
-    };
-    let other = Question::Parse {
-        trace: *trace,
-        number: *number,
-        bytes,
-    }
-    .share(alloc)?;
-    Ok(Some(Reply::Done(Question::answer(&other, alloc)?)))
-}
-
-impl Helper {
-    fn take(&mut self) -> Option<Job> {
-        if self.habit == Habit::Newest || self.jobs.is_empty() {
-            return self.jobs.pop();
-        }
-        Some(self.jobs.remove(0))
-    }
-
-    fn reply(&mut self, job: &Job) -> Result<Reply, AllocError> {
-        match self.habit {
-            Habit::Twice => self.next.push(answer(self.alloc, job))?,
-            Habit::Forges => {
-                if let Some(reply) = forged(self.alloc, &job.question)? {
-                    self.next.push(answer(self.alloc, job))?;
-                    return Ok(reply);
-                }
-            }
-            Habit::Misses => return Ok(Reply::Missed(job.number)),
-            Habit::Newest | Habit::Leaves | Habit::Refuses => {}
-        }
-        Ok(answer(self.alloc, job))
-    }
-}
-
-impl Helpers for Helper {
-    fn workers(&self) -> u32 {
-        2
-    }
-
-    fn post<R: Wait>(&mut self, _rt: &R, job: Job) -> Result<(), Full> {
-        if self.habit == Habit::Refuses {
-            return Err(Full { job });
-        }
-        match self.jobs.push(job) {
-            Ok(()) => Ok(()),
-            Err(refused) => Err(Full { job: refused.value }),
+fn lines_of(alloc: Global, text: &str) -> Result<Vec<u8>, AllocError> {
+    let mut bytes = text.as_bytes().to_vec(alloc)?;
+    for byte in bytes.iter_mut() {
+        if *byte == b'/' {
+            *byte = b'\n';
         }
     }
-
-    fn next_answer<R: Wait>(&mut self, _rt: &R) -> Option<Reply> {
-        if self.habit == Habit::Leaves {
-            return None;
-        }
-        if let Some(reply) = self.next.pop() {
-            return Some(reply);
-        }
-        let job = self.take()?;
-        match self.reply(&job) {
-            Ok(reply) => Some(reply),
-            Err(_) => Some(Reply::Missed(job.number)),
-        }
-    }
+    Ok(bytes)
 }
 
-// A reader that fails at one call, once it has given so many bytes, and works again afterwards.
-#[derive(Drop)]
-struct BreaksOnce<'a> {
-    text: &'a [u8],
-    left: usize,
-    has_failed: bool,
-}
-
-impl Read for BreaksOnce<'_> {
-    fn read(&mut self, buf: &mut [u8]) -> io::Result<usize> {
-        if self.left == 0 && !self.has_failed {
-            self.has_failed = true;
-            return Err(io::Error::from(io::ErrorKind::Interrupted));
-        }
-        let most = if self.has_failed {
-            buf.len()
-        } else {
-            buf.len().min(self.left)
-        };
-        let count = self.text.read(&mut buf[..most])?;
-        self.left = self.left.saturating_sub(count);
-        Ok(count)
-    }
-}
-
-// A reader without an end.
-#[derive(Drop)]
-struct Endless;
-
-impl Read for Endless {
-    fn read(&mut self, buf: &mut [u8]) -> io::Result<usize> {
-        for byte in buf.iter_mut() {
-            *byte = b'a';
-        }
-        Ok(buf.len())
-    }
-}
-
-// A writer that fails at one call, once it has taken so many bytes, and works again afterwards.
-#[derive(Drop)]
-struct CutsOnce {
-    taken: Vec<u8>,
-    left: usize,
-    has_failed: bool,
-}
-
-impl Write for CutsOnce {
-    fn write(&mut self, buf: &[u8]) -> io::Result<usize> {
-        if self.left == 0 && !self.has_failed {
-            self.has_failed = true;
-            return Err(io::Error::from(io::ErrorKind::Interrupted));
-        }
-        let count = if self.has_failed {
-            buf.len()
-        } else {
-            buf.len().min(self.left)
-        };
-        self.taken.extend_from_slice(&buf[..count])?;
-        self.left = self.left.saturating_sub(count);
-        Ok(count)
-    }
-
-    fn flush(&mut self) -> io::Result<()> {
-        Ok(())
-    }
+// Both texts, one right after the other.
+fn texts_of_two(alloc: Global) -> Result<Vec<u8>, AllocError> {
+    let mut texts = lines_of(alloc, CROSSED)?;
+    texts.extend_from_slice(&lines_of(alloc, CLOSED_BY_AN_END)?)?;
+    Ok(texts)
 }
 
 fn plan_of(limits: Limits, piece: u32) -> Result<Plan, Fail> {
@@ -220,32 +62,37 @@ fn plan_of(limits: Limits, piece: u32) -> Result<Plan, Fail> {
     }
 }
 
-fn source_of<R: Drop>(alloc: Global, name: &[u8], reader: R) -> Result<Source<R>, AllocError> {
+fn limits_of(bytes: u32, lines: u32, threads: u32, names: u32) -> Result<Limits, Fail> {
+    match Limits::new(bytes, lines, threads, names) {
+        Some(limits) => Ok(limits),
+        None => Err("no such limits".into()),
+    }
+}
+
+fn source_of<R: Drop>(alloc: Global, name: &str, reader: R) -> Result<Source<R>, AllocError> {
     Ok(Source {
-        name: name.to_vec(alloc)?,
+        name: name.as_bytes().to_vec(alloc)?,
         reader: Counting::new(reader),
     })
 }
 
-// Runs over one source with the name n, and expects its line before the summary.
-fn expect_line<R: Read + Drop, H: Helpers, T: Abort + AllocGlobal + Wait>(
+// Runs over one source with the name n, and expects that what is written begins so.
+fn expect_start<R: Read + Drop, H: Helpers, T: Abort + AllocGlobal + Wait>(
     rt: &T,
     reader: R,
     limits: Limits,
     piece: u32,
     helpers: &mut H,
-    line: &[u8],
+    start: &str,
 ) -> Result<Outcome, Fail> {
     let mut sources = Vec::new(rt.alloc());
-    sources.push(source_of(rt.alloc(), b"n", reader)?)?;
+    sources.push(source_of(rt.alloc(), "n", reader)?)?;
     let mut writer = Counting::new(Vec::new(rt.alloc()));
     let plan = plan_of(limits, piece)?;
     let outcome = run_over(rt, rt.alloc(), &mut sources, &mut writer, &plan, helpers);
     assert_eq!(rt; outcome.cause, None);
-    let written = writer.into_inner();
-    let (first, last) = written.split_at(written.len().min(line.len()));
-    assert_eq!(rt; first, line);
-    assert!(rt; last.starts_with(b"traces 1: "));
+    let start = lines_of(rt.alloc(), start)?;
+    assert!(rt; writer.into_inner().as_slice().starts_with(&start));
     Ok(outcome)
 }
 
@@ -255,362 +102,317 @@ fn expect_text<T: Abort + AllocGlobal + Threads + Wait + Copy + Send + 'static>(
     rt: &T,
     text: &[u8],
     limits: Limits,
-    line: &[u8],
+    line: &str,
 ) -> Result<(), Fail> {
+    let start = format!(in rt.alloc(); "{line}/traces 1: ")?;
     for piece in PIECES {
-        expect_line(rt, text, limits, piece, &mut Nobody, line)?;
+        expect_start(rt, text, limits, piece, &mut Nobody, &start)?;
     }
     for workers in [1, 2, 16] {
-        expect_by_crew(*rt, text, limits, workers, line)?;
+        expect_by_crew(*rt, text, limits, workers, &start)?;
     }
     let mut newest = helper_with(rt.alloc(), Habit::Newest);
-    expect_line(rt, text, limits, 7, &mut newest, line)?;
+    expect_start(rt, text, limits, 7, &mut newest, &start)?;
     Ok(())
 }
 
 #[test]
 fn a_text_has_its_line(rt: HostRuntime) -> Result<(), Fail> {
-    let rows: [(&[u8], &[u8]); 25] = [
-        (b"", b"n: serializable (0 events, 0 blocks)\n"),
+    let rows = [
+        ("", "n: serializable (0 events, 0 blocks)"),
         (
-            b"T1|w(x)|5\nT2|r(x)|6",
-            b"n: serializable (2 events, 0 blocks)\n",
+            "T1|w(x)|5/T2|r(x)|6",
+            "n: serializable (2 events, 0 blocks)",
         ),
         (
-            b"T1|w(x)|5\r\nT2|r(x)|6\r",
-            b"n: serializable (2 events, 0 blocks)\n",
+            "T1|w(x)|5\r/T2|r(x)|6\r",
+            "n: serializable (2 events, 0 blocks)",
+        ),
+        (CROSSED, "n: violation at line 6: block of T1 from line 1"),
+        (
+            "T1|begin/T2|begin/T1|w(x)/T2|w(y)/T1|r(y)",
+            "n: no violation, 2 blocks open (5 events, 2 blocks)",
         ),
         (
-            CROSSED,
-            b"n: violation at line 6: block of T1 from line 1\n",
-        ),
-        (
-            b"T1|begin\nT2|begin\nT1|w(x)\nT2|w(y)\nT1|r(y)",
-            b"n: no violation, 2 blocks open (5 events, 2 blocks)\n",
-        ),
-        (
-            b"T1|begin\nT2|begin\nT2|w(y)\nT1|w(x)\nT2|r(x)\nT1|r(y)",
-            b"n: no violation, 2 blocks open (6 events, 2 blocks)\n",
+            "T1|begin/T2|begin/T2|w(y)/T1|w(x)/T2|r(x)/T1|r(y)",
+            "n: no violation, 2 blocks open (6 events, 2 blocks)",
         ),
         (
             CLOSED_BY_AN_END,
-            b"n: violation at line 7: block of T2 from line 2\n",
+            "n: violation at line 7: block of T2 from line 2",
         ),
         (
-            b"T1|begin\nT2|begin\nT3|begin\nT2|w(a)\nT3|w(b)\nT1|w(x)\nT2|r(x)\nT3|r(x)\nT1|r(a)\nT1|r(b)\nT1|end",
-            b"n: violation at line 11: block of T2 from line 2\n",
+            "T1|begin/T2|begin/T3|begin/T2|w(a)/T3|w(b)/T1|w(x)/T2|r(x)/T3|r(x)/T1|r(a)/T1|r(b)/T1|end",
+            "n: violation at line 11: block of T2 from line 2",
         ),
         (
-            b"T3|begin\nT2|begin\nT2|w(y)\nT1|r(y)\nT1|w(v)\nT3|w(x)\nT2|r(x)\nT2|end\nT3|r(v)",
-            b"n: violation at line 9: block of T3 from line 1\n",
+            "T3|begin/T2|begin/T2|w(y)/T1|r(y)/T1|w(v)/T3|w(x)/T2|r(x)/T2|end/T3|r(v)",
+            "n: violation at line 9: block of T3 from line 1",
         ),
         (
-            b"T1|begin\nT1|fork(T2)\nT1|join(T2)\nT1|end",
-            b"n: serializable (4 events, 1 blocks)\n",
+            "T1|begin/T1|fork(T2)/T1|join(T2)/T1|end",
+            "n: serializable (4 events, 1 blocks)",
         ),
         (
-            b"T1|begin\nT1|fork(T2)\nT2|w(x)\nT1|join(T2)\nT1|end",
-            b"n: violation at line 4: block of T1 from line 1\n",
+            "T1|begin/T1|fork(T2)/T2|w(x)/T1|join(T2)/T1|end",
+            "n: violation at line 4: block of T1 from line 1",
         ),
         (
-            b"T1|begin\nT1|acq(l)\nT1|rel(l)\nT2|acq(l)\nT2|rel(l)\nT1|acq(l)",
-            b"n: violation at line 6: block of T1 from line 1\n",
+            "T1|begin/T1|acq(l)/T1|rel(l)/T2|acq(l)/T2|rel(l)/T1|acq(l)",
+            "n: violation at line 6: block of T1 from line 1",
         ),
         (
-            b"T1|begin(a)\nT1|begin()\nT1|acq(l)\nT1|acq(l)\nT1|rel(l)\nT1|rel(l)\nT1|end\nT1|end",
-            b"n: serializable (8 events, 1 blocks)\n",
+            "T1|begin(a)/T1|begin()/T1|acq(l)/T1|acq(l)/T1|rel(l)/T1|rel(l)/T1|end/T1|end",
+            "n: serializable (8 events, 1 blocks)",
         ),
         (
-            b"T1|begin\nT1|w(y)\nT2|r(y)\nT2|r(x)\nT1|w(x)",
-            b"n: violation at line 5: block of T1 from line 1\n",
+            "T1|begin/T1|w(y)/T2|r(y)/T2|r(x)/T1|w(x)",
+            "n: violation at line 5: block of T1 from line 1",
         ),
-        (ONE_BLOCK, b"n: serializable (5 events, 1 blocks)\n"),
-        (b"T1|rel(l)", b"n:1: ill-formed: LockNotHeld\n"),
+        (ONE_BLOCK, "n: serializable (5 events, 1 blocks)"),
+        ("T1|rel(l)", "n:1: ill-formed: LockNotHeld"),
+        ("T1|acq(l)/T2|acq(l)", "n:2: ill-formed: LockHeldByOther"),
+        ("/T1|x(y)", "n:2: malformed: UnknownOperation"),
+        ("T1|r()", "n:1: malformed: MissingTarget"),
+        ("T1|end/T1", "n:1: ill-formed: EndWithoutBegin"),
         (
-            b"T1|acq(l)\nT2|acq(l)",
-            b"n:2: ill-formed: LockHeldByOther\n",
-        ),
-        (b"\nT1|x(y)", b"n:2: malformed: UnknownOperation\n"),
-        (b"T1|r()", b"n:1: malformed: MissingTarget\n"),
-        (b"T1|end\nT1", b"n:1: ill-formed: EndWithoutBegin\n"),
-        (
-            b"T1|join(T9)\nT1|join(T9)",
-            b"n: serializable (2 events, 0 blocks)\n",
+            "T1|join(T9)/T1|join(T9)",
+            "n: serializable (2 events, 0 blocks)",
         ),
         (
-            b"T1|join(T9)\nT1|join(T9)\nT9|w(x)",
-            b"n:3: ill-formed: ThreadJoined\n",
+            "T1|join(T9)/T1|join(T9)/T9|w(x)",
+            "n:3: ill-formed: ThreadJoined",
         ),
         (
-            b"T1|join(T9)\nT1|join(T9)\nT1|fork(T9)",
-            b"n:3: ill-formed: ForkStarted\n",
+            "T1|join(T9)/T1|join(T9)/T1|fork(T9)",
+            "n:3: ill-formed: ForkStarted",
         ),
-        (b"T1|begin\nT1|w(x", b"n:2: malformed: BadParenthesis\n"),
+        ("T1|begin/T1|w(x", "n:2: malformed: BadParenthesis"),
         (
-            b"T1|begin\nT2|begin\nT1|w(x)\nT2|r(x)\nT2|w(y)\nT1|r(y)\nT1",
-            b"n: violation at line 6: block of T1 from line 1\n",
+            "T1|begin/T2|begin/T1|w(x)/T2|r(x)/T2|w(y)/T1|r(y)/T1",
+            "n: violation at line 6: block of T1 from line 1",
         ),
     ];
     for (text, line) in rows {
-        expect_text(&rt, text, Limits::greatest(), line)?;
+        let text = lines_of(rt.alloc(), text)?;
+        expect_text(&rt, &text, Limits::greatest(), line)?;
     }
-    Ok(())
-}
-
-fn limits_of(bytes: u32, lines: u32, threads: u32, names: u32) -> Result<Limits, Fail> {
-    match Limits::new(bytes, lines, threads, names) {
-        Some(limits) => Ok(limits),
-        None => Err("no such limits".into()),
-    }
-}
-
-#[test]
-fn limits_on_lines_threads_and_names_hold(rt: HostRuntime) -> Result<(), Fail> {
-    let lines = limits_of(100, 2, 1, 1)?;
-    let threads = limits_of(100, 3, 2, 1)?;
-    let names = limits_of(100, 3, 1, 1)?;
-    let rows: [(&[u8], Limits, &[u8]); 6] = [
+    // Under limits of so many lines, threads and names.
+    let rows = [
         (
-            b"T1|r(x)\nT1|r(x)",
-            lines,
-            b"n: serializable (2 events, 0 blocks)\n",
+            "T1|r(x)/T1|r(x)",
+            (2, 1, 1),
+            "n: serializable (2 events, 0 blocks)",
         ),
         (
-            b"T1|r(x)\nT1|r(x)\n ",
-            lines,
-            b"n:3: malformed: TooManyLines\n",
+            "T1|r(x)/T1|r(x)/ ",
+            (2, 1, 1),
+            "n:3: malformed: TooManyLines",
         ),
         (
-            b"T1|r(x)\nT1|r(x)\nT1",
-            lines,
-            b"n:3: malformed: NoOperation\n",
+            "T1|r(x)/T1|r(x)/T1",
+            (2, 1, 1),
+            "n:3: malformed: NoOperation",
         ),
         (
-            b"T1|r(x)\nT1|r(x)\nT1|r(x)\nT1",
-            lines,
-            b"n:3: malformed: TooManyLines\n",
+            "T1|r(x)/T1|r(x)/T1|r(x)/T1",
+            (2, 1, 1),
+            "n:3: malformed: TooManyLines",
         ),
         (
-            b"T1|w(x)\nT2|w(x)\nT3|w(x)",
-            threads,
-            b"n:3: ill-formed: TooManyThreads\n",
+            "T1|w(x)/T2|w(x)/T3|w(x)",
+            (3, 2, 1),
+            "n:3: ill-formed: TooManyThreads",
         ),
         (
-            b"T1|w(x)\nT1|acq(x)\nT1|w(y)",
-            names,
-            b"n:3: ill-formed: TooManyNames\n",
+            "T1|w(x)/T1|acq(x)/T1|w(y)",
+            (3, 1, 1),
+            "n:3: ill-formed: TooManyNames",
         ),
     ];
-    for (text, limits, line) in rows {
-        expect_text(&rt, text, limits, line)?;
+    for (text, (lines, threads, names), line) in rows {
+        let text = lines_of(rt.alloc(), text)?;
+        expect_text(&rt, &text, limits_of(100, lines, threads, names)?, line)?;
     }
-    Ok(())
-}
-
-#[test]
-fn a_line_has_at_most_4096_bytes(rt: HostRuntime) -> Result<(), Fail> {
+    // A line has at most 4,096 bytes.
     let mut text = Vec::from_slice(rt.alloc(), b"T1|r(x)|")?;
     for _ in 0..4088 {
         text.push(b'a')?;
     }
-    let fits = b"n: serializable (1 events, 0 blocks)\n".as_slice();
-    expect_text(&rt, &text, Limits::greatest(), fits)?;
+    expect_text(
+        &rt,
+        &text,
+        Limits::greatest(),
+        "n: serializable (1 events, 0 blocks)",
+    )?;
     text.push(b'a')?;
-    let long = b"n:1: malformed: TooLong\n".as_slice();
-    expect_text(&rt, &text, Limits::greatest(), long)
+    expect_text(&rt, &text, Limits::greatest(), "n:1: malformed: TooLong")
+}
+
+// Runs over one source with the name n, and expects what is written and how the source ended.
+fn expect_end<R: Read + Drop, T: Abort + AllocGlobal + Wait>(
+    rt: &T,
+    reader: R,
+    limits: Limits,
+    piece: u32,
+    written: &str,
+    ending: (u64, Ending),
+) -> Result<(), Fail> {
+    let outcome = expect_start(rt, reader, limits, piece, &mut Nobody, written)?;
+    assert_eq!(rt; outcome.endings.as_slice(), [ending].as_slice());
+    Ok(())
 }
 
 #[test]
-fn a_source_past_the_limit_is_too_large(rt: HostRuntime) -> Result<(), Fail> {
+fn a_source_ends_whole_too_large_or_broken(rt: HostRuntime) -> Result<(), Fail> {
     let exact = limits_of(7, 1, 1, 1)?;
     let short = limits_of(6, 1, 1, 1)?;
     let text = b"T1|r(x)".as_slice();
-    let fits = b"n: serializable (1 events, 0 blocks)\n".as_slice();
-    let large = b"n: too large\n".as_slice();
+    let fits =
+        "n: serializable (1 events, 0 blocks)/traces 1: serializable 1, open 0, violations 0, faults 0/";
+    let broken =
+        "n: broken after 20 bytes/traces 1: serializable 0, open 0, violations 0, faults 1/";
+    let crossed = lines_of(rt.alloc(), CROSSED)?;
     for piece in PIECES {
-        let outcome = expect_line(&rt, text, exact, piece, &mut Nobody, fits)?;
-        assert_eq!(rt; outcome.endings.as_slice(), [(7, Ending::Whole)].as_slice());
-        let outcome = expect_line(&rt, text, short, piece, &mut Nobody, large)?;
-        assert_eq!(rt;
-            outcome.endings.as_slice(),
-            [(7, Ending::TooLarge)].as_slice()
-        );
-        let outcome = expect_line(&rt, Endless, short, piece, &mut Nobody, large)?;
-        assert_eq!(rt;
-            outcome.endings.as_slice(),
-            [(7, Ending::TooLarge)].as_slice()
-        );
-        assert_eq!(rt; outcome.counts.faults, 1);
-    }
-    Ok(())
-}
-
-#[test]
-fn a_failed_read_breaks_the_source(rt: HostRuntime) -> Result<(), Fail> {
-    for piece in PIECES {
+        expect_end(&rt, text, exact, piece, fits, (7, Ending::Whole))?;
+        expect_end(&rt, text, short, piece, LARGE, (7, Ending::TooLarge))?;
+        expect_end(&rt, Endless, short, piece, LARGE, (7, Ending::TooLarge))?;
         let reader = BreaksOnce {
-            text: CROSSED,
+            text: &crossed,
             left: 20,
             has_failed: false,
         };
-        let line =
-            b"n: broken after 20 bytes\ntraces 1: serializable 0, open 0, violations 0, faults 1\n";
-        let mut sources = [source_of(rt.alloc(), b"n", reader)?];
-        let mut writer = Counting::new(Vec::new(rt.alloc()));
-        let plan = plan_of(Limits::greatest(), piece)?;
-        let outcome = run_over(
+        expect_end(
             &rt,
-            rt.alloc(),
-            &mut sources,
-            &mut writer,
-            &plan,
-            &mut Nobody,
-        );
-        assert_eq!(rt; writer.into_inner().as_slice(), line.as_slice());
-        assert_eq!(rt;
-            outcome.endings.as_slice(),
-            [(20, Ending::Broken)].as_slice()
-        );
-        assert_eq!(rt; outcome.cause, None);
+            reader,
+            Limits::greatest(),
+            piece,
+            broken,
+            (20, Ending::Broken),
+        )?;
     }
     Ok(())
 }
 
-#[test]
-fn a_failed_write_cuts_the_line_of_a_source(rt: HostRuntime) -> Result<(), Fail> {
-    let mut sources = [source_of(rt.alloc(), b"n", CROSSED)?];
+// Sources with these names and one text, and a writer that fails at one call once it has taken so
+// many bytes. What is written follows, how the sources ended whose lines it has whole, how many of
+// them are serializable, and why the run stopped.
+#[derive(Drop)]
+struct Row<'a> {
+    names: &'a [&'a str],
+    text: &'a str,
+    room: usize,
+    written: &'a str,
+    endings: &'a [(u64, Ending)],
+    serializable: u64,
+    cause: Option<Cause>,
+}
+
+fn expect_row<T: Abort + AllocGlobal + Wait>(rt: &T, row: &Row, piece: u32) -> Result<(), Fail> {
+    let text = lines_of(rt.alloc(), row.text)?;
+    let mut sources = Vec::new(rt.alloc());
+    for name in row.names {
+        sources.push(source_of(rt.alloc(), name, text.as_slice())?)?;
+    }
+    if sources.len() > 9 {
+        return Err("no such sources".into());
+    }
     let mut writer = Counting::new(CutsOnce {
         taken: Vec::new(rt.alloc()),
-        left: 10,
+        left: row.room,
         has_failed: false,
     });
-    let plan = plan_of(Limits::greatest(), 7)?;
+    let plan = plan_of(Limits::greatest(), piece)?;
     let outcome = run_over(
-        &rt,
+        rt,
         rt.alloc(),
         &mut sources,
         &mut writer,
         &plan,
         &mut Nobody,
     );
-    let taken = writer.into_inner().taken;
-    assert_eq!(rt; taken.as_slice(), b"n: violati".as_slice());
-    assert!(rt; outcome.endings.is_empty());
-    assert_eq!(rt; outcome.cause, Some(Cause::Write));
+    let written = lines_of(rt.alloc(), row.written)?;
+    assert_eq!(rt; writer.into_inner().taken, written);
+    assert_eq!(rt; outcome.endings.as_slice(), row.endings);
+    assert_eq!(rt; outcome.counts.serializable, row.serializable);
+    assert_eq!(rt; outcome.cause, row.cause);
     Ok(())
 }
 
 #[test]
-fn what_was_written_whole_is_told_after_a_failed_write(rt: HostRuntime) -> Result<(), Fail> {
-    let mut sources = [
-        source_of(rt.alloc(), b"a", b"".as_slice())?,
-        source_of(rt.alloc(), b"b", b"".as_slice())?,
+fn what_was_written_whole_is_told(rt: HostRuntime) -> Result<(), Fail> {
+    let rows = [
+        Row {
+            names: &["n"],
+            text: CROSSED,
+            room: 10,
+            written: "n: violati",
+            endings: &[],
+            serializable: 0,
+            cause: Some(Cause::Write),
+        },
+        Row {
+            names: &["a", "b"],
+            text: "",
+            room: 40,
+            written: "a: serializable (0 events, 0 blocks)/b: ",
+            endings: &[(0, Ending::Whole)],
+            serializable: 1,
+            cause: Some(Cause::Write),
+        },
+        Row {
+            names: &["a"],
+            text: "",
+            room: 40,
+            written: "a: serializable (0 events, 0 blocks)/tra",
+            endings: &[(0, Ending::Whole)],
+            serializable: 1,
+            cause: Some(Cause::Write),
+        },
+        Row {
+            names: &["n", "n"],
+            text: ONE_BLOCK,
+            room: 1000,
+            written: "n: serializable (5 events, 1 blocks)/n: serializable (5 events, 1 blocks)/traces 2: serializable 2, open 0, violations 0, faults 0/",
+            endings: &[(39, Ending::Whole), (39, Ending::Whole)],
+            serializable: 2,
+            cause: None,
+        },
+        Row {
+            names: &[],
+            text: "",
+            room: 1000,
+            written: "traces 0: serializable 0, open 0, violations 0, faults 0/",
+            endings: &[],
+            serializable: 0,
+            cause: None,
+        },
     ];
-    let mut writer = Counting::new(CutsOnce {
-        taken: Vec::new(rt.alloc()),
-        left: 40,
-        has_failed: false,
-    });
-    let plan = plan_of(Limits::greatest(), 7)?;
-    let outcome = run_over(
-        &rt,
-        rt.alloc(),
-        &mut sources,
-        &mut writer,
-        &plan,
-        &mut Nobody,
-    );
-    let text = b"a: serializable (0 events, 0 blocks)\nb: ".as_slice();
-    assert_eq!(rt; writer.into_inner().taken.as_slice(), text);
-    assert_eq!(rt; outcome.endings.as_slice(), [(0, Ending::Whole)].as_slice());
-    assert_eq!(rt; outcome.counts.serializable, 1);
-    assert_eq!(rt; outcome.cause, Some(Cause::Write));
+    for row in &rows {
+        for piece in PIECES {
+            expect_row(&rt, row, piece)?;
+        }
+    }
     Ok(())
 }
 
-#[test]
-fn a_failed_write_of_the_summary_leaves_all_sources_told(rt: HostRuntime) -> Result<(), Fail> {
-    let mut sources = [source_of(rt.alloc(), b"a", b"".as_slice())?];
-    let mut writer = Counting::new(CutsOnce {
-        taken: Vec::new(rt.alloc()),
-        left: 40,
-        has_failed: false,
-    });
-    let plan = plan_of(Limits::greatest(), 7)?;
-    let outcome = run_over(
-        &rt,
-        rt.alloc(),
-        &mut sources,
-        &mut writer,
-        &plan,
-        &mut Nobody,
-    );
-    let text = b"a: serializable (0 events, 0 blocks)\ntra".as_slice();
-    assert_eq!(rt; writer.into_inner().taken.as_slice(), text);
-    assert_eq!(rt; outcome.endings.as_slice(), [(0, Ending::Whole)].as_slice());
-    assert_eq!(rt; outcome.cause, Some(Cause::Write));
-    Ok(())
-}
-
-#[test]
-fn equal_names_are_told_twice(rt: HostRuntime) -> Result<(), Fail> {
-    let mut sources = [
-        source_of(rt.alloc(), b"n", ONE_BLOCK)?,
-        source_of(rt.alloc(), b"n", ONE_BLOCK)?,
-    ];
-    let mut writer = Counting::new(Vec::new(rt.alloc()));
-    let plan = plan_of(Limits::greatest(), 65_536)?;
-    let outcome = run_over(
-        &rt,
-        rt.alloc(),
-        &mut sources,
-        &mut writer,
-        &plan,
-        &mut Nobody,
-    );
-    let text =
-        b"n: serializable (5 events, 1 blocks)\nn: serializable (5 events, 1 blocks)\ntraces 2: serializable 2, open 0, violations 0, faults 0\n";
-    assert_eq!(rt; writer.into_inner().as_slice(), text.as_slice());
-    assert_eq!(rt; outcome.cause, None);
-    Ok(())
-}
-
-#[test]
-fn no_sources_have_a_summary(rt: HostRuntime) -> Result<(), Fail> {
-    let mut sources: [Source<&[u8]>; 0] = [];
-    let mut writer = Counting::new(Vec::new(rt.alloc()));
-    let plan = plan_of(Limits::greatest(), 65_536)?;
-    let outcome = run_over(
-        &rt,
-        rt.alloc(),
-        &mut sources,
-        &mut writer,
-        &plan,
-        &mut Nobody,
-    );
-    let text = b"traces 0: serializable 0, open 0, violations 0, faults 0\n";
-    assert_eq!(rt; writer.into_inner().as_slice(), text.as_slice());
-    assert!(rt; outcome.endings.is_empty());
-    Ok(())
-}
-
-// Three sources, in pieces of a few bytes: the report, and how much the helpers did.
+// Three sources, in pieces of one byte: the report, and how much the helpers did.
 fn expect_three<H: Helpers, T: Abort + AllocGlobal + Wait>(
     rt: &T,
     helpers: &mut H,
     is_done_here: bool,
 ) -> Result<(), Fail> {
+    let texts = texts_of_two(rt.alloc())?;
+    let (crossed, closed) = texts.split_at(texts.len().min(CROSSED.len()));
     let mut sources = [
-        source_of(rt.alloc(), b"a", CROSSED)?,
-        source_of(rt.alloc(), b"b", b"".as_slice())?,
-        source_of(rt.alloc(), b"c", CLOSED_BY_AN_END)?,
+        source_of(rt.alloc(), "a", crossed)?,
+        source_of(rt.alloc(), "b", crossed.split_at(0).0)?,
+        source_of(rt.alloc(), "c", closed)?,
     ];
     let mut writer = Counting::new(Vec::new(rt.alloc()));
     let plan = plan_of(Limits::greatest(), 1)?;
     let outcome = run_over(rt, rt.alloc(), &mut sources, &mut writer, &plan, helpers);
-    let text =
-        b"a: violation at line 6: block of T1 from line 1\nb: serializable (0 events, 0 blocks)\nc: violation at line 7: block of T2 from line 2\ntraces 3: serializable 1, open 0, violations 2, faults 0\n";
-    assert_eq!(rt; writer.into_inner().as_slice(), text.as_slice());
+    assert_eq!(rt; writer.into_inner(), lines_of(rt.alloc(), REPORT_OF_THREE)?);
     assert_eq!(rt; outcome.cause, None);
     let endings = [
         (CROSSED.len() as u64, Ending::Whole),
@@ -640,15 +442,4 @@ fn the_report_is_the_same_whatever_the_helpers_do(rt: HostRuntime) -> Result<(),
         expect_three(&rt, &mut helpers, is_done_here)?;
     }
     expect_three(&rt, &mut Nobody, true)
-}
-
-#[test]
-fn a_plan_is_within_its_bounds(rt: HostRuntime) -> Result<(), Fail> {
-    let limits = Limits::greatest();
-    assert!(rt; Plan::new(16, 1_048_576, limits).is_some());
-    assert!(rt; Plan::new(1, 1, limits).is_some());
-    for (workers, piece) in [(0, 1), (17, 1), (1, 0), (1, 1_048_577)] {
-        assert!(rt; Plan::new(workers, piece, limits).is_none());
-    }
-    Ok(())
 }

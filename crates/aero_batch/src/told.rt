@@ -5,7 +5,7 @@ ghost use Rattle.aero_report.specs.Texts.{no_counts, counted, summary_line};
 ghost use Rattle.aero_batch.specs.Telling.{TellsNext, TellsText, HasRoom, total};
 
 use crate::outcome::Cause;
-use crate::track::Track;
+use aero_intake::track::Track;
 use aero_model::counting::Counting;
 use aero_model::verdict::{Counts, Ending, Finding, Verdict};
 use aero_report::{put, summary_text, trace_text};

@@ -1,4 +1,1 @@
-pub mod Failure
-pub mod Inputs
-pub mod Status
 pub mod Words

@@ -1,67 +1,82 @@
-//! The texts of `--help` and `--version`. The manual page docs/aerodrome.1 says the same.
+//! The texts of `--help` and `--version`, in at most 80 columns. The manual page docs/aerodrome.1
+//! says the same.
 
 pub const VERSION: &str = "0.1.0";
 
 pub const ABOUT: &str =
-    "Judges traces of threaded programs: does each atomic block behave as if it had run alone?";
+    "Judges traces of threaded programs: is each atomic block as if it ran alone?";
 
 pub const LONG_ABOUT: &str =
-    "Judges traces of threaded programs: does each atomic block behave as if it had run alone?
+    "Judges traces of threaded programs: does each atomic block behave as if it had
+run alone?
 
-A trace is a text with one event a line, in the order in which the events happened:
-THREAD|OPERATION(TARGET)|LOCATION, where the location may be missing. The operations:
+A trace is a text with one event a line, in the order in which the events
+happened, in the text form of the RAPID tool (STD):
+THREAD|OPERATION(TARGET)|LOCATION. The operations:
   r(x), w(x)        the thread reads, writes variable x
   acq(l), rel(l)    it acquires, releases lock l
   fork(u), join(u)  it starts thread u, waits for the end of thread u
-  begin, end        an atomic block begins, ends; blocks may lie in blocks
-Blank lines are skipped, and count as lines.
+  begin, end        an atomic block begins, ends; blocks may lie in blocks;
+                    parentheses and a label may follow, and say nothing
+The location may be missing and isn't examined. Spaces and tabs round the
+thread and the operation don't count. Blank lines are skipped, and count as
+lines. One byte 13 at a line's end is dropped; a byte 0 to 8, 10 to 31 or 127
+is refused elsewhere; bytes from 128 on are ordinary.
 
-Two events conflict where their order can matter: events of one thread, accesses of one variable
-of which one is a write, a release and a later acquire of one lock, a fork and the events of the
-thread that it starts, the events of a thread and a join of it. Blocks behave as if each had run
-alone, and the trace is called serializable, where no block has to come both before and after
+Two events conflict where their order can matter: events of one thread,
+accesses of one variable of which one is a write, a release and a later acquire
+of one lock, a fork and the events of the thread that it starts, the events of
+a thread and a join of it. Blocks behave as if each had run alone, and the
+trace is called serializable, where no block has to come both before and after
 another, by conflicts, be it through further blocks and events.";
 
-pub const WORKERS: &str =
-    "How many threads work on the traces, 1 to 16. The report is the same for each";
+pub const WORKERS: &str = "How many threads work on the traces, 1 to 16. The report is the same
+for each";
 
-pub const PIECE: &str =
-    "How many bytes one read asks for at most, 1 to 1048576. The report is the same for each";
+pub const PIECE: &str = "How many bytes one read asks for at most, 1 to 1048576. The report is
+the same for each";
 
-pub const FILES: &str =
-    "The traces to judge, in this order, at most 65536. Without a FILE it is standard input,
-which the report calls `-`. As a FILE, `-` is a path like any other; each word after `--`
-is a FILE";
+pub const FILES: &str = "The traces to judge, in this order, at most 65536. Without a FILE it
+is standard input, which the report calls `-`. As a FILE, `-` is a
+path like any other; each word after `--` is a FILE";
 
 pub const REPORT: &str =
-    "The report, on standard output: a line for each trace, in order, and one on all of them.
+    "The report, on standard output: a line for each trace, in order, and one on
+all of them. NAME is the FILE's word, byte by byte.
   NAME: serializable (E events, B blocks)
       All B blocks have ended, and behave as if each had run alone.
   NAME: no violation, K blocks open (E events, B blocks)
       No violation so far; K of the B blocks have no end in the trace.
   NAME: violation at line L: block of THREAD from line M
-      With the event on line L it is certain that the block of THREAD that begins on line M
-      didn't behave as if it had run alone. What follows line L isn't looked at.
+      With the event on line L it is certain that the block of THREAD that
+      begins on line M didn't behave as if it had run alone. What follows
+      line L isn't looked at.
   NAME:L: malformed: FAULT
-      Line L is the first that is neither blank nor an event: TooLong (over 4096 bytes), BadByte
-      (a control character), NoOperation, EmptyThread, UnknownOperation, BadParenthesis,
-      MissingTarget, NameTooLong (over 255 bytes), TooManyLines (over 16777216).
+      Line L is the first that is neither blank nor an event: TooLong (over
+      4096 bytes), BadByte (a control character), NoOperation, EmptyThread,
+      UnknownOperation, BadParenthesis, MissingTarget, NameTooLong (over 255
+      bytes), TooManyLines (over 16777216).
   NAME:L: ill-formed: FAULT
-      The event on line L is the first that can't stand there: TooManyThreads (over 1024),
-      TooManyNames (over 1048576 variables, or locks), ThreadJoined (the thread had been joined),
-      LockHeldByOther, LockNotHeld, ForkSelf, ForkStarted (the forked thread had acted, been
-      forked or been joined), JoinSelf, EndWithoutBegin.
+      The event on line L is the first that can't stand there: TooManyThreads
+      (over 1024), TooManyNames (over 1048576 variables, or locks),
+      ThreadJoined (the thread had been joined), LockHeldByOther, LockNotHeld,
+      ForkSelf, ForkStarted (the forked thread had acted, been forked or been
+      joined), JoinSelf, EndWithoutBegin.
   NAME: broken after N bytes
       The file couldn't be opened (N is 0), or a read failed.
   NAME: too large
       It has more than 1073741824 bytes.
   traces T: serializable A, open B, violations C, faults D
-      How many traces of each kind; the faults are the malformed, ill-formed, broken and too
-      large ones.
+      How many traces of each kind; the faults are the malformed, ill-formed,
+      broken and too large ones.
+Of a malformed line, an ill-formed event and a violation, what stands first by
+line is told; at one event ill-formed goes first.
 
-The exit status, the highest that applies:
+The exit status, the highest that applies, so that 2 hides 1:
   0  no trace has a violation or a fault; also after --help and --version
   1  a trace has a violation
   2  a trace is malformed, ill-formed, broken or too large
-  3  the command line was refused: what is wrong with it stands on standard error
-  4  memory ran out, or the report couldn't be written: one line on standard error says which";
+  3  the command line was refused, or a word isn't UTF-8: what is wrong stands
+     on standard error
+  4  memory ran out, or the report couldn't be written: one line on standard
+     error says which";

@@ -9,40 +9,29 @@
 //! ```
 //!
 //! The sources are the files that the command line names, or else standard input. `words` reads the
-//! command line, `input` opens files at their first read, `aero_batch::run` does the work, and
-//! `status` and `failure` say how the program ends.
+//! command line, `aero_program` has the sources and says how the program ends, and `aero_batch::run`
+//! does the work.
 #![tactic(auto)]
 
-pub mod arguments;
-pub mod failure;
 mod help;
-pub mod input;
-pub mod status;
 #[cfg(test)]
 mod tests;
-#[cfg(test)]
-mod tests_words;
 pub mod words;
-
-ghost use Rattle.std.specs.Prelude.{◌≡◌, ◌≤◌, ◌^◌, IfOk, map, string_bytes, vec_len};
-ghost use Rattle.aerodrome.specs.Inputs.{source_names};
 
 use aero_batch::outcome::Cause;
 use aero_batch::plan::Plan;
 use aero_batch::run::run;
-use aero_batch::source::Source;
 use aero_model::counting::Counting;
 use aero_model::limits::Limits;
+use aero_program::arguments::words_of;
+use aero_program::failure::Failure;
+use aero_program::sources::sources_of;
+use aero_program::status::status;
 use aero_worker::NoGate;
-use arguments::words_of;
-use failure::Failure;
-use input::Input;
-use status::status;
-use std::alloc::{AllocError, Global};
 use std::io;
 use std::io::{Stdin, Write};
 use std::process::ExitCode;
-use std::rt::{Files, Runtime};
+use std::rt::Runtime;
 use std::sync::{Arc, Wait};
 use std::thread::Threads;
 use words::{Config, Refused, settle_words};
@@ -88,7 +77,7 @@ fn judge<R: Runtime + AllocGlobal + Threads + Wait + Copy + Send + 'static>(
     config: &Config,
 ) -> Result<u8, Failure> {
     let alloc = rt.alloc();
-    let mut sources = sources_of(alloc, &rt, stdin, config)?;
+    let mut sources = sources_of(alloc, &rt, stdin, &config.files)?;
     let gate = Arc::new(alloc, NoGate).map_err(|_| Failure::Memory)?;
     let plan = Plan::new(config.workers, config.piece, Limits::greatest()).unwrap();
     let mut writer = Counting::new(io::writer(&rt));
@@ -100,43 +89,4 @@ fn judge<R: Runtime + AllocGlobal + Threads + Wait + Copy + Send + 'static>(
         None if flushed.is_err() => Err(Failure::Write),
         None => Ok(status(&outcome)),
     }
-}
-
-// Standard input, named `-`, where there are no files, and else each file, named as its word.
-fn sources_of<'a, R: Files + Drop>(
-    alloc: Global,
-    files: &'a R,
-    stdin: Stdin,
-    config: &Config,
-) -> Result<Vec<Source<Input<&'a R>>>, AllocError>
-    ensures few { IfOk result (λ sources. vec_len sources ≤ 2 ^ 16) }
-    ensures names { IfOk result (λ sources. map (λ s. s.name.items) sources.items ≡ source_names (map string_bytes config.now.files.items)) }
-{
-    if !config.files.is_empty() {
-        return files_of(alloc, files, &config.files);
-    }
-    let mut sources = Vec::new(alloc);
-    sources.push(Source {
-        name: Vec::from_slice(alloc, b"-")?,
-        reader: Counting::new(Input::standard(stdin)),
-    })?;
-    Ok(sources)
-}
-
-// Each file, named as its word.
-fn files_of<'a, R: Files + Drop>(
-    alloc: Global,
-    files: &'a R,
-    words: &[String],
-) -> Result<Vec<Source<Input<&'a R>>>, AllocError>
-    ensures names { IfOk result (λ sources. map (λ s. s.name.items) sources.items ≡ map string_bytes words.now) }
-{
-    let mut sources = Vec::new(alloc);
-    for word in words {
-        sources.push(Source {
-            name: Vec::from_slice(alloc, word.as_bytes())?,
-            reader: Counting::new(Input::path(alloc, files, word.as_str())?),
-        })?;
-    }
-    Ok(sources)
 }

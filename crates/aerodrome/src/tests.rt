@@ -1,91 +1,161 @@
-ghost use Rattle.std.specs.Prelude.{◌≤◌, IfOk, vec_len};
-
-use crate::input::Input;
-use crate::status::status;
-use aero_batch::outcome::{Cause, Outcome};
-use aero_batch::plan::Plan;
-use aero_batch::run::run;
-use aero_batch::source::Source;
-use aero_gather::gather::Tally;
-use aero_model::counting::Counting;
-use aero_model::limits::Limits;
-use aero_model::verdict::{Counts, Ending};
-use aero_worker::NoGate;
+use crate::words::{Config, Refused, settle_words};
 use std::alloc::{AllocError, Global};
-use std::rt::Files;
-use std::sync::Arc;
+use std::process::Abort;
 use std::test::Fail;
 
-fn outcome_of(alloc: Global, counts: [u64; 4], cause: Option<Cause>) -> Outcome {
-    let [serializable, pending, violations, faults] = counts;
-    Outcome {
-        endings: Vec::new(alloc),
-        counts: Counts {
-            serializable,
-            pending,
-            violations,
-            faults,
-        },
-        cause,
-        tally: Tally {
-            asked: 0,
-            kept: 0,
-            done_here: 0,
-        },
-        workers: 0,
+fn owned_words(alloc: Global, words: &[&str]) -> Result<Vec<String>, AllocError> {
+    let mut all = Vec::new(alloc);
+    for word in words {
+        all.push(String::from_str(alloc, word)?)?;
+    }
+    Ok(all)
+}
+
+fn settled(alloc: Global, words: &[&str]) -> Result<Config, Refused> {
+    let words = owned_words(alloc, words)?;
+    settle_words(alloc, &words)
+}
+
+// Expects these numbers and files.
+fn expect_config(
+    rt: &(impl Abort + AllocGlobal),
+    words: &[&str],
+    workers: u32,
+    piece: u32,
+    files: &[&str],
+) {
+    match settled(rt.alloc(), words) {
+        Err(refused) => assert!(rt; false, "{refused:?}"),
+        Ok(config) => {
+            assert_eq!(rt; config.workers, workers);
+            assert_eq!(rt; config.piece, piece);
+            assert_eq!(rt; config.files.len(), files.len());
+            for (file, expected) in config.files.iter().zip(files) {
+                assert!(rt; file.as_str() == *expected, "{file}");
+            }
+        }
     }
 }
 
 #[test]
-fn the_highest_status_that_applies(rt: HostRuntime) {
-    let rows: [([u64; 4], Option<Cause>, u8); 9] = [
-        ([0, 0, 0, 0], None, 0),
-        ([2, 0, 0, 0], None, 0),
-        ([0, 3, 0, 0], None, 0),
-        ([1, 0, 2, 0], None, 1),
-        ([0, 0, 0, 1], None, 2),
-        ([1, 1, 1, 1], None, 2),
-        ([2, 0, 0, 0], Some(Cause::Memory), 4),
-        ([0, 0, 1, 0], Some(Cause::Write), 4),
-        ([0, 0, 0, 1], Some(Cause::Write), 4),
-    ];
-    for (counts, cause, expected) in rows {
-        assert_eq!(rt; status(&outcome_of(rt.alloc(), counts, cause)), expected);
-    }
-}
-
-// One source, a file that isn't there.
-fn missing<'a, R: Files + Drop>(
-    alloc: Global,
-    files: &'a R,
-) -> Result<Vec<Source<Input<&'a R>>>, AllocError>
-    ensures { IfOk result (λ sources. vec_len sources ≤ 1) }
-{
-    let mut sources = Vec::new(alloc);
-    sources.push(Source {
-        name: Vec::from_slice(alloc, b"none")?,
-        reader: Counting::new(Input::path(alloc, files, "none")?),
-    })?;
-    Ok(sources)
-}
-
-#[test]
-fn a_file_that_is_not_there_is_broken_after_0_bytes(rt: HostRuntime) -> Result<(), Fail> {
-    let alloc = rt.alloc();
-    let mut sources = missing(alloc, &rt)?;
-    let Some(plan) = Plan::new(4, 65_536, Limits::greatest()) else {
-        return Err(Fail::from("no plan"));
-    };
-    let mut writer = Counting::new(Vec::new(alloc));
-    let gate = Arc::new(alloc, NoGate)?;
-    let outcome = run(rt, alloc, &mut sources, &mut writer, &plan, gate);
-    assert_eq!(rt; status(&outcome), 2);
-    assert_eq!(rt;
-        outcome.endings.as_slice(),
-        [(0, Ending::Broken)].as_slice()
+fn the_words_that_are_taken(rt: HostRuntime) {
+    expect_config(&rt, &[], 4, 65_536, &[]);
+    expect_config(&rt, &["--workers", "2", "a", "b"], 2, 65_536, &["a", "b"]);
+    expect_config(&rt, &["a", "--workers=16", "b"], 16, 65_536, &["a", "b"]);
+    expect_config(&rt, &["--piece", "1", "--workers", "1"], 1, 1, &[]);
+    expect_config(&rt, &["--piece=1048576"], 4, 1_048_576, &[]);
+    expect_config(&rt, &["--", "--x"], 4, 65_536, &["--x"]);
+    expect_config(&rt, &["-"], 4, 65_536, &["-"]);
+    expect_config(
+        &rt,
+        &["a", "a", "none", ""],
+        4,
+        65_536,
+        &["a", "a", "none", ""],
     );
-    let report = b"none: broken after 0 bytes\n\
-        traces 1: serializable 0, open 0, violations 0, faults 1\n";
-    assert_eq!(rt; writer.into_inner().as_slice(), report.as_slice());
+}
+
+#[test]
+fn the_words_that_are_refused(rt: HostRuntime) -> Result<(), Fail> {
+    let rows: [&[&str]; 14] = [
+        &["--workers", "0"],
+        &["--workers", "17"],
+        &["--workers", "4294967312"],
+        &["--workers", "-1"],
+        &["--workers", "two"],
+        &["--workers", ""],
+        &["--workers"],
+        &["--workers", "2", "--workers", "2"],
+        &["--piece", "0"],
+        &["--piece", "1048577"],
+        &["--piece", "1", "--piece", "1"],
+        &["--nothing"],
+        &["-x"],
+        &["--nothing", "--help"],
+    ];
+    for words in rows {
+        let Err(Refused::Usage(text)) = settled(rt.alloc(), words) else {
+            return Err(Fail::from("taken"));
+        };
+        assert!(rt; text.as_str().starts_with("error: "), "{text}");
+        assert!(rt; text.as_str().ends_with("\n"), "{text}");
+    }
+    Ok(())
+}
+
+#[test]
+fn the_help_says_all_and_the_version_is_told(rt: HostRuntime) -> Result<(), Fail> {
+    let phrases = [
+        "atomic block",
+        "RAPID",
+        "STD",
+        "label",
+        "UTF-8",
+        "--workers <N>",
+        "1 to 16",
+        "[default: 4]",
+        "--piece <N>",
+        "1 to 1048576",
+        "[default: 65536]",
+        "[FILE]...",
+        "65536",
+        "NAME: serializable (E events, B blocks)",
+        "NAME: no violation, K blocks open (E events, B blocks)",
+        "NAME: violation at line L: block of THREAD from line M",
+        "NAME:L: malformed: FAULT",
+        "NAME:L: ill-formed: FAULT",
+        "NAME: broken after N bytes",
+        "NAME: too large",
+        "traces T: serializable A, open B, violations C, faults D",
+        "  0  ",
+        "  1  ",
+        "  2  ",
+        "  3  ",
+        "  4  ",
+    ];
+    let asking: [&[&str]; 2] = [&["--help"], &["a", "--workers", "2", "--help", "--nothing"]];
+    for words in asking {
+        let Err(Refused::Help(text)) = settled(rt.alloc(), words) else {
+            return Err(Fail::from("no help"));
+        };
+        for phrase in phrases {
+            assert!(rt; text.as_str().contains(phrase), "{phrase}");
+        }
+        for line in text.as_str().lines() {
+            assert!(rt; line.len() <= 80, "{line}");
+        }
+    }
+    let Err(Refused::Help(text)) = settled(rt.alloc(), &["-h"]) else {
+        return Err(Fail::from("no help"));
+    };
+    assert!(rt;
+        text.as_str()
+            .contains("Usage: aerodrome [OPTIONS] [FILE]..."),
+        "{text}"
+    );
+    let Err(Refused::Help(text)) = settled(rt.alloc(), &["--version"]) else {
+        return Err(Fail::from("no version"));
+    };
+    assert_eq!(rt; text.as_str(), "aerodrome 0.1.0\n");
+    Ok(())
+}
+
+#[test]
+fn files_are_counted(rt: HostRuntime) -> Result<(), Fail> {
+    let alloc = rt.alloc();
+    let mut words = Vec::new(alloc);
+    for _ in 0..65_536 {
+        words.push(String::from_str(alloc, "a")?)?;
+    }
+    match settle_words(alloc, &words) {
+        Ok(config) => assert_eq!(rt; config.files.len(), 65_536),
+        Err(refused) => assert!(rt; false, "{refused:?}"),
+    }
+    words.push(String::from_str(alloc, "a")?)?;
+    assert!(rt; matches!(settle_words(alloc, &words), Err(Refused::TooManyFiles)));
+    words.push(String::from_str(alloc, "--help")?)?;
+    assert!(rt; matches!(settle_words(alloc, &words), Err(Refused::Help(_))));
+    words.push(String::from_str(alloc, "b")?)?;
+    assert!(rt; matches!(settle_words(alloc, &words), Err(Refused::Help(_))));
     Ok(())
 }

@@ -1,7 +1,7 @@
 // Runs with a crew, under gates.
-use crate::plan::Plan;
 use crate::run::run;
-use crate::tests::{CLOSED_BY_AN_END, CROSSED, source_of};
+use crate::tests::{CROSSED, REPORT_OF_THREE, lines_of, source_of, texts_of_two};
+use aero_intake::plan::Plan;
 use aero_model::counting::Counting;
 use aero_model::limits::Limits;
 use aero_pieces::answer::Answer;
@@ -112,23 +112,23 @@ fn plan_with(workers: u32, piece: u32) -> Result<Plan, Fail> {
     }
 }
 
-// One source with the name n, by so many workers: this is its line, and the workers did it all.
+// One source with the name n, by so many workers: what is written begins so, and the workers did it all.
 pub(crate) fn expect_by_crew<T: Abort + AllocGlobal + Threads + Wait + Copy + Send + 'static>(
     rt: T,
     text: &[u8],
     limits: Limits,
     workers: u32,
-    line: &[u8],
+    start: &str,
 ) -> Result<(), Fail> {
     let Some(plan) = Plan::new(workers, 7, limits) else {
         return Err("no such plan".into());
     };
-    let mut sources = [source_of(rt.alloc(), b"n", text)?];
+    let mut sources = [source_of(rt.alloc(), "n", text)?];
     let mut writer = Counting::new(Vec::new(rt.alloc()));
     let gate = Arc::new(rt.alloc(), NoGate)?;
     let outcome = run(rt, rt.alloc(), &mut sources, &mut writer, &plan, gate);
-    let written = writer.into_inner();
-    assert!(rt; written.as_slice().starts_with(line));
+    let start = lines_of(rt.alloc(), start)?;
+    assert!(rt; writer.into_inner().as_slice().starts_with(&start));
     assert_eq!(rt; outcome.cause, None);
     assert_eq!(rt; outcome.workers, workers);
     assert_eq!(rt; outcome.tally.done_here, 0);
@@ -140,17 +140,17 @@ fn expect_three<
     G: Gate + Drop + 'static,
     T: Abort + AllocGlobal + Threads + Wait + Copy + Send + 'static,
 >(rt: T, workers: u32, gate: Arc<G>) -> Result<(), Fail> {
+    let texts = texts_of_two(rt.alloc())?;
+    let (crossed, closed) = texts.split_at(texts.len().min(CROSSED.len()));
     let mut sources = [
-        source_of(rt.alloc(), b"a", CROSSED)?,
-        source_of(rt.alloc(), b"b", b"".as_slice())?,
-        source_of(rt.alloc(), b"c", CLOSED_BY_AN_END)?,
+        source_of(rt.alloc(), "a", crossed)?,
+        source_of(rt.alloc(), "b", crossed.split_at(0).0)?,
+        source_of(rt.alloc(), "c", closed)?,
     ];
     let mut writer = Counting::new(Vec::new(rt.alloc()));
     let plan = plan_with(workers, 7)?;
     let outcome = run(rt, rt.alloc(), &mut sources, &mut writer, &plan, gate);
-    let text =
-        b"a: violation at line 6: block of T1 from line 1\nb: serializable (0 events, 0 blocks)\nc: violation at line 7: block of T2 from line 2\ntraces 3: serializable 1, open 0, violations 2, faults 0\n";
-    assert_eq!(rt; writer.into_inner().as_slice(), text.as_slice());
+    assert_eq!(rt; writer.into_inner(), lines_of(rt.alloc(), REPORT_OF_THREE)?);
     assert_eq!(rt; outcome.cause, None);
     assert_eq!(rt; outcome.workers, workers);
     assert_eq!(rt; outcome.tally.done_here, 0);
@@ -158,15 +158,10 @@ fn expect_three<
 }
 
 #[test]
-fn the_report_is_the_same_with_every_number_of_workers(rt: HostRuntime) -> Result<(), Fail> {
+fn the_report_is_the_same_by_every_crew(rt: HostRuntime) -> Result<(), Fail> {
     for workers in [1, 2, 16] {
         expect_three(rt, workers, Arc::new(rt.alloc(), NoGate)?)?;
     }
-    Ok(())
-}
-
-#[test]
-fn the_report_is_the_same_where_the_second_answer_comes_first(rt: HostRuntime) -> Result<(), Fail> {
     for workers in [2, 16] {
         let meeting = Meeting::new(rt);
         let gate = Arc::new(rt.alloc(), SecondFirst { meeting })?;
@@ -178,12 +173,13 @@ fn the_report_is_the_same_where_the_second_answer_comes_first(rt: HostRuntime) -
 
 #[test]
 fn two_workers_are_in_the_gate_at_once(rt: HostRuntime) -> Result<(), Fail> {
+    let crossed = lines_of(rt.alloc(), CROSSED)?;
     for is_after in [false, true] {
         let meeting = Meeting::new(rt);
         let gate = Arc::new(rt.alloc(), TwoAtOnce { is_after, meeting })?;
         let mut sources = [
-            source_of(rt.alloc(), b"n", CROSSED)?,
-            source_of(rt.alloc(), b"n", CROSSED)?,
+            source_of(rt.alloc(), "n", crossed.as_slice())?,
+            source_of(rt.alloc(), "n", crossed.as_slice())?,
         ];
         let mut writer = Counting::new(Vec::new(rt.alloc()));
         let plan = plan_with(2, 65_536)?;

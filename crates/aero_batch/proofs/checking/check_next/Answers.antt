@@ -1,6 +1,6 @@
-use Rattle.std.proofs.Common.{rules, refl}
+use Rattle.std.proofs.Common.{refl}
 use Rattle.std.proofs.lemmas.Option.{slice_get_read}
-use Rattle.aero_batch.proofs.Tracked.{set_changed}
+use Rattle.aero_intake.proofs.Tracked.{set_changed}
 use Rattle.aero_batch.proofs.checking.check_next.Goals as goal
 
 pub returns : goal.returns

@@ -1,8 +1,8 @@
-use Rattle.std.proofs.Common.{rules, ◌≤◌, ◌<◌, length, sym, arith}
+use Rattle.std.proofs.Common.{◌≤◌, ◌<◌, length, sym, arith}
 use Rattle.std.proofs.lemmas.Option.{slice_get_read}
 use Rattle.std.proofs.lemmas.Result.{on_ok_weaker}
-use Rattle.aero_batch.proofs.Tracked.{set_changed, changed_past}
-use Rattle.aero_batch.specs.Tracks.{with_value}
+use Rattle.aero_intake.proofs.Tracked.{set_changed, changed_past}
+use Rattle.aero_intake.specs.Tracks.{with_value}
 use Rattle.aero_batch.proofs.checking.give_value.Goals as goal
 
 pub returns-then-trace-len : goal.returns-then-trace-len

@@ -1,5 +1,5 @@
 use Rattle.std.proofs.Common.{◌≡◌, replicate, []}
-use Rattle.aero_batch.specs.declared.track.Track.TheVariants.{Arriving}
+use Rattle.aero_intake.specs.declared.track.Track.TheVariants.{Arriving}
 use Rattle.aero_batch.proofs.progress.new_tracks.Given as goal
 
 abbrev pub invariant-loop-i : goal.invariant-loop-i

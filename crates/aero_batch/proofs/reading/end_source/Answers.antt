@@ -1,6 +1,5 @@
-use Rattle.std.proofs.Common.{rules, ◌<◌, ◌≡◌, length, arith, ap, ◌∙◌}
+use Rattle.std.proofs.Common.{rules, ◌<◌, ◌∙◌}
 use Rattle.std.proofs.lemmas.Option.{slice_get_read}
-use Rattle.aero_batch.specs.Intake.{Taking}
 use Rattle.aero_batch.proofs.Stepping.{ends_source}
 use Rattle.aero_batch.proofs.reading.end_source.Goals as goal
 

@@ -1,4 +1,4 @@
-use Rattle.std.proofs.Common.{◌≡◌, map, length, sym, subst, ◌∙◌}
+use Rattle.std.proofs.Common.{map, sym, subst, ◌∙◌}
 use Rattle.std.proofs.lemmas.List.{length-map}
 use Rattle.aero_model.specs.Counts.{seen_by}
 use Rattle.aero_batch.specs.Founds.{sighted}

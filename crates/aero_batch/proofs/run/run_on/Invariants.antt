@@ -1,5 +1,5 @@
 -- What holds between two steps.
-use Rattle.std.proofs.Common.{◌≡◌, map, length}
+use Rattle.std.proofs.Common.{map}
 use Rattle.aero_model.specs.Counts.{seen_by}
 use Rattle.aero_batch.specs.Founds.{sighted}
 use Rattle.aero_batch.specs.Holding.{Stands}

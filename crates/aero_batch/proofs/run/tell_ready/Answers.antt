@@ -1,8 +1,7 @@
-use Rattle.std.proofs.Common.{◌≡◌, ◌<◌, ◌≤◌, ℕ, List, length, map, slice_get, get_or, refl, subst, sym, ◌∙◌, ap, arith}
-use Rattle.std.proofs.lemmas.List.{length-map}
+use Rattle.std.proofs.Common.{◌≡◌, ◌<◌, length, map, get_or, refl, subst, sym, ◌∙◌, ap, arith}
 use Rattle.std.proofs.lemmas.Option.{slice_get_read}
 use Rattle.aero_model.specs.Counts.{seen_by}
-use Rattle.aero_batch.specs.Founds.{Sighted, sighted}
+use Rattle.aero_batch.specs.Founds.{sighted}
 use Rattle.aero_batch.proofs.Readers.{name_there}
 use Rattle.aero_batch.proofs.Standing.{telling}
 use Rattle.aero_batch.proofs.run.tell_ready.Goals as goal

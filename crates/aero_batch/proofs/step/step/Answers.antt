@@ -1,4 +1,4 @@
-use Rattle.std.proofs.Common.{rules, ◌<◌, ◌≡◌, length, arith, refl, sym, subst, inl, inr}
+use Rattle.std.proofs.Common.{rules, ◌<◌, length, sym, subst, inr}
 use Rattle.std.proofs.lemmas.List.{length-map}
 use Rattle.aero_batch.specs.Founds.{sighted}
 use Rattle.std.specs.Prelude.{slice_index_or}

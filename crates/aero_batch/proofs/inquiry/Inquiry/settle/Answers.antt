@@ -1,7 +1,8 @@
 use Rattle.std.proofs.Common.{List, Option, Some, refl, subst, ◌∙◌}
 use Rattle.aero_pieces.specs.declared.question.Question.{Question}
 use Rattle.aero_pieces.specs.declared.answer.Value.{Value}
-use Rattle.aero_batch.specs.Inquiries.{Gives, SettlesKnown, questions_of, trace_of}
+use Rattle.aero_batch.specs.Inquiries.{Gives, SettlesKnown, questions_of}
+use Rattle.aero_intake.specs.Stories.{trace_of}
 use Rattle.aero_batch.proofs.Questions.{gives_front, settled_count}
 use Rattle.aero_batch.proofs.inquiry.Inquiry.settle.Goals as goal
 

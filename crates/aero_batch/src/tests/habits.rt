@@ -1,0 +1,121 @@
+// Helpers that answer in another order, more than once, wrongly, or never.
+use crate::helpers::Helpers;
+use aero_pieces::question::{Bytes, Question};
+use aero_stage::{Full, Job};
+use aero_worker::Reply;
+use std::alloc::{AllocError, Global};
+use std::sync::Wait;
+
+// What a helper does with the jobs that are posted.
+#[derive(Clone, Copy, PartialEq, Eq)]
+pub(crate) enum Habit {
+    // Answers the newest job first.
+    Newest,
+    // Gives each answer twice.
+    Twice,
+    // Before each answer to a question on a block, gives the answer to one with the same numbers and
+    // other bytes.
+    Forges,
+    // Says that no answer comes.
+    Misses,
+    // Says that there are no more replies.
+    Leaves,
+    // Takes no job.
+    Refuses,
+}
+
+// Two helpers with this habit.
+#[derive(Drop)]
+pub(crate) struct Helper {
+    alloc: Global,
+    habit: Habit,
+    jobs: Vec<Job>,
+    next: Vec<Reply>,
+}
+
+pub(crate) fn helper_with(alloc: Global, habit: Habit) -> Helper {
+    Helper {
+        alloc,
+        habit,
+        jobs: Vec::new(alloc),
+        next: Vec::new(alloc),
+    }
+}
+
+fn answer(alloc: Global, job: &Job) -> Reply {
+    match Question::answer(&job.question, alloc) {
+        Ok(answer) => Reply::Done(answer),
+        Err(_) => Reply::Missed(job.number),
+    }
+}
+
+// The answer to a question with the same numbers and other bytes.
+fn forged(alloc: Global, question: &Question) -> Result<Option<Reply>, AllocError> {
+    let Question::Parse { trace, number, .. } = question else {
+        return Ok(None);
+    };
+    let Some(bytes) = Bytes::new(b"T9|end\n".to_vec(alloc)?) else {
+        return Ok(None);
+    };
+    let other = Question::Parse {
+        trace: *trace,
+        number: *number,
+        bytes,
+    }
+    .share(alloc)?;
+    Ok(Some(Reply::Done(Question::answer(&other, alloc)?)))
+}
+
+impl Helper {
+    fn take(&mut self) -> Option<Job> {
+        if self.habit == Habit::Newest || self.jobs.is_empty() {
+            return self.jobs.pop();
+        }
+        Some(self.jobs.remove(0))
+    }
+
+    fn reply(&mut self, job: &Job) -> Result<Reply, AllocError> {
+        match self.habit {
+            Habit::Twice => self.next.push(answer(self.alloc, job))?,
+            Habit::Forges => {
+                if let Some(reply) = forged(self.alloc, &job.question)? {
+                    self.next.push(answer(self.alloc, job))?;
+                    return Ok(reply);
+                }
+            }
+            Habit::Misses => return Ok(Reply::Missed(job.number)),
+            Habit::Newest | Habit::Leaves | Habit::Refuses => {}
+        }
+        Ok(answer(self.alloc, job))
+    }
+}
+
+impl Helpers for Helper {
+    fn workers(&self) -> u32 {
+        2
+    }
+
+    fn post<R: Wait>(&mut self, _rt: &R, job: Job) -> Result<(), Full> {
+        if self.habit == Habit::Refuses {
+            return Err(Full { job });
+        }
+        match self.jobs.push(job) {
+            Ok(()) => Ok(()),
+            Err(refused) => Err(Full { job: refused.value }),
+        }
+    }
+
+    fn next_answer<R: Wait>(&mut self, _rt: &R) -> Option<Reply> {
+        if self.habit == Habit::Leaves {
+            return None;
+        }
+        if let Some(reply) = self.next.pop() {
+            return Some(reply);
+        }
+        let job = self.take()?;
+        match self.reply(&job) {
+            Ok(reply) => Some(reply),
+            Err(_) => Some(Reply::Missed(job.number)),
+        }
+    }
+}

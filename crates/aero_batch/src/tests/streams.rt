@@ -1,0 +1,70 @@
+// Readers and writers that fail, or never end.
+use std::io;
+use std::io::{Read, Write};
+
+// A reader that fails at one call, once it has given so many bytes, and works again afterwards.
+#[derive(Drop)]
+pub(crate) struct BreaksOnce<'a> {
+    pub(crate) text: &'a [u8],
+    pub(crate) left: usize,
+    pub(crate) has_failed: bool,
+}
+
+impl Read for BreaksOnce<'_> {
+    fn read(&mut self, buf: &mut [u8]) -> io::Result<usize> {
+        if self.left == 0 && !self.has_failed {
+            self.has_failed = true;
+            return Err(io::Error::from(io::ErrorKind::Interrupted));
+        }
+        let most = if self.has_failed {
+            buf.len()
+        } else {
+            buf.len().min(self.left)
+        };
+        let count = self.text.read(&mut buf[..most])?;
+        self.left = self.left.saturating_sub(count);
+        Ok(count)
+    }
+}
+
+// A reader without an end.
+#[derive(Drop)]
+pub(crate) struct Endless;
+
+impl Read for Endless {
+    fn read(&mut self, buf: &mut [u8]) -> io::Result<usize> {
+        for byte in buf.iter_mut() {
+            *byte = b'a';
+        }
+        Ok(buf.len())
+    }
+}
+
+// A writer that fails at one call, once it has taken so many bytes, and works again afterwards.
+#[derive(Drop)]
+pub(crate) struct CutsOnce {
+    pub(crate) taken: Vec<u8>,
+    pub(crate) left: usize,
+    pub(crate) has_failed: bool,
+}
+
+impl Write for CutsOnce {
+    fn write(&mut self, buf: &[u8]) -> io::Result<usize> {
+        if self.left == 0 && !self.has_failed {
+            self.has_failed = true;
+            return Err(io::Error::from(io::ErrorKind::Interrupted));
+        }
+        let count = if self.has_failed {
+            buf.len()
+        } else {
+            buf.len().min(self.left)
+        };
+        self.taken.extend_from_slice(&buf[..count])?;
+        self.left = self.left.saturating_sub(count);
+        Ok(count)
+    }
+
+    fn flush(&mut self) -> io::Result<()> {
+        Ok(())
+    }
+}

@@ -1,0 +1,125 @@
+-- The blocks of a text have its verdicts.
+use Rattle.std.proofs.Common.{◌≡◌, ℕ, suc, ◌+◌, true, List, [], ◌∷◌, Option, Some, None, refl, sym, ◌∙◌, ap, subst, arith}
+use Rattle.std.proofs.lemmas.List.{append-nil}
+use Rattle.std.specs.Prelude.{map, option_map, slice_get, length}
+use Rattle.std.specs.List.{concat}
+use Rattle.aero_model.specs.declared.event.Numbered.{Numbered}
+use Rattle.aero_model.specs.declared.limits.Limits.{Limits}
+use Rattle.aero_model.specs.declared.verdict.LineFault.{LineFault}
+use Rattle.aero_model.specs.declared.verdict.ShapeFault.{ShapeFault}
+use Rattle.aero_model.specs.declared.verdict.Verdict.{Verdict}
+use Rattle.aero_model.specs.declared.verdict.Verdict.TheVariants.{Serializable, Pending, Violation, Malformed, IllFormed}
+use Rattle.aero_model.specs.Blocks.{Block, opens, transaction}
+use Rattle.aero_model.specs.Cycle.{HasTellingCycle, IsClosing, IsOpener}
+use Rattle.aero_model.specs.Named.{Named}
+use Rattle.aero_model.specs.Numbering.{tables_of, trace_of}
+use Rattle.aero_model.specs.Shape.{IsLawful, fault_at}
+use Rattle.aero_model.specs.Tally.{block_count, open_count}
+use Rattle.aero_grammar.specs.Reading.{Reading, reading_of, whole_reading, events_within, malformed_line}
+use Rattle.aero_grammar.proofs.Joined.{reading_of-cap, reading_of-concat}
+use Rattle.aero_lines.specs.Cutting.{nothing_yet, blocks_from}
+use Rattle.aero_lines.proofs.Runs.{blocks_are_the_text}
+use Rattle.aero_verdict.specs.Verdict.{IsVerdict, IsViolation, IsIllFormed, IsMalformed, IsFaultless, IsClean, BeginsOnLine}
+use Rattle.aero_intake.specs.Laws.{BlocksJudgeAsTheText}
+
+-- what the blocks say, one after the other, is what the text says
+pub blocks_read : (pieces : List (List ℕ)) → whole_reading (map reading_of (blocks_from nothing_yet pieces)) ≡ reading_of (concat pieces)
+blocks_read pieces =
+    let law = blocks_are_the_text pieces in
+    reading_of-concat (blocks_from nothing_yet pieces) law.1 ∙ (ap reading_of law.0 ∙ reading_of-cap (concat pieces))
+
+-- one part alone
+one_read : (r : Reading) → whole_reading (r ∷ []) ≡ r
+one_read r = go r.events r.lines r.fault
+  where
+    go : (events : List (ℕ × Named)) (lines : ℕ) (fault : Option (ℕ × LineFault)) →
+        whole_reading (record { events = events; lines = lines; fault = fault } ∷ []) ≡ record { events = events; lines = lines; fault = fault }
+    go events lines None =
+        let none : lines + 0 ≡ lines = omega arith in
+        ap (λ es. record { events = es; lines = lines + 0; fault = None }) (append-nil events) ∙ ap (λ n. record { events = events; lines = n; fault = None }) none
+    go events lines (Some f) = refl
+
+-- a verdict speaks of parts through what they say as one
+module _ (limits : Limits) (parts others : List Reading) (same : whole_reading parts ≡ whole_reading others) where
+  abbrev counted : Reading → List (ℕ × Named)
+  counted r = events_within limits.lines r
+
+  abbrev named : Reading → List Named
+  named r = map (λ e. e.1) (counted r)
+
+  abbrev trace : Reading → List Numbered
+  trace r = trace_of (named r)
+
+  on_line : (n line : ℕ) → option_map (λ e. e.0) (slice_get (counted (whole_reading parts)) n) ≡ Some line → option_map (λ e. e.0) (slice_get (counted (whole_reading others)) n) ≡ Some line
+  on_line n line is = subst (λ r. option_map (λ e. e.0) (slice_get (counted r) n) ≡ Some line) same is
+
+  lawful : (n : ℕ) → IsLawful limits (trace (whole_reading parts)) n → IsLawful limits (trace (whole_reading others)) n
+  lawful n is = subst (λ r. IsLawful limits (trace r) n) same is
+
+  clean : (n : ℕ) → IsClean parts limits n → IsClean others limits n
+  clean n is = record {
+    lawful = lawful n is.lawful;
+    no_cycle = subst (λ r. ¬ HasTellingCycle (trace r) n) same is.no_cycle;
+  }
+
+  clean_all : IsClean parts limits (length (trace (whole_reading parts))) → IsClean others limits (length (trace (whole_reading others)))
+  clean_all is = subst (λ r. IsClean others limits (length (trace r))) same (clean _ is)
+
+  begins : (t number line : ℕ) → BeginsOnLine parts limits t number line → BeginsOnLine others limits t number line
+  begins t number line is = record {
+    place = is.place;
+    outermost = subst (λ r. opens (trace r) t is.place ≡ true) same is.outermost;
+    block = subst (λ r. transaction (trace r) is.place ≡ Block t number) same is.block;
+    line_of = on_line is.place line is.line_of;
+  }
+
+  violation : (line : ℕ) (thread : List ℕ) (begun : ℕ) → IsViolation parts limits line thread begun → IsViolation others limits line thread begun
+  violation line thread begun is = record {
+    place = is.place;
+    lawful = lawful (suc is.place) is.lawful;
+    closing = subst (λ r. IsClosing (trace r) is.place) same is.closing;
+    line_of = on_line is.place line is.line_of;
+    t = is.t;
+    number = is.number;
+    opener = subst (λ r. IsOpener (trace r) (suc is.place) is.t is.number) same is.opener;
+    name = subst (λ r. slice_get (tables_of (named r)).threads is.t ≡ Some thread) same is.name;
+    begins = begins is.t is.number begun is.begins;
+  }
+
+  ill_formed : (line : ℕ) (fault : ShapeFault) → IsIllFormed parts limits line fault → IsIllFormed others limits line fault
+  ill_formed line fault is = record {
+    place = is.place;
+    clean = clean is.place is.clean;
+    cause = subst (λ r. fault_at limits (trace r) is.place ≡ Some fault) same is.cause;
+    line_of = on_line is.place line is.line_of;
+  }
+
+  malformed : (line : ℕ) (fault : LineFault) → IsMalformed parts limits line fault → IsMalformed others limits line fault
+  malformed line fault is = record {
+    clean = clean_all is.clean;
+    cause = subst (λ r. malformed_line limits.lines r ≡ Some (line, fault)) same is.cause;
+  }
+
+  faultless : (events blocks pending : ℕ) → IsFaultless parts limits events blocks pending → IsFaultless others limits events blocks pending
+  faultless events blocks pending is = record {
+    clean = clean_all is.clean;
+    no_fault = subst (λ r. malformed_line limits.lines r ≡ None) same is.no_fault;
+    events_are = subst (λ r. events ≡ length (trace r)) same is.events_are;
+    blocks_are = subst (λ r. blocks ≡ block_count (trace r)) same is.blocks_are;
+    open_are = subst (λ r. pending ≡ open_count (trace r)) same is.open_are;
+  }
+
+  pub same_verdict : (verdict : Verdict) → IsVerdict parts limits verdict → IsVerdict others limits verdict
+  same_verdict (Serializable events blocks) is = faultless events blocks 0 is
+  same_verdict (Pending events blocks pending) is = (is.0, faultless events blocks pending is.1)
+  same_verdict (Violation line thread begun) is = violation line thread begun is
+  same_verdict (Malformed line fault) is = malformed line fault is
+  same_verdict (IllFormed line fault) is = ill_formed line fault is
+
+-- the verdicts on what a text says are those on what its blocks say
+pub judged_alike : BlocksJudgeAsTheText
+judged_alike pieces limits verdict =
+    let parts = map reading_of (blocks_from nothing_yet pieces) in
+    let text = reading_of (concat pieces) in
+    let same : whole_reading parts ≡ whole_reading (text ∷ []) = blocks_read pieces ∙ sym (one_read text) in
+    (same_verdict limits parts (text ∷ []) same verdict, same_verdict limits (text ∷ []) parts (sym same) verdict)

@@ -1,0 +1,4 @@
+pub mod Judged
+pub mod Taken
+pub mod Tracked
+pub mod Values

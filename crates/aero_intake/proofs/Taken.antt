@@ -1,0 +1,83 @@
+-- A source as far as it was read.
+use Rattle.std.proofs.Common.{◌≡◌, ℕ, ◌+◌, ◌≤◌, List, [], ◌∷◌, ◌++◌, length, refl, sym, ◌∙◌, ap, ap₂, subst, append_assoc, arith}
+use Rattle.std.proofs.lemmas.List.{append-nil, length-append}
+use Rattle.std.proofs.KnownBytes.{Consumes-nil, Consumes-trans}
+use Rattle.std.specs.Prelude.{option_to_list}
+use Rattle.std.specs.List.{concat}
+use Rattle.std.specs.Io.KnownBytes.{Consumes}
+use Rattle.aero_model.specs.declared.verdict.Ending.{Ending}
+use Rattle.aero_model.specs.declared.verdict.Ending.TheVariants.{Whole, Broken, TooLarge}
+use Rattle.aero_model.specs.Counts.{Seen}
+use Rattle.aero_lines.specs.Cutting.{Cutting, nothing_yet, fed, block_of, last_block, blocks_from}
+use Rattle.aero_intake.specs.Source.{WasRead}
+use Rattle.aero_intake.specs.Intake.{Taking, nothing_taken, with_piece, fed_all, blocks_so_far, IsTaken, HaveCome, Comes, Ends}
+
+fed_all-more : (c : Cutting) (pieces : List (List ℕ)) (piece : List ℕ) → fed_all c (pieces ++ piece ∷ []) ≡ fed (fed_all c pieces) piece
+fed_all-more c [] piece = refl
+fed_all-more c (first ∷ pieces) piece = fed_all-more (fed c first) pieces piece
+
+blocks_so_far-more : (c : Cutting) (pieces : List (List ℕ)) (piece : List ℕ) →
+    blocks_so_far c (pieces ++ piece ∷ []) ≡ blocks_so_far c pieces ++ option_to_list (block_of (fed_all c pieces) piece)
+blocks_so_far-more c [] piece = append-nil (option_to_list (block_of c piece))
+blocks_so_far-more c (first ∷ pieces) piece =
+    ap (λ bs. option_to_list (block_of c first) ++ bs) (blocks_so_far-more (fed c first) pieces piece)
+    ∙ sym (append_assoc (option_to_list (block_of c first)) (blocks_so_far (fed c first) pieces) (option_to_list (block_of (fed_all (fed c first) pieces) piece)))
+
+blocks_from-last : (c : Cutting) (pieces : List (List ℕ)) → blocks_so_far c pieces ++ option_to_list (last_block (fed_all c pieces)) ≡ blocks_from c pieces
+blocks_from-last c [] = refl
+blocks_from-last c (first ∷ pieces) =
+    append_assoc (option_to_list (block_of c first)) (blocks_so_far (fed c first) pieces) (option_to_list (last_block (fed_all (fed c first) pieces)))
+    ∙ ap (λ bs. option_to_list (block_of c first) ++ bs) (blocks_from-last (fed c first) pieces)
+
+concat-more : (pieces : List (List ℕ)) (piece : List ℕ) → concat (pieces ++ piece ∷ []) ≡ concat pieces ++ piece
+concat-more [] piece = append-nil piece
+concat-more (first ∷ pieces) piece = ap (λ bs. first ++ bs) (concat-more pieces piece) ∙ sym (append_assoc first (concat pieces) piece)
+
+pub nothing_is_taken : IsTaken nothing_taken [] []
+nothing_is_taken = record { cutting = refl; given = refl; count = refl }
+
+-- a piece comes, and gives its block
+pub piece_is_taken : (i : Taking) (pieces blocks : List (List ℕ)) (piece : List ℕ) → IsTaken i pieces blocks →
+    IsTaken (with_piece i piece) (pieces ++ piece ∷ []) (blocks ++ option_to_list (block_of i.cutting piece))
+piece_is_taken i pieces blocks piece is = record {
+  cutting = ap (λ c. fed c piece) is.cutting ∙ sym (fed_all-more nothing_yet pieces piece);
+  given = ap₂ (λ bs c. bs ++ option_to_list (block_of c piece)) is.given is.cutting ∙ sym (blocks_so_far-more nothing_yet pieces piece);
+  count = ap (λ n. n + length piece) is.count ∙ (sym (length-append (concat pieces) piece) ∙ sym (ap length (concat-more pieces piece)));
+}
+
+-- the text ends
+pub blocks_with_last : (i : Taking) (pieces blocks : List (List ℕ)) → IsTaken i pieces blocks → blocks ++ option_to_list (last_block i.cutting) ≡ blocks_from nothing_yet pieces
+blocks_with_last i pieces blocks is =
+    ap₂ (λ bs c. bs ++ option_to_list (last_block c)) is.given is.cutting ∙ blocks_from-last nothing_yet pieces
+
+pub nothing_has_come : (seen : Seen) → HaveCome seen seen []
+nothing_has_come seen = record { came = Consumes-nil seen.bytes; quiet = record { faults = refl; ends = refl } }
+
+pub piece_has_come : (before mid after : Seen) (pieces : List (List ℕ)) (room limit count : ℕ) (piece : List ℕ) →
+    HaveCome before mid pieces → Comes mid after room limit count piece → HaveCome before after (pieces ++ piece ∷ [])
+piece_has_come before mid after pieces room limit count piece have comes = record {
+  came = subst (λ bytes. Consumes before.bytes after.bytes bytes) (sym (concat-more pieces piece)) (Consumes-trans before.bytes mid.bytes after.bytes (concat pieces) piece have.came comes.came);
+  quiet = record { faults = comes.quiet.faults ∙ have.quiet.faults; ends = comes.quiet.ends ∙ have.quiet.ends };
+}
+
+-- what was read of a source that has ended
+pub source_was_read : (before mid after : Seen) (limit : ℕ) (i : Taking) (pieces blocks : List (List ℕ)) (ending : Ending) →
+    HaveCome before mid pieces → IsTaken i pieces blocks → Ends mid after limit i.count ending → WasRead before after limit (concat pieces) ending
+source_was_read before mid after limit i pieces blocks Whole have is ends = record {
+  came = subst (λ bytes. Consumes before.bytes after.bytes bytes) (append-nil (concat pieces)) (Consumes-trans before.bytes mid.bytes after.bytes (concat pieces) [] have.came ends.0.came);
+  faults = omega (arith, ends.0.faults, have.quiet.faults);
+  ends = omega (arith, ends.0.ends, have.quiet.ends);
+  fits = subst (λ n. n ≤ limit) is.count ends.1;
+}
+source_was_read before mid after limit i pieces blocks Broken have is ends = record {
+  came = subst (λ bytes. Consumes before.bytes after.bytes bytes) (append-nil (concat pieces)) (Consumes-trans before.bytes mid.bytes after.bytes (concat pieces) [] have.came ends.0.came);
+  faults = omega (arith, ends.0.faults, have.quiet.faults);
+  ends = omega (arith, ends.0.ends, have.quiet.ends);
+  fits = subst (λ n. n ≤ limit) is.count ends.1;
+}
+source_was_read before mid after limit i pieces blocks TooLarge have is ends = record {
+  came = subst (λ (s : Seen). Consumes before.bytes s.bytes (concat pieces)) (sym ends.0) have.came;
+  faults = omega (arith, ap (λ (s : Seen). s.faults) ends.0, have.quiet.faults);
+  ends = omega (arith, ap (λ (s : Seen). s.ends) ends.0, have.quiet.ends);
+  fits = sym is.count ∙ ends.1;
+}

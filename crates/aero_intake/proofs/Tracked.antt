@@ -1,0 +1,217 @@
+-- Asking and settling questions keep what is known of each source.
+use Rattle.std.proofs.Common.{◌≡◌, ℕ, zero, suc, ◌≤◌, List, [], ◌∷◌, ◌++◌, map, length, slice_get, slice_set, Option, Some, None, refl, sym, ◌∙◌, ap, ap₂, subst, append_assoc, inl, inr, arith}
+use Rattle.std.specs.Prelude.{All, option_map, if◌then◌else◌}
+use Rattle.std.specs.List.{concat}
+use Rattle.std.proofs.Math.Logic.{∥∥₁_elim}
+use Rattle.std.proofs.lemmas.Bool.{cases_eq, eq-eqb, ne_eqb}
+use Rattle.std.proofs.lemmas.Grind.{merely}
+use Rattle.std.proofs.lemmas.List.{append-nil, map-append, length-append, length-map}
+use Rattle.std.proofs.lemmas.List.Elements.{All-head, All-cons, All-nil}
+use Rattle.aero_model.specs.declared.limits.Limits.{Limits}
+use Rattle.aero_model.specs.declared.verdict.Ending.TheVariants as endings
+use Rattle.aero_model.specs.declared.verdict.Finding.TheVariants as findings
+use Rattle.aero_model.specs.declared.verdict.Verdict.{Verdict}
+use Rattle.aero_grammar.specs.Reading.{Reading, reading_of}
+use Rattle.aero_lines.specs.Cutting.{nothing_yet, blocks_from}
+use Rattle.aero_pieces.specs.declared.question.Question.{Question}
+use Rattle.aero_pieces.specs.declared.question.Question.TheVariants.{Parse, Check}
+use Rattle.aero_pieces.specs.declared.answer.Value.{Value}
+use Rattle.aero_pieces.specs.declared.answer.Value.TheVariants.{Parsed, Judged}
+use Rattle.aero_pieces.specs.Values.{IsValueOf}
+use Rattle.aero_verdict.specs.Finding.{IsFinding}
+use Rattle.aero_verdict.specs.Verdict.{IsVerdict}
+use Rattle.aero_intake.specs.declared.track.Track.{Track}
+use Rattle.aero_intake.specs.declared.track.Track.TheVariants.{Arriving, Arrived, Checking, Found}
+use Rattle.aero_intake.specs.Stories.{Story, Asked, own_block, own_check, blocks_asked, checks_asked, HasArrived, AreSettled, IsTracked, AreTracked, changed, trace_of}
+use Rattle.aero_intake.specs.Tracks.{with_value}
+use Rattle.aero_intake.proofs.Judged.{judged_alike}
+use Rattle.aero_intake.proofs.Values.{parsed_value, not_judged, not_parsed}
+
+-- what is asked of the sources
+
+own_block-same : (s trace number : ℕ) (bytes : List ℕ) → trace ≡ s → own_block s (Parse trace number bytes) ≡ bytes ∷ []
+own_block-same s trace number bytes same = ap (λ b. if b then bytes ∷ [] else []) (eq-eqb trace s same)
+
+pub own_block-other : (s : ℕ) (q : Question) → (trace_of q ≡ s → ⊥) → own_block s q ≡ []
+own_block-other s (Parse trace number bytes) other = ap (λ b. if b then bytes ∷ [] else []) (ne_eqb trace s other)
+own_block-other s (Check trace parts limits) other = refl
+
+own_check-same : (s trace : ℕ) (parts : List Reading) (limits : Limits) → trace ≡ s → own_check s (Check trace parts limits) ≡ record { parts = parts; limits = limits } ∷ []
+own_check-same s trace parts limits same = ap (λ b. if b then record { parts = parts; limits = limits } ∷ [] else []) (eq-eqb trace s same)
+
+pub own_check-other : (s : ℕ) (q : Question) → (trace_of q ≡ s → ⊥) → own_check s q ≡ []
+own_check-other s (Parse trace number bytes) other = refl
+own_check-other s (Check trace parts limits) other = ap (λ b. if b then record { parts = parts; limits = limits } ∷ [] else []) (ne_eqb trace s other)
+
+blocks_asked-more : (s : ℕ) (qs : List Question) (q : Question) → blocks_asked s (qs ++ q ∷ []) ≡ blocks_asked s qs ++ own_block s q
+blocks_asked-more s [] q = append-nil (own_block s q)
+blocks_asked-more s (p ∷ more) q = ap (λ bs. own_block s p ++ bs) (blocks_asked-more s more q) ∙ sym (append_assoc (own_block s p) (blocks_asked s more) (own_block s q))
+
+checks_asked-more : (s : ℕ) (qs : List Question) (q : Question) → checks_asked s (qs ++ q ∷ []) ≡ checks_asked s qs ++ own_check s q
+checks_asked-more s [] q = append-nil (own_check s q)
+checks_asked-more s (p ∷ more) q = ap (λ cs. own_check s p ++ cs) (checks_asked-more s more q) ∙ sym (append_assoc (own_check s p) (checks_asked s more) (own_check s q))
+
+-- a list of tracks with one changed
+
+pub changed_there : {A : Type 0} (s : ℕ) (f : A → A) (xs : List A) → slice_get (changed s f xs) s ≡ option_map f (slice_get xs s)
+changed_there zero f [] = refl
+changed_there (suc s) f [] = refl
+changed_there zero f (x ∷ xs) = refl
+changed_there (suc s) f (x ∷ xs) = changed_there s f xs
+
+pub changed_elsewhere : {A : Type 0} (p s : ℕ) (f : A → A) (xs : List A) → (p ≡ s → ⊥) → slice_get (changed p f xs) s ≡ slice_get xs s
+changed_elsewhere p s f [] other = refl
+changed_elsewhere zero zero f (x ∷ xs) other = absurd (other refl)
+changed_elsewhere zero (suc s) f (x ∷ xs) other = refl
+changed_elsewhere (suc p) zero f (x ∷ xs) other = refl
+changed_elsewhere (suc p) (suc s) f (x ∷ xs) other = changed_elsewhere p s f xs (λ e. other (ap suc e))
+
+pub changed_length : {A : Type 0} (p : ℕ) (f : A → A) (xs : List A) → length (changed p f xs) ≡ length xs
+changed_length p f [] = refl
+changed_length zero f (x ∷ xs) = refl
+changed_length (suc p) f (x ∷ xs) = ap suc (changed_length p f xs)
+
+pub before_change : {A : Type 0} (f : A → A) (o : Option A) (y : A) → option_map f o ≡ Some y → (x : A) × (o ≡ Some x) × (y ≡ f x)
+before_change f None y is = cc
+before_change f (Some x) y is = (x, refl, cc)
+
+nil_right : {A : Type 0} (xs ys : List A) → xs ++ ys ≡ [] → ys ≡ []
+nil_right [] ys is = is
+nil_right (x ∷ xs) ys is = cc
+
+-- settling
+
+-- what is known of a source of which nothing is settled
+settled_other : (limits : Limits) (q : Question) (rest : List Question) (s : ℕ) (story : Story) (t : Track) → own_block s q ≡ [] → own_check s q ≡ [] →
+    IsTracked limits (q ∷ rest) s story t → IsTracked limits rest s story t
+settled_other limits q rest s story (Arriving readings) no_block no_check is = (
+  subst (λ bs. readings ++ map reading_of (bs ++ blocks_asked s rest) ≡ map reading_of story.blocks) no_block is.0,
+  subst (λ cs. cs ++ checks_asked s rest ≡ []) no_check is.1,
+  is.2,
+)
+settled_other limits q rest s story (Arrived bytes blocks readings) no_block no_check is = (
+  subst (λ bs. readings ++ map reading_of (bs ++ blocks_asked s rest) ≡ map reading_of story.blocks) no_block is.0,
+  subst (λ cs. cs ++ checks_asked s rest ≡ []) no_check is.1,
+  is.2,
+)
+settled_other limits q rest s story (Checking bytes) no_block no_check is = (
+  subst (λ cs. All (λ a. a ≡ record { parts = map reading_of story.blocks; limits = limits }) (cs ++ checks_asked s rest)) no_check is.0,
+  is.1,
+)
+settled_other limits q rest s story (Found bytes ending finding) no_block no_check is = is
+
+-- the block that is settled goes from those that are asked about to those that are read
+part_settled : (story : Story) (rest : List Question) (s trace number : ℕ) (bytes : List ℕ) (readings : List Reading) (r : Reading) → trace ≡ s → r ≡ reading_of bytes →
+    AreSettled story (Parse trace number bytes ∷ rest) s readings → AreSettled story rest s (readings ++ r ∷ [])
+part_settled story rest s trace number bytes readings r same is before =
+    append_assoc readings (r ∷ []) (map reading_of (blocks_asked s rest))
+    ∙ (ap (λ x. readings ++ (x ∷ map reading_of (blocks_asked s rest))) is
+    ∙ (sym (ap (λ bs. readings ++ map reading_of (bs ++ blocks_asked s rest)) (own_block-same s trace number bytes same)) ∙ before))
+
+verdict_found : (limits : Limits) (story : Story) (bytes : ℕ) (parts : List Reading) (asked : Limits) (w : Verdict) →
+    ◌≡◌ {A = Asked} (record { parts = parts; limits = asked }) (record { parts = map reading_of story.blocks; limits = limits }) →
+    HasArrived story bytes (length story.blocks) → ∥ IsVerdict parts asked w ∥₁ → ∥ IsFinding (concat story.pieces) endings.Whole limits (findings.Judged w) ∥₁
+verdict_found limits story bytes parts asked w same has known =
+    let there : ∥ IsVerdict (map reading_of story.blocks) limits w ∥₁ = subst (λ (a : Asked). ∥ IsVerdict a.parts a.limits w ∥₁) same known in
+    let cut : ∥ IsVerdict (map reading_of (blocks_from nothing_yet story.pieces)) limits w ∥₁ = subst (λ bs. ∥ IsVerdict (map reading_of bs) limits w ∥₁) has.all there in
+    ∥∥₁_elim cut squash₁ (λ v. merely (w, (judged_alike story.pieces limits w).0 v, refl))
+
+-- what is known of the source of which a question is settled
+settled_own : (limits : Limits) (q : Question) (rest : List Question) (s : ℕ) (story : Story) (t : Track) (v : Value) → trace_of q ≡ s → IsValueOf q v →
+    IsTracked limits (q ∷ rest) s story t → IsTracked limits rest s story (with_value t v)
+settled_own limits (Parse trace number bytes) rest s story (Arriving readings) (Parsed r) same known is =
+    (part_settled story rest s trace number bytes readings r same (parsed_value trace number bytes r known) is.0, is.1, is.2)
+settled_own limits (Parse trace number bytes) rest s story (Arrived n blocks readings) (Parsed r) same known is =
+    (part_settled story rest s trace number bytes readings r same (parsed_value trace number bytes r known) is.0, is.1, is.2)
+settled_own limits (Parse trace number bytes) rest s story (Checking n) (Parsed r) same known is = is
+settled_own limits (Parse trace number bytes) rest s story (Found n ending finding) (Parsed r) same known is = is
+settled_own limits (Parse trace number bytes) rest s story t (Judged w) same known is = absurd (not_judged trace number bytes w known)
+settled_own limits (Check trace parts asked) rest s story t (Parsed r) same known is = absurd (not_parsed trace parts asked r known)
+settled_own limits (Check trace parts asked) rest s story (Arriving readings) (Judged w) same known is =
+    (is.0, nil_right (own_check s (Check trace parts asked)) (checks_asked s rest) is.1, is.2)
+settled_own limits (Check trace parts asked) rest s story (Arrived n blocks readings) (Judged w) same known is =
+    (is.0, nil_right (own_check s (Check trace parts asked)) (checks_asked s rest) is.1, is.2)
+settled_own limits (Check trace parts asked) rest s story (Checking n) (Judged w) same known is =
+    let all = subst (λ cs. All (λ a. a ≡ record { parts = map reading_of story.blocks; limits = limits }) (cs ++ checks_asked s rest)) (own_check-same s trace parts asked same) is.0 in
+    let first = All-head (λ a. a ≡ record { parts = map reading_of story.blocks; limits = limits }) (record { parts = parts; limits = asked }) (checks_asked s rest) all in
+    (is.1.ended, is.1.byte_count, verdict_found limits story n parts asked w first is.1 known)
+settled_own limits (Check trace parts asked) rest s story (Found n ending finding) (Judged w) same known is = is
+
+pub value_goes : (limits : Limits) (tale : ℕ → Story) (q : Question) (rest : List Question) (v : Value) (tracks : List Track) → IsValueOf q v →
+    AreTracked limits (q ∷ rest) tale tracks → AreTracked limits rest tale (changed (trace_of q) (λ x. with_value x v) tracks)
+value_goes limits tale q rest v tracks known tracked s t at =
+    elim (cases_eq (trace_of q) s) [
+      | inl same ↦
+          (let at_place = subst (λ p. slice_get (changed p (λ x. with_value x v) tracks) s ≡ Some t) same at in
+          let was = before_change (λ x. with_value x v) (slice_get tracks s) t (sym (changed_there s (λ x. with_value x v) tracks) ∙ at_place) in
+          subst (λ x. IsTracked limits rest s (tale s) x) (sym was.2) (settled_own limits q rest s (tale s) was.0 v same known (tracked s was.0 was.1)))
+      | inr other ↦
+          settled_other limits q rest s (tale s) t (own_block-other s q other) (own_check-other s q other)
+          (tracked s t (sym (changed_elsewhere (trace_of q) s (λ x. with_value x v) tracks other) ∙ at))
+    ]
+
+-- asking
+
+pub asked_other : (limits : Limits) (qs : List Question) (q : Question) (s : ℕ) (story : Story) (t : Track) → (trace_of q ≡ s → ⊥) →
+    IsTracked limits qs s story t → IsTracked limits (qs ++ q ∷ []) s story t
+asked_other limits qs q s story t other is = go t is
+  where
+    blocks : blocks_asked s (qs ++ q ∷ []) ≡ blocks_asked s qs
+    blocks = blocks_asked-more s qs q ∙ (ap (λ bs. blocks_asked s qs ++ bs) (own_block-other s q other) ∙ append-nil (blocks_asked s qs))
+
+    checks : checks_asked s (qs ++ q ∷ []) ≡ checks_asked s qs
+    checks = checks_asked-more s qs q ∙ (ap (λ cs. checks_asked s qs ++ cs) (own_check-other s q other) ∙ append-nil (checks_asked s qs))
+
+    go : (t : Track) → IsTracked limits qs s story t → IsTracked limits (qs ++ q ∷ []) s story t
+    go (Arriving readings) is = (subst (λ bs. readings ++ map reading_of bs ≡ map reading_of story.blocks) (sym blocks) is.0, checks ∙ is.1, is.2)
+    go (Arrived n k readings) is = (subst (λ bs. readings ++ map reading_of bs ≡ map reading_of story.blocks) (sym blocks) is.0, checks ∙ is.1, is.2)
+    go (Checking n) is = (subst (λ cs. All (λ a. a ≡ record { parts = map reading_of story.blocks; limits = limits }) cs) (sym checks) is.0, is.1)
+    go (Found n ending finding) is = is
+
+-- one more block of a source that hasn't ended is asked about
+pub asked_block : (limits : Limits) (qs : List Question) (s number : ℕ) (block : List ℕ) (story : Story) (pieces : List (List ℕ)) (readings : List Reading) →
+    IsTracked limits qs s story (Arriving readings) →
+    IsTracked limits (qs ++ Parse s number block ∷ []) s (record { pieces = pieces; blocks = story.blocks ++ block ∷ []; ending = None }) (Arriving readings)
+asked_block limits qs s number block story pieces readings is = (
+  ap (λ bs. readings ++ map reading_of bs) (blocks_asked-more s qs (Parse s number block) ∙ ap (λ bs. blocks_asked s qs ++ bs) (own_block-same s s number block refl))
+      ∙ (ap (λ rs. readings ++ rs) (map-append reading_of (blocks_asked s qs) (block ∷ []))
+      ∙ (sym (append_assoc readings (map reading_of (blocks_asked s qs)) (reading_of block ∷ []))
+      ∙ (ap (λ rs. rs ++ reading_of block ∷ []) is.0
+      ∙ sym (map-append reading_of story.blocks (block ∷ []))))),
+  checks_asked-more s qs (Parse s number block) ∙ (append-nil (checks_asked s qs) ∙ is.1),
+  refl,
+)
+
+no_blocks_left : (readings rs : List Reading) (blocks : List (List ℕ)) (bs : List (List ℕ)) → readings ++ map reading_of bs ≡ map reading_of blocks → length readings ≡ length blocks →
+    readings ≡ map reading_of blocks
+no_blocks_left readings rs blocks [] is same = sym (append-nil readings) ∙ is
+no_blocks_left readings rs blocks (b ∷ bs) is same =
+    let lengths : length (readings ++ reading_of b ∷ map reading_of bs) ≡ length (map reading_of blocks) = ap length is in
+    absurd (omega (arith, lengths, same, length-append readings (reading_of b ∷ map reading_of bs), length-map blocks reading_of))
+
+-- the verdict on a whole source is asked for once all its blocks are read
+pub asked_check : (limits : Limits) (qs : List Question) (s bytes blocks : ℕ) (story : Story) (readings : List Reading) → length readings ≡ blocks →
+    IsTracked limits qs s story (Arrived bytes blocks readings) → IsTracked limits (qs ++ Check s readings limits ∷ []) s story (Checking bytes)
+asked_check limits qs s bytes blocks story readings ready is =
+    let all_read = no_blocks_left readings [] story.blocks (blocks_asked s qs) is.0 (ready ∙ is.2.block_count) in
+    let one : checks_asked s (qs ++ Check s readings limits ∷ []) ≡ record { parts = readings; limits = limits } ∷ [] =
+    checks_asked-more s qs (Check s readings limits) ∙ ap₂ (λ xs ys. xs ++ ys) is.1 (own_check-same s s readings limits refl) in (
+      subst (λ cs. All (λ a. a ≡ record { parts = map reading_of story.blocks; limits = limits }) cs) (sym one)
+          (All-cons (λ a. a ≡ record { parts = map reading_of story.blocks; limits = limits }) (record { parts = readings; limits = limits }) []
+          (ap (λ rs. record { parts = rs; limits = limits }) all_read) (All-nil (λ a. a ≡ record { parts = map reading_of story.blocks; limits = limits }))),
+      record { ended = is.2.ended; all = is.2.all; byte_count = is.2.byte_count; block_count = refl },
+    )
+
+-- a list with an element written at a place
+
+pub set_changed : {A : Type 0} (xs : List A) (i : ℕ) (x y : A) (f : A → A) → slice_get xs i ≡ Some x → y ≡ f x → slice_set xs i y ≡ changed i f xs
+set_changed [] i x y f at is = refl
+set_changed (c ∷ xs) zero x y f at is =
+    let same : c ≡ x = cc at in
+    ap (λ z. z ∷ xs) (is ∙ ap f (sym same))
+set_changed (c ∷ xs) (suc i) x y f at is = ap (λ zs. c ∷ zs) (set_changed xs i x y f at is)
+
+pub changed_past : {A : Type 0} (xs : List A) (i : ℕ) (f : A → A) → length xs ≤ i → changed i f xs ≡ xs
+changed_past [] i f past = refl
+changed_past (c ∷ xs) zero f past = absurd (omega (arith, past))
+changed_past (c ∷ xs) (suc i) f past = ap (λ zs. c ∷ zs) (changed_past xs i f (omega (arith, past)))

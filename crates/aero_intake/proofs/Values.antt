@@ -1,0 +1,24 @@
+-- The value of a question, where its kind is known.
+use Rattle.std.proofs.Common.{◌≡◌, ℕ, List}
+use Rattle.std.proofs.Math.Logic.{∥∥₁_elim}
+use Rattle.std.specs.Coded.{Coded, Coded-set, codes}
+use Rattle.aero_model.specs.declared.limits.Limits.{Limits}
+use Rattle.aero_model.specs.declared.verdict.Verdict.{Verdict}
+use Rattle.aero_grammar.specs.Reading.{Reading, reading_of}
+use Rattle.aero_pieces.specs.declared.question.Question.TheVariants.{Parse, Check}
+use Rattle.aero_pieces.specs.declared.answer.Value.TheVariants.{Parsed, Judged}
+use Rattle.aero_pieces.specs.Values.{IsValueOf}
+
+reading_code : Coded Reading
+reading_code = hlevel codes
+
+-- the question on a block is answered by what the block says
+pub parsed_value : (trace number : ℕ) (bytes : List ℕ) (parsed : Reading) → IsValueOf (Parse trace number bytes) (Parsed parsed) → parsed ≡ reading_of bytes
+parsed_value trace number bytes parsed is = ∥∥₁_elim is (Coded-set reading_code parsed (reading_of bytes)) (λ e. e)
+
+pub not_judged : (trace number : ℕ) (bytes : List ℕ) (verdict : Verdict) → IsValueOf (Parse trace number bytes) (Judged verdict) → ⊥
+not_judged trace number bytes verdict is = ∥∥₁_elim is (λ x y. absurd x) (λ e. e)
+
+-- and the question on a trace by a verdict
+pub not_parsed : (trace : ℕ) (parts : List Reading) (limits : Limits) (parsed : Reading) → IsValueOf (Check trace parts limits) (Parsed parsed) → ⊥
+not_parsed trace parts limits parsed is = ∥∥₁_elim is (λ x y. absurd x) (λ e. e)

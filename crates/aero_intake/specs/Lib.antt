@@ -1,0 +1,6 @@
+pub mod Intake
+pub mod Laws
+pub mod Plans
+pub mod Source
+pub mod Stories
+pub mod Tracks

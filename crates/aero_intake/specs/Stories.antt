@@ -1,0 +1,85 @@
+-- What is known of each source, while questions on it are asked and settled.
+use Rattle.std.specs.Prelude.{◌≡◌, ℕ, zero, suc, ◌==◌, if◌then◌else◌, List, [], ◌∷◌, ◌++◌, map, length, slice_get, Option, Some, None, All}
+use Rattle.std.specs.List.{concat}
+use Rattle.aero_model.specs.declared.limits.Limits.{Limits}
+use Rattle.aero_model.specs.declared.verdict.Ending.{Ending}
+use Rattle.aero_model.specs.declared.verdict.Ending.TheVariants as endings
+use Rattle.aero_grammar.specs.Reading.{Reading, reading_of}
+use Rattle.aero_lines.specs.Cutting.{nothing_yet, blocks_from}
+use Rattle.aero_pieces.specs.declared.question.Question.{Question}
+use Rattle.aero_pieces.specs.declared.question.Question.TheVariants.{Parse, Check}
+use Rattle.aero_pieces.specs.declared.answer.Value.{Value}
+use Rattle.aero_pieces.specs.Values.{IsValueOf}
+use Rattle.aero_verdict.specs.Finding.{IsFinding}
+use Rattle.aero_intake.specs.declared.track.Track.{Track}
+use Rattle.aero_intake.specs.declared.track.Track.TheVariants.{Arriving, Arrived, Checking, Found}
+use Rattle.aero_intake.specs.Tracks.{with_value}
+
+-- what became of a source so far: the pieces that came, the blocks that they were cut into, and how it ended, if it has
+pub record Story : Type 0 where
+  pub pieces : List (List ℕ)
+  pub blocks : List (List ℕ)
+  pub ending : Option Ending
+
+-- what a question on a trace says of it
+pub record Asked : Type 0 where
+  pub parts : List Reading
+  pub limits : Limits
+
+-- the block that a question is about, where it is of the source
+abbrev pub own_block : ℕ → Question → List (List ℕ)
+own_block s (Parse trace number bytes) = if trace == s then bytes ∷ [] else []
+own_block s (Check trace parts limits) = []
+
+-- the blocks of the source that are asked about, in order
+abbrev pub blocks_asked : ℕ → List Question → List (List ℕ)
+blocks_asked s [] = []
+blocks_asked s (q ∷ more) = own_block s q ++ blocks_asked s more
+
+abbrev pub own_check : ℕ → Question → List Asked
+own_check s (Parse trace number bytes) = []
+own_check s (Check trace parts limits) = if trace == s then record { parts = parts; limits = limits } ∷ [] else []
+
+abbrev pub checks_asked : ℕ → List Question → List Asked
+checks_asked s [] = []
+checks_asked s (q ∷ more) = own_check s q ++ checks_asked s more
+
+-- What is known of a source that has come whole: how many bytes and blocks came.
+pub record HasArrived (story : Story) (bytes blocks : ℕ) : Type 0 where
+  pub ended : story.ending ≡ Some endings.Whole
+  pub all : story.blocks ≡ blocks_from nothing_yet story.pieces
+  pub byte_count : bytes ≡ length (concat story.pieces)
+  pub block_count : blocks ≡ length story.blocks
+
+-- What its blocks say that are settled, and what those say that are asked about, is what all its blocks say.
+abbrev pub AreSettled : Story → List Question → ℕ → List Reading → Type 0
+AreSettled story qs s readings = readings ++ map reading_of (blocks_asked s qs) ≡ map reading_of story.blocks
+
+-- The track of source s fits the story.
+abbrev pub IsTracked : Limits → List Question → ℕ → Story → Track → Type 0
+IsTracked limits qs s story (Arriving readings) = AreSettled story qs s readings × (checks_asked s qs ≡ []) × (story.ending ≡ None)
+IsTracked limits qs s story (Arrived bytes blocks readings) = AreSettled story qs s readings × (checks_asked s qs ≡ []) × HasArrived story bytes blocks
+IsTracked limits qs s story (Checking bytes) =
+    All (λ a. a ≡ record { parts = map reading_of story.blocks; limits = limits }) (checks_asked s qs) × HasArrived story bytes (length story.blocks)
+IsTracked limits qs s story (Found bytes ending finding) =
+    (story.ending ≡ Some ending) × (bytes ≡ length (concat story.pieces)) × ∥ IsFinding (concat story.pieces) ending limits finding ∥₁
+
+abbrev pub AreTracked : Limits → List Question → (ℕ → Story) → List Track → Type 0
+AreTracked limits qs tale tracks = (s : ℕ) (t : Track) → slice_get tracks s ≡ Some t → IsTracked limits qs s (tale s) t
+
+-- the number of the trace that a question is about
+abbrev pub trace_of : Question → ℕ
+trace_of (Parse trace number bytes) = trace
+trace_of (Check trace parts limits) = trace
+
+-- the list with another element at the place, if it has one there
+abbrev pub changed : {A : Type 0} → ℕ → (A → A) → List A → List A
+changed place f [] = []
+changed zero f (x ∷ xs) = f x ∷ xs
+changed (suc place) f (x ∷ xs) = x ∷ changed place f xs
+
+-- The value of the question goes to the track of its source.
+pub record IsSettledWith (q : Question) (old new : List Track) : Type 0 where
+  pub value : Value
+  pub known : IsValueOf q value
+  pub tracks : new ≡ changed (trace_of q) (λ t. with_value t value) old

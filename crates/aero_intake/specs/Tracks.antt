@@ -1,0 +1,45 @@
+-- How far a source is.
+use Rattle.std.specs.Prelude.{◌≡◌, ℕ, List, [], ◌∷◌, ◌++◌, length, Option, Some, None, ⊤}
+use Rattle.aero_model.specs.declared.verdict.Ending.TheVariants as endings
+use Rattle.aero_model.specs.declared.verdict.Finding.TheVariants as findings
+use Rattle.aero_model.specs.declared.verdict.Verdict.{Verdict}
+use Rattle.aero_grammar.specs.Reading.{Reading}
+use Rattle.aero_pieces.specs.declared.answer.Value.{Value}
+use Rattle.aero_pieces.specs.declared.answer.Value.TheVariants.{Parsed, Judged}
+use Rattle.aero_intake.specs.declared.track.Track.{Track}
+use Rattle.aero_intake.specs.declared.track.Track.TheVariants.{Arriving, Arrived, Checking, Found}
+
+-- the track with one more part of its source read
+abbrev pub with_part : Track → Reading → Track
+with_part (Arriving readings) r = Arriving (readings ++ r ∷ [])
+with_part (Arrived bytes blocks readings) r = Arrived bytes blocks (readings ++ r ∷ [])
+with_part (Checking bytes) r = Checking bytes
+with_part (Found bytes ending finding) r = Found bytes ending finding
+
+-- the track with the verdict on its source
+abbrev pub with_verdict : Track → Verdict → Track
+with_verdict (Arriving readings) v = Arriving readings
+with_verdict (Arrived bytes blocks readings) v = Arrived bytes blocks readings
+with_verdict (Checking bytes) v = Found bytes endings.Whole (findings.Judged v)
+with_verdict (Found bytes ending finding) v = Found bytes ending finding
+
+abbrev pub with_value : Track → Value → Track
+with_value track (Parsed r) = with_part track r
+with_value track (Judged v) = with_verdict track v
+
+-- the track of a source that came whole
+abbrev pub with_arrival : Track → ℕ → ℕ → Track
+with_arrival (Arriving readings) bytes blocks = Arrived bytes blocks readings
+with_arrival track bytes blocks = track
+
+-- all blocks of the source were read, or it is found what is to be said of it
+abbrev pub IsReady : Track → Type 0
+IsReady (Arriving readings) = ⊥
+IsReady (Arrived bytes blocks readings) = length readings ≡ blocks
+IsReady (Checking bytes) = ⊥
+IsReady (Found bytes ending finding) = ⊤
+
+-- the verdict is asked for where a whole source waits for it
+abbrev pub GivesReadings : Track → Track → Option (List Reading) → Type 0
+GivesReadings (Arrived bytes blocks readings) new given = (given ≡ Some readings) × (new ≡ Checking bytes)
+GivesReadings old new given = (given ≡ None) × (new ≡ old)

@@ -1,0 +1,162 @@
+//! What is known of a source while it is worked on.
+ghost use Rattle.std.specs.Prelude.{◌≡◌, ◌++◌, ◌∷◌, [], length, OnOk, MatchOption, ◌↔◌, IsTrue};
+ghost use Rattle.aero_intake.specs.Tracks.{with_part, with_verdict, with_value, with_arrival, IsReady, GivesReadings};
+
+use aero_grammar::parsed::Parsed;
+use aero_model::verdict::{Ending, Finding, Verdict};
+use aero_pieces::answer::Value;
+use aero_pieces::question::Parts;
+use std::alloc::{AllocError, Global};
+use std::marker::Model;
+use std::mem;
+
+/// What the first blocks of a source say, in their order.
+#[derive(Drop)]
+pub struct Readings {
+    parts: Vec<Parsed>,
+}
+
+impl Model for Readings {
+    ghost use Rattle.std.specs.Prelude.{List};
+    ghost use Rattle.aero_grammar.specs.Reading.{Reading};
+
+    ghost Value = { List Reading };
+
+    ghost view = { λ r. r.parts.items };
+}
+
+impl Readings {
+    pub fn new(alloc: Global) -> Readings
+        ensures { result ≡ [] }
+    {
+        Readings {
+            parts: Vec::new(alloc),
+        }
+    }
+
+    /// Adds what the next block says. An `AllocError` says that memory was refused.
+    pub fn add(&mut self, part: Parsed) -> Result<(), AllocError>
+        ensures { OnOk result (self.new ≡ self.old ++ part ∷ []) }
+    {
+        self.parts.push(part)?;
+        Ok(())
+    }
+
+    pub fn len(&self) -> u64
+        ensures { result ≡ length self.now }
+    {
+        self.parts.len() as u64
+    }
+
+    pub fn into_parts(self) -> Parts
+        ensures { result ≡ self }
+    {
+        let Readings { parts } = self;
+        Parts::new(parts)
+    }
+}
+
+/// How far a source is.
+#[derive(Drop)]
+pub enum Track {
+    /// Its bytes are coming, or are still to come. This is what its first blocks say.
+    Arriving(Readings),
+    /// It is whole, and so many bytes and blocks came.
+    Arrived {
+        bytes: u64,
+        blocks: u64,
+        readings: Readings,
+    },
+    /// All its blocks were read, and the verdict is asked for. So many bytes came.
+    Checking {
+        bytes: u64,
+    },
+    /// So many bytes came, they ended so, and this is said of them.
+    Found {
+        bytes: u64,
+        ending: Ending,
+        finding: Finding,
+    },
+}
+
+/// Gives a value to the track of its source. What is of no use any more is dropped. An `AllocError`
+/// says that memory was refused.
+pub fn take_value(track: &mut Track, value: Value) -> Result<(), AllocError>
+    ensures { OnOk result (track.new ≡ with_value track.old value) }
+{
+    match value {
+        Value::Parsed(part) => take_part(track, part),
+        Value::Judged(verdict) => {
+            take_verdict(track, verdict);
+            Ok(())
+        }
+    }
+}
+
+fn take_part(track: &mut Track, part: Parsed) -> Result<(), AllocError>
+    ensures { OnOk result (track.new ≡ with_part track.old part) }
+{
+    match track {
+        Track::Arriving(readings) => readings.add(part),
+        Track::Arrived { readings, .. } => readings.add(part),
+        Track::Checking { .. } | Track::Found { .. } => Ok(()),
+    }
+}
+
+fn take_verdict(track: &mut Track, verdict: Verdict)
+    ensures { track.new ≡ with_verdict track.old verdict }
+{
+    let bytes = match track {
+        Track::Checking { bytes } => *bytes,
+        _ => return,
+    };
+    *track = Track::Found {
+        bytes,
+        ending: Ending::Whole,
+        finding: Finding::Judged(verdict),
+    };
+}
+
+/// Notes that a source is whole, and that so many bytes and blocks came.
+pub fn arrive(track: &mut Track, bytes: u64, blocks: u64)
+    ensures { track.new ≡ with_arrival track.old bytes blocks }
+{
+    let old = mem::replace(track, Track::Checking { bytes });
+    *track = match old {
+        Track::Arriving(readings) => Track::Arrived {
+            bytes,
+            blocks,
+            readings,
+        },
+        other => other,
+    };
+}
+
+/// Whether nothing more is awaited before the source can be checked, or can be told.
+pub fn is_ready(track: &Track) -> bool
+    ensures { IsTrue result ↔ IsReady track.now }
+{
+    match track {
+        Track::Arrived {
+            blocks,
+            readings,
+            ..
+        } => readings.len() == *blocks,
+        Track::Found { .. } => true,
+        _ => false,
+    }
+}
+
+/// Takes what the blocks of a whole source say, where that is what its verdict is to be asked for.
+pub fn take_readings(track: &mut Track) -> Option<Readings>
+    ensures { GivesReadings track.old track.new result }
+{
+    let bytes = match track {
+        Track::Arrived { bytes, .. } => *bytes,
+        _ => return None,
+    };
+    match mem::replace(track, Track::Checking { bytes }) {
+        Track::Arrived { readings, .. } => Some(readings),
+        _ => None,
+    }
+}

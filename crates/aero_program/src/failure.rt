@@ -1,0 +1,69 @@
+//! Why the program stops without a whole report, apart from what the words' reader says itself.
+ghost use Rattle.std.specs.Prelude.{◌≡◌};
+ghost use Rattle.aero_program.specs.Failure.{line_of, failure_status};
+
+use crate::arguments::Unread;
+use std::alloc::AllocError;
+
+/// Why the program stops without a whole report. For each it writes one line to standard error.
+#[derive(Clone, Copy, Debug, PartialEq, Eq)]
+pub enum Failure {
+    /// Memory was refused.
+    Memory,
+    /// A write to standard output failed or took nothing, or the flush failed.
+    Write,
+    /// The command line names more than 65,536 files.
+    TooManyFiles,
+    /// A word of the command line is not UTF-8.
+    NotUtf8,
+}
+
+impl Failure {
+    /// The line on standard error, without its line end.
+    pub fn line(self) -> &'static str
+        ensures { result.now ≡ line_of self }
+    {
+        match self {
+            Failure::Memory => "aerodrome: out of memory",
+            Failure::Write => "aerodrome: write failed",
+            Failure::TooManyFiles => "aerodrome: more than 65536 files",
+            Failure::NotUtf8 => "aerodrome: a word is not UTF-8",
+        }
+    }
+
+    /// The exit status: 3 for a refused command line, else 4.
+    pub fn status(self) -> u8
+        ensures { result ≡ failure_status self }
+    {
+        match self {
+            Failure::TooManyFiles | Failure::NotUtf8 => 3,
+            Failure::Memory | Failure::Write => 4,
+        }
+    }
+}
+
+impl From<AllocError> for Failure {
+    ghost use Rattle.std.specs.Prelude.{◌≡◌};
+    ghost use Rattle.aero_program.specs.declared.failure.Failure.{Failure};
+    ghost use Rattle.aero_program.specs.declared.failure.Failure.TheVariants.{Memory};
+
+    ghost from_gives = { λ _ failure. failure ≡ Memory };
+
+    fn from(_error: AllocError) -> Failure {
+        Failure::Memory
+    }
+}
+
+impl From<Unread> for Failure {
+    ghost use Rattle.std.specs.Prelude.{◌≡◌};
+    ghost use Rattle.aero_program.specs.Failure.{failure_of};
+
+    ghost from_gives = { λ unread failure. failure ≡ failure_of unread };
+
+    fn from(unread: Unread) -> Failure {
+        match unread {
+            Unread::NotUtf8 => Failure::NotUtf8,
+            Unread::Memory => Failure::Memory,
+        }
+    }
+}
