@@ -1,5 +1,5 @@
 -- What contracts see of a counting reader or writer: what it hands its calls to, and two numbers.
-use Rattle.std.specs.Prelude.{ℕ, ◌==◌, ◌&&◌, nat_lt, Bool, true, false, List, length, Option, Result, Ok, Err}
+use Rattle.std.specs.Prelude.{ℕ, ◌==◌, ◌&&◌, nat_lt, Bool, false, List, length, Option, Result, Ok, Err}
 use Rattle.aero_model.specs.declared.counting.Counting.{Counting}
 
 abbrev pub inner_of : {T : Type 0} → Counting T → T

@@ -28,6 +28,14 @@ fn a_name_is_its_bytes_or_has_its_first_fault(rt: HostRuntime) -> Result<(), Fai
             Err(found) => assert!(rt; false, "{found}"),
         }
     }
+    for length in 0..=256usize {
+        let bytes = &letters[..length];
+        match Name::read(rt.alloc(), bytes) {
+            Ok(name) => assert!(rt; (1..=255).contains(&length) && name.bytes() == bytes),
+            Err(NameFault::Empty) => assert_eq!(rt; length, 0),
+            Err(found) => assert_eq!(rt; (length, found), (256, NameFault::TooLong)),
+        }
+    }
     Ok(())
 }
 
