@@ -1,4 +1,5 @@
-use Rattle.std.proofs.Common.{◌∙◌, ap, sym, ◌+◌}
+use Rattle.std.proofs.Common.{◌∙◌, ap, sym, ◌+◌, arith}
+use Rattle.std.proofs.lemmas.Grind.{common_steps}
 use Rattle.aero_lines.specs.Cutting.{Cutting}
 use Rattle.aero_lines.proofs.Steps.{step_shut, found_long, found_none, found_last, Longs, Holds, Cuts}
 use Rattle.aero_lines.proofs.cutter.Cutter.feed.Goals as goal
@@ -27,7 +28,7 @@ pub hold-requires : goal.hold-requires
 hold-requires c =
     let step : Holds c.args.self.now c.args.piece.now =
     found_none _ _ _ _ c.self.view_is c.deref.ensures.value c.self.invariant c.if-self.false c.in_default.ensures c.in-None.ensures in
-    step.open_line
+    grind (arith, common_steps, step.open_line)
 
 pub cut-requires : goal.cut-requires
 cut-requires c =
@@ -45,7 +46,7 @@ pub returns-in_ok-hold-in-None-clause-after : goal.returns-in_ok-hold-in-None-cl
 returns-in_ok-hold-in-None-clause-after c =
     let step : Holds c.args.self.now c.args.piece.now =
     found_none _ _ _ _ c.self.view_is c.deref.ensures.value c.self.invariant c.if-self.false c.in_default.ensures c.in-None.ensures in
-    c.in_ok-hold-in-None.ensures.after ∙ step.after
+    c.in_ok-hold-in-None.ensures.after ∙ (grind (arith, common_steps)) ∙ step.after
 
 pub returns-in-Some-memrchr-clause-block : goal.returns-in-Some-memrchr-clause-block
 returns-in-Some-memrchr-clause-block c =

@@ -1,4 +1,5 @@
-use Rattle.std.proofs.Common.{◌∙◌, ap, sym, Ok, true, false}
+use Rattle.std.proofs.Common.{◌∙◌, ap, sym, Ok, true, false, arith}
+use Rattle.std.proofs.lemmas.Grind.{common_steps}
 use Rattle.aero_lines.proofs.Steps.{ends_shut, ends_with}
 use Rattle.aero_lines.proofs.cutter.Cutter.finish.Goals.{then-shut-via-then-shut, then-shut-via-else-shut+then-is_empty}
 use Rattle.aero_lines.proofs.cutter.Cutter.finish.Goals as goal
@@ -12,4 +13,6 @@ returns-then-shut-clause-last c =
     ]
 
 pub returns-clause-last : goal.returns-clause-last
-returns-clause-last c = ap Ok (ends_with _ _ _ false c.self.view_is c.if-shut.false c.self.inside.rest.ok.0 (sym c.is_empty.ensures ∙ c.if-is_empty.false))
+returns-clause-last c =
+    grind (arith, common_steps)
+    ∙ ap Ok (ends_with _ _ _ false c.self.view_is c.if-shut.false c.self.inside.rest.ok.0 (sym c.is_empty.ensures ∙ c.if-is_empty.false))
