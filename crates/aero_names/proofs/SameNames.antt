@@ -1,7 +1,6 @@
 -- Lists that have the same at each place.
-use Rattle.std.proofs.Common.{◌≡◌, ℕ, zero, suc, ◌<◌, ◌+◌, List, [], ◌∷◌, length, slice_get, Some, refl, ap₂, arith, subst}
+use Rattle.std.proofs.Common.{◌≡◌, ℕ, suc, ◌<◌, List, [], ◌∷◌, length, slice_get, refl, ap₂, arith}
 use Rattle.std.proofs.lemmas.Option.{same_Some}
-use Rattle.std.proofs.lemmas.Bool.{cases_lt}
 
 -- the names below n are the same
 abbrev pub SameUpTo : List (List ℕ) → List (List ℕ) → ℕ → Type 0

@@ -2,50 +2,59 @@ use crate::names::{Names, NamesFault};
 use aero_model::name::Name;
 use std::test::Fail;
 
-#[test]
-fn names_are_numbered_in_order_of_first_appearance(rt: HostRuntime) -> Result<(), Fail> {
-    let x = Name::read(rt.alloc(), b"x")?;
-    let y = Name::read(rt.alloc(), b"y")?;
-    let z = Name::read(rt.alloc(), b"z")?;
-    let mut names = Names::new(rt.alloc(), 2);
-    assert!(rt; names.is_empty());
-    assert_eq!(rt; names.number(&x), Ok(0));
-    assert_eq!(rt; names.number(&y), Ok(1));
-    assert_eq!(rt; names.number(&x), Ok(0));
-    assert_eq!(rt; names.number(&z), Err(NamesFault::Full));
-    assert!(rt; names.name(0) == Some(b"x"));
-    assert!(rt; names.name(1) == Some(b"y"));
-    assert!(rt; names.name(2).is_none());
-    assert_eq!(rt; names.len(), 2);
-    assert!(rt; !names.is_empty());
-    Ok(())
-}
+// A name, and what it is numbered as.
+type Row<'a> = (&'a [u8], Result<u32, NamesFault>);
 
 #[test]
-fn a_list_for_no_names_is_full(rt: HostRuntime) -> Result<(), Fail> {
-    let x = Name::read(rt.alloc(), b"x")?;
-    let mut names = Names::new(rt.alloc(), 0);
-    assert_eq!(rt; names.number(&x), Err(NamesFault::Full));
-    assert_eq!(rt; names.len(), 0);
-    Ok(())
-}
-
-#[test]
-fn long_names_are_told_apart(rt: HostRuntime) -> Result<(), Fail> {
-    let first = Name::read(rt.alloc(), &[b'a'; 254])?;
-    let second = Name::read(rt.alloc(), &[b'a'; 255])?;
-    let mut names = Names::new(rt.alloc(), 9);
-    assert_eq!(rt; names.number(&first), Ok(0));
-    assert_eq!(rt; names.number(&second), Ok(1));
-    assert_eq!(rt; names.number(&first), Ok(0));
+fn names_are_numbered_in_order_of_first_appearance_up_to_a_limit(
+    rt: HostRuntime,
+) -> Result<(), Fail> {
+    let long = [b'a'; 255];
+    let few: [Row; 4] = [
+        (b"x", Ok(0)),
+        (b"y", Ok(1)),
+        (b"x", Ok(0)),
+        (b"z", Err(NamesFault::Full)),
+    ];
+    let none: [Row; 1] = [(b"x", Err(NamesFault::Full))];
+    let of_254_and_255_bytes: [Row; 3] = [
+        (&long[..254], Ok(0)),
+        (&long, Ok(1)),
+        (&long[..254], Ok(0)),
+    ];
+    let tables: [(u32, &[Row], u32); 3] = [
+        (2, &few, 2),
+        (0, &none, 0),
+        (9, &of_254_and_255_bytes, 2),
+    ];
+    for (limit, rows, len) in tables {
+        let mut names = Names::new(rt.alloc(), limit);
+        assert!(rt; names.is_empty());
+        for (bytes, wanted) in rows {
+            let name = Name::read(rt.alloc(), bytes)?;
+            assert_eq!(rt; names.number(&name), *wanted);
+        }
+        for (bytes, wanted) in rows {
+            if let Ok(number) = wanted {
+                assert!(rt; names.name(*number) == Some(*bytes));
+            }
+        }
+        assert!(rt; names.name(len).is_none());
+        assert_eq!(rt; names.len(), len);
+        assert_eq!(rt; names.is_empty(), len == 0);
+    }
     Ok(())
 }
 
 #[test]
 fn the_faults_tell_themselves(rt: HostRuntime) -> Result<(), Fail> {
-    let full = NamesFault::Full.to_string(rt.alloc())?;
-    assert!(rt; full.as_str() == "too many different names");
-    let memory = NamesFault::Memory.to_string(rt.alloc())?;
-    assert!(rt; memory.as_str() == "out of memory");
+    let rows = [
+        (NamesFault::Full, "too many different names"),
+        (NamesFault::Memory, "out of memory"),
+    ];
+    for (fault, wanted) in rows {
+        let text = fault.to_string(rt.alloc())?;
+        assert!(rt; text.as_str() == wanted);
+    }
     Ok(())
 }
