@@ -2,95 +2,110 @@ use crate::admission::Admitted;
 use crate::shape::Shape;
 use aero_model::event::{Numbered, What};
 use aero_model::verdict::ShapeFault;
-use std::process::Abort;
 
-const IN_BLOCK: Result<Admitted, ShapeFault> = Ok(Admitted::Plain { in_block: true });
+// An event, and what is told of it.
+type Row = (&'static str, &'static str);
 
-const OUTSIDE: Result<Admitted, ShapeFault> = Ok(Admitted::Plain { in_block: false });
+const EACH_CAUSE_AND_EACH_KIND: [Row; 15] = [
+    ("0 Begin", "OuterBegin"),
+    ("0 Begin", "in a block"),
+    ("0 Acquire 0", "in a block"),
+    ("1 Acquire 0", "LockHeldByOther"),
+    ("1 Release 0", "LockNotHeld"),
+    ("0 Fork 0", "ForkSelf"),
+    ("0 Fork 1", "in a block"),
+    ("0 Fork 1", "ForkStarted"),
+    ("0 Join 0", "JoinSelf"),
+    ("0 Join 1", "IdleJoin"),
+    ("1 Write 0", "ThreadJoined"),
+    ("0 End", "in a block"),
+    ("0 End", "OuterEnd"),
+    ("0 End", "EndWithoutBegin"),
+    ("0 Release 0", "outside"),
+];
 
-// Gives the shape the event, and once more where memory is refused, which then changed nothing.
-fn expect(
-    rt: &impl Abort,
-    shape: &mut Shape,
-    thread: u32,
-    what: What,
-    wanted: Result<Admitted, ShapeFault>,
-) {
-    let event = Numbered { thread, what };
-    assert!(rt; shape.admitted() < 100);
-    let mut answer = shape.admit(&event);
-    if answer == Err(ShapeFault::Memory) {
-        assert!(rt; shape.admitted() < 100);
-        answer = shape.admit(&event);
+const A_LOCK_IS_FREE_AFTER_AS_MANY_RELEASES_AS_ACQUIRES: [Row; 9] = [
+    ("3 Acquire 9", "outside"),
+    ("3 Acquire 9", "outside"),
+    ("3 Release 9", "outside"),
+    ("1 Acquire 9", "LockHeldByOther"),
+    ("1 Acquire 2", "outside"),
+    ("3 Release 9", "outside"),
+    ("3 Release 9", "LockNotHeld"),
+    ("1 Acquire 9", "outside"),
+    ("3 Acquire 2", "LockHeldByOther"),
+];
+
+const A_JOINED_THREAD_DOES_NOTHING_MORE: [Row; 11] = [
+    ("40 Begin", "OuterBegin"),
+    ("40 Acquire 5", "in a block"),
+    ("7 Join 40", "outside"),
+    ("40 End", "ThreadJoined"),
+    ("40 Acquire 5", "ThreadJoined"),
+    ("40 Join 40", "ThreadJoined"),
+    ("7 Fork 40", "ForkStarted"),
+    ("7 Acquire 5", "LockHeldByOther"),
+    ("7 Join 40", "outside"),
+    ("7 Join 41", "IdleJoin"),
+    ("7 Fork 41", "ForkStarted"),
+];
+
+// The event of such a text: a thread, what it does, and the target if there is one.
+fn event_of(text: &str) -> Option<Numbered> {
+    let (thread, deed) = text.split_once(' ')?;
+    let (deed, target) = deed.split_once(' ').unwrap_or((deed, "0"));
+    let target = target.parse::<u32>().ok()?;
+    let what = match deed {
+        "Write" => What::Write(target),
+        "Acquire" => What::Acquire(target),
+        "Release" => What::Release(target),
+        "Fork" => What::Fork(target),
+        "Join" => What::Join(target),
+        "Begin" => What::Begin,
+        "End" => What::End,
+        _ => return None,
+    };
+    Some(Numbered {
+        thread: thread.parse::<u32>().ok()?,
+        what,
+    })
+}
+
+fn told(answer: Result<Admitted, ShapeFault>) -> &'static str {
+    match answer {
+        Ok(Admitted::Plain { in_block: true }) => "in a block",
+        Ok(Admitted::Plain { in_block: false }) => "outside",
+        Ok(Admitted::OuterBegin) => "OuterBegin",
+        Ok(Admitted::OuterEnd) => "OuterEnd",
+        Ok(Admitted::IdleJoin) => "IdleJoin",
+        Err(ShapeFault::TooManyThreads) => "TooManyThreads",
+        Err(ShapeFault::TooManyNames) => "TooManyNames",
+        Err(ShapeFault::ThreadJoined) => "ThreadJoined",
+        Err(ShapeFault::LockHeldByOther) => "LockHeldByOther",
+        Err(ShapeFault::LockNotHeld) => "LockNotHeld",
+        Err(ShapeFault::ForkSelf) => "ForkSelf",
+        Err(ShapeFault::ForkStarted) => "ForkStarted",
+        Err(ShapeFault::JoinSelf) => "JoinSelf",
+        Err(ShapeFault::EndWithoutBegin) => "EndWithoutBegin",
+        Err(ShapeFault::Memory) => "Memory",
     }
-    assert!(rt; answer == wanted, "{event:?}: {answer:?}");
 }
 
 #[test]
 fn each_event_is_admitted_or_has_its_cause(rt: HostRuntime) {
-    let mut shape = Shape::new(rt.alloc());
-    assert_eq!(rt; shape.admitted(), 0);
-    let steps = [
-        (0, What::Begin, Ok(Admitted::OuterBegin)),
-        (0, What::Begin, IN_BLOCK),
-        (0, What::Acquire(0), IN_BLOCK),
-        (1, What::Acquire(0), Err(ShapeFault::LockHeldByOther)),
-        (1, What::Release(0), Err(ShapeFault::LockNotHeld)),
-        (0, What::Fork(0), Err(ShapeFault::ForkSelf)),
-        (0, What::Fork(1), IN_BLOCK),
-        (0, What::Fork(1), Err(ShapeFault::ForkStarted)),
-        (0, What::Join(0), Err(ShapeFault::JoinSelf)),
-        (0, What::Join(1), Ok(Admitted::IdleJoin)),
-        (1, What::Write(0), Err(ShapeFault::ThreadJoined)),
-        (0, What::End, IN_BLOCK),
-        (0, What::End, Ok(Admitted::OuterEnd)),
-        (0, What::End, Err(ShapeFault::EndWithoutBegin)),
-        (0, What::Release(0), OUTSIDE),
+    let tables: [(&[Row], u32); 3] = [
+        (&EACH_CAUSE_AND_EACH_KIND, 8),
+        (&A_LOCK_IS_FREE_AFTER_AS_MANY_RELEASES_AS_ACQUIRES, 6),
+        (&A_JOINED_THREAD_DOES_NOTHING_MORE, 5),
     ];
-    for (thread, what, wanted) in steps {
-        expect(&rt, &mut shape, thread, what, wanted);
+    for (rows, admitted) in tables {
+        let mut shape = Shape::new(rt.alloc());
+        assert_eq!(rt; shape.admitted(), 0);
+        for (text, wanted) in rows {
+            let event = event_of(text).expect(&rt, "an event");
+            assert!(rt; shape.admitted() < 100);
+            assert!(rt; told(shape.admit(&event)) == *wanted, "{text}");
+        }
+        assert_eq!(rt; shape.admitted(), admitted);
     }
-    assert_eq!(rt; shape.admitted(), 8);
-}
-
-#[test]
-fn a_lock_is_free_after_as_many_releases_as_acquires(rt: HostRuntime) {
-    let mut shape = Shape::new(rt.alloc());
-    let steps = [
-        (3, What::Acquire(9), OUTSIDE),
-        (3, What::Acquire(9), OUTSIDE),
-        (3, What::Release(9), OUTSIDE),
-        (1, What::Acquire(9), Err(ShapeFault::LockHeldByOther)),
-        (1, What::Acquire(2), OUTSIDE),
-        (3, What::Release(9), OUTSIDE),
-        (3, What::Release(9), Err(ShapeFault::LockNotHeld)),
-        (1, What::Acquire(9), OUTSIDE),
-        (3, What::Acquire(2), Err(ShapeFault::LockHeldByOther)),
-    ];
-    for (thread, what, wanted) in steps {
-        expect(&rt, &mut shape, thread, what, wanted);
-    }
-    assert_eq!(rt; shape.admitted(), 6);
-}
-
-#[test]
-fn a_joined_thread_does_nothing_more(rt: HostRuntime) {
-    let mut shape = Shape::new(rt.alloc());
-    let steps = [
-        (40, What::Begin, Ok(Admitted::OuterBegin)),
-        (40, What::Acquire(5), IN_BLOCK),
-        (7, What::Join(40), OUTSIDE),
-        (40, What::End, Err(ShapeFault::ThreadJoined)),
-        (40, What::Acquire(5), Err(ShapeFault::ThreadJoined)),
-        (40, What::Join(40), Err(ShapeFault::ThreadJoined)),
-        (7, What::Fork(40), Err(ShapeFault::ForkStarted)),
-        (7, What::Acquire(5), Err(ShapeFault::LockHeldByOther)),
-        (7, What::Join(40), OUTSIDE),
-        (7, What::Join(41), Ok(Admitted::IdleJoin)),
-        (7, What::Fork(41), Err(ShapeFault::ForkStarted)),
-    ];
-    for (thread, what, wanted) in steps {
-        expect(&rt, &mut shape, thread, what, wanted);
-    }
-    assert_eq!(rt; shape.admitted(), 5);
 }
