@@ -1,44 +1,66 @@
 use crate::clock::Clock;
+use std::alloc::Global;
 use std::test::Fail;
 
-#[test]
-fn clocks_are_compared_and_joined_in_every_place(rt: HostRuntime) -> Result<(), Fail> {
-    let mut a = Clock::new(rt.alloc());
-    assert!(rt; a.at_most(&a), "a new clock is at most every clock");
-    assert_eq!(rt; a.get(2), 0);
-    a.raise(2)?;
-    assert_eq!(rt; a.get(2), 1);
-    assert_eq!(rt; a.get(0), 0);
-    let mut b = a.copy()?;
-    assert_eq!(rt; a.get(0), 0);
-    a.raise(0)?;
-    assert!(rt; b.at_most(&a));
-    assert!(rt; !a.at_most(&b));
-    b.join(&a)?;
-    assert!(rt; a.at_most(&b));
-    assert_eq!(rt; b.get(0), 1);
-    assert_eq!(rt; b.get(2), 1);
-    assert!(rt; Clock::new(rt.alloc()).at_most(&b));
-    assert!(rt; !b.at_most(&Clock::new(rt.alloc())));
-    Ok(())
+// The clock after one raise for each digit, the number of a thread.
+fn raised(alloc: Global, threads: &str) -> Result<Clock, Fail> {
+    let mut clock = Clock::new(alloc);
+    for digit in threads.bytes() {
+        let t = digit.wrapping_sub(b'0') as u32;
+        if clock.get(t) < u32::MAX {
+            clock.raise(t)?;
+        }
+    }
+    Ok(clock)
 }
 
+// Two clocks by the threads that raise them, whether each is at most the other, and the numbers of
+// threads 0, 1 and 2 in their join, with the pairs of those that aren't 0.
 #[test]
-fn pairs_are_the_threads_with_a_number(rt: HostRuntime) -> Result<(), Fail> {
-    let mut a = Clock::new(rt.alloc());
-    assert!(rt; a.pairs().is_empty());
-    a.raise(2)?;
-    a.raise(0)?;
-    a.raise(2)?;
-    assert_eq!(rt; a.pairs(), &[(0, 1), (2, 2)][..]);
-    let mut b = Clock::new(rt.alloc());
-    b.raise(1)?;
-    b.raise(2)?;
-    b.join(&a)?;
-    assert_eq!(rt; b.pairs(), &[(0, 1), (1, 1), (2, 2)][..]);
-    // The other way there is nothing to add but a number.
-    a.raise(0)?;
-    b.join(&a)?;
-    assert_eq!(rt; b.pairs(), &[(0, 2), (1, 1), (2, 2)][..]);
+fn clocks_are_compared_and_joined_in_every_place(rt: HostRuntime) -> Result<(), Fail> {
+    let rows = [
+        ("", "", true, true, [0, 0, 0], &[][..]),
+        ("", "2", true, false, [0, 0, 1], &[(2, 1)][..]),
+        ("2", "20", true, false, [1, 0, 1], &[(0, 1), (2, 1)][..]),
+        ("20", "2", false, true, [1, 0, 1], &[(0, 1), (2, 1)][..]),
+        ("02", "20", true, true, [1, 0, 1], &[(0, 1), (2, 1)][..]),
+        ("202", "", false, true, [1, 0, 2], &[(0, 1), (2, 2)][..]),
+        (
+            "12",
+            "202",
+            false,
+            false,
+            [1, 1, 2],
+            &[(0, 1), (1, 1), (2, 2)][..],
+        ),
+        (
+            "0122",
+            "2020",
+            false,
+            false,
+            [2, 1, 2],
+            &[(0, 2), (1, 1), (2, 2)][..],
+        ),
+    ];
+    for (one, other, at_most, at_least, numbers, pairs) in rows {
+        let a = raised(rt.alloc(), one)?;
+        let b = raised(rt.alloc(), other)?;
+        assert_eq!(rt; a.at_most(&b), at_most, "{one} and {other}");
+        assert_eq!(rt; b.at_most(&a), at_least, "{one} and {other}");
+        let mut joined = a.copy()?;
+        joined.join(&b)?;
+        assert_eq!(rt;
+            [joined.get(0), joined.get(1), joined.get(2)],
+            numbers,
+            "{one} and {other}"
+        );
+        assert_eq!(rt; joined.pairs(), pairs, "{one} and {other}");
+        // The clock that was copied stays.
+        assert!(rt;
+            a.at_most(&a) && a.at_most(&joined) && b.at_most(&joined),
+            "{one} and {other}"
+        );
+        assert_eq!(rt; a.at_most(&b), at_most, "{one} and {other}");
+    }
     Ok(())
 }
