@@ -21,7 +21,7 @@ impl Kept {
 
     /// Thread `t` takes the clock, unless the event is its own, or the clock closes a cycle: then
     /// the answer is true.
-    pub fn give(&self, thread: &mut Thread, t: u32) -> Result<bool, AllocError>
+    pub(crate) fn give(&self, thread: &mut Thread, t: u32) -> Result<bool, AllocError>
         requires { CountIsTest thread.old t (number_at self.now.clock) }
         ensures closing { IfOk result (λ closes. IsTrue closes ↔ ((self.now.thread ≢ t) × IsClosedBy thread.old.begin (number_at self.now.clock))) }
         ensures takes { IfOk result (λ closes. closes ≡ false → TakesClock thread.old thread.new (clock_but t self.now)) }

@@ -29,6 +29,4 @@ mod places;
 mod readers;
 pub mod slot;
 mod table;
-#[cfg(test)]
-mod tests;
 mod thread;

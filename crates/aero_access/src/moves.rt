@@ -19,42 +19,57 @@ use crate::thread::Thread;
 use std::alloc::AllocError;
 
 /// Thread `t` reads variable `x`.
-pub fn read(threads: &mut [Thread], table: &mut Table, t: u32, x: u32) -> Result<bool, AllocError>
+pub(crate) fn read(
+    threads: &mut [Thread],
+    table: &mut Table,
+    t: u32,
+    x: u32,
+) -> Result<bool, AllocError>
     requires actor { t < length threads.old }
     requires heeded { AreHeeded (state_in threads.old table.old) }
     ensures moves { IfOk result (Moves (state_in threads.old table.old) (state_in threads.new table.new) (event t (Read x))) }
     ensures same { HaveSameBlocks threads.old threads.new }
     ensures heeded { AreHeeded (state_in threads.new table.new) }
 {
-    let thread = &mut threads[t as usize];
-    if take_last(thread, table, t, Slot::LastWrite(x))? {
+    let reader = &mut threads[t as usize];
+    if take_last(reader, table, t, Slot::LastWrite(x))? {
         return Ok(true);
     }
-    keep(thread, table, t, Slot::LastRead(x, t))?;
+    keep(reader, table, t, Slot::LastRead(x, t))?;
     Ok(false)
 }
 
 /// Thread `t` writes variable `x`.
-pub fn write(threads: &mut [Thread], table: &mut Table, t: u32, x: u32) -> Result<bool, AllocError>
+pub(crate) fn write(
+    threads: &mut [Thread],
+    table: &mut Table,
+    t: u32,
+    x: u32,
+) -> Result<bool, AllocError>
     requires actor { t < length threads.old }
     requires heeded { AreHeeded (state_in threads.old table.old) }
     ensures moves { IfOk result (Moves (state_in threads.old table.old) (state_in threads.new table.new) (event t (Write x))) }
     ensures same { HaveSameBlocks threads.old threads.new }
     ensures heeded { AreHeeded (state_in threads.new table.new) }
 {
-    let thread = &mut threads[t as usize];
-    if take_last(thread, table, t, Slot::LastWrite(x))? {
+    let writer = &mut threads[t as usize];
+    if take_last(writer, table, t, Slot::LastWrite(x))? {
         return Ok(true);
     }
-    if take_reads(thread, table, t, x)? {
+    if take_reads(writer, table, t, x)? {
         return Ok(true);
     }
-    keep(thread, table, t, Slot::LastWrite(x))?;
+    keep(writer, table, t, Slot::LastWrite(x))?;
     Ok(false)
 }
 
 /// Thread `t` acquires lock `l`.
-pub fn acquire(threads: &mut [Thread], table: &Table, t: u32, l: u32) -> Result<bool, AllocError>
+pub(crate) fn acquire(
+    threads: &mut [Thread],
+    table: &Table,
+    t: u32,
+    l: u32,
+) -> Result<bool, AllocError>
     requires actor { t < length threads.old }
     requires heeded { AreHeeded (state_in threads.old table.now) }
     ensures moves { IfOk result (Moves (state_in threads.old table.now) (state_in threads.new table.now) (event t (Acquire l))) }
@@ -65,7 +80,12 @@ pub fn acquire(threads: &mut [Thread], table: &Table, t: u32, l: u32) -> Result<
 }
 
 /// Thread `t` releases lock `l`.
-pub fn release(threads: &[Thread], table: &mut Table, t: u32, l: u32) -> Result<(), AllocError>
+pub(crate) fn release(
+    threads: &[Thread],
+    table: &mut Table,
+    t: u32,
+    l: u32,
+) -> Result<(), AllocError>
     requires actor { t < length threads.now }
     requires heeded { AreHeeded (state_in threads.now table.old) }
     ensures moves { OnOk result (Moves (state_in threads.now table.old) (state_in threads.now table.new) (event t (Release l)) false) }
@@ -75,7 +95,7 @@ pub fn release(threads: &[Thread], table: &mut Table, t: u32, l: u32) -> Result<
 }
 
 /// Thread `t` forks thread `u`.
-pub fn fork(threads: &mut [Thread], table: &Table, t: u32, u: u32) -> Result<(), AllocError>
+pub(crate) fn fork(threads: &mut [Thread], table: &Table, t: u32, u: u32) -> Result<(), AllocError>
     requires actor { t < length threads.old }
     requires target { u < length threads.old }
     requires other { u ≢ t }
@@ -89,7 +109,12 @@ pub fn fork(threads: &mut [Thread], table: &Table, t: u32, u: u32) -> Result<(),
 }
 
 /// Thread `t` joins thread `u`.
-pub fn join(threads: &mut [Thread], table: &Table, t: u32, u: u32) -> Result<bool, AllocError>
+pub(crate) fn join(
+    threads: &mut [Thread],
+    table: &Table,
+    t: u32,
+    u: u32,
+) -> Result<bool, AllocError>
     requires actor { t < length threads.old }
     requires target { u < length threads.old }
     requires other { u ≢ t }
@@ -104,7 +129,7 @@ pub fn join(threads: &mut [Thread], table: &Table, t: u32, u: u32) -> Result<boo
 }
 
 /// Thread `t` begins a block, and is in none.
-pub fn begin(threads: &mut [Thread], table: &Table, t: u32) -> Result<(), AllocError>
+pub(crate) fn begin(threads: &mut [Thread], table: &Table, t: u32) -> Result<(), AllocError>
     requires actor { t < length threads.old }
     requires outside { thread_begin (slice_get threads.old t) ≡ None }
     requires count { thread_begins (slice_get threads.old t) < 2 ^ 32 - 1 }
@@ -117,7 +142,7 @@ pub fn begin(threads: &mut [Thread], table: &Table, t: u32) -> Result<(), AllocE
 }
 
 /// Whether the clock of the slot with this number is at least the begin clock of thread `t`.
-pub fn leads(threads: &[Thread], table: &Table, t: u32, slot: usize) -> bool
+pub(crate) fn leads(threads: &[Thread], table: &Table, t: u32, slot: usize) -> bool
     requires actor { t < length threads.now }
     requires slot { slot < length threads.now + length (labels_of table.now) }
     requires heeded { AreHeeded (state_in threads.now table.now) }
@@ -135,7 +160,7 @@ pub fn leads(threads: &[Thread], table: &Table, t: u32, slot: usize) -> bool
 
 /// Joins the clock of the slot with this number with the clock of thread `t`. Where the slot is a
 /// thread in a block that the clock closes, that thread is answered, and no clock is joined.
-pub fn absorb(
+pub(crate) fn absorb(
     threads: &mut [Thread],
     table: &mut Table,
     t: u32,

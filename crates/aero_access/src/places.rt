@@ -9,7 +9,7 @@ use crate::readers::Readers;
 use std::alloc::AllocError;
 
 /// What is kept at this number.
-pub fn kept_at(kept: &[Option<Kept>], number: u32) -> Option<&Kept>
+pub(crate) fn kept_at(kept: &[Option<Kept>], number: u32) -> Option<&Kept>
     ensures { option_copied result ≡ flat (slice_get kept.now number) }
 {
     match kept.get(number as usize) {
@@ -19,7 +19,7 @@ pub fn kept_at(kept: &[Option<Kept>], number: u32) -> Option<&Kept>
 }
 
 /// Keeps this at the number.
-pub fn put(kept: &mut Vec<Option<Kept>>, number: u32, entry: Kept) -> Result<(), AllocError>
+pub(crate) fn put(kept: &mut Vec<Option<Kept>>, number: u32, entry: Kept) -> Result<(), AllocError>
     ensures ok { OnOk result ((n : ℕ) → flat (slice_get kept.new.items n) ≡ (if number == n then Some entry else flat (slice_get kept.old.items n))) }
     ensures err { OnErr result ((n : ℕ) → flat (slice_get kept.new.items n) ≡ flat (slice_get kept.old.items n)) }
 {
@@ -40,7 +40,7 @@ fn make_room(kept: &mut Vec<Option<Kept>>, number: u32) -> Result<(), AllocError
 }
 
 /// Keeps this of the last read of the variable by its thread.
-pub fn put_read(reads: &mut Vec<Readers>, x: u32, kept: Kept) -> Result<(), AllocError>
+pub(crate) fn put_read(reads: &mut Vec<Readers>, x: u32, kept: Kept) -> Result<(), AllocError>
     ensures ok { OnOk result ((y t : ℕ) → find (is_by t) (readers_in (slice_get reads.new.items y)) ≡ (if (x == y) && (kept.thread == t) then Some kept else find (is_by t) (readers_in (slice_get reads.old.items y)))) }
     ensures err { OnErr result ((y t : ℕ) → find (is_by t) (readers_in (slice_get reads.new.items y)) ≡ find (is_by t) (readers_in (slice_get reads.old.items y))) }
 {

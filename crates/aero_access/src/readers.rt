@@ -24,7 +24,7 @@ impl Readers {
     ghost use Rattle.aero_clock.specs.Numbers.{number_at};
 
     /// Nobody yet.
-    pub fn new(alloc: Global) -> Readers
+    pub(crate) fn new(alloc: Global) -> Readers
         ensures { result.kept.items ≡ [] }
     {
         Readers {
@@ -33,14 +33,14 @@ impl Readers {
     }
 
     /// What is kept of the last read by thread `t`.
-    pub fn get(&self, t: u32) -> Option<&Kept>
+    pub(crate) fn get(&self, t: u32) -> Option<&Kept>
         ensures { option_copied result ≡ find (is_by t) self.now.kept.items }
     {
         self.kept.iter().find(|kept| kept.thread == t)
     }
 
     /// Keeps this of the last read by its thread.
-    pub fn set(&mut self, kept: Kept) -> Result<(), AllocError>
+    pub(crate) fn set(&mut self, kept: Kept) -> Result<(), AllocError>
         ensures ok { OnOk result ((t : ℕ) → find (is_by t) self.new.kept.items ≡ (if kept.thread == t then Some kept else find (is_by t) self.old.kept.items)) }
         ensures err { OnErr result (self.new.kept.items ≡ self.old.kept.items) }
     {
@@ -53,7 +53,7 @@ impl Readers {
 
     /// Thread `t` takes the clocks of the others, up to one that closes a cycle: then the answer
     /// is true.
-    pub fn give(&self, thread: &mut Thread, t: u32) -> Result<bool, AllocError>
+    pub(crate) fn give(&self, thread: &mut Thread, t: u32) -> Result<bool, AllocError>
         requires { (i : ℕ) (k : Kept) → slice_get self.now.kept.items i ≡ Some k → CountIsTest thread.old t (number_at k.clock) }
         ensures closing { IfOk result (λ closes. closes ≡ true → ClosesOne thread.old.begin t self.now.kept.items) }
         ensures none { IfOk result (λ closes. closes ≡ false → ClosesNone thread.old.begin t self.now.kept.items) }

@@ -29,7 +29,7 @@ impl Table {
     ghost use Rattle.aero_access.specs.TableWords.{kept_of, labels_of, Keeps, JoinsSlot};
 
     /// Nothing is kept.
-    pub fn new(alloc: Global) -> Table
+    pub(crate) fn new(alloc: Global) -> Table
         ensures { (s : Slot) → kept_of result s ≡ None }
     {
         Table {
@@ -41,7 +41,7 @@ impl Table {
     }
 
     /// What is kept of the slot's last event, if there was one. Of a thread nothing is kept here.
-    pub fn get(&self, slot: Slot) -> Option<&Kept>
+    pub(crate) fn get(&self, slot: Slot) -> Option<&Kept>
         ensures { option_copied result ≡ kept_of self.now slot }
     {
         match slot {
@@ -53,14 +53,14 @@ impl Table {
     }
 
     /// What is kept of the last reads of the variable.
-    pub fn readers(&self, x: u32) -> Option<&Readers>
+    pub(crate) fn readers(&self, x: u32) -> Option<&Readers>
         ensures { option_copied result ≡ slice_get self.now.reads.items x }
     {
         self.reads.get(x as usize)
     }
 
     /// Keeps this of the slot's last event.
-    pub fn set(&mut self, slot: Slot, kept: Kept) -> Result<(), AllocError>
+    pub(crate) fn set(&mut self, slot: Slot, kept: Kept) -> Result<(), AllocError>
         requires kept { is_kept slot ≡ true }
         requires reader { (x t : ℕ) → slot ≡ Slot.LastRead x t → kept.thread ≡ t }
         ensures ok { OnOk result (Keeps self.old self.new slot kept) }
@@ -80,7 +80,7 @@ impl Table {
     }
 
     /// Joins the clock that is kept of the slot with this one.
-    pub fn join(&mut self, slot: Slot, clock: &Clock) -> Result<(), AllocError>
+    pub(crate) fn join(&mut self, slot: Slot, clock: &Clock) -> Result<(), AllocError>
         requires { IsSome (kept_of self.old slot) }
         ensures joins { OnOk result (JoinsSlot self.old self.new slot (number_at clock.now)) }
         ensures err { OnErr result ((s : Slot) → kept_of self.new s ≡ kept_of self.old s) }
@@ -101,14 +101,14 @@ impl Table {
     }
 
     /// How many slots have a label.
-    pub fn len(&self) -> usize
+    pub(crate) fn len(&self) -> usize
         ensures { result ≡ length (labels_of self.now) }
     {
         self.labels.len()
     }
 
     /// The slot with this number.
-    pub fn label(&self, i: usize) -> Slot
+    pub(crate) fn label(&self, i: usize) -> Slot
         requires { i < length (labels_of self.now) }
         ensures { slice_get (labels_of self.now) i ≡ Some result }
     {

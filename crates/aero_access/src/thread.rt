@@ -20,7 +20,7 @@ pub struct Thread {
 
 impl Thread {
     /// A thread that has made no event.
-    pub fn new(alloc: Global) -> Thread
+    pub(crate) fn new(alloc: Global) -> Thread
         ensures clock { IsZero result.clock }
         ensures begin { result.begin ≡ None }
         ensures begins { result.begins ≡ 0 }
@@ -37,7 +37,7 @@ impl Thread {
     /// Whether the begin clock of the thread's open block is at most this clock in every place,
     /// which the number at the thread's own number `t` tells.
     #[inline(always)]
-    pub fn is_closed_by(&self, t: u32, clock: &Clock) -> bool
+    pub(crate) fn is_closed_by(&self, t: u32, clock: &Clock) -> bool
         requires { CountIsTest self.now t (number_at clock.now) }
         ensures { IsTrue result ↔ IsClosedBy self.now.begin (number_at clock.now) }
     {
@@ -46,7 +46,7 @@ impl Thread {
 
     /// Thread `t`, which this is, takes the clock, unless it closes a cycle: then the answer is
     /// true.
-    pub fn take(&mut self, t: u32, clock: &Clock) -> Result<bool, AllocError>
+    pub(crate) fn take(&mut self, t: u32, clock: &Clock) -> Result<bool, AllocError>
         requires { CountIsTest self.old t (number_at clock.now) }
         ensures closing { IfOk result (λ closes. IsTrue closes ↔ IsClosedBy self.old.begin (number_at clock.now)) }
         ensures takes { IfOk result (λ closes. closes ≡ false → TakesClock self.old self.new (number_at clock.now)) }
@@ -62,7 +62,7 @@ impl Thread {
     }
 
     /// Joins the clock with this one.
-    pub fn join(&mut self, clock: &Clock) -> Result<(), AllocError>
+    pub(crate) fn join(&mut self, clock: &Clock) -> Result<(), AllocError>
         ensures ok { OnOk result (TakesClock self.old self.new (number_at clock.now)) }
         ensures same { HasSameBlock self.old self.new }
         ensures grows { (u : ℕ) → number_at self.old.clock u ≤ number_at self.new.clock u }
@@ -73,7 +73,7 @@ impl Thread {
 
     /// Begins a block: raises the clock at the thread's own number `t`, where it counts the
     /// thread's outermost begins, and remembers it. A refusal begins none.
-    pub fn open(&mut self, t: u32) -> Result<(), AllocError>
+    pub(crate) fn open(&mut self, t: u32) -> Result<(), AllocError>
         requires begins { self.old.begins < 2 ^ 32 - 1 }
         requires number { number_at self.old.clock t < 2 ^ 32 - 1 }
         ensures raised { OnOk result (IsRaised self.new.clock self.old.clock t) }
@@ -94,7 +94,7 @@ impl Thread {
 }
 
 /// Makes room for thread `t`.
-pub fn reach(threads: &mut Vec<Thread>, t: u32) -> Result<(), AllocError>
+pub(crate) fn reach(threads: &mut Vec<Thread>, t: u32) -> Result<(), AllocError>
     requires { vec_len threads.old ≤ 2 ^ 32 }
     ensures room { OnOk result (vec_len threads.new ≡ max (vec_len threads.old) (t + 1)) }
     ensures few { vec_len threads.new ≤ 2 ^ 32 }

@@ -1,4 +1,4 @@
-use Rattle.std.proofs.Common.{inl, inr, refl, sym, ◌∙◌}
+use Rattle.std.proofs.Common.{inl, inr, refl, ◌∙◌}
 use Rattle.aero_end.proofs.Spreading.{passed_over, first_found, taken}
 use Rattle.aero_end.proofs.spread.Goals as goal
 use Rattle.aero_end.proofs.spread.Goals.{then-slot-t-via-then-slot-t, then-slot-t-via-else-slot-t+then-not-leads}
@@ -36,5 +36,5 @@ loop-slot-preserved c =
       };
       inside = same.in_block c.args.t ∙ c.loop-slot.invariant.inside;
       closed = spreads.closed;
-      slots = spreads.slots.slots ∙ sym c.loop-slot.invariant.spreads.slots.slots ∙ c.loop-slot.invariant.slots;
+      slots = spreads.slots.slots;
     }

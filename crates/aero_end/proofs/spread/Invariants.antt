@@ -9,5 +9,5 @@ invariant-loop-slot l = record {
   tests : HaveSameTests l.initial.clocks l.clocks;
   inside : in_block_at l.clocks l.t ≡ true;
   closed : closed_by l.clocks ≡ None;
-  slots : slots_of l.clocks ≡ l.slot-end;
+  slots : slots_of l.clocks ≡ slots_of l.initial.clocks;
 }
