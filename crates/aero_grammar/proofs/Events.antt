@@ -1,15 +1,14 @@
 -- What the event of a line has.
-use Rattle.std.proofs.Common.{◌≡◌, ◌||◌, ◌&&◌, ◌==◌, ℕ, Bool, true, false, not, cond, List, length, Option, Some, None, refl, ap, sym, ◌∙◌, subst}
-use Rattle.std.specs.Prelude.{⊤, IfSome, nat_lt}
+use Rattle.std.proofs.Common.{◌≡◌, ◌||◌, ◌&&◌, ◌==◌, ℕ, Bool, true, false, not, cond, List, length, Option, Some, None, refl, sym, subst}
+use Rattle.std.specs.Prelude.{⊤}
 use Rattle.std.specs.List.{list_any, list_all}
 use Rattle.std.specs.Str.Lines.{strip_carriage_return}
-use Rattle.std.proofs.lemmas.Bool.{cond-false, or_parts}
+use Rattle.std.proofs.lemmas.Bool.{or_parts}
 use Rattle.aero_model.specs.declared.named.Op.{Op}
 use Rattle.aero_model.specs.declared.named.Op.TheVariants as op
-use Rattle.aero_model.specs.declared.name.NameFault.TheVariants.{Empty, BadByte}
 use Rattle.aero_model.specs.declared.verdict.LineFault.TheVariants as fault
 use Rattle.aero_model.specs.Lines.{is_too_long}
-use Rattle.aero_model.specs.Names.{is_bad_byte, is_barred, name_fault}
+use Rattle.aero_model.specs.Names.{is_bad_byte, is_barred}
 use Rattle.aero_model.specs.Named.{Named, stands_alone}
 use Rattle.aero_grammar.specs.Meaning.{Meaning, Blank, Means, Faulty, meaning, is_bar, is_blank, thread_field, operation_field, operation_word, operation_of, word_meaning, operation_meaning, is_unclosed, target_bytes, target_of, is_long_name}
 use Rattle.aero_grammar.specs.Words.{IsName, IsEvent}

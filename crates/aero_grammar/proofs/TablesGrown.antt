@@ -1,6 +1,6 @@
 -- The tables of a list of events, with one event more.
-use Rattle.std.proofs.Common.{◌≡◌, ℕ, true, List, [], ◌∷◌, ◌++◌, map, Option, Some, None, refl, sym, ◌∙◌, ap, ap₂, subst, cond}
-use Rattle.std.specs.Prelude.{⊤, All, IfSome, bytes_eq, slice_get, unwrap_or, fold, option_to_list}
+use Rattle.std.proofs.Common.{◌≡◌, ℕ, true, List, [], ◌∷◌, ◌++◌, map, Option, Some, None, refl, sym, ◌∙◌, ap, ap₂, subst}
+use Rattle.std.specs.Prelude.{⊤, All, IfSome, bytes_eq, unwrap_or, fold}
 use Rattle.std.specs.List.{list_any}
 use Rattle.std.proofs.lemmas.Bool.{cond_both}
 use Rattle.std.proofs.lemmas.List.{append_assoc, append-nil, map-append}
@@ -12,11 +12,12 @@ use Rattle.aero_model.specs.declared.named.Op.{Op}
 use Rattle.aero_model.specs.declared.named.Op.TheVariants as op
 use Rattle.aero_model.specs.Named.{Named, HasItsTarget}
 use Rattle.aero_model.specs.Numbering.{with_name, number_of, thread_target, Tables, tables_of, what_of, numbered}
-use Rattle.aero_names.specs.Numbers.{number_after, with_target, with_event, what_after, numbered_after}
+use Rattle.aero_names.specs.Numbers.{with_actor, with_target, with_event, what_after, numbered_after}
 use Rattle.aero_names.proofs.Fronts.{Extends, tables_pushed, tables_extended, numbered_kept}
 use Rattle.aero_names.proofs.Listings.{number_of-place}
 use Rattle.aero_names.proofs.NewNames.{has_name, still_has_name, still_passes, number_stays}
-use Rattle.aero_grammar.specs.Tabled.{name_at, op_of, target_in, named_in, line_in, lines_in, numbered_line, IsTabled, AreNames}
+use Rattle.aero_grammar.specs.Lists.{numbered_in_turn}
+use Rattle.aero_grammar.specs.Tabled.{name_at, op_of, target_in, named_in, lines_in, numbered_line, IsTabled, AreNames}
 use Rattle.aero_grammar.specs.Words.{IsName, IsEvent}
 
 -- a name that is listed is the one at its number
@@ -180,9 +181,8 @@ pub no_names : AreNames (record { threads = []; variables = []; locks = [] })
 no_names = record { threads = All-nil IsName; variables = All-nil IsName; locks = All-nil IsName }
 
 -- an event by its numbers, the actor's first
-pub target_numbered : (tables : Tables) (threads : List (List ℕ)) (e : Named) (target : List ℕ) (number : ℕ) (what : What) → e.target ≡ Some target → number ≡ number_after tables.threads e.thread →
-    threads ≡ with_name tables.threads e.thread → what ≡ what_after (record tables { threads = threads }) e.op (Some target) → record { thread = number; what = what } ≡ numbered_after tables e
-target_numbered tables threads e target number what target_is number_is threads_are what_is = λ i. record {
-  thread = (number_is ∙ sym (number_stays (with_name tables.threads e.thread) (thread_target e.op e.target) e.thread (has_name tables.threads e.thread))) i;
-  what = (what_is ∙ ap₂ (λ ts o. what_after (record tables { threads = ts }) e.op o) threads_are (sym target_is)) i;
+pub numbered_by_turns : (tables : Tables) (e : Named) → numbered_in_turn tables e ≡ numbered_after tables e
+numbered_by_turns tables e = λ i. record {
+  thread = sym (number_stays (with_name tables.threads e.thread) (thread_target e.op e.target) e.thread (has_name tables.threads e.thread)) i;
+  what = what_after (with_actor tables e) e.op e.target;
 }

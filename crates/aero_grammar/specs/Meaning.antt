@@ -1,5 +1,5 @@
 -- What a line says. A line comes without the byte 10 that ends it.
-use Rattle.std.specs.Prelude.{◌≡◌, ℕ, ◌-◌, ◌==◌, nat_lt, Bool, true, false, not, ◌&&◌, ◌||◌, if◌then◌else◌, List, length, take, drop, slice_index, bytes_eq, codes, Option, Some, None, option_and_then, Result, Ok, Err, ◌<◌, ◌⊎◌}
+use Rattle.std.specs.Prelude.{◌≡◌, ℕ, ◌-◌, ◌==◌, nat_lt, Bool, not, ◌&&◌, ◌||◌, if◌then◌else◌, List, length, take, drop, slice_index, bytes_eq, codes, Option, Some, None, Result, Ok, Err, ◌<◌, ◌⊎◌}
 use Rattle.std.specs.List.{list_any, list_all, prefix_len, suffix_len, before_first, after_first}
 use Rattle.std.specs.Str.Lines.{strip_carriage_return}
 use Rattle.aero_model.specs.declared.named.Op.{Op}

@@ -18,11 +18,11 @@ pub struct Tables {
 }
 
 impl Tables {
-    ghost use Rattle.std.specs.Prelude.{◌≡◌, [], Some, IfOk, OnOk};
-    ghost use Rattle.aero_model.specs.Named.{HasItsTarget};
-    ghost use Rattle.aero_names.specs.Numbers.{with_event, numbered_after, with_target, what_after};
+    ghost use Rattle.std.specs.Prelude.{◌≡◌, [], true, is_none, option_copied, Some, IfOk, OnOk};
+    ghost use Rattle.aero_model.specs.Named.{stands_alone};
+    ghost use Rattle.aero_names.specs.Numbers.{with_event, with_target, what_after};
     ghost use Rattle.aero_grammar.specs.Words.{named_of, IsEvent};
-    ghost use Rattle.aero_grammar.specs.Lists.{lists_in};
+    ghost use Rattle.aero_grammar.specs.Lists.{lists_in, numbered_in_turn};
 
     // No names yet.
     pub fn new(alloc: Global) -> Tables
@@ -39,20 +39,30 @@ impl Tables {
     #[inline(always)]
     pub fn number(&mut self, words: Words<'_>) -> Result<Numbered, AllocError>
         requires { IsEvent (named_of words) }
-        ensures numbered { IfOk result (λ numbered. numbered ≡ numbered_after (lists_in self.old) (named_of words.entry)) }
+        ensures numbered { IfOk result (λ numbered. numbered ≡ numbered_in_turn (lists_in self.old) (named_of words.entry)) }
         ensures names { OnOk result (lists_in self.new ≡ with_event (lists_in self.old) (named_of words.entry)) }
     {
         let thread = number_in(&mut self.threads, words.thread)?;
-        let what = match words.target {
-            Some(target) => self.number_target(words.op, target)?,
-            None => what_alone(words.op),
-        };
+        let what = self.number_target(words.op, words.target)?;
         Ok(Numbered { thread, what })
     }
 
-    // What an event with this operation and target does, by the target's number.
+    // What an event with this operation does, by the number of its target, if it has one.
     #[inline(always)]
-    fn number_target(&mut self, op: Op, target: &[u8]) -> Result<What, AllocError>
+    fn number_target(&mut self, op: Op, target: Option<&[u8]>) -> Result<What, AllocError>
+        requires { is_none target ≡ true → stands_alone op ≡ true }
+        ensures what { IfOk result (λ what. what ≡ what_after (lists_in self.old) op (option_copied target.entry)) }
+        ensures names { OnOk result (lists_in self.new ≡ with_target (lists_in self.old) op (option_copied target.entry)) }
+    {
+        match target {
+            Some(target) => self.number_name(op, target),
+            None => Ok(what_alone(op)),
+        }
+    }
+
+    // The same by the target's name.
+    #[inline(always)]
+    fn number_name(&mut self, op: Op, target: &[u8]) -> Result<What, AllocError>
         ensures what { IfOk result (λ what. what ≡ what_after (lists_in self.old) op (Some target.now)) }
         ensures names { OnOk result (lists_in self.new ≡ with_target (lists_in self.old) op (Some target.now)) }
     {

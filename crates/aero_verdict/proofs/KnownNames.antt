@@ -1,8 +1,8 @@
 -- The numbers of a block's names that are known.
-use Rattle.std.proofs.Common.{◌≡◌, ℕ, ◌<◌, ◌≤◌, ◌==◌, nat_le, Bool, true, false, cond, if◌then◌else◌, List, [], ◌∷◌, ◌++◌, length, Some, refl, sym, ◌∙◌, ap, subst, inl, inr, arith}
+use Rattle.std.proofs.Common.{◌≡◌, ℕ, ◌==◌, if◌then◌else◌, List, [], ◌∷◌, ◌++◌, length, Some, sym, ◌∙◌, ap, subst, inl, inr, arith}
 use Rattle.std.specs.Prelude.{bytes_eq, slice_get}
 use Rattle.std.specs.List.{list_any}
-use Rattle.std.proofs.lemmas.Bool.{cases_Bool, cases_lt, cond-true, cond-false, eqb-true, lt-leb}
+use Rattle.std.proofs.lemmas.Bool.{cases_Bool, cond-true, cond-false, eqb-true, lt-leb}
 use Rattle.std.proofs.lemmas.Option.{slice_get_within, same_Some}
 use Rattle.aero_model.specs.Numbering.{with_name, number_of}
 use Rattle.aero_access.proofs.KeptLists.{slice_get-pushed}
@@ -11,7 +11,7 @@ use Rattle.aero_names.proofs.Listings.{number_of-place}
 use Rattle.aero_names.proofs.NewNames.{has_name, still_passes, number_stays}
 use Rattle.aero_grammar.specs.Tabled.{name_at}
 use Rattle.aero_verdict.specs.Known.{IsKnown, AreKnown}
-use Rattle.aero_verdict.specs.Numbers.{IsWithin, NumbersName}
+use Rattle.aero_verdict.specs.Numbers.{NumbersName}
 
 -- of no name yet
 pub none_known : (trace block : List (List ℕ)) (numbers : List ℕ) → numbers ≡ [] → AreKnown trace block numbers

@@ -1,5 +1,5 @@
 -- The parts of a trace, one after the other.
-use Rattle.std.proofs.Common.{◌≡◌, ℕ, suc, ◌+◌, ◌-◌, ◌<◌, ◌≤◌, ◌^◌, nat_le, nat_lt, min, true, false, List, [], ◌∷◌, ◌++◌, length, map, drop, get_or, Some, None, option_map, sym, ◌∙◌, ap, ap₂, subst, refl, arith, add-one, add_assoc, length-append}
+use Rattle.std.proofs.Common.{◌≡◌, ℕ, suc, ◌+◌, ◌-◌, ◌<◌, ◌≤◌, ◌^◌, nat_le, nat_lt, min, true, false, List, [], ◌∷◌, ◌++◌, length, map, drop, Some, None, option_map, sym, ◌∙◌, ap, ap₂, subst, refl, arith, add-one, add_assoc, length-append}
 use Rattle.std.specs.Prelude.{slice_get, is_some, if◌then◌else◌}
 use Rattle.std.proofs.lemmas.Bool.{cond-true, cond-false, lt-ltb, le-ltb}
 use Rattle.std.proofs.lemmas.List.{append_assoc, append-nil, drop_all, map-append, length-map}
@@ -16,21 +16,11 @@ use Rattle.aero_grammar.specs.Reading.{Reading, after_lines, whole_reading, IsRe
 use Rattle.aero_verdict.specs.declared.checker.Checker.{Checker}
 use Rattle.aero_verdict.specs.declared.checker.Stop.{Stop}
 use Rattle.aero_verdict.specs.Kept.{StandsFor, up_to, AreNext, AreExpected, StopsIn, TellsStop}
+use Rattle.aero_verdict.specs.Parts.{AreBefore, greatest_number, Stands, ComesNext}
 use Rattle.aero_verdict.specs.Verdict.{counted_events, checked_trace, IsClean, IsVerdict, IsMalformed, IsFaultless}
 use Rattle.aero_verdict.proofs.Lines.{untold_whole}
-use Rattle.aero_verdict.proofs.Readings.{AreBefore, greatest_number, after_faulty, after_faultless, begins_with, after_again, fault_again, rising_within, all_up_to, up_to_shorter, up_to_after, fault_told, goes_on, trace_length, start, here}
+use Rattle.aero_verdict.proofs.Readings.{after_faulty, after_faultless, begins_with, after_again, fault_again, rising_within, all_up_to, up_to_shorter, up_to_after, fault_told, goes_on, trace_length, start, here}
 use Rattle.aero_verdict.proofs.Stops.{verdict_at}
-
--- The first k parts have no fault and so many lines, as far as these can be told. The checker has admitted those of their events that count, whatever events follow.
-pub record Stands (limits : Limits) (parts : List Reading) (k lines : ℕ) (checker : Checker) : Type 0 where
-  pub events : List (ℕ × Named)
-  pub total : ℕ
-  pub before : AreBefore parts (drop k parts) events total
-  pub lines_are : lines ≡ min total greatest_number
-  pub count_is : checker.shape.admitted ≡ length (up_to limits.lines events)
-  pub few : length (up_to limits.lines events) ≤ total
-  pub few_enough : length (up_to limits.lines events) ≤ limits.lines
-  pub kept : (more : List (ℕ × Named)) → StandsFor limits checker (up_to limits.lines events ++ more)
 
 -- nothing is wrong with the events, where all of them were admitted
 clean_here : (limits : Limits) (parts : List Reading) (checker : Checker) → StandsFor limits checker (counted_events parts limits) → checker.shape.admitted ≡ length (checked_trace parts limits) →
@@ -233,9 +223,12 @@ module _ (limits : Limits) (parts : List Reading) (k lines : ℕ) (checker : Che
 
 -- the next part
 
-module _ (limits : Limits) (parts : List Reading) (k lines : ℕ) (checker : Checker) (stands : Stands limits parts k lines checker) (p item : Reading) (less : k < length parts) (is : item ≡ get_or parts k item) (view : p ≡ item) (reading : IsReading p) (most : ℕ) (most_is : most ≡ limits.lines - lines) (es : List (ℕ × Named)) (es_are : es ≡ p.events) where
+module _ (limits : Limits) (parts : List Reading) (k lines : ℕ) (checker : Checker) (part : Reading) (next : ComesNext limits parts k lines checker part) (p : Reading) (view : p ≡ part) (reading : IsReading p) (most : ℕ) (most_is : most ≡ limits.lines - lines) (es : List (ℕ × Named)) (es_are : es ≡ p.events) where
+  abbrev stands : Stands limits parts k lines checker
+  stands = next.stands
+
   before_here : AreBefore parts (p ∷ drop (k + 1) parts) stands.events stands.total
-  before_here = here parts k p item less is view stands.events stands.total stands.before
+  before_here = here parts k p part next.part_is view stands.events stands.total stands.before
 
   most_here : most ≡ limits.lines - stands.total
   most_here = let small : limits.lines ≤ 2 ^ 24 = limits.most_lines in omega (arith, most_is, stands.lines_are, small)
@@ -272,7 +265,7 @@ module _ (limits : Limits) (parts : List Reading) (k lines : ℕ) (checker : Che
     part_malformed =
         malformed limits parts (drop (k + 1) parts) p stands.events stands.total before_here reading most most_here checker lines k stands.count_is stands.kept stands.lines_are new counted_on kept_here
 
-    pub part_passed : p.fault ≡ None → (lines_after : ℕ) → lines_after ≡ min (lines + p.lines) greatest_number → Stands limits parts (k + 1) lines_after new
+    pub part_passed : p.fault ≡ None → Stands limits parts (k + 1) (min (lines + part.lines) greatest_number) new
     part_passed none =
         stands_after limits parts (drop (k + 1) parts) p stands.events stands.total before_here reading most most_here checker lines k stands.count_is stands.kept stands.lines_are new counted_on kept_here
-        stands.few stands.few_enough none refl
+        stands.few stands.few_enough none refl (min (lines + part.lines) greatest_number) (ap (λ (r : Reading). min (lines + r.lines) greatest_number) (sym view))

@@ -1,9 +1,9 @@
 -- Texts one after the other: their events that count, and their lines.
-use Rattle.std.proofs.Common.{◌≡◌, ℕ, zero, suc, ◌+◌, ◌-◌, ◌<◌, ◌≤◌, ◌^◌, nat_le, min, Bool, true, false, List, [], ◌∷◌, ◌++◌, length, map, drop, get_or, Option, Some, None, option_map, inl, inr, refl, sym, ◌∙◌, ap, ap₂, subst, arith, add-one, zero-add, add_assoc}
+use Rattle.std.proofs.Common.{◌≡◌, ℕ, zero, suc, ◌+◌, ◌-◌, ◌<◌, ◌≤◌, ◌^◌, nat_le, min, Bool, true, false, List, [], ◌∷◌, ◌++◌, length, map, drop, Option, Some, None, option_map, inl, inr, refl, sym, ◌∙◌, ap, ap₂, subst, arith, add-one, zero-add, add_assoc}
 use Rattle.std.specs.Prelude.{slice_get, is_some, All}
 use Rattle.std.proofs.lemmas.Bool.{cond-true, cond-false, cond_both, cases_lt, cases_Bool, le-leb, lt-leb}
 use Rattle.std.proofs.lemmas.List.{append-nil, length-map}
-use Rattle.std.proofs.lemmas.Option.{slice_get-map}
+use Rattle.std.proofs.lemmas.Option.{slice_get-map, slice_get_within, get_or_from_slice_get}
 use Rattle.std.proofs.Math.Seq.{drop-cons}
 use Rattle.aero_model.specs.declared.limits.Limits.{Limits}
 use Rattle.aero_model.specs.declared.verdict.LineFault.{LineFault}
@@ -11,17 +11,8 @@ use Rattle.aero_model.specs.Named.{Named}
 use Rattle.aero_model.specs.Numbering.{tables_of, numbered}
 use Rattle.aero_grammar.specs.Reading.{Reading, after_lines, followed_by, whole_reading, LinesRise, fault_within}
 use Rattle.aero_verdict.specs.Kept.{up_to, GoesOn}
+use Rattle.aero_verdict.specs.Parts.{AreBefore, greatest_number}
 use Rattle.aero_verdict.specs.Verdict.{counted_events, events_of, checked_trace}
-
--- the parts before these have no fault, and have these events and so many lines
-pub record AreBefore (parts rest : List Reading) (events : List (ℕ × Named)) (total : ℕ) : Type 0 where
-  pub events_are : (whole_reading parts).events ≡ events ++ map (after_lines total) (whole_reading rest).events
-  pub lines_are : (whole_reading parts).lines ≡ total + (whole_reading rest).lines
-  pub fault_is : (whole_reading parts).fault ≡ option_map (after_lines total) (whole_reading rest).fault
-
--- the greatest number that a line is told by
-abbrev pub greatest_number : ℕ
-greatest_number = 2 ^ 32 - 1
 
 -- one part, and those after it
 
@@ -155,15 +146,16 @@ start parts =
       fault_is = sym (fault_after_none (whole_reading parts).fault);
     }
 
-pub rest_at : (parts : List Reading) (k : ℕ) (p : Reading) → k < length parts → p ≡ get_or parts k p → drop k parts ≡ p ∷ drop (k + 1) parts
-rest_at parts k p less is = drop-cons parts k p less ∙ ap₂ (λ x m. x ∷ drop m parts) (sym is) (sym (add-one k))
+rest_at : (parts : List Reading) (k : ℕ) (p : Reading) → slice_get parts k ≡ Some p → drop k parts ≡ p ∷ drop (k + 1) parts
+rest_at parts k p at =
+    drop-cons parts k p (slice_get_within parts k p at) ∙ ap₂ (λ x m. x ∷ drop m parts) (get_or_from_slice_get parts k p p at) (sym (add-one k))
 
 -- the next part is the one at place k
-pub here : (parts : List Reading) (k : ℕ) (p item : Reading) → k < length parts → item ≡ get_or parts k item → p ≡ item →
+pub here : (parts : List Reading) (k : ℕ) (p part : Reading) → slice_get parts k ≡ Some part → p ≡ part →
     (events : List (ℕ × Named)) (lines : ℕ) → AreBefore parts (drop k parts) events lines → AreBefore parts (p ∷ drop (k + 1) parts) events lines
-here parts k p item less is same events lines before =
+here parts k p part at same events lines before =
     let P : List Reading → Type 0 = λ rest. AreBefore parts rest events lines in
-    subst P (rest_at parts k item less is ∙ ap (λ x. x ∷ drop (k + 1) parts) (sym same)) before
+    subst P (rest_at parts k part at ∙ ap (λ x. x ∷ drop (k + 1) parts) (sym same)) before
 
 -- so many events count
 pub trace_length : (limits : Limits) (parts : List Reading) → length (checked_trace parts limits) ≡ length (counted_events parts limits)

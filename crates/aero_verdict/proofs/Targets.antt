@@ -1,21 +1,19 @@
 -- What is numbered of an event, name by name.
-use Rattle.std.proofs.Common.{◌≡◌, ℕ, true, nat_le, List, [], Some, None, refl, sym, ◌∙◌, ap, ap₂}
-use Rattle.std.specs.Prelude.{unwrap_or}
+use Rattle.std.proofs.Common.{◌≡◌, ℕ, nat_le, List, Some, None, refl, sym, ◌∙◌, ap, ap₂}
 use Rattle.std.proofs.lemmas.Bool.{cond-true, cond-false}
 use Rattle.aero_model.specs.declared.event.What.{What}
 use Rattle.aero_model.specs.declared.event.What.TheVariants.{Read, Write, Acquire, Release, Fork, Join, Begin, End}
 use Rattle.aero_model.specs.declared.limits.Limits.{Limits}
-use Rattle.aero_model.specs.declared.named.Op.{Op}
 use Rattle.aero_model.specs.declared.named.Op.TheVariants as op
 use Rattle.aero_model.specs.declared.verdict.ShapeFault.{ShapeFault}
 use Rattle.aero_model.specs.declared.verdict.ShapeFault.TheVariants.{TooManyThreads}
-use Rattle.aero_model.specs.Named.{Named, stands_alone}
-use Rattle.aero_model.specs.Numbering.{with_name, thread_target, Tables, what_of}
+use Rattle.aero_model.specs.Named.{Named}
+use Rattle.aero_model.specs.Numbering.{with_name, thread_target}
 use Rattle.aero_model.specs.Shape.{target_limit_fault}
 use Rattle.aero_names.specs.Listing.{Listing}
 use Rattle.aero_verdict.specs.declared.numbering.Numbering.{Numbering}
 use Rattle.aero_verdict.specs.Limited.{names_in, IsLimited, NumbersTarget, RefusesTarget, NumbersEvent, RefusesEvent}
-use Rattle.aero_names.specs.Numbers.{number_after, with_actor, with_target, with_event, what_after, numbered_after}
+use Rattle.aero_names.specs.Numbers.{number_after, with_actor, with_target, what_after, numbered_after}
 use Rattle.aero_verdict.specs.Numbers.{NumbersName, RefusesName}
 use Rattle.aero_names.proofs.NewNames.{has_name, number_stays}
 

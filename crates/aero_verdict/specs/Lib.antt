@@ -6,4 +6,5 @@ pub mod Known
 pub mod Kept
 pub mod Verdict
 pub mod Finding
+pub mod Parts
 pub mod Laws

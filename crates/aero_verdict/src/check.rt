@@ -3,6 +3,7 @@ ghost use Rattle.aero_model.specs.declared.limits.Limits.{Limits};
 ghost use Rattle.aero_grammar.specs.Reading.{Reading, fault_within};
 ghost use Rattle.aero_verdict.specs.Verdict.{IsVerdict, IsFaultless};
 ghost use Rattle.aero_verdict.specs.Kept.{TellsStop};
+ghost use Rattle.aero_verdict.specs.Parts.{Stands, IsPartExpected, ComesNext, TellsPart};
 
 use crate::checker::{Checker, Stop};
 use crate::known::BlockNames;
@@ -35,21 +36,24 @@ pub fn check_trace(alloc: Global, parts: &[Parsed], limits: &Limits) -> Result<V
 {
     let mut checker = Checker::new(alloc, limits);
 
+    check_parts(alloc, &mut checker, parts, limits)
+}
+
+// The same where no event was admitted yet.
+fn check_parts(
+    alloc: Global,
+    checker: &mut Checker,
+    parts: &[Parsed],
+    limits: &Limits,
+) -> Result<Verdict, AllocError>
+    requires { Stands limits.now parts.now 0 0 checker.old }
+    ensures { IfOk result (λ verdict. IsVerdict parts.now limits.now verdict) }
+{
     // The lines of the parts so far. A number that a `u32` can't tell is past every limit.
     let mut lines = 0u32;
     for part in parts {
-        let most = limits.lines.saturating_sub(lines);
-        let block = BlockNames {
-            threads: &part.threads,
-            variables: &part.variables,
-            locks: &part.locks,
-        };
-        if let Err((line, stop)) = checker.admit_all(alloc, block, &part.events, lines, most) {
-            return stopped_at(alloc, &checker, line, stop);
-        }
-        if let Some((line, fault)) = part.fault {
-            let (line, fault) = malformed_line(lines.saturating_add(line), fault, limits);
-            return Ok(Verdict::Malformed { line, fault });
+        if let Some(verdict) = check_part(alloc, checker, part, lines, limits)? {
+            return Ok(verdict);
         }
         lines = lines.saturating_add(part.lines);
     }
@@ -59,7 +63,36 @@ pub fn check_trace(alloc: Global, parts: &[Parsed], limits: &Limits) -> Result<V
             fault: LineFault::TooManyLines,
         });
     }
-    Ok(faultless(&checker))
+    Ok(faultless(checker))
+}
+
+// The verdict on all parts where something is wrong with this one. So many lines stand before it.
+fn check_part(
+    alloc: Global,
+    checker: &mut Checker,
+    part: &Parsed,
+    lines: u32,
+    limits: &Limits,
+) -> Result<Option<Verdict>, AllocError>
+    requires { IsPartExpected limits.now lines checker.old part.now }
+    ensures { IfOk result (λ told. (parts : List Reading) (k : ℕ) →
+        ComesNext limits.now parts k lines checker.old part.now → TellsPart limits.now parts k lines checker.new part.now told) }
+{
+    let most = limits.lines.saturating_sub(lines);
+    let block = BlockNames {
+        threads: &part.threads,
+        variables: &part.variables,
+        locks: &part.locks,
+    };
+    if let Err((line, stop)) = checker.admit_all(alloc, block, &part.events, lines, most) {
+        let verdict = stopped_at(alloc, checker, line, stop)?;
+        return Ok(Some(verdict));
+    }
+    let Some((line, fault)) = part.fault else {
+        return Ok(None);
+    };
+    let (line, fault) = malformed_line(lines.saturating_add(line), fault, limits);
+    Ok(Some(Verdict::Malformed { line, fault }))
 }
 
 // The verdict where no further event is admitted after the one on this line.

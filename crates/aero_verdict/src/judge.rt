@@ -5,6 +5,7 @@ ghost use Rattle.aero_model.specs.declared.event.What.{What};
 ghost use Rattle.aero_model.specs.Shape.{IsWellFormed};
 ghost use Rattle.aero_access.specs.Standing.{StandsFor, Tells, closed_by};
 ghost use Rattle.aero_access.specs.StateWords.{event, IsIdle};
+ghost use Rattle.aero_shape.specs.declared.admission.Admitted.TheVariants.{IdleJoin};
 ghost use Rattle.aero_verdict.specs.Judging.{IsAdmitted, IsToAct, ComesAfter, ActsAfter};
 
 use aero_access::clocks::{Clocks, Spent};
@@ -25,7 +26,7 @@ pub(crate) fn judge(
     match admitted {
         Admitted::OuterBegin => clocks.begin(t),
         Admitted::OuterEnd => end(clocks, t),
-        Admitted::IdleJoin => pass(clocks, t),
+        Admitted::IdleJoin => join_idle(clocks, event),
         Admitted::Plain { .. } => act(clocks, t, event.what),
     }
 }
@@ -44,6 +45,14 @@ fn act(clocks: &mut Clocks, t: u32, what: What) -> Result<Option<u32>, Spent>
         What::Join(u) => clocks.join(t, u),
         What::Begin | What::End => pass(clocks, t),
     }
+}
+
+// The same of a join of a thread that has not acted.
+fn join_idle(clocks: &mut Clocks, event: &Numbered) -> Result<Option<u32>, Spent>
+    requires { IsAdmitted clocks.old event.now IdleJoin }
+    ensures { (h : List Numbered) → ComesAfter clocks.old h event.now IdleJoin → IfOk result (Tells clocks.new (h ++ event.now ∷ []) (length h)) }
+{
+    pass(clocks, event.thread)
 }
 
 // An event that changes no clock, and so closes no cycle.

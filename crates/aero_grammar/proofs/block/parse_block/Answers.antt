@@ -9,7 +9,7 @@ use Rattle.aero_grammar.proofs.Events.{event_of_line}
 use Rattle.aero_grammar.proofs.Joined.{reading, nothing_followed_by}
 use Rattle.aero_grammar.proofs.LinesRead.{one_more_line, after_blank, after_event, read_to_end, read_to_fault}
 use Rattle.aero_grammar.proofs.Readings.{IsReading-of}
-use Rattle.aero_grammar.proofs.TablesGrown.{nothing_tabled, no_names, lines_pushed, tabled_pushed, names_added}
+use Rattle.aero_grammar.proofs.TablesGrown.{nothing_tabled, no_names, lines_pushed, tabled_pushed, names_added, numbered_by_turns}
 use Rattle.aero_grammar.proofs.block.parse_block.Goals as goal
 
 pub lines-init : goal.lines-init
@@ -49,7 +49,7 @@ lines-preserved c =
     let event = event_of_line c.first_line.result.0.now e means in
     let tables_are : lists_in c.number.new.self ≡ with_event tables e = c.in_ok-number-in-Ok-Some.ensures.names in
     let events_are : c.push.new.self.items ≡ events ++ (n, numbered_after tables e) ∷ [] =
-    c.in_ok-push-in-Ok-Some.ensures.items ∙ ap (λ x. events ++ (n, x) ∷ []) c.in_ok-number-in-Ok-Some.ensures.numbered in
+    c.in_ok-push-in-Ok-Some.ensures.items ∙ ap (λ x. events ++ (n, x) ∷ []) (c.in_ok-number-in-Ok-Some.ensures.numbered ∙ numbered_by_turns tables e) in
     record {
       read =
           one_more_line so_far c.lines.lines (reading_of c.args.bytes.now) c.lines.rest.now c.first_line.result.0.now c.first_line.result.1.now c.lines.invariant.read c.first_line.ensures.lines

@@ -1,6 +1,6 @@
 use Rattle.std.proofs.Common.{subst}
 use Rattle.aero_verdict.specs.Judging.{ComesAfter}
-use Rattle.aero_verdict.proofs.Judging.{begins_few, end_follows, idle_here}
+use Rattle.aero_verdict.proofs.Judging.{begins_few, end_follows}
 use Rattle.aero_verdict.proofs.judge.judge.Goals as goal
 
 pub begin-requires-clause-count : goal.begin-requires-clause-count
@@ -10,8 +10,7 @@ pub returns-in-OuterEnd : goal.returns-in-OuterEnd
 returns-in-OuterEnd c = λ h after. end_follows c.args.clocks.now h c.args.event.now c.args.admitted after c.end.new.clocks c.end.result c.in-OuterEnd.is c.end.ensures.follows
 
 pub returns-in-IdleJoin : goal.returns-in-IdleJoin
-returns-in-IdleJoin c = λ h after.
-    c.pass.ensures h c.args.event.now.what after.stands after.well_formed (idle_here c.args.clocks.now h c.args.event.now c.args.admitted after c.in-IdleJoin.is)
+returns-in-IdleJoin c = λ h after. c.join_idle.ensures h (subst (ComesAfter c.args.clocks.now h c.args.event.now) c.in-IdleJoin.is after)
 
 pub returns-in-Plain : goal.returns-in-Plain
 returns-in-Plain c = λ h after. c.act.ensures h (c.in-Plain.in_block, subst (ComesAfter c.args.clocks.now h c.args.event.now) c.in-Plain.is after)

@@ -1,0 +1,5 @@
+use Rattle.aero_verdict.specs.Parts.{Stands}
+use Rattle.aero_verdict.proofs.check.check_parts.Given as goal
+
+abbrev pub invariant-loop-part : goal.invariant-loop-part
+invariant-loop-part l = Stands l.limits l.parts l.part-index l.lines l.checker
