@@ -1,98 +1,95 @@
 // What no clause says: texts known from elsewhere, and writers that fail or take nothing.
-ghost use Rattle.std.specs.Prelude.{Some};
+ghost use Rattle.std.specs.Prelude.{◌≡◌, ◌≤◌, IfOk, Some};
 
 use crate::{Cut, put, summary_text, trace_text};
 use aero_model::counting::Counting;
 use aero_model::name::Name;
-use aero_model::verdict::{Counts, Finding, LineFault, ShapeFault, Verdict};
+use aero_model::verdict::{Counts, Finding, LineFault as Line, ShapeFault as Shape, Verdict};
 use std::alloc::Global;
 use std::io;
 use std::io::Write;
 use std::process::Abort;
+use std::str::Chars;
 use std::test::Fail;
 
-#[derive(Clone, Copy)]
-enum Step {
-    TakesAtMost(usize),
-    Fails(io::ErrorKind),
-}
-
-// Does one step of its script a call, and then takes all.
+// A writer that does as its script says, a letter for each call, of `write` and of `flush` alike: a
+// digit takes so many bytes at most, `I` fails as interrupted, `B` as broken. Past the script it
+// takes all. It notes each call, `w` or `f`.
 #[derive(Drop)]
 struct Scripted<'a> {
-    script: &'a [Step],
+    script: Chars<'a>,
     taken: Vec<u8>,
+    calls: String,
+}
+
+impl Scripted<'_> {
+    // How many of so many bytes the next call takes.
+    fn next_call(&mut self, name: char, count: usize) -> io::Result<usize>
+        ensures taken { self.new.taken.items ≡ self.old.taken.items }
+        ensures few { IfOk result (λ taken. taken ≤ count) }
+    {
+        self.calls.push(name)?;
+        match self.script.next() {
+            None => Ok(count),
+            Some('I') => Err(io::Error::from(io::ErrorKind::Interrupted)),
+            Some('B') => Err(io::Error::from(io::ErrorKind::BrokenPipe)),
+            Some(digit) => Ok(count.min(digit.to_digit(10).unwrap_or(0) as usize)),
+        }
+    }
 }
 
 impl Write for Scripted<'_> {
     ghost contents = { λ scripted. Some scripted.taken.items };
 
     fn write(&mut self, buf: &[u8]) -> io::Result<usize> {
-        let mut count = buf.len();
-        if let Some((step, rest)) = self.script.split_first() {
-            self.script = rest;
-            match *step {
-                Step::TakesAtMost(most) => count = count.min(most),
-                Step::Fails(kind) => return Err(io::Error::from(kind)),
-            }
-        }
+        let count = self.next_call('w', buf.len())?;
         self.taken.extend_from_slice(&buf[..count])?;
         Ok(count)
     }
 
     fn flush(&mut self) -> io::Result<()> {
+        self.next_call('f', 0)?;
         Ok(())
     }
 }
 
 #[test]
-fn a_vector_takes_the_whole_text(rt: HostRuntime) -> Result<(), Fail> {
-    let mut writer = Counting::new(Vec::new(rt.alloc()));
-    assert_eq!(rt; put(&mut writer, b"abc"), Ok(()));
-    assert_eq!(rt; writer.into_inner().as_slice(), b"abc".as_slice());
-    Ok(())
-}
+fn put_stops_where_a_write_first_fails_or_takes_nothing(rt: HostRuntime) -> Result<(), Fail> {
+    let mut vector = Counting::new(Vec::new(rt.alloc()));
+    assert_eq!(rt; put(&mut vector, b"abc"), Ok(()));
+    assert_eq!(rt; vector.into_inner().as_slice(), b"abc".as_slice());
 
-#[test]
-fn a_text_is_cut_where_a_write_first_fails_or_takes_nothing(rt: HostRuntime) -> Result<(), Fail> {
-    let one = Step::TakesAtMost(1);
-    let nothing = Step::TakesAtMost(0);
-    let broken = Step::Fails(io::ErrorKind::BrokenPipe);
-    let interrupted = Step::Fails(io::ErrorKind::Interrupted);
     let cut_at = |written: usize| Err(Cut { written });
-    let cases = [
-        ([one, one, one], Ok(()), b"abc".as_slice()),
-        ([one, broken, one], cut_at(1), b"a".as_slice()),
-        ([one, interrupted, one], cut_at(1), b"a".as_slice()),
-        (
-            [Step::TakesAtMost(2), nothing, one],
-            cut_at(2),
-            b"ab".as_slice(),
-        ),
-        ([nothing, one, one], cut_at(0), b"".as_slice()),
+    // the text, the writer's script, what `put` says, what went out, and the calls
+    let rows = [
+        ("abc", "", Ok(()), "abc", "w"),
+        ("abc", "111", Ok(()), "abc", "www"),
+        ("abc", "1B1", cut_at(1), "a", "ww"),
+        ("abc", "1I1", cut_at(1), "a", "ww"),
+        ("abc", "201", cut_at(2), "ab", "ww"),
+        ("abc", "011", cut_at(0), "", "w"),
+        ("abc", "B", cut_at(0), "", "w"),
+        ("", "BBB", Ok(()), "", ""),
     ];
-    for (script, outcome, taken) in cases {
-        let inner = Scripted {
-            script: &script,
+    for (text, script, said, taken, calls) in rows {
+        let mut writer = Counting::new(Scripted {
+            script: script.chars(),
             taken: Vec::new(rt.alloc()),
-        };
-        let mut writer = Counting::new(inner);
-        assert_eq!(rt; put(&mut writer, b"abc"), outcome);
-        assert_eq!(rt; writer.into_inner().taken.as_slice(), taken);
+            calls: String::new(rt.alloc()),
+        });
+        assert_eq!(rt;
+            put(&mut writer, text.as_bytes()),
+            said,
+            "{text:?} by {script:?}"
+        );
+        let writer = writer.into_inner();
+        assert_eq!(rt;
+            writer.taken.as_slice(),
+            taken.as_bytes(),
+            "{text:?} by {script:?}"
+        );
+        assert_eq!(rt; writer.calls.as_str(), calls, "{text:?} by {script:?}");
     }
-    Ok(())
-}
-
-#[test]
-fn an_empty_text_makes_no_write(rt: HostRuntime) -> Result<(), Fail> {
-    let script = [Step::Fails(io::ErrorKind::BrokenPipe)];
-    let inner = Scripted {
-        script: &script,
-        taken: Vec::new(rt.alloc()),
-    };
-    let mut writer = Counting::new(inner);
-    assert_eq!(rt; put(&mut writer, b""), Ok(()));
-    assert_eq!(rt; writer.into_inner().script.len(), 1);
     Ok(())
 }
 
@@ -104,6 +101,7 @@ fn expect_line(rt: &impl Abort, alloc: Global, finding: Finding, line: &str) -> 
 
 #[test]
 fn each_finding_has_its_line(rt: HostRuntime) -> Result<(), Fail> {
+    let alloc = rt.alloc();
     let serializable = |events, blocks| Finding::Judged(Verdict::Serializable { events, blocks });
     let pending = Verdict::Pending {
         events: 5,
@@ -112,10 +110,10 @@ fn each_finding_has_its_line(rt: HostRuntime) -> Result<(), Fail> {
     };
     let violation = Verdict::Violation {
         line: 6,
-        thread: Name::read(rt.alloc(), b"T1")?,
+        thread: Name::read(alloc, b"T1")?,
         begun: 1,
     };
-    let cases = [
+    let findings = [
         (Finding::Broken(20), "n: broken after 20 bytes\n"),
         (Finding::TooLarge, "n: too large\n"),
         (serializable(0, 0), "n: serializable (0 events, 0 blocks)\n"),
@@ -133,65 +131,40 @@ fn each_finding_has_its_line(rt: HostRuntime) -> Result<(), Fail> {
             "n: violation at line 6: block of T1 from line 1\n",
         ),
     ];
-    for (finding, line) in cases {
-        expect_line(&rt, rt.alloc(), finding, line)?;
-    }
-    Ok(())
-}
-
-#[test]
-fn each_malformed_line_is_named(rt: HostRuntime) -> Result<(), Fail> {
-    let cases = [
-        (LineFault::TooLong, "n:2: malformed: TooLong\n"),
-        (LineFault::BadByte, "n:2: malformed: BadByte\n"),
-        (LineFault::NoOperation, "n:2: malformed: NoOperation\n"),
-        (LineFault::EmptyThread, "n:2: malformed: EmptyThread\n"),
-        (
-            LineFault::UnknownOperation,
-            "n:2: malformed: UnknownOperation\n",
-        ),
-        (
-            LineFault::BadParenthesis,
-            "n:2: malformed: BadParenthesis\n",
-        ),
-        (LineFault::MissingTarget, "n:2: malformed: MissingTarget\n"),
-        (LineFault::NameTooLong, "n:2: malformed: NameTooLong\n"),
-        (LineFault::TooManyLines, "n:2: malformed: TooManyLines\n"),
-        (LineFault::Memory, "n:2: malformed: Memory\n"),
+    let malformed = [
+        (Line::TooLong, "n:2: malformed: TooLong\n"),
+        (Line::BadByte, "n:2: malformed: BadByte\n"),
+        (Line::NoOperation, "n:2: malformed: NoOperation\n"),
+        (Line::EmptyThread, "n:2: malformed: EmptyThread\n"),
+        (Line::UnknownOperation, "n:2: malformed: UnknownOperation\n"),
+        (Line::BadParenthesis, "n:2: malformed: BadParenthesis\n"),
+        (Line::MissingTarget, "n:2: malformed: MissingTarget\n"),
+        (Line::NameTooLong, "n:2: malformed: NameTooLong\n"),
+        (Line::TooManyLines, "n:2: malformed: TooManyLines\n"),
+        (Line::Memory, "n:2: malformed: Memory\n"),
     ];
-    for (fault, line) in cases {
+    let ill_formed = [
+        (Shape::TooManyThreads, "n:3: ill-formed: TooManyThreads\n"),
+        (Shape::TooManyNames, "n:3: ill-formed: TooManyNames\n"),
+        (Shape::ThreadJoined, "n:3: ill-formed: ThreadJoined\n"),
+        (Shape::LockHeldByOther, "n:3: ill-formed: LockHeldByOther\n"),
+        (Shape::LockNotHeld, "n:3: ill-formed: LockNotHeld\n"),
+        (Shape::ForkSelf, "n:3: ill-formed: ForkSelf\n"),
+        (Shape::ForkStarted, "n:3: ill-formed: ForkStarted\n"),
+        (Shape::JoinSelf, "n:3: ill-formed: JoinSelf\n"),
+        (Shape::EndWithoutBegin, "n:3: ill-formed: EndWithoutBegin\n"),
+        (Shape::Memory, "n:3: ill-formed: Memory\n"),
+    ];
+    for (finding, line) in findings {
+        expect_line(&rt, alloc, finding, line)?;
+    }
+    for (fault, line) in malformed {
         let verdict = Verdict::Malformed { line: 2, fault };
-        expect_line(&rt, rt.alloc(), Finding::Judged(verdict), line)?;
+        expect_line(&rt, alloc, Finding::Judged(verdict), line)?;
     }
-    Ok(())
-}
-
-#[test]
-fn each_ill_formed_event_is_named(rt: HostRuntime) -> Result<(), Fail> {
-    let cases = [
-        (
-            ShapeFault::TooManyThreads,
-            "n:3: ill-formed: TooManyThreads\n",
-        ),
-        (ShapeFault::TooManyNames, "n:3: ill-formed: TooManyNames\n"),
-        (ShapeFault::ThreadJoined, "n:3: ill-formed: ThreadJoined\n"),
-        (
-            ShapeFault::LockHeldByOther,
-            "n:3: ill-formed: LockHeldByOther\n",
-        ),
-        (ShapeFault::LockNotHeld, "n:3: ill-formed: LockNotHeld\n"),
-        (ShapeFault::ForkSelf, "n:3: ill-formed: ForkSelf\n"),
-        (ShapeFault::ForkStarted, "n:3: ill-formed: ForkStarted\n"),
-        (ShapeFault::JoinSelf, "n:3: ill-formed: JoinSelf\n"),
-        (
-            ShapeFault::EndWithoutBegin,
-            "n:3: ill-formed: EndWithoutBegin\n",
-        ),
-        (ShapeFault::Memory, "n:3: ill-formed: Memory\n"),
-    ];
-    for (fault, line) in cases {
+    for (fault, line) in ill_formed {
         let verdict = Verdict::IllFormed { line: 3, fault };
-        expect_line(&rt, rt.alloc(), Finding::Judged(verdict), line)?;
+        expect_line(&rt, alloc, Finding::Judged(verdict), line)?;
     }
     Ok(())
 }
