@@ -21,8 +21,8 @@ pub fn same(a: &Question, b: &Question) -> bool
                 number: other_number,
                 bytes: other_bytes,
             } => {
-                *trace == *other_trace
-                    && *number == *other_number
+                *number == *other_number
+                    && *trace == *other_trace
                     && bytes.get() == other_bytes.get()
             }
             Question::Check { .. } => false,

@@ -10,8 +10,15 @@ use std::process::Abort;
 use std::sync::Arc;
 use std::test::Fail;
 
-fn parse_question(alloc: Global, trace: u64, number: u64, text: &[u8]) -> Result<Question, Fail> {
-    let bytes = Bytes::new(text.to_vec(alloc)?).ok_or("too many bytes")?;
+// The lines of a text in which `/` stands for a newline.
+fn lines(alloc: Global, text: &str) -> Result<Bytes, Fail> {
+    let text = text.replace(alloc, "/", "\n")?;
+    Ok(Bytes::new(text.as_bytes().to_vec(alloc)?).ok_or("too many bytes")?)
+}
+
+// What a block of a trace says.
+fn block_question(alloc: Global, trace: u64, number: u64, block: &str) -> Result<Question, Fail> {
+    let bytes = lines(alloc, block)?;
     Ok(Question::Parse {
         trace,
         number,
@@ -19,16 +26,16 @@ fn parse_question(alloc: Global, trace: u64, number: u64, text: &[u8]) -> Result
     })
 }
 
-fn check_question(
+// The verdict on a trace, whose blocks stand between `;`.
+fn trace_question(
     alloc: Global,
     trace: u64,
-    blocks: &[&[u8]],
     limits: Limits,
+    blocks: &str,
 ) -> Result<Question, Fail> {
     let mut parts = Vec::new(alloc);
-    for block in blocks {
-        let bytes = Bytes::new(block.to_vec(alloc)?).ok_or("too many bytes")?;
-        parts.push(parse_block(alloc, bytes.get())?)?;
+    for block in blocks.split(';') {
+        parts.push(parse_block(alloc, lines(alloc, block)?.get())?)?;
     }
     Ok(Question::Check {
         trace,
@@ -55,82 +62,89 @@ fn assert_read(rt: &impl Abort, value: &Value) {
 }
 
 #[test]
-fn bytes_are_kept(rt: HostRuntime) -> Result<(), Fail> {
-    let bytes = Bytes::new(b"ab".to_vec(rt.alloc())?).ok_or("too many bytes")?;
-    assert!(rt; bytes.get() == b"ab".as_slice());
-    Ok(())
-}
-
-#[test]
-fn a_block_is_answered_by_what_it_says(rt: HostRuntime) -> Result<(), Fail> {
+fn a_question_is_answered_by_its_value(rt: HostRuntime) -> Result<(), Fail> {
     let alloc = rt.alloc();
-    let question = parse_question(alloc, 0, 0, b"T1|r(x)")?.share(alloc)?;
+    let bytes = Bytes::new(b"ab".to_vec(alloc)?).ok_or("too many bytes")?;
+    assert!(rt; bytes.get() == b"ab".as_slice());
+
+    let question = block_question(alloc, 0, 0, "T1|r(x)")?.share(alloc)?;
     let answer = Question::answer(&question, alloc)?;
     assert!(rt; same(answer.question(), &question));
     assert_read(&rt, answer.value());
     assert_read(&rt, &answer.into_value());
-    Ok(())
-}
 
-#[test]
-fn a_trace_is_answered_by_its_verdict(rt: HostRuntime) -> Result<(), Fail> {
-    let alloc = rt.alloc();
-    let blocks = [b"T1|r(x)".as_slice()];
-    let question = check_question(alloc, 0, &blocks, Limits::greatest())?.share(alloc)?;
-    let answer = Question::answer(&question, alloc)?;
-    match answer.into_value() {
+    let question = trace_question(alloc, 0, Limits::greatest(), "T1|r(x)")?.share(alloc)?;
+    match Question::answer(&question, alloc)?.into_value() {
         Value::Judged(Verdict::Serializable { events, blocks }) => {
             assert_eq!(rt; events, 1);
             assert_eq!(rt; blocks, 0);
         }
-        _ => assert!(rt; false, "not well-formed"),
+        _ => assert!(rt; false, "not serializable"),
     }
     Ok(())
 }
 
 #[test]
-fn the_same_blocks_are_the_same_question(rt: HostRuntime) -> Result<(), Fail> {
+fn blocks_with_the_same_bytes_are_the_same_question(rt: HostRuntime) -> Result<(), Fail> {
     let alloc = rt.alloc();
-    let read = parse_question(alloc, 0, 0, b"T1|r(x)")?;
-    let again = parse_question(alloc, 0, 0, b"T1|r(x)")?;
+    let read = block_question(alloc, 0, 0, "T1|r(x)")?;
     assert!(rt; same(&read, &read));
-    assert!(rt; same(&read, &again));
-    let others = [
-        (0, 0, b"T1|w(x)".as_slice()),
-        (0, 0, b"T1|r(x)\n"),
-        (1, 0, b"T1|r(x)"),
-        (0, 1, b"T1|r(x)"),
+    // the trace, the block's number, its lines, and whether it is the same as the first
+    let rows = [
+        (0, 0, "T1|r(x)", true),
+        (0, 0, "T1|w(x)", false),
+        (0, 0, "T1|r(x)/", false),
+        (1, 0, "T1|r(x)", false),
+        (0, 1, "T1|r(x)", false),
     ];
-    for (trace, number, text) in others {
-        let other = parse_question(alloc, trace, number, text)?;
-        assert!(rt; !same(&read, &other));
-        assert!(rt; !same(&other, &read));
+    for (trace, number, block, is_same) in rows {
+        let other = block_question(alloc, trace, number, block)?;
+        assert_eq!(rt; same(&read, &other), is_same, "{trace} {number} {block:?}");
+        assert_eq!(rt; same(&other, &read), is_same, "{trace} {number} {block:?}");
     }
     Ok(())
 }
 
 #[test]
-fn the_same_parts_are_the_same_question(rt: HostRuntime) -> Result<(), Fail> {
+fn traces_with_the_same_parts_are_the_same_question(rt: HostRuntime) -> Result<(), Fail> {
     let alloc = rt.alloc();
     let most = Limits::greatest();
     let fewer = Limits::new(1 << 30, 1 << 24, 1024, 1).ok_or("limits")?;
-    let parts = [b"T1|r(x)\nT2|begin".as_slice(), b"T1|end\nT1"];
-    let check = check_question(alloc, 0, &parts, most)?;
-    let again = check_question(alloc, 0, &parts, most)?;
-    assert!(rt; same(&check, &again));
-    let other_parts = [
-        [b"T1|r(x)\nT2|begin".as_slice(), b"T1|end\n|r(x)"],
-        [b"T1|r(x)\nT2|begin".as_slice(), b"T1|begin\nT1"],
-        [b"T1|r(y)\nT2|begin".as_slice(), b"T1|end\nT1"],
-        [b"T1|r(x)\nT3|begin".as_slice(), b"T1|end\nT1"],
-        [b"T1|r(x)\n\nT2|begin".as_slice(), b"T1|end\nT1"],
+    let two = "T1|r(x)/T2|begin;T1|end/T1";
+    let one = "T1|acq(l)//";
+    // the blocks of trace 0 under the greatest limits; a trace, its limits and its blocks; and
+    // whether they are the same
+    let rows = [
+        (two, 0, most, "T1|r(x)/T2|begin;T1|end/T1", true),
+        (two, 0, most, "T1|r(x)/T2|begin;T1|end/|r(x)", false),
+        (two, 0, most, "T1|r(x)/T2|begin;T1|begin/T1", false),
+        (two, 0, most, "T1|r(y)/T2|begin;T1|end/T1", false),
+        (two, 0, most, "T1|r(x)/T3|begin;T1|end/T1", false),
+        (two, 0, most, "T1|r(x)//T2|begin;T1|end/T1", false),
+        (two, 0, most, "T1|r(x)/T2|begin", false),
+        (two, 1, most, "T1|r(x)/T2|begin;T1|end/T1", false),
+        (two, 0, fewer, "T1|r(x)/T2|begin;T1|end/T1", false),
+        (one, 0, most, "T1|acq(l)//", true),
+        (one, 0, most, "T2|acq(l)//", false),
+        (one, 0, most, "T1|acq(m)//", false),
+        (one, 0, most, "/T1|acq(l)/", false),
+        (one, 0, most, "T1|acq(l)///", false),
     ];
-    for blocks in other_parts {
-        assert!(rt; !same(&check, &check_question(alloc, 0, &blocks, most)?));
+    for (blocks, trace, limits, other_blocks, is_same) in rows {
+        let check = trace_question(alloc, 0, most, blocks)?;
+        let other = trace_question(alloc, trace, limits, other_blocks)?;
+        assert_eq!(rt;
+            same(&check, &other),
+            is_same,
+            "{blocks:?} {other_blocks:?}"
+        );
+        assert_eq!(rt;
+            same(&other, &check),
+            is_same,
+            "{blocks:?} {other_blocks:?}"
+        );
     }
-    assert!(rt; !same(&check, &check_question(alloc, 0, &parts[..1], most)?));
-    assert!(rt; !same(&check, &check_question(alloc, 1, &parts, most)?));
-    assert!(rt; !same(&check, &check_question(alloc, 0, &parts, fewer)?));
-    assert!(rt; !same(&check, &parse_question(alloc, 0, 0, b"T1|r(x)")?));
+    let check = trace_question(alloc, 0, most, two)?;
+    assert!(rt; !same(&check, &block_question(alloc, 0, 0, "T1|r(x)")?));
     Ok(())
 }
