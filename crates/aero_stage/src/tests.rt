@@ -48,8 +48,9 @@ fn post<R: Wait>(rt: &R, poster: &mut Poster, job: Job) -> Result<(), (u64, u64)
 }
 
 #[test]
-fn a_full_queue_gives_the_job_back(rt: HostRuntime) -> Result<(), Fail> {
+fn one_taker_of_a_full_a_stopped_and_an_abandoned_queue(rt: HostRuntime) -> Result<(), Fail> {
     let alloc = rt.alloc();
+    // a full queue gives the job back
     let (mut poster, mut takers) = stage(alloc, 2, 1)?;
     let mut taker = takers.remove(0);
     assert_eq!(rt; post(&rt, &mut poster, job(alloc, 1, 11)?), Ok(()));
@@ -63,23 +64,13 @@ fn a_full_queue_gives_the_job_back(rt: HostRuntime) -> Result<(), Fail> {
     assert_eq!(rt; take(&rt, &mut taker), None);
     poster.rejoin(taker);
     assert_eq!(rt; take_back(&rt, &mut poster), None);
-    Ok(())
-}
-
-#[test]
-fn a_stop_that_nobody_took_is_dropped(rt: HostRuntime) -> Result<(), Fail> {
-    let alloc = rt.alloc();
+    // a stop that nobody took is dropped
     let (mut poster, _takers) = stage(alloc, 2, 1)?;
     assert!(rt; poster.stop(&rt));
     assert_eq!(rt; post(&rt, &mut poster, job(alloc, 1, 11)?), Ok(()));
     assert_eq!(rt; take_back(&rt, &mut poster), Some((1, 11)));
     assert_eq!(rt; take_back(&rt, &mut poster), None);
-    Ok(())
-}
-
-#[test]
-fn a_taker_takes_what_a_poster_left(rt: HostRuntime) -> Result<(), Fail> {
-    let alloc = rt.alloc();
+    // a Taker takes what a Poster left
     let (mut poster, mut takers) = stage(alloc, 1, 1)?;
     let mut taker = takers.remove(0);
     assert_eq!(rt; post(&rt, &mut poster, job(alloc, 7, 17)?), Ok(()));
