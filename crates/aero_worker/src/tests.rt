@@ -1,7 +1,7 @@
 use super::*;
 use crate::reply::reply_with;
+use aero_model::event::What;
 use aero_model::limits::Limits;
-use aero_model::named::Op;
 use aero_model::verdict::Verdict;
 use aero_pieces::answer::{Answer, Value};
 use aero_pieces::question::{Bytes, Parts, Question};
@@ -85,15 +85,11 @@ fn assert_read(rt: &impl Abort, value: &Value) {
             assert_eq!(rt; parsed.lines, 1);
             assert_eq!(rt; parsed.fault, None);
             assert_eq!(rt; parsed.events.len(), 1);
-            for (line, event) in &parsed.events {
-                assert_eq!(rt; *line, 1);
-                assert_eq!(rt; event.op, Op::Read);
-                assert!(rt; event.thread.bytes() == b"T1".as_slice());
-                match &event.target {
-                    Some(target) => assert!(rt; target.bytes() == b"x".as_slice()),
-                    None => assert!(rt; false, "no target"),
-                }
-            }
+            let (line, event) = parsed.events[0];
+            assert_eq!(rt; line, 1);
+            assert_eq!(rt; event.what, What::Read(0));
+            assert!(rt; parsed.threads.name(event.thread) == Some(b"T1".as_slice()));
+            assert!(rt; parsed.variables.name(0) == Some(b"x".as_slice()));
         }
         Value::Judged(_) => assert!(rt; false, "a verdict"),
     }
@@ -227,16 +223,13 @@ fn two_meet<R: Threads + Wait + Copy + Drop + Send + Sync + 'static>(
 }
 
 #[test]
-fn two_in_before(rt: HostRuntime) -> Result<(), Fail> {
-    let (workers, done, seen) = two_meet(rt, rt.alloc(), false)?;
-    assert_eq!(rt; (workers, done, seen.count, seen.late), (2, 2, 2, false));
-    Ok(())
-}
-
-#[test]
-fn two_in_after(rt: HostRuntime) -> Result<(), Fail> {
-    let (workers, done, seen) = two_meet(rt, rt.alloc(), true)?;
-    assert_eq!(rt; (workers, done, seen.count, seen.late), (2, 2, 2, false));
+fn two_workers_are_in_the_gate_at_once(rt: HostRuntime) -> Result<(), Fail> {
+    let alloc = rt.alloc();
+    for is_after in [false, true] {
+        let (workers, done, seen) = two_meet(rt, alloc, is_after)?;
+        let told = (workers, done, seen.count, seen.late);
+        assert_eq!(rt; told, (2, 2, 2, false), "in after: {is_after}");
+    }
     Ok(())
 }
 
