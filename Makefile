@@ -14,8 +14,9 @@ bin/aerodrome: $(SOURCES)
 	mkdir -p bin
 	cp crates/aerodrome/out/aerodrome bin/aerodrome
 
+# `rt ci`, and then the cases of tests/ on the program that it built.
 test:
-	rt ci
+	tests/all
 
 install: bin/aerodrome
 	install -D -m 755 bin/aerodrome $(DESTDIR)$(PREFIX)/bin/aerodrome
