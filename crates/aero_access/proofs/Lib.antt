@@ -24,3 +24,8 @@ pub mod OtherSteps
 pub mod Standings
 pub mod SlotNumbers
 pub mod Heeding
+pub mod PairLists
+pub mod Visits
+pub mod Labels
+pub mod Indexing
+pub mod Leading

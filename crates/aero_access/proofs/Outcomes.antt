@@ -25,3 +25,7 @@ OnOk_map (Err e) f p = tt
 pub OnErr_map : {A E : Type 0} {P Q : Type 0} (r : Result A E) → (P → Q) → OnErr r P → OnErr r Q
 OnErr_map (Ok x) f p = tt
 OnErr_map (Err e) f p = f p
+
+pub OnOk_both : {A E : Type 0} {P Q R : Type 0} (r : Result A E) → (P → Q → R) → OnOk r P → OnOk r Q → OnOk r R
+OnOk_both (Ok x) f p q = f p q
+OnOk_both (Err e) f p q = tt

@@ -39,7 +39,7 @@ module _ (threads : List Thread) (t : ℕ) (th new : Thread) (at : slice_get thr
       into true = refl
       into false = refl
 
-  unwritten : {X : Type 0} (f : Option Thread → X) (u : ℕ) → f (Some new) ≡ f (Some th) → f (slice_get (slice_set threads t new) u) ≡ f (slice_get threads u)
+  pub unwritten : {X : Type 0} (f : Option Thread → X) (u : ℕ) → f (Some new) ≡ f (Some th) → f (slice_get (slice_set threads t new) u) ≡ f (slice_get threads u)
   unwritten f u h = written f u ∙ go (cases_eq t u)
     where
       go : (t ≡ u) ⊎ (t ≡ u → ⊥) → (if t == u then f (Some new) else f (slice_get threads u)) ≡ f (slice_get threads u)

@@ -22,7 +22,7 @@ use Rattle.aero_access.proofs.KeptLists.{same_slot_is, same_slot_self}
 use Rattle.aero_access.proofs.OwnSteps.{written, closed_from, closed_to}
 
 -- places of a list of labels
-labelled_at : (s : Slot) (labels : List Slot) (i : ℕ) → slice_get labels i ≡ Some s → list_any (same_slot s) labels ≡ true
+pub labelled_at : (s : Slot) (labels : List Slot) (i : ℕ) → slice_get labels i ≡ Some s → list_any (same_slot s) labels ≡ true
 labelled_at s [] i h = cc
 labelled_at s (x ∷ labels) zero h = let e : x ≡ s = cc in or_left _ _ (ap (same_slot s) e ∙ same_slot_self s)
 labelled_at s (x ∷ labels) (suc i) h = or_right _ _ (labelled_at s labels i h)

@@ -3,11 +3,13 @@ pub mod Takes
 pub mod Clocks
 pub mod Judgement
 pub mod Laws
+pub mod Led
 pub mod Kept
 pub mod Threads
 pub mod Table
 pub mod TableWords
 pub mod States
 pub mod Heeds
+pub mod Indexed
 pub mod StateWords
 pub mod Standing

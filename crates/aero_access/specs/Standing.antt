@@ -1,5 +1,5 @@
 -- What contracts see of Clocks, and the trace that they stand for.
-use Rattle.std.specs.Prelude.{◌≡◌, ℕ, ◌+◌, ◌==◌, ◌≤◌, max, Bool, true, false, if◌then◌else◌, List, [], ◌∷◌, ◌++◌, length, Option, Some, None, Result, Ok, Err, OnOk, OnErr, IfOk, IsErr, IsSome}
+use Rattle.std.specs.Prelude.{◌≡◌, ℕ, ◌+◌, ◌==◌, ◌<◌, ◌≤◌, slice_get, max, Bool, true, false, if◌then◌else◌, List, [], ◌∷◌, ◌++◌, length, Option, Some, None, Result, Ok, Err, OnOk, OnErr, IfOk, IsErr, IsSome}
 use Rattle.aero_model.specs.declared.event.Numbered.{Numbered}
 use Rattle.aero_model.specs.Shape.{IsWellFormed}
 use Rattle.aero_access.specs.declared.slot.Slot.{Slot}
@@ -10,6 +10,7 @@ use Rattle.aero_access.specs.Judgement.{IsTold}
 use Rattle.aero_access.specs.Kept.{same_slot}
 use Rattle.aero_access.specs.Threads.{AreSameThreads}
 use Rattle.aero_access.specs.TableWords.{labels_of}
+use Rattle.aero_access.specs.Led.{led_at, slots_in}
 use Rattle.aero_access.specs.States.{State, IsStateOf}
 use Rattle.aero_access.specs.StateWords.{state_in, slot_in}
 
@@ -125,6 +126,17 @@ slot_at c = slot_in c.threads.items c.table
 -- the begin clock of thread t is at most the clock in every place
 abbrev pub IsBehind : Clocks → ℕ → (ℕ → ℕ) → Type 0
 IsBehind c t K = (u : ℕ) → begin_clock_of c t u ≤ K u
+
+-- the slots' numbers that are listed for thread t, none once memory was refused
+abbrev pub led_of : Clocks → ℕ → List ℕ
+led_of c t = if is_spent c then [] else slots_in (led_at c.index t) (threads_of c)
+
+-- These are the numbers of the slots whose clocks are at least the begin clock of thread t: each is in the list, nothing else is, none is in it twice, and threads come first and rise.
+pub record AreLed (c : Clocks) (t : ℕ) (ns : List ℕ) : Type 0 where
+  pub each : (i n : ℕ) → slice_get ns i ≡ Some n → (n < slots_of c) × IsBehind c t (clock_of c (slot_at c n))
+  pub all : (n : ℕ) → n < slots_of c → IsBehind c t (clock_of c (slot_at c n)) → (i : ℕ) × (slice_get ns i ≡ Some n)
+  pub once : (i j n : ℕ) → slice_get ns i ≡ Some n → slice_get ns j ≡ Some n → i ≡ j
+  pub rising : (i j m n : ℕ) → i < j → slice_get ns i ≡ Some m → slice_get ns j ≡ Some n → n < threads_of c → m < n
 
 -- slot s is thread u, whose open block the clock of thread t closes
 pub record ClosesBack (c : Clocks) (t : ℕ) (s : Slot) (u : ℕ) : Type 0 where

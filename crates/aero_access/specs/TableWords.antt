@@ -1,5 +1,5 @@
 -- What contracts see of a table as a whole.
-use Rattle.std.specs.Prelude.{◌≡◌, ℕ, max, List, Option, Some, slice_get, if◌then◌else◌}
+use Rattle.std.specs.Prelude.{◌≡◌, ℕ, max, List, length, Option, Some, None, slice_get, if◌then◌else◌}
 use Rattle.aero_access.specs.declared.slot.Slot.{Slot}
 use Rattle.aero_access.specs.declared.kept.Kept.{Kept}
 use Rattle.aero_access.specs.declared.table.Table.{Table}
@@ -15,6 +15,22 @@ readers_of table x = readers_in (slice_get table.reads.items x)
 
 abbrev pub labels_of : Table → List Slot
 labels_of table = table.labels.items
+
+abbrev pub label_or : ℕ → Option Kept → ℕ
+label_or n None = n
+label_or n (Some k) = k.label
+
+-- the place of the slot's label, or that of the next label
+abbrev pub place_of : Table → Slot → ℕ
+place_of table s = label_or (length (labels_of table)) (kept_of table s)
+
+-- the clock that is kept of the slot whose label has this place, zero where none has
+abbrev pub slot_clock : Table → Option Slot → ℕ → ℕ
+slot_clock table None u = 0
+slot_clock table (Some s) u = kept_clock (kept_of table s) u
+
+abbrev pub label_clock : Table → ℕ → ℕ → ℕ
+label_clock table i = slot_clock table (slice_get (labels_of table) i)
 
 -- this is kept of the slot now, and of the others what was
 pub record Keeps (old new : Table) (slot : Slot) (kept : Kept) : Type 0 where

@@ -1,5 +1,5 @@
 //! The clocks of a trace, kept event by event.
-ghost use Rattle.std.specs.Prelude.{◌≡◌, ◌≢◌, ◌↔◌, ◌<◌, ◌≤◌, ◌+◌, ◌-◌, ◌^◌, ◌++◌, ◌∷◌, [], ℕ, true, false, None, Some, List, max, length, vec_len, IsTrue, IsErr, IfOk, OnOk, OnErr};
+ghost use Rattle.std.specs.Prelude.{◌≡◌, ◌≢◌, ◌↔◌, ◌<◌, ◌≤◌, ◌+◌, ◌-◌, ◌^◌, ◌++◌, ◌∷◌, [], ℕ, true, false, None, Some, List, max, length, vec_len, IsTrue, IsErr, IfOk, OnOk, OnErr, slice_get};
 ghost use Rattle.aero_model.specs.declared.event.Numbered.{Numbered};
 ghost use Rattle.aero_model.specs.declared.event.What.{What};
 ghost use Rattle.aero_model.specs.declared.event.What.TheVariants.{Read, Write, Acquire, Release, Fork, Join, Begin};
@@ -7,10 +7,12 @@ ghost use Rattle.aero_model.specs.Shape.{IsWellFormed};
 ghost use Rattle.aero_access.specs.declared.slot.Slot.{Slot};
 ghost use Rattle.aero_access.specs.StateWords.{event, state_in, IsIdle};
 ghost use Rattle.aero_access.specs.Heeds.{AreHeeded};
+ghost use Rattle.aero_access.specs.Indexed.{IsIndex};
 
-use crate::moves;
+use crate::index::Index;
 use crate::table::Table;
-use crate::thread::{Thread, reach};
+use crate::thread::Thread;
+use crate::{changes, moves};
 use std::alloc::{AllocError, Global};
 
 /// Memory was refused. From then on each call that can answer this does.
@@ -33,14 +35,16 @@ impl From<AllocError> for Spent {
 pub struct Clocks {
     threads: Vec<Thread>,
     table: Table,
+    index: Index,
     closed: Option<u32>,
     spent: bool,
     ghost few: { vec_len threads ≤ 2 ^ 32 },
     ghost heeded: { AreHeeded (state_in threads.items table) },
+    ghost indexed: { spent ≡ false → IsIndex threads.items table index },
 }
 
 impl Clocks {
-    ghost use Rattle.aero_access.specs.Standing.{in_block_at, begins_at, acted_at, closed_by, is_spent, StandsFor, Answers, Follows, Tells, quiet, IsStarted, IsRefused, IsFinished, IsClosed, HaveSameTests, clock_of, threads_of, slots_of, slot_at, IsBehind, ClosesBack, AbsorbsClock, ClosesBlock};
+    ghost use Rattle.aero_access.specs.Standing.{in_block_at, begins_at, acted_at, closed_by, is_spent, StandsFor, Answers, Follows, Tells, quiet, IsStarted, IsRefused, IsFinished, IsClosed, HaveSameTests, clock_of, threads_of, slots_of, slot_at, IsBehind, ClosesBack, AbsorbsClock, ClosesBlock, led_of, AreLed};
 
     /// The clocks of no event.
     pub fn new(alloc: Global) -> Clocks
@@ -50,6 +54,7 @@ impl Clocks {
         Clocks {
             threads: Vec::new(alloc),
             table: Table::new(alloc),
+            index: Index::new(alloc),
             closed: None,
             spent: false,
         }
@@ -100,7 +105,7 @@ impl Clocks {
         ensures named { OnOk result (threads_of self.new ≡ max (threads_of self.old) (t + 1)) }
     {
         self.start(t)?;
-        let closes = moves::read(&mut self.threads, &mut self.table, t, x)?;
+        let closes = changes::read(&mut self.threads, &mut self.table, &mut self.index, t, x)?;
         Ok(self.finish(t, closes))
     }
 
@@ -112,7 +117,7 @@ impl Clocks {
         ensures named { OnOk result (threads_of self.new ≡ max (threads_of self.old) (t + 1)) }
     {
         self.start(t)?;
-        let closes = moves::write(&mut self.threads, &mut self.table, t, x)?;
+        let closes = changes::write(&mut self.threads, &mut self.table, &mut self.index, t, x)?;
         Ok(self.finish(t, closes))
     }
 
@@ -124,7 +129,7 @@ impl Clocks {
         ensures named { OnOk result (threads_of self.new ≡ max (threads_of self.old) (t + 1)) }
     {
         self.start(t)?;
-        let closes = moves::acquire(&mut self.threads, &self.table, t, l)?;
+        let closes = changes::acquire(&mut self.threads, &self.table, &mut self.index, t, l)?;
         Ok(self.finish(t, closes))
     }
 
@@ -136,7 +141,7 @@ impl Clocks {
         ensures named { OnOk result (threads_of self.new ≡ max (threads_of self.old) (t + 1)) }
     {
         self.start(t)?;
-        moves::release(&self.threads, &mut self.table, t, l)?;
+        moves::release(&self.threads, &mut self.table, &mut self.index, t, l)?;
         Ok(self.finish(t, false))
     }
 
@@ -150,7 +155,7 @@ impl Clocks {
         ensures named { OnOk result (threads_of self.new ≡ max (threads_of self.old) ((max t u) + 1)) }
     {
         self.start(t.max(u))?;
-        moves::fork(&mut self.threads, &self.table, t, u)?;
+        changes::fork(&mut self.threads, &self.table, &mut self.index, t, u)?;
         Ok(self.finish(t, false))
     }
 
@@ -164,7 +169,7 @@ impl Clocks {
         ensures named { OnOk result (threads_of self.new ≡ max (threads_of self.old) ((max t u) + 1)) }
     {
         self.start(t.max(u))?;
-        let closes = moves::join(&mut self.threads, &self.table, t, u)?;
+        let closes = changes::join(&mut self.threads, &self.table, &mut self.index, t, u)?;
         Ok(self.finish(t, closes))
     }
 
@@ -178,7 +183,7 @@ impl Clocks {
         ensures named { OnOk result (threads_of self.new ≡ max (threads_of self.old) (t + 1)) }
     {
         self.start(t)?;
-        moves::begin(&mut self.threads, &self.table, t)?;
+        changes::begin(&mut self.threads, &self.table, &mut self.index, t)?;
         Ok(self.finish(t, false))
     }
 
@@ -225,6 +230,28 @@ impl Clocks {
         moves::leads(&self.threads, &self.table, t, slot)
     }
 
+    /// How many slots have a clock that is at least the begin clock of thread `t`, which is in a
+    /// block, in every place. Once memory was refused the answer is 0.
+    pub fn led(&self, t: u32) -> usize
+        requires { in_block_at self.now t ≡ true }
+        ensures count { result ≡ length (led_of self.now t) }
+        ensures led { is_spent self.now ≡ false → AreLed self.now t (led_of self.now t) }
+    {
+        if self.spent {
+            return 0;
+        }
+        self.index.led(t)
+    }
+
+    /// The number of one of these slots. Each is there once; threads come first, by their numbers.
+    pub fn led_slot(&self, t: u32, i: usize) -> usize
+        requires inside { in_block_at self.now t ≡ true }
+        requires within { i < length (led_of self.now t) }
+        ensures { slice_get (led_of self.now t) i ≡ Some result }
+    {
+        self.index.led_slot(t, i, self.threads.len())
+    }
+
     /// Joins the clock of the slot with this number with the clock of thread `t`, which is in a
     /// block. Where the slot is a thread in a block whose begin clock the clock of `t` is at least
     /// in every place, that thread is answered, as for an event.
@@ -237,12 +264,13 @@ impl Clocks {
         ensures tests { HaveSameTests self.old self.new }
         ensures told { IfOk result (λ o. (u : ℕ) → (o ≡ Some u) ↔ ClosesBack self.old t (slot_at self.old slot) u) }
         ensures absorbed { IfOk result (λ o. o ≡ None → AbsorbsClock self.old self.new t (slot_at self.old slot)) }
+        ensures led { IsBehind self.old t (clock_of self.old (slot_at self.old slot)) → IfOk result (λ o. o ≡ None → led_of self.new t ≡ led_of self.old t) }
     {
         if self.spent {
             return Err(Spent);
         }
         self.spent = true;
-        let told = moves::absorb(&mut self.threads, &mut self.table, t, slot)?;
+        let told = changes::absorb(&mut self.threads, &mut self.table, &mut self.index, t, slot)?;
         self.closed = told;
         self.spent = false;
         Ok(told)
@@ -258,6 +286,7 @@ impl Clocks {
         if self.spent {
             return;
         }
+        self.index.close(t);
         let thread = &mut self.threads[t as usize];
         thread.begin = None;
         thread.acted = true;
@@ -268,18 +297,21 @@ impl Clocks {
         ensures ok { OnOk result (IsStarted self.old self.new t) }
         ensures err { OnErr result (IsRefused self.old self.new) }
         ensures spent { is_spent self.old ≡ true → IsErr result }
+        ensures indexed { OnOk result (IsIndex self.new.threads.items self.new.table self.new.index) }
+        ensures room { OnOk result (t < vec_len self.new.index.blocks) }
     {
         if self.spent {
             return Err(Spent);
         }
         self.spent = true;
-        reach(&mut self.threads, t)?;
+        changes::reach(&mut self.threads, &mut self.index, t)?;
         Ok(())
     }
 
     // Ends a call: thread t has acted, or its block is told.
     fn finish(&mut self, t: u32, closes: bool) -> Option<u32>
-        requires { t < vec_len self.old.threads }
+        requires actor { t < vec_len self.old.threads }
+        requires indexed { IsIndex self.old.threads.items self.old.table self.old.index }
         ensures told { closes ≡ true → result ≡ Some t }
         ensures closed { closes ≡ true → IsClosed self.old self.new t }
         ensures untold { closes ≡ false → result ≡ None }

@@ -6,11 +6,12 @@ use crate::thread::Thread;
 use aero_clock::clock::Clock;
 use std::alloc::AllocError;
 
-/// Who made the event, and its clock.
+/// Who made the event, its clock, and the place of its slot's label.
 #[derive(Drop)]
 pub struct Kept {
     pub thread: u32,
     pub clock: Clock,
+    pub label: u32,
 }
 
 impl Kept {

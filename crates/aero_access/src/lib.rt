@@ -6,6 +6,9 @@
 //! takes the clocks of what it conflicts with. Where one of them counts the open block of the
 //! event's own thread, there is a cycle through that block, and the thread is answered.
 //!
+//! `led` and `led_slot` list what an open block leads to: the slots whose clocks count it. The lists
+//! are kept while events come, so that the end of a block has to look at nothing else.
+//!
 //! The contracts speak of the trace of the events so far: what is answered is what is to be told,
 //! so `None` is answered exactly where the trace has no cycle that tells. `laws` has the laws of
 //! such clocks, whatever keeps them.
@@ -21,7 +24,9 @@
 //! ```
 #![tactic(auto)]
 
+mod changes;
 pub mod clocks;
+mod index;
 mod kept;
 pub mod laws;
 mod moves;

@@ -7,27 +7,34 @@ ghost use Rattle.aero_access.specs.Kept.{is_kept, greatest_but, kept_clock};
 ghost use Rattle.aero_access.specs.Threads.{CountIsTest, HasSameBlock, TakesClock, ClosesOne, ClosesNone, IsClosedBy, thread_clock, thread_acted, thread_begin, thread_begins};
 ghost use Rattle.aero_access.specs.declared.kept.Kept.{Kept};
 ghost use Rattle.aero_access.specs.declared.slot.Slot.{Slot};
-ghost use Rattle.aero_access.specs.TableWords.{kept_of, readers_of, labels_of};
+ghost use Rattle.aero_access.specs.TableWords.{kept_of, readers_of, labels_of, JoinsSlot};
 ghost use Rattle.aero_access.specs.States.{State};
 ghost use Rattle.aero_access.specs.Heeds.{Heeds, AreHeeded};
+ghost use Rattle.aero_access.specs.Led.{led_at, MovesLabel};
+ghost use Rattle.aero_access.specs.Indexed.{TakesOnly, KeepsLabels, OpensBlock};
 ghost use Rattle.aero_access.specs.StateWords.{event, clock_in, state_in, slot_in, JoinsClock, Moves, HaveSameBlocks, ClosesLast, last_but, KeepsClock};
 
+use crate::index::Index;
 use crate::kept::Kept;
 use crate::slot::Slot;
 use crate::table::Table;
 use crate::thread::Thread;
+use aero_clock::clock::Clock;
 use std::alloc::AllocError;
 
 /// Thread `t` reads variable `x`.
 pub(crate) fn read(
     threads: &mut [Thread],
     table: &mut Table,
+    index: &mut Index,
     t: u32,
     x: u32,
 ) -> Result<bool, AllocError>
     requires actor { t < length threads.old }
     requires heeded { AreHeeded (state_in threads.old table.old) }
     ensures moves { IfOk result (Moves (state_in threads.old table.old) (state_in threads.new table.new) (event t (Read x))) }
+    ensures takes { OnOk result (TakesOnly t threads.old threads.new) }
+    ensures labels { OnOk result (KeepsLabels table.old table.new index.old index.new) }
     ensures same { HaveSameBlocks threads.old threads.new }
     ensures heeded { AreHeeded (state_in threads.new table.new) }
 {
@@ -35,7 +42,7 @@ pub(crate) fn read(
     if take_last(reader, table, t, Slot::LastWrite(x))? {
         return Ok(true);
     }
-    keep(reader, table, t, Slot::LastRead(x, t))?;
+    keep(reader, table, index, t, Slot::LastRead(x, t))?;
     Ok(false)
 }
 
@@ -43,12 +50,15 @@ pub(crate) fn read(
 pub(crate) fn write(
     threads: &mut [Thread],
     table: &mut Table,
+    index: &mut Index,
     t: u32,
     x: u32,
 ) -> Result<bool, AllocError>
     requires actor { t < length threads.old }
     requires heeded { AreHeeded (state_in threads.old table.old) }
     ensures moves { IfOk result (Moves (state_in threads.old table.old) (state_in threads.new table.new) (event t (Write x))) }
+    ensures takes { OnOk result (TakesOnly t threads.old threads.new) }
+    ensures labels { OnOk result (KeepsLabels table.old table.new index.old index.new) }
     ensures same { HaveSameBlocks threads.old threads.new }
     ensures heeded { AreHeeded (state_in threads.new table.new) }
 {
@@ -59,7 +69,7 @@ pub(crate) fn write(
     if take_reads(writer, table, t, x)? {
         return Ok(true);
     }
-    keep(writer, table, t, Slot::LastWrite(x))?;
+    keep(writer, table, index, t, Slot::LastWrite(x))?;
     Ok(false)
 }
 
@@ -73,6 +83,7 @@ pub(crate) fn acquire(
     requires actor { t < length threads.old }
     requires heeded { AreHeeded (state_in threads.old table.now) }
     ensures moves { IfOk result (Moves (state_in threads.old table.now) (state_in threads.new table.now) (event t (Acquire l))) }
+    ensures takes { OnOk result (TakesOnly t threads.old threads.new) }
     ensures same { HaveSameBlocks threads.old threads.new }
     ensures heeded { AreHeeded (state_in threads.new table.now) }
 {
@@ -83,15 +94,17 @@ pub(crate) fn acquire(
 pub(crate) fn release(
     threads: &[Thread],
     table: &mut Table,
+    index: &mut Index,
     t: u32,
     l: u32,
 ) -> Result<(), AllocError>
     requires actor { t < length threads.now }
     requires heeded { AreHeeded (state_in threads.now table.old) }
     ensures moves { OnOk result (Moves (state_in threads.now table.old) (state_in threads.now table.new) (event t (Release l)) false) }
+    ensures labels { OnOk result (KeepsLabels table.old table.new index.old index.new) }
     ensures heeded { AreHeeded (state_in threads.now table.new) }
 {
-    keep(&threads[t as usize], table, t, Slot::LastRelease(l))
+    keep(&threads[t as usize], table, index, t, Slot::LastRelease(l))
 }
 
 /// Thread `t` forks thread `u`.
@@ -101,6 +114,7 @@ pub(crate) fn fork(threads: &mut [Thread], table: &Table, t: u32, u: u32) -> Res
     requires other { u ≢ t }
     requires heeded { AreHeeded (state_in threads.old table.now) }
     ensures moves { OnOk result (Moves (state_in threads.old table.now) (state_in threads.new table.now) (event t (Fork u)) false) }
+    ensures takes { OnOk result (TakesOnly u threads.old threads.new) }
     ensures same { HaveSameBlocks threads.old threads.new }
     ensures heeded { AreHeeded (state_in threads.new table.now) }
 {
@@ -121,6 +135,7 @@ pub(crate) fn join(
     requires acted { thread_acted (slice_get threads.old u) ≡ true }
     requires heeded { AreHeeded (state_in threads.old table.now) }
     ensures moves { IfOk result (Moves (state_in threads.old table.now) (state_in threads.new table.now) (event t (Join u))) }
+    ensures takes { OnOk result (TakesOnly t threads.old threads.new) }
     ensures same { HaveSameBlocks threads.old threads.new }
     ensures heeded { AreHeeded (state_in threads.new table.now) }
 {
@@ -135,6 +150,7 @@ pub(crate) fn begin(threads: &mut [Thread], table: &Table, t: u32) -> Result<(),
     requires count { thread_begins (slice_get threads.old t) < 2 ^ 32 - 1 }
     requires heeded { AreHeeded (state_in threads.old table.now) }
     ensures moves { OnOk result (Moves (state_in threads.old table.now) (state_in threads.new table.now) (event t Begin) false) }
+    ensures opens { OnOk result (OpensBlock threads.old threads.new t) }
     ensures err { OnErr result (HaveSameBlocks threads.old threads.new) }
     ensures heeded { AreHeeded (state_in threads.new table.now) }
 {
@@ -176,6 +192,8 @@ pub(crate) fn absorb(
     ensures told { IfOk result (λ o. (u : ℕ) → (o ≡ Some u) ↔ ((slot_in threads.old table.old slot ≡ Slot.OfThread u) × IsClosedBy (thread_begin (slice_get threads.old u)) (thread_clock (slice_get threads.old t)))) }
     ensures absorbed { IfOk result (λ o. o ≡ None → JoinsClock (state_in threads.old table.old) (state_in threads.new table.new) t (slot_in threads.old table.old slot)) }
     ensures heeded { AreHeeded (state_in threads.new table.new) }
+    ensures thread { OnOk result (slot < length threads.old → TakesOnly slot threads.old threads.new × (table.new ≡ table.old)) }
+    ensures label { OnOk result (length threads.old ≤ slot → (threads.new ≡ threads.old) × ((s : Slot) → slice_get (labels_of table.old) (slot - length threads.old) ≡ Some s → JoinsSlot table.old table.new s (thread_clock (slice_get threads.old t)))) }
 {
     let clock = threads[t as usize].clock.copy()?;
     if slot < threads.len() {
@@ -218,13 +236,46 @@ fn take_last(thread: &mut Thread, table: &Table, t: u32, slot: Slot) -> Result<b
     }
 }
 
+// Lists the slot's label, which has or gets this place, for the blocks that lead to the slot by
+// this clock.
+fn note(
+    index: &mut Index,
+    table: &Table,
+    slot: Slot,
+    place: u32,
+    clock: &Clock,
+) -> Result<(), AllocError>
+    ensures { OnOk result ((v : ℕ) → MovesLabel (led_at index.old v) (led_at index.new v) place (kept_clock (kept_of table.now slot) v) (number_at clock.now v)) }
+{
+    match table.get(slot) {
+        Some(kept) => index.move_label(place, &kept.clock, clock),
+        None => index.new_label(place, clock),
+    }
+}
+
 // Keeps the thread's clock of the slot.
-fn keep(thread: &Thread, table: &mut Table, t: u32, slot: Slot) -> Result<(), AllocError>
+fn keep(
+    thread: &Thread,
+    table: &mut Table,
+    index: &mut Index,
+    t: u32,
+    slot: Slot,
+) -> Result<(), AllocError>
     requires kept { is_kept slot ≡ true }
     requires reader { (x u : ℕ) → slot ≡ Slot.LastRead x u → t ≡ u }
     ensures keeps { OnOk result (KeepsClock table.old table.new slot t (number_at thread.now.clock)) }
     ensures heeds { (w : State) → Heeds w (number_at thread.now.clock) → ((s : Slot) → Heeds w (kept_clock (kept_of table.old s))) → (s : Slot) → Heeds w (kept_clock (kept_of table.new s)) }
+    ensures labels { OnOk result (KeepsLabels table.old table.new index.old index.new) }
 {
+    let place = table.place(slot)?;
+    note(index, table, slot, place, &thread.clock)?;
     let clock = thread.clock.copy()?;
-    table.set(slot, Kept { thread: t, clock })
+    table.set(
+        slot,
+        Kept {
+            thread: t,
+            clock,
+            label: place,
+        },
+    )
 }

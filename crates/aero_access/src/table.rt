@@ -2,7 +2,7 @@
 ghost use Rattle.std.specs.Prelude.{◌≡◌, ◌++◌, ◌∷◌, [], ℕ, true, Some, OnOk, OnErr, if◌then◌else◌};
 ghost use Rattle.aero_access.specs.declared.slot.Slot.{Slot};
 ghost use Rattle.aero_access.specs.Kept.{is_kept, same_slot};
-ghost use Rattle.aero_access.specs.Table.{AreLabelled, kept_in};
+ghost use Rattle.aero_access.specs.Table.{AreLabelled, ArePlaced, kept_in};
 
 use crate::kept::Kept;
 use crate::places::{kept_at, put, put_read};
@@ -20,13 +20,14 @@ pub struct Table {
     releases: Vec<Option<Kept>>,
     labels: Vec<Slot>,
     ghost labelled: { AreLabelled (kept_in writes.items reads.items releases.items) labels.items },
+    ghost placed: { ArePlaced (kept_in writes.items reads.items releases.items) labels.items },
 }
 
 impl Table {
-    ghost use Rattle.std.specs.Prelude.{◌<◌, None, slice_get, length, IsSome, is_some};
+    ghost use Rattle.std.specs.Prelude.{◌<◌, None, slice_get, length, IsSome, is_some, IfOk};
     ghost use Rattle.aero_clock.specs.Numbers.{number_at};
     ghost use Rattle.std.specs.Option.{option_copied};
-    ghost use Rattle.aero_access.specs.TableWords.{kept_of, labels_of, Keeps, JoinsSlot};
+    ghost use Rattle.aero_access.specs.TableWords.{kept_of, labels_of, place_of, Keeps, JoinsSlot};
 
     /// Nothing is kept.
     pub(crate) fn new(alloc: Global) -> Table
@@ -59,10 +60,22 @@ impl Table {
         self.reads.get(x as usize)
     }
 
+    /// The place of the slot's label, or that of the next label. One that doesn't fit 32 bits is
+    /// refused as memory is.
+    pub(crate) fn place(&self, slot: Slot) -> Result<u32, AllocError>
+        ensures { IfOk result (λ place. place ≡ place_of self.now slot) }
+    {
+        match self.get(slot) {
+            Some(kept) => Ok(kept.label),
+            None => u32::try_from(self.labels.len()).map_err(|_| AllocError),
+        }
+    }
+
     /// Keeps this of the slot's last event.
     pub(crate) fn set(&mut self, slot: Slot, kept: Kept) -> Result<(), AllocError>
         requires kept { is_kept slot ≡ true }
         requires reader { (x t : ℕ) → slot ≡ Slot.LastRead x t → kept.thread ≡ t }
+        requires label { kept.label ≡ place_of self.old slot }
         ensures ok { OnOk result (Keeps self.old self.new slot kept) }
         ensures err { OnErr result ((s : Slot) → kept_of self.new s ≡ kept_of self.old s) }
         ensures labels { OnOk result (labels_of self.new ≡ (if is_some (kept_of self.old slot) then labels_of self.old else labels_of self.old ++ slot ∷ [])) }
@@ -89,6 +102,7 @@ impl Table {
             return Ok(());
         };
         let thread = kept.thread;
+        let label = kept.label;
         let mut joined = kept.clock.copy()?;
         joined.join(clock)?;
         self.set(
@@ -96,6 +110,7 @@ impl Table {
             Kept {
                 thread,
                 clock: joined,
+                label,
             },
         )
     }

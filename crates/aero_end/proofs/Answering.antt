@@ -8,8 +8,8 @@ use Rattle.aero_model.specs.Blocks.{closes}
 use Rattle.aero_model.specs.Shape.{IsWellFormed}
 use Rattle.aero_access.specs.declared.clocks.Clocks.{Clocks}
 use Rattle.aero_access.specs.StateWords.{event}
-use Rattle.aero_access.specs.Standing.{is_spent, slots_of, StandsFor, Answers, Tells, HaveSameTests, ClosesBlock}
-use Rattle.aero_end.specs.Ends.{IsFirst, Spreads}
+use Rattle.aero_access.specs.Standing.{is_spent, StandsFor, Answers, Tells, HaveSameTests, ClosesBlock}
+use Rattle.aero_end.specs.Ends.{IsFirst, SpreadsToAll}
 use Rattle.aero_end.proofs.AfterEnds.{tells_first, tells_none}
 
 -- a thread is answered
@@ -33,9 +33,9 @@ follows_first old new t None some named h stands ok closing = cc
 follows_first old new t (Some u) some named h stands ok closing = tells_first old h t stands ok closing new u (named u refl)
 
 -- or none is
-pub follows_none : (old now new : Clocks) (t : ℕ) (o : Option ℕ) → false ≡ is_some o → (o ≡ None → Spreads old now t (slots_of old)) → HaveSameTests old now → (is_spent now ≡ false → ClosesBlock now new t)
+pub follows_none : (old now new : Clocks) (t : ℕ) (o : Option ℕ) → false ≡ is_some o → (o ≡ None → SpreadsToAll old now t) → HaveSameTests old now → (is_spent now ≡ false → ClosesBlock now new t)
     → (h : List Numbered) → StandsFor old h → IsWellFormed (h ++ event t End ∷ []) → closes (h ++ event t End ∷ []) t (length h) ≡ true → Tells new (h ++ event t End ∷ []) (length h) None
 follows_none old now new t None none spreads tests closed h stands ok closing =
     let s = spreads refl in
-    tells_none old h t stands ok closing now s tests new (closed (s.spent ∙ stands.unspent))
+    tells_none old h t stands ok closing now (s.spreads stands.unspent) tests new (closed (s.spent ∙ stands.unspent))
 follows_none old now new t (Some u) none spreads tests closed h stands ok closing = cc

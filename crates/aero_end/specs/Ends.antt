@@ -1,9 +1,9 @@
 -- What the end of a block does to the clocks.
-use Rattle.std.specs.Prelude.{◌≡◌, ◌≢◌, ◌⊎◌, ◌<◌, ℕ, max, true, false, None, Some}
+use Rattle.std.specs.Prelude.{◌≡◌, ◌≢◌, ◌⊎◌, ◌<◌, ℕ, max, true, false, None, Some, List, slice_get}
 use Rattle.aero_access.specs.declared.slot.Slot.{Slot}
 use Rattle.aero_access.specs.declared.slot.Slot.TheVariants.{OfThread}
 use Rattle.aero_access.specs.declared.clocks.Clocks.{Clocks}
-use Rattle.aero_access.specs.Standing.{state_of, clock_of, begin_clock_of, closed_by, is_spent, slot_at, IsBehind, ClosesBack, HaveSameSlots}
+use Rattle.aero_access.specs.Standing.{state_of, clock_of, begin_clock_of, closed_by, is_spent, slots_of, slot_at, IsBehind, ClosesBack, HaveSameSlots, led_of}
 
 -- the block of thread t that ends leads to another thread u, whose open block t's clock closes
 pub record ClosesAtEnd (c : Clocks) (t u : ℕ) : Type 0 where
@@ -42,3 +42,21 @@ pub record Spreads (old new : Clocks) (t k : ℕ) : Type 0 where
   pub slots : HaveSameSlots old new
   pub spent : is_spent new ≡ is_spent old
   pub closed : closed_by new ≡ None
+
+-- the same of the first k slots of a list of numbers, which is listed for thread t still
+pub record SpreadsAlong (old new : Clocks) (t : ℕ) (ns : List ℕ) (k : ℕ) : Type 0 where
+  pub none : (i u : ℕ) → i < k → slice_get ns i ≡ Some u → ¬ ClosesAtEnd old t u
+  pub joined : (i n : ℕ) → i < k → slice_get ns i ≡ Some n → Joins old new t (slot_at old n)
+  pub clock : (s : Slot) → Stays old new s ⊎ (IsBehind old t (clock_of old s) × Joins old new t s)
+  pub actor : (s : Slot) → (state_of new).actor s ≡ (state_of old).actor s
+  pub begin_clock : (u v : ℕ) → begin_clock_of new u v ≡ begin_clock_of old u v
+  pub slots : HaveSameSlots old new
+  pub spent : is_spent new ≡ is_spent old
+  pub closed : closed_by new ≡ None
+  pub led : led_of new t ≡ ns
+
+-- all slots are done, if memory wasn't refused
+pub record SpreadsToAll (old new : Clocks) (t : ℕ) : Type 0 where
+  pub spent : is_spent new ≡ is_spent old
+  pub closed : closed_by new ≡ None
+  pub spreads : is_spent old ≡ false → Spreads old new t (slots_of old)

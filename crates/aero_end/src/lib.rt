@@ -25,11 +25,8 @@ ghost use Rattle.aero_model.specs.declared.event.What.TheVariants.{End};
 ghost use Rattle.aero_model.specs.Blocks.{closes};
 ghost use Rattle.aero_model.specs.Shape.{IsWellFormed};
 ghost use Rattle.aero_access.specs.StateWords.{event};
-ghost use Rattle.aero_access.specs.Standing.{in_block_at, closed_by, slots_of, StandsFor, HaveSameTests, Answers, Tells};
-ghost use Rattle.aero_end.specs.Ends.{IsFirst, Spreads, IsRefused};
-
-#[cfg(test)]
-mod tests;
+ghost use Rattle.aero_access.specs.Standing.{in_block_at, closed_by, StandsFor, HaveSameTests, Answers, Tells};
+ghost use Rattle.aero_end.specs.Ends.{IsFirst, SpreadsToAll, IsRefused};
 
 use aero_access::clocks::{Clocks, Spent};
 
@@ -58,17 +55,20 @@ pub fn end(clocks: &mut Clocks, t: u32) -> Result<Option<u32>, Spent>
 }
 
 // Each slot whose clock is at least the begin clock of thread `t` takes the clock of `t`, threads
-// first and in order of number, up to a thread whose open block closes: that one is answered.
+// first and in order of number, up to a thread whose open block closes: that one is answered. The
+// slots are listed, and the list stays while they take the clock.
 fn spread(clocks: &mut Clocks, t: u32) -> Result<Option<u32>, Spent>
     requires inside { in_block_at clocks.old t ≡ true }
     requires closed { closed_by clocks.old ≡ None }
     ensures tests { HaveSameTests clocks.old clocks.new }
     ensures named { IfOk result (λ o. (u : ℕ) → o ≡ Some u → IsFirst clocks.old clocks.new t u) }
-    ensures spreads { IfOk result (λ o. o ≡ None → Spreads clocks.old clocks.new t (slots_of clocks.old)) }
+    ensures spreads { IfOk result (λ o. o ≡ None → SpreadsToAll clocks.old clocks.new t) }
     ensures refused { OnErr result (IsRefused clocks.old clocks.new) }
 {
-    for slot in 0..clocks.slots() {
-        if slot == t as usize || !clocks.leads(t, slot) {
+    let listed = clocks.led(t);
+    for i in 0..listed {
+        let slot = clocks.led_slot(t, i);
+        if slot == t as usize {
             continue;
         }
         let closing = clocks.absorb(t, slot)?;

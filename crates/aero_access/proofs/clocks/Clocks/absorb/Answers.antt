@@ -1,4 +1,4 @@
-use Rattle.std.proofs.Common.{sym, arith, length, List, ◌≡◌, subst, Some}
+use Rattle.std.proofs.Common.{sym, arith, length, List, ◌≡◌, subst, Some, ap, ap₂, ◌∙◌, true}
 use Rattle.std.specs.Prelude.{◌↔◌, slice_get}
 use Rattle.aero_access.specs.declared.thread.Thread.{Thread}
 use Rattle.aero_access.specs.declared.slot.Slot.TheVariants.{OfThread}
@@ -7,7 +7,11 @@ use Rattle.aero_access.specs.Standing.{slot_at}
 use Rattle.aero_access.proofs.SlotNumbers.{closes_back}
 use Rattle.std.proofs.lemmas.List.{with_items_is}
 use Rattle.aero_access.specs.Heeds.{AreHeeded}
-use Rattle.aero_access.specs.StateWords.{slot_in, state_in}
+use Rattle.aero_access.specs.StateWords.{clock_in, slot_in, state_in}
+use Rattle.std.proofs.lemmas.Bool.{cond-false}
+use Rattle.aero_access.specs.Led.{leads, block_number, led_at, slots_in}
+use Rattle.aero_access.specs.Indexed.{IsIndex}
+use Rattle.aero_access.proofs.Leading.{behind_leads}
 use Rattle.aero_access.proofs.clocks.Clocks.absorb.Goals as goal
 
 pub returns-clause-told : goal.returns-clause-told
@@ -28,6 +32,7 @@ invariant_of-self c =
     record {
       few = c.args.self.now.few;
       heeded = subst (λ xs. AreHeeded (state_in xs c.absorb.new.table)) (sym (with_items_is c.args.self.now.threads c.absorb.new.threads kept)) c.absorb.ensures.heeded;
+      indexed = λ unspent. absurd (cc);
     }
 
 pub invariant_of-self-2 : goal.invariant_of-self-2
@@ -36,4 +41,19 @@ invariant_of-self-2 c =
     record {
       few = c.args.self.now.few;
       heeded = subst (λ xs. AreHeeded (state_in xs c.absorb.new.table)) (sym (with_items_is c.args.self.now.threads c.absorb.new.threads kept)) c.absorb.ensures.heeded;
+      indexed = λ unspent.
+          subst (λ xs. IsIndex xs c.absorb.new.table c.absorb.new.index) (sym (with_items_is c.args.self.now.threads c.absorb.new.threads kept))
+          (c.in_ok-told.ensures.index (subst (λ xs. IsIndex xs c.args.self.now.table c.args.self.now.index) (sym c.deref_mut.ensures.value) (c.args.self.now.indexed c.if-self.false)));
     }
+
+pub returns-clause-led : goal.returns-clause-led
+returns-clause-led c = λ behind none.
+    let kept : length c.absorb.new.threads ≡ c.args.self.now.threads.len = omega (arith, c.absorb.auto.threads, c.deref_mut.ensures.len) in
+    let led = behind_leads c.args.self.now c.args.t c.requires.inside c.if-self.false (slot_at c.args.self.now c.args.slot) behind in
+    let same =
+    ap₂ slots_in
+    (c.in_ok-told.ensures.still (subst (λ xs. IsIndex xs c.args.self.now.table c.args.self.now.index) (sym c.deref_mut.ensures.value) (c.args.self.now.indexed c.if-self.false))
+    (subst (λ xs. leads (block_number (led_at c.args.self.now.index c.args.t)) (clock_in xs c.args.self.now.table (slot_in xs c.args.self.now.table c.args.slot) c.args.t) ≡ true) (sym c.deref_mut.ensures.value) led))
+    (ap length (with_items_is c.args.self.now.threads c.absorb.new.threads kept) ∙ c.absorb.auto.threads ∙ ap length c.deref_mut.ensures.value)
+    in
+    same ∙ sym (cond-false c.args.self.now.spent _ _ c.if-self.false)
