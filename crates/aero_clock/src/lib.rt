@@ -16,5 +16,3 @@
 
 pub mod clock;
 mod pairs;
-#[cfg(test)]
-mod tests;

@@ -22,5 +22,3 @@
 pub mod gather;
 pub mod laws;
 mod slot;
-#[cfg(test)]
-mod tests;

@@ -26,6 +26,4 @@ mod names;
 mod operation;
 pub mod parsed;
 mod tables;
-#[cfg(test)]
-mod tests;
 mod words;

@@ -17,5 +17,3 @@
 pub mod cutter;
 pub mod laws;
 mod scan;
-#[cfg(test)]
-mod tests;

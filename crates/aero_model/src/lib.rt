@@ -19,6 +19,4 @@ pub mod laws;
 pub mod limits;
 pub mod name;
 pub mod named;
-#[cfg(test)]
-mod tests;
 pub mod verdict;

@@ -14,5 +14,3 @@
 #![tactic(auto)]
 
 pub mod names;
-#[cfg(test)]
-mod tests;

@@ -20,7 +20,5 @@ pub mod answer;
 mod equal;
 pub mod laws;
 pub mod question;
-#[cfg(test)]
-mod tests;
 
 pub use equal::same;

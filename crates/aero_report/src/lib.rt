@@ -24,6 +24,3 @@ mod texts;
 pub use output::{Cut, put};
 pub use summary::summary_text;
 pub use texts::trace_text;
-
-#[cfg(test)]
-mod tests;

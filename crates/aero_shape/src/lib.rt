@@ -20,5 +20,3 @@ mod notes;
 mod rules;
 pub mod shape;
 mod states;
-#[cfg(test)]
-mod tests;

@@ -22,6 +22,3 @@ pub mod laws;
 mod numbering;
 
 pub use check::check_trace;
-
-#[cfg(test)]
-mod tests;

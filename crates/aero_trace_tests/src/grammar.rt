@@ -1,6 +1,6 @@
-use crate::block::parse_block;
-use crate::line::parse_line;
-use crate::parsed::Parsed;
+use aero_grammar::block::parse_block;
+use aero_grammar::line::parse_line;
+use aero_grammar::parsed::Parsed;
 use aero_names::names::Names;
 use std::alloc::{AllocError, Global};
 use std::test::Fail;
@@ -64,7 +64,7 @@ fn lines_say_their_events_or_have_their_first_fault(rt: HostRuntime) -> Result<(
     ];
     for (line, wanted) in rows {
         let words = words_of_line(rt.alloc(), line.as_bytes())?;
-        assert_eq!(rt; words.as_str(), wanted, "{line:?}");
+        assert!(rt; words.as_str() == wanted, "{words}");
     }
     Ok(())
 }
@@ -106,7 +106,7 @@ fn long_names_and_lines_meet_their_limits(rt: HostRuntime) -> Result<(), Fail> {
         let line = filled(rt.alloc(), text, b'#', byte, count)?;
         let words = words_of_line(rt.alloc(), &line)?;
         let wanted = filled(rt.alloc(), wanted, b'#', byte, count)?;
-        assert_eq!(rt; words.as_bytes(), wanted.as_slice(), "{text:?} {count}");
+        assert!(rt; words.as_bytes() == wanted.as_slice(), "{text} {count}");
     }
     Ok(())
 }
@@ -122,8 +122,17 @@ fn push_names(alloc: Global, words: &mut String, kind: &str, names: &Names) -> R
     Ok(())
 }
 
-// What the block says, in words: its lines, its tables, each event by its line and its numbers, and the fault.
-fn words_of_block(alloc: Global, parsed: &Parsed) -> Result<String, Fail> {
+// What a block says in which a `/` stands for the end of a line, in words.
+fn words_of_block(alloc: Global, row: &str) -> Result<String, Fail> {
+    let text = filled(alloc, row, b'/', b'\n', 1)?;
+    if text.len() > 1 << 30 {
+        return Err("too many bytes".into());
+    }
+    words_of(alloc, &parse_block(alloc, &text)?)
+}
+
+// Its lines, its tables, each event by its line and its numbers, and the fault.
+fn words_of(alloc: Global, parsed: &Parsed) -> Result<String, Fail> {
     let mut words = format!(in alloc; "lines {}", parsed.lines)?;
     push_names(alloc, &mut words, ", threads", &parsed.threads)?;
     push_names(alloc, &mut words, ", variables", &parsed.variables)?;
@@ -138,7 +147,6 @@ fn words_of_block(alloc: Global, parsed: &Parsed) -> Result<String, Fail> {
     Ok(words)
 }
 
-// A `/` stands for the end of a line.
 #[test]
 fn blocks_are_read_up_to_their_first_fault(rt: HostRuntime) -> Result<(), Fail> {
     let rows = [
@@ -158,12 +166,8 @@ fn blocks_are_read_up_to_their_first_fault(rt: HostRuntime) -> Result<(), Fail> 
         ),
     ];
     for (row, wanted) in rows {
-        let text = filled(rt.alloc(), row, b'/', b'\n', 1)?;
-        if text.len() > 1 << 30 {
-            return Err("too many bytes".into());
-        }
-        let words = words_of_block(rt.alloc(), &parse_block(rt.alloc(), &text)?)?;
-        assert_eq!(rt; words.as_str(), wanted, "{row}");
+        let words = words_of_block(rt.alloc(), row)?;
+        assert!(rt; words.as_str() == wanted, "{words}");
     }
     Ok(())
 }

@@ -1,10 +1,7 @@
-ghost use Rattle.std.specs.Prelude.{◌<◌, ◌≤◌};
-
-use crate::gather::{Gather, Ticket};
+use aero_gather::gather::{Gather, Ticket};
 use aero_pieces::answer::Value;
 use aero_pieces::question::{Bytes, Question};
 use std::alloc::Global;
-use std::process::Abort;
 use std::sync::Arc;
 use std::test::Fail;
 
@@ -101,94 +98,91 @@ fn answer_to(alloc: Global, gather: &mut Gather, step: Step) -> Result<String, F
 }
 
 // The steps, and what each answers, on a new gatherer.
-fn expect_answers(
-    rt: &impl Abort,
-    alloc: Global,
-    window: u32,
-    steps: &[(Step, &str)],
-) -> Result<(), Fail>
-    requires some { 0 < window }
-    requires few { window ≤ 64 }
-{
+type Rows<'a> = &'a [(Step, &'static str)];
+
+// The first step that answers something else, if there is one, with what it answers.
+fn other_answer(alloc: Global, window: u32, steps: Rows) -> Result<Option<String>, Fail> {
+    if window == 0 || window > 64 {
+        return Err("no window".into());
+    }
     let mut gather = Gather::new(alloc, window)?;
-    for (i, (step, answer)) in steps.iter().enumerate() {
-        assert_eq!(rt;
-            answer_to(alloc, &mut gather, *step)?.as_str(),
-            *answer,
-            "step {i}"
-        );
+    for (i, (step, wanted)) in steps.iter().enumerate() {
+        let answer = answer_to(alloc, &mut gather, *step)?;
+        if answer.as_str() != *wanted {
+            return Ok(Some(format!(in alloc; "step {i}: {answer}")?));
+        }
+    }
+    Ok(None)
+}
+
+const A_FULL_WINDOW_GIVES_THE_QUESTION_BACK: [(Step, &str); 6] = [
+    (Step::Oldest, "Nothing"),
+    (Step::Front, "none"),
+    (Step::Settle, "none"),
+    (Step::Ask("T1|r(x)"), "ticket 0"),
+    (Step::Ask("T1|w(x)"), "full: T1|w(x)"),
+    (Step::Front, "T1|r(x)"),
+];
+
+// What is missed is worked out by the gatherer itself.
+const ONLY_THE_FIRST_ANSWER_TO_AN_OPEN_QUESTION_IS_KEPT: [(Step, &str); 14] = [
+    (Step::Ask("T1|r(x)"), "ticket 0"),
+    (Step::Accept("T1|w(x)"), "Stranger"),
+    (Step::Oldest, "Awaited"),
+    (Step::Accept("T1|r(x)"), "Kept"),
+    (Step::Oldest, "Kept"),
+    (Step::Accept("T1|r(x)"), "Repeated"),
+    (Step::Settle, "Read(0)"),
+    (Step::Accept("T1|r(x)"), "Stranger"),
+    (Step::Tally, "asked 1, kept 1, done here 0"),
+    (Step::Ask("T1|w(x)"), "ticket 1"),
+    (Step::Miss(1), "noted"),
+    (Step::Oldest, "Missed"),
+    (Step::Settle, "Write(0)"),
+    (Step::Tally, "asked 2, kept 1, done here 1"),
+];
+
+const VALUES_COME_IN_THE_ORDER_OF_THE_QUESTIONS: [(Step, &str); 13] = [
+    (Step::Ask("T1|r(x)"), "ticket 0"),
+    (Step::Ask("T1|w(x)"), "ticket 1"),
+    (Step::Ask("T1|begin"), "ticket 2"),
+    (Step::Ask("T1|r(x)"), "ticket 3"),
+    (Step::Miss(3), "noted"),
+    (Step::Accept("T1|begin"), "Kept"),
+    (Step::Accept("T1|r(x)"), "Kept"),
+    (Step::Accept("T1|w(x)"), "Kept"),
+    (Step::Settle, "Read(0)"),
+    (Step::Settle, "Write(0)"),
+    (Step::Settle, "Begin"),
+    (Step::Settle, "Read(0)"),
+    (Step::Tally, "asked 4, kept 3, done here 1"),
+];
+
+const AN_ANSWER_THAT_COMES_LATE_IS_KEPT: [(Step, &str); 10] = [
+    (Step::Ask("T1|r(x)"), "ticket 0"),
+    (Step::Miss(1), "noted"),
+    (Step::Oldest, "Awaited"),
+    (Step::Miss(0), "noted"),
+    (Step::Oldest, "Missed"),
+    (Step::Accept("T1|r(x)"), "Kept"),
+    (Step::Oldest, "Kept"),
+    (Step::Miss(0), "noted"),
+    (Step::Oldest, "Kept"),
+    (Step::Settle, "Read(0)"),
+];
+
+#[test]
+fn each_step_of_a_gatherer_has_its_answer(rt: HostRuntime) -> Result<(), Fail> {
+    let tables: [(u32, Rows); 4] = [
+        (1, &A_FULL_WINDOW_GIVES_THE_QUESTION_BACK),
+        (1, &ONLY_THE_FIRST_ANSWER_TO_AN_OPEN_QUESTION_IS_KEPT),
+        (4, &VALUES_COME_IN_THE_ORDER_OF_THE_QUESTIONS),
+        (64, &AN_ANSWER_THAT_COMES_LATE_IS_KEPT),
+    ];
+    for (window, steps) in tables {
+        if let Some(other) = other_answer(rt.alloc(), window, steps)? {
+            assert!(rt; false, "{other}");
+        }
     }
     Ok(())
-}
-
-#[test]
-fn a_full_window_gives_the_question_back(rt: HostRuntime) -> Result<(), Fail> {
-    let steps = [
-        (Step::Oldest, "Nothing"),
-        (Step::Front, "none"),
-        (Step::Settle, "none"),
-        (Step::Ask("T1|r(x)"), "ticket 0"),
-        (Step::Ask("T1|w(x)"), "full: T1|w(x)"),
-        (Step::Front, "T1|r(x)"),
-    ];
-    expect_answers(&rt, rt.alloc(), 1, &steps)
-}
-
-#[test]
-fn only_the_first_answer_to_an_open_question_is_kept(rt: HostRuntime) -> Result<(), Fail> {
-    let steps = [
-        (Step::Ask("T1|r(x)"), "ticket 0"),
-        (Step::Accept("T1|w(x)"), "Stranger"),
-        (Step::Oldest, "Awaited"),
-        (Step::Accept("T1|r(x)"), "Kept"),
-        (Step::Oldest, "Kept"),
-        (Step::Accept("T1|r(x)"), "Repeated"),
-        (Step::Settle, "Read(0)"),
-        (Step::Accept("T1|r(x)"), "Stranger"),
-        (Step::Tally, "asked 1, kept 1, done here 0"),
-        // what is missed is worked out here
-        (Step::Ask("T1|w(x)"), "ticket 1"),
-        (Step::Miss(1), "noted"),
-        (Step::Oldest, "Missed"),
-        (Step::Settle, "Write(0)"),
-        (Step::Tally, "asked 2, kept 1, done here 1"),
-    ];
-    expect_answers(&rt, rt.alloc(), 1, &steps)
-}
-
-#[test]
-fn values_come_in_the_order_of_the_questions(rt: HostRuntime) -> Result<(), Fail> {
-    let steps = [
-        (Step::Ask("T1|r(x)"), "ticket 0"),
-        (Step::Ask("T1|w(x)"), "ticket 1"),
-        (Step::Ask("T1|begin"), "ticket 2"),
-        (Step::Ask("T1|r(x)"), "ticket 3"),
-        (Step::Miss(3), "noted"),
-        (Step::Accept("T1|begin"), "Kept"),
-        (Step::Accept("T1|r(x)"), "Kept"),
-        (Step::Accept("T1|w(x)"), "Kept"),
-        (Step::Settle, "Read(0)"),
-        (Step::Settle, "Write(0)"),
-        (Step::Settle, "Begin"),
-        (Step::Settle, "Read(0)"),
-        (Step::Tally, "asked 4, kept 3, done here 1"),
-    ];
-    expect_answers(&rt, rt.alloc(), 4, &steps)
-}
-
-#[test]
-fn an_answer_that_comes_late_is_kept(rt: HostRuntime) -> Result<(), Fail> {
-    let steps = [
-        (Step::Ask("T1|r(x)"), "ticket 0"),
-        (Step::Miss(1), "noted"),
-        (Step::Oldest, "Awaited"),
-        (Step::Miss(0), "noted"),
-        (Step::Oldest, "Missed"),
-        (Step::Accept("T1|r(x)"), "Kept"),
-        (Step::Oldest, "Kept"),
-        (Step::Miss(0), "noted"),
-        (Step::Oldest, "Kept"),
-        (Step::Settle, "Read(0)"),
-    ];
-    expect_answers(&rt, rt.alloc(), 64, &steps)
 }

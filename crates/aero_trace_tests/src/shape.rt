@@ -1,7 +1,9 @@
-use crate::admission::Admitted;
-use crate::shape::Shape;
 use aero_model::event::{Numbered, What};
 use aero_model::verdict::ShapeFault;
+use aero_shape::admission::Admitted;
+use aero_shape::shape::Shape;
+use std::alloc::Global;
+use std::process::Abort;
 
 // An event, and what is told of it.
 type Row = (&'static str, &'static str);
@@ -91,21 +93,26 @@ fn told(answer: Result<Admitted, ShapeFault>) -> &'static str {
     }
 }
 
+// Whether a new shape tells this of each event, and how many it has admitted then.
+fn admitted_of(rt: &impl Abort, alloc: Global, rows: &[Row]) -> u32 {
+    let mut shape = Shape::new(alloc);
+    for (text, wanted) in rows {
+        let event = event_of(text).expect(rt, "an event");
+        assert!(rt; shape.admitted() < 100);
+        assert!(rt; told(shape.admit(&event)) == *wanted, "{text}");
+    }
+    shape.admitted()
+}
+
 #[test]
 fn each_event_is_admitted_or_has_its_cause(rt: HostRuntime) {
-    let tables: [(&[Row], u32); 3] = [
+    let tables: [(&[Row], u32); 4] = [
+        (&[], 0),
         (&EACH_CAUSE_AND_EACH_KIND, 8),
         (&A_LOCK_IS_FREE_AFTER_AS_MANY_RELEASES_AS_ACQUIRES, 6),
         (&A_JOINED_THREAD_DOES_NOTHING_MORE, 5),
     ];
     for (rows, admitted) in tables {
-        let mut shape = Shape::new(rt.alloc());
-        assert_eq!(rt; shape.admitted(), 0);
-        for (text, wanted) in rows {
-            let event = event_of(text).expect(&rt, "an event");
-            assert!(rt; shape.admitted() < 100);
-            assert!(rt; told(shape.admit(&event)) == *wanted, "{text}");
-        }
-        assert_eq!(rt; shape.admitted(), admitted);
+        assert!(rt; admitted_of(&rt, rt.alloc(), rows) == admitted);
     }
 }

@@ -1,12 +1,11 @@
-use crate::answer::{Answer, Value};
-use crate::question::{Bytes, Parts, Question};
-use crate::same;
 use aero_grammar::block::parse_block;
 use aero_model::event::What;
 use aero_model::limits::Limits;
 use aero_model::verdict::Verdict;
+use aero_pieces::answer::{Answer, Value};
+use aero_pieces::question::{Bytes, Parts, Question};
+use aero_pieces::same;
 use std::alloc::Global;
-use std::process::Abort;
 use std::sync::Arc;
 use std::test::Fail;
 
@@ -44,20 +43,28 @@ fn trace_question(
     })
 }
 
-// The value is the one event, a read of `x` by `T1` on the first line.
-fn assert_read(rt: &impl Abort, value: &Value) {
+// Whether the value is the one event, a read of `x` by `T1` on the first line.
+fn is_read(value: &Value) -> bool {
     match value {
         Value::Parsed(parsed) => {
-            assert_eq!(rt; parsed.lines, 1);
-            assert_eq!(rt; parsed.fault, None);
-            assert_eq!(rt; parsed.events.len(), 1);
-            let (line, event) = parsed.events[0];
-            assert_eq!(rt; line, 1);
-            assert_eq!(rt; event.what, What::Read(0));
-            assert!(rt; parsed.threads.name(event.thread) == Some(b"T1".as_slice()));
-            assert!(rt; parsed.variables.name(0) == Some(b"x".as_slice()));
+            let [(line, event)] = parsed.events.as_slice() else {
+                return false;
+            };
+            (parsed.lines, *line) == (1, 1)
+                && parsed.fault.is_none()
+                && event.what == What::Read(0)
+                && parsed.threads.name(event.thread) == Some(b"T1".as_slice())
+                && parsed.variables.name(0) == Some(b"x".as_slice())
         }
-        Value::Judged(_) => assert!(rt; false, "a verdict"),
+        Value::Judged(_) => false,
+    }
+}
+
+// Whether the value is a serializable trace with one event and no block.
+fn is_serializable(value: Value) -> bool {
+    match value {
+        Value::Judged(Verdict::Serializable { events, blocks }) => events == 1 && blocks == 0,
+        _ => false,
     }
 }
 
@@ -69,18 +76,11 @@ fn a_question_is_answered_by_its_value(rt: HostRuntime) -> Result<(), Fail> {
 
     let question = block_question(alloc, 0, 0, "T1|r(x)")?.share(alloc)?;
     let answer = Question::answer(&question, alloc)?;
-    assert!(rt; same(answer.question(), &question));
-    assert_read(&rt, answer.value());
-    assert_read(&rt, &answer.into_value());
+    assert!(rt; same(answer.question(), &question) && is_read(answer.value()));
+    assert!(rt; is_read(&answer.into_value()));
 
     let question = trace_question(alloc, 0, Limits::greatest(), "T1|r(x)")?.share(alloc)?;
-    match Question::answer(&question, alloc)?.into_value() {
-        Value::Judged(Verdict::Serializable { events, blocks }) => {
-            assert_eq!(rt; events, 1);
-            assert_eq!(rt; blocks, 0);
-        }
-        _ => assert!(rt; false, "not serializable"),
-    }
+    assert!(rt; is_serializable(Question::answer(&question, alloc)?.into_value()));
     Ok(())
 }
 
@@ -99,8 +99,8 @@ fn blocks_with_the_same_bytes_are_the_same_question(rt: HostRuntime) -> Result<(
     ];
     for (trace, number, block, is_same) in rows {
         let other = block_question(alloc, trace, number, block)?;
-        assert_eq!(rt; same(&read, &other), is_same, "{trace} {number} {block:?}");
-        assert_eq!(rt; same(&other, &read), is_same, "{trace} {number} {block:?}");
+        let both = (same(&read, &other), same(&other, &read));
+        assert!(rt; both == (is_same, is_same), "{trace} {number} {block:?}");
     }
     Ok(())
 }
@@ -133,16 +133,8 @@ fn traces_with_the_same_parts_are_the_same_question(rt: HostRuntime) -> Result<(
     for (blocks, trace, limits, other_blocks, is_same) in rows {
         let check = trace_question(alloc, 0, most, blocks)?;
         let other = trace_question(alloc, trace, limits, other_blocks)?;
-        assert_eq!(rt;
-            same(&check, &other),
-            is_same,
-            "{blocks:?} {other_blocks:?}"
-        );
-        assert_eq!(rt;
-            same(&other, &check),
-            is_same,
-            "{blocks:?} {other_blocks:?}"
-        );
+        let both = (same(&check, &other), same(&other, &check));
+        assert!(rt; both == (is_same, is_same), "{blocks:?} {other_blocks:?}");
     }
     let check = trace_question(alloc, 0, most, two)?;
     assert!(rt; !same(&check, &block_question(alloc, 0, 0, "T1|r(x)")?));

@@ -1,10 +1,10 @@
 // What no clause says: texts known from elsewhere, and writers that fail or take nothing.
 ghost use Rattle.std.specs.Prelude.{◌≡◌, ◌≤◌, IfOk, Some};
 
-use crate::{Cut, put, summary_text, trace_text};
 use aero_model::counting::Counting;
 use aero_model::name::Name;
 use aero_model::verdict::{Counts, Finding, LineFault as Line, ShapeFault as Shape, Verdict};
+use aero_report::{Cut, put, summary_text, trace_text};
 use std::alloc::Global;
 use std::io;
 use std::io::Write;
@@ -53,49 +53,63 @@ impl Write for Scripted<'_> {
     }
 }
 
+// The text, the writer's script, what `put` says, what went out, and the calls.
+type Row = (
+    &'static str,
+    &'static str,
+    Result<(), Cut>,
+    &'static str,
+    &'static str,
+);
+
+// Whether the text is put so to a writer with this script.
+fn is_put(alloc: Global, row: &Row) -> Result<bool, Fail> {
+    let (text, script, said, taken, calls) = *row;
+    let mut writer = Counting::new(Scripted {
+        script: script.chars(),
+        taken: Vec::new(alloc),
+        calls: String::new(alloc),
+    });
+    let outcome = put(&mut writer, text.as_bytes());
+    let writer = writer.into_inner();
+    Ok(
+        outcome == said
+            && writer.taken.as_slice() == taken.as_bytes()
+            && writer.calls.as_str() == calls,
+    )
+}
+
+const CUT_AT_0: Result<(), Cut> = Err(Cut { written: 0 });
+
+const CUT_AT_1: Result<(), Cut> = Err(Cut { written: 1 });
+
+const CUT_AT_2: Result<(), Cut> = Err(Cut { written: 2 });
+
 #[test]
 fn put_stops_where_a_write_first_fails_or_takes_nothing(rt: HostRuntime) -> Result<(), Fail> {
     let mut vector = Counting::new(Vec::new(rt.alloc()));
-    assert_eq!(rt; put(&mut vector, b"abc"), Ok(()));
-    assert_eq!(rt; vector.into_inner().as_slice(), b"abc".as_slice());
+    assert!(rt; put(&mut vector, b"abc").is_ok());
+    assert!(rt; vector.into_inner().as_slice() == b"abc".as_slice());
 
-    let cut_at = |written: usize| Err(Cut { written });
-    // the text, the writer's script, what `put` says, what went out, and the calls
-    let rows = [
+    let rows: [Row; 8] = [
         ("abc", "", Ok(()), "abc", "w"),
         ("abc", "111", Ok(()), "abc", "www"),
-        ("abc", "1B1", cut_at(1), "a", "ww"),
-        ("abc", "1I1", cut_at(1), "a", "ww"),
-        ("abc", "201", cut_at(2), "ab", "ww"),
-        ("abc", "011", cut_at(0), "", "w"),
-        ("abc", "B", cut_at(0), "", "w"),
+        ("abc", "1B1", CUT_AT_1, "a", "ww"),
+        ("abc", "1I1", CUT_AT_1, "a", "ww"),
+        ("abc", "201", CUT_AT_2, "ab", "ww"),
+        ("abc", "011", CUT_AT_0, "", "w"),
+        ("abc", "B", CUT_AT_0, "", "w"),
         ("", "BBB", Ok(()), "", ""),
     ];
-    for (text, script, said, taken, calls) in rows {
-        let mut writer = Counting::new(Scripted {
-            script: script.chars(),
-            taken: Vec::new(rt.alloc()),
-            calls: String::new(rt.alloc()),
-        });
-        assert_eq!(rt;
-            put(&mut writer, text.as_bytes()),
-            said,
-            "{text:?} by {script:?}"
-        );
-        let writer = writer.into_inner();
-        assert_eq!(rt;
-            writer.taken.as_slice(),
-            taken.as_bytes(),
-            "{text:?} by {script:?}"
-        );
-        assert_eq!(rt; writer.calls.as_str(), calls, "{text:?} by {script:?}");
+    for row in &rows {
+        assert!(rt; is_put(rt.alloc(), row)?, "{:?} by {:?}", row.0, row.1);
     }
     Ok(())
 }
 
 fn expect_line(rt: &impl Abort, alloc: Global, finding: Finding, line: &str) -> Result<(), Fail> {
     let text = trace_text(alloc, b"n", &finding)?;
-    assert_eq!(rt; text.as_slice(), line.as_bytes(), "{line:?}");
+    assert!(rt; text.as_slice() == line.as_bytes(), "{line:?}");
     Ok(())
 }
 
@@ -197,7 +211,7 @@ fn the_summary_counts_what_was_found(rt: HostRuntime) -> Result<(), Fail> {
             faults,
         };
         let text = summary_text(rt.alloc(), &counts)?;
-        assert_eq!(rt; text.as_slice(), line.as_bytes());
+        assert!(rt; text.as_slice() == line.as_bytes(), "{line:?}");
     }
     Ok(())
 }

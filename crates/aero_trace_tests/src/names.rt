@@ -1,9 +1,26 @@
-use crate::names::{Names, NamesFault};
 use aero_model::name::Name;
+use aero_names::names::{Names, NamesFault};
+use std::alloc::Global;
 use std::test::Fail;
 
 // A name, and what it is numbered as.
 type Row<'a> = (&'a [u8], Result<u32, NamesFault>);
+
+// Whether a new table up to the limit numbers the names so, and has so many in the end, each by its
+// number.
+fn numbers(alloc: Global, limit: u32, rows: &[Row], len: u32) -> Result<bool, Fail> {
+    let mut names = Names::new(alloc, limit);
+    let mut fits = names.is_empty();
+    for (bytes, wanted) in rows {
+        fits &= names.number(&Name::read(alloc, bytes)?) == *wanted;
+    }
+    for (bytes, wanted) in rows {
+        if let Ok(number) = wanted {
+            fits &= names.name(*number) == Some(*bytes);
+        }
+    }
+    Ok(fits && names.name(len).is_none() && names.len() == len && names.is_empty() == (len == 0))
+}
 
 #[test]
 fn names_are_numbered_in_order_of_first_appearance_up_to_a_limit(
@@ -28,20 +45,7 @@ fn names_are_numbered_in_order_of_first_appearance_up_to_a_limit(
         (9, &of_254_and_255_bytes, 2),
     ];
     for (limit, rows, len) in tables {
-        let mut names = Names::new(rt.alloc(), limit);
-        assert!(rt; names.is_empty());
-        for (bytes, wanted) in rows {
-            let name = Name::read(rt.alloc(), bytes)?;
-            assert_eq!(rt; names.number(&name), *wanted);
-        }
-        for (bytes, wanted) in rows {
-            if let Ok(number) = wanted {
-                assert!(rt; names.name(*number) == Some(*bytes));
-            }
-        }
-        assert!(rt; names.name(len).is_none());
-        assert_eq!(rt; names.len(), len);
-        assert_eq!(rt; names.is_empty(), len == 0);
+        assert!(rt; numbers(rt.alloc(), limit, rows, len)?, "up to {limit}");
     }
     Ok(())
 }
@@ -53,8 +57,7 @@ fn the_faults_tell_themselves(rt: HostRuntime) -> Result<(), Fail> {
         (NamesFault::Memory, "out of memory"),
     ];
     for (fault, wanted) in rows {
-        let text = fault.to_string(rt.alloc())?;
-        assert!(rt; text.as_str() == wanted);
+        assert!(rt; fault.to_string(rt.alloc())?.as_str() == wanted);
     }
     Ok(())
 }

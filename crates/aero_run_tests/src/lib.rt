@@ -1,0 +1,15 @@
+//! Tests of the crates that a run over many sources is made of: questions, the gatherer and reports.
+//!
+//! A crate with tests is proved twice, with them and without, so they stand here, above all of the
+//! crates, and each is proved once. A module has the tests of the crate that it is named for. It has
+//! nothing for other crates.
+#![tactic(auto)]
+
+#[cfg(test)]
+mod gather;
+#[cfg(test)]
+mod intake;
+#[cfg(test)]
+mod pieces;
+#[cfg(test)]
+mod report;
