@@ -4,7 +4,10 @@ use Rattle.aero_pieces.specs.declared.question.Question.{Question}
 use Rattle.aero_pieces.specs.declared.answer.Value.{Value}
 use Rattle.aero_pieces.specs.Values.{IsValueOf}
 use Rattle.aero_pieces.specs.Schedule.{Entry}
-use Rattle.aero_gather.specs.Gathered.{Gathered}
+use Rattle.aero_gather.specs.Gathered.{Gathered, Accepts, with_missed}
+use Rattle.aero_gather.specs.declared.gather.Accepted.{Accepted}
+use Rattle.aero_worker.specs.declared.reply.Reply.{Reply}
+use Rattle.aero_worker.specs.declared.reply.Reply.TheVariants.{Done, Missed}
 use Rattle.aero_intake.specs.Stories.{trace_of}
 
 -- the open questions, the oldest first, and how many were asked
@@ -32,3 +35,8 @@ abbrev pub SettlesKnown : Gathered → List Entry → Gathered → Option Value 
 SettlesKnown old [] new given = (given ≡ None) × (new ≡ old)
 SettlesKnown old (e ∷ more) new given =
     (v : Value) × IsValueOf e.question v × (given ≡ Some v) × (new.entries ≡ more) × (new.tally.asked ≡ old.tally.asked) × (new.window ≡ old.window)
+
+-- what a reply does: an answer is accepted, whatever becomes of it, and a question that has none is noted as missed
+abbrev pub Heeds : Reply → Gathered → Gathered → Type 0
+Heeds (Done answer) old new = (accepted : Accepted) × Accepts answer.question answer.value old new accepted
+Heeds (Missed number) old new = new ≡ with_missed old number

@@ -1,13 +1,18 @@
 //! Those who may answer questions while the sources are read.
+ghost use Rattle.std.specs.Prelude.{◌≡◌, ℕ};
+
 use aero_stage::{Full, Job};
 use aero_worker::{Crew, Reply};
 use std::sync::Wait;
 
 /// Those to whom jobs are posted, and who may reply, in any order, more than once, or never. Nothing
-/// is promised of them.
+/// is promised of them but that they say how many they are.
 pub trait Helpers {
+    ghost count: { Self → ℕ };
+
     /// How many there are.
-    fn workers(&self) -> u32;
+    fn workers(&self) -> u32
+        ensures { result ≡ count self.now };
 
     /// Posts a job, or gives it back.
     fn post<R: Wait>(&mut self, rt: &R, job: Job) -> Result<(), Full>;
@@ -17,6 +22,8 @@ pub trait Helpers {
 }
 
 impl Helpers for Crew {
+    ghost count = { λ crew. crew.workers };
+
     fn workers(&self) -> u32 {
         self.workers()
     }
@@ -35,6 +42,8 @@ impl Helpers for Crew {
 pub struct Nobody;
 
 impl Helpers for Nobody {
+    ghost count = { λ _. 0 };
+
     fn workers(&self) -> u32 {
         0
     }

@@ -1,7 +1,8 @@
 //! The questions that are open, and those who may answer them.
-ghost use Rattle.std.specs.Prelude.{◌≡◌, ◌<◌, ◌-◌, ◌+◌, ◌^◌, ◌↔◌, [], length, map, IfOk, OnOk, OnErr, IsTrue};
+ghost use Rattle.std.specs.Prelude.{◌≡◌, ◌<◌, ◌≤◌, ◌-◌, ◌+◌, ◌^◌, ◌↔◌, [], length, map, true, false, IfOk, OnOk, OnErr, IsTrue, MatchBool};
 ghost use Rattle.std.specs.Arc.{arc_value};
-ghost use Rattle.aero_batch.specs.Inquiries.{nothing_asked, with_question, Gives, SettlesKnown, questions_of};
+ghost use Rattle.aero_gather.specs.Gathered.{with_missed};
+ghost use Rattle.aero_batch.specs.Inquiries.{nothing_asked, with_question, Gives, SettlesKnown, Heeds, questions_of};
 ghost use Rattle.aero_intake.specs.Stories.{trace_of};
 
 use crate::helpers::Helpers;
@@ -67,7 +68,9 @@ impl Inquiry {
 
     /// How many questions were asked, answers kept, and values worked out here.
     pub fn tally(&self) -> Tally
-        ensures { length self.now.open_ones ≡ 0 → result.asked ≡ result.kept + result.done_here }
+        ensures asked { result.asked ≡ self.now.asked }
+        ensures counted { result.kept + result.done_here ≤ result.asked }
+        ensures settled { length self.now.open_ones ≡ 0 → result.asked ≡ result.kept + result.done_here }
     {
         self.gather.tally()
     }
@@ -116,7 +119,8 @@ impl Inquiry {
     }
 }
 
-// Posts the question, unless nobody helps. Where it can't be posted no answer is awaited.
+// Posts the question, unless nobody helps, and says whether an answer is to be awaited. Where none is,
+// the question is noted as missed.
 fn post<H: Helpers, R: Wait>(
     rt: &R,
     helpers: &mut H,
@@ -124,15 +128,18 @@ fn post<H: Helpers, R: Wait>(
     is_alone: bool,
     ticket: Ticket,
     question: Arc<Question, Global>,
-)
+) -> bool
+    ensures awaited { MatchBool result (gather.new ≡ gather.old) (gather.new ≡ with_missed gather.old ticket.number) }
+    ensures alone { is_alone ≡ true → result ≡ false }
     ensures questions { questions_of gather.new ≡ questions_of gather.old }
     ensures asked { gather.new.tally.asked ≡ gather.old.tally.asked }
     ensures window { gather.new.window ≡ gather.old.window }
 {
     if !is_alone && is_posted(rt, helpers, ticket, question) {
-        return;
+        return true;
     }
     gather.note_missed(ticket);
+    false
 }
 
 // Whether the helpers took the job.
@@ -185,7 +192,9 @@ fn settle_known(gather: &mut Gather) -> Result<Option<Value>, AllocError>
     gather.settle()
 }
 
+// Takes a reply: an answer is accepted, and where none comes the question is noted as missed.
 fn take_reply(gather: &mut Gather, reply: Reply)
+    ensures heeds { Heeds reply gather.old gather.new }
     ensures questions { questions_of gather.new ≡ questions_of gather.old }
     ensures asked { gather.new.tally.asked ≡ gather.old.tally.asked }
     ensures window { gather.new.window ≡ gather.old.window }

@@ -4,7 +4,7 @@
 //! a crew of workers reads the blocks and finds the verdicts. The lines of the report stand in the order
 //! of the sources, and each says what the definitions say of the bytes that were read, whatever the
 //! pieces, the number of workers and the order of their answers: `specs/Founds.antt` has it in full.
-//! `run_over` is the same with any helpers, of whom nothing is promised.
+//! `run_over` is the same with any helpers, of whom nothing is promised but how many they are.
 //!
 //! How a source is read, and what is known of it, is aero_intake's: its `plan` and its `source` are
 //! those of a run.

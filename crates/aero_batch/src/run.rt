@@ -6,6 +6,7 @@ ghost use Rattle.aero_batch.specs.Founds.{Sighted, sighted, WasRun};
 ghost use Rattle.aero_batch.specs.Holding.{HasNumbers, IsBegun, Stands};
 
 use crate::helpers::{Helpers, Nobody};
+use crate::inquiry::Inquiry;
 use crate::outcome::{Cause, Outcome};
 use crate::progress::Progress;
 use crate::step::step;
@@ -42,6 +43,8 @@ pub fn run<R: Read, W: Write, G: Gate + Drop + 'static, T: Threads + Wait + Copy
     ensures ran { WasRun plan.now.limits (map (sighted R.remaining) sources.old) (map (sighted R.remaining) sources.new)
         (seen_by W.contents writer.old) (seen_by W.contents writer.new) result.endings.items result.counts result.cause }
     ensures all_settled { result.cause ≡ None → result.tally.asked ≡ result.tally.kept + result.tally.done_here }
+    ensures tallied { result.tally.kept + result.tally.done_here ≤ result.tally.asked }
+    ensures workers { result.workers ≤ plan.now.workers }
 {
     let Ok(mut crew) = Crew::start(rt, alloc, plan.workers, gate) else {
         return run_over(&rt, alloc, sources, writer, plan, &mut Nobody);
@@ -65,6 +68,8 @@ pub fn run_over<R: Read, W: Write, H: Helpers, T: Wait>(
     ensures ran { WasRun plan.now.limits (map (sighted R.remaining) sources.old) (map (sighted R.remaining) sources.new)
         (seen_by W.contents writer.old) (seen_by W.contents writer.new) result.endings.items result.counts result.cause }
     ensures all_settled { result.cause ≡ None → result.tally.asked ≡ result.tally.kept + result.tally.done_here }
+    ensures tallied { result.tally.kept + result.tally.done_here ≤ result.tally.asked }
+    ensures workers { result.workers ≡ H.count helpers.old }
 {
     let workers = helpers.workers();
     let Ok((mut progress, mut told)) = begin(alloc, plan, sources.len(), workers == 0) else {
@@ -80,8 +85,8 @@ pub fn run_over<R: Read, W: Write, H: Helpers, T: Wait>(
         &mut progress,
         &mut told,
     ) {
-        Ok(()) => outcome_of(told, None, progress.inquiry.tally(), workers),
-        Err(cause) => outcome_of(told, Some(cause), progress.inquiry.tally(), workers),
+        Ok(()) => outcome_of(told, None, &progress.inquiry, workers),
+        Err(cause) => outcome_of(told, Some(cause), &progress.inquiry, workers),
     }
 }
 
@@ -105,31 +110,39 @@ fn refused(alloc: Global, workers: u32) -> Outcome
     ensures endings { result.endings.items ≡ [] }
     ensures counts { result.counts ≡ no_counts }
     ensures cause { result.cause ≡ Some Cause.Memory }
+    ensures nothing { (result.tally.asked ≡ 0) × (result.tally.kept ≡ 0) × (result.tally.done_here ≡ 0) }
+    ensures workers { result.workers ≡ workers }
 {
     let tally = Tally {
         asked: 0,
         kept: 0,
         done_here: 0,
     };
-    let told = Told {
+    Outcome {
         endings: Vec::new(alloc),
         counts: nothing_counted(),
-    };
-    outcome_of(told, Some(Cause::Memory), tally, workers)
+        cause: Some(Cause::Memory),
+        tally,
+        workers,
+    }
 }
 
-fn outcome_of(told: Told, cause: Option<Cause>, tally: Tally, workers: u32) -> Outcome
+// What a run that came so far has told, asked and kept.
+fn outcome_of(told: Told, cause: Option<Cause>, inquiry: &Inquiry, workers: u32) -> Outcome
     ensures endings { result.endings ≡ told.endings }
     ensures counts { result.counts ≡ told.counts }
     ensures cause { result.cause ≡ cause }
-    ensures tally { result.tally ≡ tally }
+    ensures asked { result.tally.asked ≡ inquiry.now.asked }
+    ensures tallied { result.tally.kept + result.tally.done_here ≤ result.tally.asked }
+    ensures settled { length inquiry.now.open_ones ≡ 0 → result.tally.asked ≡ result.tally.kept + result.tally.done_here }
+    ensures workers { result.workers ≡ workers }
 {
     let Told { endings, counts } = told;
     Outcome {
         endings,
         counts,
         cause,
-        tally,
+        tally: inquiry.tally(),
         workers,
     }
 }

@@ -2,15 +2,13 @@
 // texts and reports `/` stands for the byte 10.
 mod gates;
 mod habits;
+mod runs;
 mod streams;
 
-use crate::helpers::{Helpers, Nobody};
 use crate::outcome::{Cause, Outcome};
-use crate::run::run_over;
-use crate::tests::gates::expect_by_crew;
-use crate::tests::habits::{Habit, helper_with};
+use crate::tests::habits::Habit;
+use crate::tests::runs::{Who, run_by};
 use crate::tests::streams::{BreaksOnce, CutsOnce, Endless};
-use aero_intake::plan::Plan;
 use aero_intake::source::Source;
 use aero_model::counting::Counting;
 use aero_model::limits::Limits;
@@ -24,6 +22,8 @@ use std::thread::Threads;
 
 const PIECES: [u32; 4] = [1, 2, 7, 65_536];
 
+const EVERYBODY: [Who; 4] = [Who::Alone, Who::Crew(1), Who::Crew(2), Who::Crew(16)];
+
 // Two blocks that cross, each before the other.
 const CROSSED: &str = "T1|begin/T2|begin/T1|w(x)/T2|r(x)/T2|w(y)/T1|r(y)";
 
@@ -31,6 +31,12 @@ const CROSSED: &str = "T1|begin/T2|begin/T1|w(x)/T2|r(x)/T2|w(y)/T1|r(y)";
 const CLOSED_BY_AN_END: &str = "T1|begin/T2|begin/T2|w(y)/T1|w(x)/T2|r(x)/T1|r(y)/T1|end";
 
 const ONE_BLOCK: &str = "T1|begin/T1|w(x)/T1|r(x)/T1|w(x)/T1|end";
+
+const FITS: &str =
+    "n: serializable (1 events, 0 blocks)/traces 1: serializable 1, open 0, violations 0, faults 0/";
+
+const BROKEN: &str =
+    "n: broken after 20 bytes/traces 1: serializable 0, open 0, violations 0, faults 1/";
 
 const LARGE: &str = "n: too large/traces 1: serializable 0, open 0, violations 0, faults 1/";
 
@@ -55,13 +61,6 @@ fn texts_of_two(alloc: Global) -> Result<Vec<u8>, AllocError> {
     Ok(texts)
 }
 
-fn plan_of(limits: Limits, piece: u32) -> Result<Plan, Fail> {
-    match Plan::new(2, piece, limits) {
-        Some(plan) => Ok(plan),
-        None => Err("no such plan".into()),
-    }
-}
-
 fn limits_of(bytes: u32, lines: u32, threads: u32, names: u32) -> Result<Limits, Fail> {
     match Limits::new(bytes, lines, threads, names) {
         Some(limits) => Ok(limits),
@@ -77,19 +76,18 @@ fn source_of<R: Drop>(alloc: Global, name: &str, reader: R) -> Result<Source<R>,
 }
 
 // Runs over one source with the name n, and expects that what is written begins so.
-fn expect_start<R: Read + Drop, H: Helpers, T: Abort + AllocGlobal + Wait>(
+fn expect_start<R: Read + Drop, T: Abort + AllocGlobal + Threads + Wait + Copy + Send + 'static>(
     rt: &T,
     reader: R,
     limits: Limits,
     piece: u32,
-    helpers: &mut H,
+    who: Who,
     start: &str,
 ) -> Result<Outcome, Fail> {
     let mut sources = Vec::new(rt.alloc());
     sources.push(source_of(rt.alloc(), "n", reader)?)?;
     let mut writer = Counting::new(Vec::new(rt.alloc()));
-    let plan = plan_of(limits, piece)?;
-    let outcome = run_over(rt, rt.alloc(), &mut sources, &mut writer, &plan, helpers);
+    let outcome = run_by(*rt, who, &mut sources, &mut writer, limits, piece)?;
     assert_eq!(rt; outcome.cause, None);
     let start = lines_of(rt.alloc(), start)?;
     assert!(rt; writer.into_inner().as_slice().starts_with(&start));
@@ -106,13 +104,17 @@ fn expect_text<T: Abort + AllocGlobal + Threads + Wait + Copy + Send + 'static>(
 ) -> Result<(), Fail> {
     let start = format!(in rt.alloc(); "{line}/traces 1: ")?;
     for piece in PIECES {
-        expect_start(rt, text, limits, piece, &mut Nobody, &start)?;
+        expect_start(rt, text, limits, piece, Who::Alone, &start)?;
     }
-    for workers in [1, 2, 16] {
-        expect_by_crew(*rt, text, limits, workers, &start)?;
+    let others = [
+        Who::Crew(1),
+        Who::Crew(2),
+        Who::Crew(16),
+        Who::Helped(Habit::Newest),
+    ];
+    for who in others {
+        expect_start(rt, text, limits, 7, who, &start)?;
     }
-    let mut newest = helper_with(rt.alloc(), Habit::Newest);
-    expect_start(rt, text, limits, 7, &mut newest, &start)?;
     Ok(())
 }
 
@@ -250,46 +252,47 @@ fn a_text_has_its_line(rt: HostRuntime) -> Result<(), Fail> {
 }
 
 // Runs over one source with the name n, and expects what is written and how the source ended.
-fn expect_end<R: Read + Drop, T: Abort + AllocGlobal + Wait>(
+fn expect_end<R: Read + Drop, T: Abort + AllocGlobal + Threads + Wait + Copy + Send + 'static>(
     rt: &T,
     reader: R,
     limits: Limits,
-    piece: u32,
+    (piece, who): (u32, Who),
     written: &str,
     ending: (u64, Ending),
 ) -> Result<(), Fail> {
-    let outcome = expect_start(rt, reader, limits, piece, &mut Nobody, written)?;
+    let outcome = expect_start(rt, reader, limits, piece, who, written)?;
     assert_eq!(rt; outcome.endings.as_slice(), [ending].as_slice());
     Ok(())
 }
 
-#[test]
-fn a_source_ends_whole_too_large_or_broken(rt: HostRuntime) -> Result<(), Fail> {
+// How a source ends that has a text, no end, or a reader that fails after 20 bytes.
+fn expect_ends<T: Abort + AllocGlobal + Threads + Wait + Copy + Send + 'static>(
+    rt: &T,
+    crossed: &[u8],
+    by: (u32, Who),
+) -> Result<(), Fail> {
     let exact = limits_of(7, 1, 1, 1)?;
     let short = limits_of(6, 1, 1, 1)?;
     let text = b"T1|r(x)".as_slice();
-    let fits =
-        "n: serializable (1 events, 0 blocks)/traces 1: serializable 1, open 0, violations 0, faults 0/";
-    let broken =
-        "n: broken after 20 bytes/traces 1: serializable 0, open 0, violations 0, faults 1/";
+    expect_end(rt, text, exact, by, FITS, (7, Ending::Whole))?;
+    expect_end(rt, text, short, by, LARGE, (7, Ending::TooLarge))?;
+    expect_end(rt, Endless, short, by, LARGE, (7, Ending::TooLarge))?;
+    let reader = BreaksOnce {
+        text: crossed,
+        left: 20,
+        has_failed: false,
+    };
+    let greatest = Limits::greatest();
+    expect_end(rt, reader, greatest, by, BROKEN, (20, Ending::Broken))
+}
+
+#[test]
+fn a_source_ends_whole_too_large_or_broken(rt: HostRuntime) -> Result<(), Fail> {
     let crossed = lines_of(rt.alloc(), CROSSED)?;
     for piece in PIECES {
-        expect_end(&rt, text, exact, piece, fits, (7, Ending::Whole))?;
-        expect_end(&rt, text, short, piece, LARGE, (7, Ending::TooLarge))?;
-        expect_end(&rt, Endless, short, piece, LARGE, (7, Ending::TooLarge))?;
-        let reader = BreaksOnce {
-            text: &crossed,
-            left: 20,
-            has_failed: false,
-        };
-        expect_end(
-            &rt,
-            reader,
-            Limits::greatest(),
-            piece,
-            broken,
-            (20, Ending::Broken),
-        )?;
+        for who in EVERYBODY {
+            expect_ends(&rt, &crossed, (piece, who))?;
+        }
     }
     Ok(())
 }
@@ -308,34 +311,36 @@ struct Row<'a> {
     cause: Option<Cause>,
 }
 
-fn expect_row<T: Abort + AllocGlobal + Wait>(rt: &T, row: &Row, piece: u32) -> Result<(), Fail> {
+fn expect_row<T: Abort + AllocGlobal + Threads + Wait + Copy + Send + 'static>(
+    rt: &T,
+    row: &Row,
+    (piece, who): (u32, Who),
+) -> Result<(), Fail> {
     let text = lines_of(rt.alloc(), row.text)?;
     let mut sources = Vec::new(rt.alloc());
     for name in row.names {
         sources.push(source_of(rt.alloc(), name, text.as_slice())?)?;
-    }
-    if sources.len() > 9 {
-        return Err("no such sources".into());
     }
     let mut writer = Counting::new(CutsOnce {
         taken: Vec::new(rt.alloc()),
         left: row.room,
         has_failed: false,
     });
-    let plan = plan_of(Limits::greatest(), piece)?;
-    let outcome = run_over(
-        rt,
-        rt.alloc(),
+    let outcome = run_by(
+        *rt,
+        who,
         &mut sources,
         &mut writer,
-        &plan,
-        &mut Nobody,
-    );
+        Limits::greatest(),
+        piece,
+    )?;
     let written = lines_of(rt.alloc(), row.written)?;
     assert_eq!(rt; writer.into_inner().taken, written);
     assert_eq!(rt; outcome.endings.as_slice(), row.endings);
     assert_eq!(rt; outcome.counts.serializable, row.serializable);
     assert_eq!(rt; outcome.cause, row.cause);
+    // A verdict was asked for on each source at least, whatever the cause.
+    assert!(rt; outcome.tally.asked >= row.names.len() as u64);
     Ok(())
 }
 
@@ -390,28 +395,33 @@ fn what_was_written_whole_is_told(rt: HostRuntime) -> Result<(), Fail> {
     ];
     for row in &rows {
         for piece in PIECES {
-            expect_row(&rt, row, piece)?;
+            for who in EVERYBODY {
+                expect_row(&rt, row, (piece, who))?;
+            }
         }
     }
     Ok(())
 }
 
-// Three sources, in pieces of one byte: the report, and how much the helpers did.
-fn expect_three<H: Helpers, T: Abort + AllocGlobal + Wait>(
+// The sources a, b and c of the report of three.
+fn three_sources(texts: &[u8], alloc: Global) -> Result<Vec<Source<&[u8]>>, AllocError> {
+    let (crossed, closed) = texts.split_at(texts.len().min(CROSSED.len()));
+    let mut sources = Vec::new(alloc);
+    sources.push(source_of(alloc, "a", crossed)?)?;
+    sources.push(source_of(alloc, "b", crossed.split_at(0).0)?)?;
+    sources.push(source_of(alloc, "c", closed)?)?;
+    Ok(sources)
+}
+
+// Three sources, in pieces of one byte: the report, and what was asked.
+fn expect_three<T: Abort + AllocGlobal + Threads + Wait + Copy + Send + 'static>(
     rt: &T,
-    helpers: &mut H,
-    is_done_here: bool,
+    who: Who,
 ) -> Result<(), Fail> {
     let texts = texts_of_two(rt.alloc())?;
-    let (crossed, closed) = texts.split_at(texts.len().min(CROSSED.len()));
-    let mut sources = [
-        source_of(rt.alloc(), "a", crossed)?,
-        source_of(rt.alloc(), "b", crossed.split_at(0).0)?,
-        source_of(rt.alloc(), "c", closed)?,
-    ];
+    let mut sources = three_sources(&texts, rt.alloc())?;
     let mut writer = Counting::new(Vec::new(rt.alloc()));
-    let plan = plan_of(Limits::greatest(), 1)?;
-    let outcome = run_over(rt, rt.alloc(), &mut sources, &mut writer, &plan, helpers);
+    let outcome = run_by(*rt, who, &mut sources, &mut writer, Limits::greatest(), 1)?;
     assert_eq!(rt; writer.into_inner(), lines_of(rt.alloc(), REPORT_OF_THREE)?);
     assert_eq!(rt; outcome.cause, None);
     let endings = [
@@ -420,26 +430,26 @@ fn expect_three<H: Helpers, T: Abort + AllocGlobal + Wait>(
         (CLOSED_BY_AN_END.len() as u64, Ending::Whole),
     ];
     assert_eq!(rt; outcome.endings.as_slice(), endings.as_slice());
-    let done_here = if is_done_here { outcome.tally.asked } else { 0 };
-    assert_eq!(rt; outcome.tally.done_here, done_here);
     // Each of the lines is a block of its own, and each source has a verdict.
     assert_eq!(rt; outcome.tally.asked, 16);
     Ok(())
 }
 
 #[test]
-fn the_report_is_the_same_whatever_the_helpers_do(rt: HostRuntime) -> Result<(), Fail> {
+fn the_report_is_the_same_whoever_helps(rt: HostRuntime) -> Result<(), Fail> {
     let habits = [
-        (Habit::Newest, false),
-        (Habit::Twice, false),
-        (Habit::Forges, false),
-        (Habit::Misses, true),
-        (Habit::Leaves, true),
-        (Habit::Refuses, true),
+        Habit::Newest,
+        Habit::Twice,
+        Habit::Forges,
+        Habit::Misses,
+        Habit::Leaves,
+        Habit::Refuses,
     ];
-    for (habit, is_done_here) in habits {
-        let mut helpers = helper_with(rt.alloc(), habit);
-        expect_three(&rt, &mut helpers, is_done_here)?;
+    for habit in habits {
+        expect_three(&rt, Who::Helped(habit))?;
     }
-    expect_three(&rt, &mut Nobody, true)
+    for who in EVERYBODY {
+        expect_three(&rt, who)?;
+    }
+    Ok(())
 }

@@ -68,16 +68,19 @@ source_was_read before mid after limit i pieces blocks Whole have is ends = reco
   faults = omega (arith, ends.0.faults, have.quiet.faults);
   ends = omega (arith, ends.0.ends, have.quiet.ends);
   fits = subst (λ n. n ≤ limit) is.count ends.1;
+  rest = ends.0.rest;
 }
 source_was_read before mid after limit i pieces blocks Broken have is ends = record {
   came = subst (λ bytes. Consumes before.bytes after.bytes bytes) (append-nil (concat pieces)) (Consumes-trans before.bytes mid.bytes after.bytes (concat pieces) [] have.came ends.0.came);
   faults = omega (arith, ends.0.faults, have.quiet.faults);
   ends = omega (arith, ends.0.ends, have.quiet.ends);
   fits = subst (λ n. n ≤ limit) is.count ends.1;
+  rest = tt;
 }
 source_was_read before mid after limit i pieces blocks TooLarge have is ends = record {
   came = subst (λ (s : Seen). Consumes before.bytes s.bytes (concat pieces)) (sym ends.0) have.came;
   faults = omega (arith, ap (λ (s : Seen). s.faults) ends.0, have.quiet.faults);
   ends = omega (arith, ap (λ (s : Seen). s.ends) ends.0, have.quiet.ends);
   fits = sym is.count ∙ ends.1;
+  rest = tt;
 }

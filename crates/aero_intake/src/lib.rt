@@ -13,6 +13,4 @@ pub mod intake;
 pub mod laws;
 pub mod plan;
 pub mod source;
-#[cfg(test)]
-mod tests;
 pub mod track;

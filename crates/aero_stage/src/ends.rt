@@ -118,7 +118,8 @@ pub struct Full {
 
 impl Poster {
     /// Posts a job: it joins the queue at the back. `Full`, which changes nothing and holds the
-    /// job, only where the queue was full at a moment of the call.
+    /// job, only where, as far as the Poster can know, the queue was full at a moment of the call. It
+    /// can't know what Takers that are out have taken.
     pub fn post<R: Wait>(&mut self, rt: &R, job: Job) -> Result<(), Full>
         ensures posted { OnOk result (self.new ≡ record self.old { desk = with_post self.old.capacity self.old.desk job }) }
         ensures full { IfErr result (λ e. (e.job ≡ job) × (self.new ≡ self.old) × WasFull self.old) }
@@ -131,8 +132,8 @@ impl Poster {
         }
     }
 
-    /// Posts a stop, which ends the Taker that takes it. False, which changes nothing, only where
-    /// the queue was full at a moment of the call.
+    /// Posts a stop, which ends the Taker that takes it. False, which changes nothing, only where,
+    /// as far as the Poster can know, the queue was full at a moment of the call.
     pub fn stop<R: Wait>(&mut self, rt: &R) -> bool
         ensures { MatchBool result (self.new ≡ record self.old { desk = with_stop self.old.desk }) ((self.new ≡ self.old) × WasFull self.old) }
     {
@@ -140,9 +141,9 @@ impl Poster {
     }
 
     /// Takes the job at the front back. A stop that stands at the front is dropped, and the next is
-    /// taken. `None` only where the queue was empty at a moment of the call: once each Taker has
-    /// rejoined, what was taken back and the hands of the Takers then have each job as often as it
-    /// was posted.
+    /// taken. `None` only where, as far as the Poster can know, the queue was empty at a moment of the
+    /// call. Once each Taker has rejoined it knows: what was taken back and the hands of the Takers
+    /// then have each job as often as it was posted.
     pub fn take_back<R: Wait>(&mut self, rt: &R) -> Option<Job>
         ensures back { IfSome result (λ job. (self.new ≡ record self.old { desk = with_back self.old.desk job }) × WasFront self.old job) }
         ensures lower { IfSome result (λ _. self.new.desk.bound < self.old.desk.bound) }

@@ -6,17 +6,17 @@ use std::alloc::Global;
 use std::sync::Wait;
 use std::test::Fail;
 
-// A job with this number, and a question about the block with this one.
-fn job(alloc: Global, number: u64, block: u64) -> Result<Job, Fail> {
-    let bytes = Bytes::new(b"T1|r(x)".to_vec(alloc)?).ok_or("too many bytes")?;
+// A job with this number, and a question about the block with this one. `None` where memory is refused.
+fn job(alloc: Global, number: u64, block: u64) -> Option<Job> {
+    let bytes = Bytes::new(b"T1|r(x)".to_vec(alloc).ok()?)?;
     let question = Question::Parse {
         trace: 0,
         number: block,
         bytes,
     };
-    Ok(Job {
+    Some(Job {
         number,
-        question: question.share(alloc)?,
+        question: question.share(alloc).ok()?,
     })
 }
 
@@ -41,10 +41,19 @@ fn take_back<R: Wait>(rt: &R, poster: &mut Poster) -> Option<(u64, u64)>
     poster.take_back(rt).map(numbers)
 }
 
-fn post<R: Wait>(rt: &R, poster: &mut Poster, job: Job) -> Result<(), (u64, u64)>
+// Posts the job with these numbers. What comes back is its numbers, or `None` where memory was refused.
+fn post<R: Wait + AllocGlobal>(
+    rt: &R,
+    poster: &mut Poster,
+    number: u64,
+    block: u64,
+) -> Result<(), Option<(u64, u64)>>
     ensures { poster.new.stage ≡ poster.old.stage }
 {
-    poster.post(rt, job).map_err(|full| numbers(full.job))
+    let Some(job) = job(rt.alloc(), number, block) else {
+        return Err(None);
+    };
+    poster.post(rt, job).map_err(|full| Some(numbers(full.job)))
 }
 
 #[test]
@@ -53,27 +62,31 @@ fn one_taker_of_a_full_a_stopped_and_an_abandoned_queue(rt: HostRuntime) -> Resu
     // a full queue gives the job back
     let (mut poster, mut takers) = stage(alloc, 2, 1)?;
     let mut taker = takers.remove(0);
-    assert_eq!(rt; post(&rt, &mut poster, job(alloc, 1, 11)?), Ok(()));
-    assert_eq!(rt; post(&rt, &mut poster, job(alloc, 2, 12)?), Ok(()));
-    assert_eq!(rt; post(&rt, &mut poster, job(alloc, 3, 13)?), Err((3, 13)));
+    assert_eq!(rt; post(&rt, &mut poster, 1, 11), Ok(()));
+    assert_eq!(rt; post(&rt, &mut poster, 2, 12), Ok(()));
+    assert_eq!(rt; post(&rt, &mut poster, 3, 13), Err(Some((3, 13))));
     assert!(rt; !poster.stop(&rt));
     assert_eq!(rt; take(&rt, &mut taker), Some((1, 11)));
     assert!(rt; poster.stop(&rt));
     assert_eq!(rt; take(&rt, &mut taker), Some((2, 12)));
     assert_eq!(rt; take(&rt, &mut taker), None);
     assert_eq!(rt; take(&rt, &mut taker), None);
+    // a queue that was full has room again once it is drained
+    assert_eq!(rt; post(&rt, &mut poster, 4, 14), Ok(()));
+    assert!(rt; poster.stop(&rt));
     poster.rejoin(taker);
+    assert_eq!(rt; take_back(&rt, &mut poster), Some((4, 14)));
     assert_eq!(rt; take_back(&rt, &mut poster), None);
     // a stop that nobody took is dropped
     let (mut poster, _takers) = stage(alloc, 2, 1)?;
     assert!(rt; poster.stop(&rt));
-    assert_eq!(rt; post(&rt, &mut poster, job(alloc, 1, 11)?), Ok(()));
+    assert_eq!(rt; post(&rt, &mut poster, 1, 11), Ok(()));
     assert_eq!(rt; take_back(&rt, &mut poster), Some((1, 11)));
     assert_eq!(rt; take_back(&rt, &mut poster), None);
     // a Taker takes what a Poster left
     let (mut poster, mut takers) = stage(alloc, 1, 1)?;
     let mut taker = takers.remove(0);
-    assert_eq!(rt; post(&rt, &mut poster, job(alloc, 7, 17)?), Ok(()));
+    assert_eq!(rt; post(&rt, &mut poster, 7, 17), Ok(()));
     drop(poster);
     assert_eq!(rt; take(&rt, &mut taker), Some((7, 17)));
     assert_eq!(rt; take(&rt, &mut taker), None);
@@ -86,10 +99,10 @@ fn two_takers_and_the_poster_share_a_queue(rt: HostRuntime) -> Result<(), Fail> 
     let (mut poster, mut takers) = stage(alloc, 64, 2)?;
     let mut first = takers.remove(0);
     let mut second = takers.remove(0);
-    assert_eq!(rt; post(&rt, &mut poster, job(alloc, 1, 11)?), Ok(()));
-    assert_eq!(rt; post(&rt, &mut poster, job(alloc, 2, 12)?), Ok(()));
-    assert_eq!(rt; post(&rt, &mut poster, job(alloc, 3, 13)?), Ok(()));
-    assert_eq!(rt; post(&rt, &mut poster, job(alloc, 4, 14)?), Ok(()));
+    assert_eq!(rt; post(&rt, &mut poster, 1, 11), Ok(()));
+    assert_eq!(rt; post(&rt, &mut poster, 2, 12), Ok(()));
+    assert_eq!(rt; post(&rt, &mut poster, 3, 13), Ok(()));
+    assert_eq!(rt; post(&rt, &mut poster, 4, 14), Ok(()));
     assert_eq!(rt; take(&rt, &mut second), Some((1, 11)));
     assert_eq!(rt; take(&rt, &mut first), Some((2, 12)));
     assert_eq!(rt; take_back(&rt, &mut poster), Some((3, 13)));
@@ -97,7 +110,7 @@ fn two_takers_and_the_poster_share_a_queue(rt: HostRuntime) -> Result<(), Fail> 
     assert_eq!(rt; take(&rt, &mut second), Some((4, 14)));
     assert_eq!(rt; take(&rt, &mut second), None);
     poster.rejoin(second);
-    assert_eq!(rt; post(&rt, &mut poster, job(alloc, 5, 15)?), Ok(()));
+    assert_eq!(rt; post(&rt, &mut poster, 5, 15), Ok(()));
     assert_eq!(rt; take(&rt, &mut first), Some((5, 15)));
     poster.rejoin(first);
     assert_eq!(rt; take_back(&rt, &mut poster), None);

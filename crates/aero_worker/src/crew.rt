@@ -18,6 +18,9 @@ use std::thread::{PromisedHandle, Threads};
 // How many jobs the queue may hold.
 const PLACES: u32 = 64;
 
+// How many bytes the stack of a worker has.
+const STACK: usize = 8 << 20;
+
 /// Where the posted jobs went, by their numbers.
 #[derive(Drop)]
 pub struct CrewReport {
@@ -114,7 +117,8 @@ impl Model for Crew {
 
 impl Crew {
     /// Starts as many of the `n` workers, 1 to 16, as the system gives, perhaps none. Nothing is posted
-    /// yet.
+    /// yet. Memory for the jobs and for the replies is taken here. The call may wait, as each call
+    /// that takes jobs may.
     ///
     /// # Errors
     ///
@@ -130,15 +134,40 @@ impl Crew {
         ensures posted { IfOk result (λ crew. crew.posted ≡ []) }
         ensures workers { IfOk result (λ crew. crew.workers ≤ n) }
     {
+        Crew::start_with(rt, alloc, n, gate, STACK)
+    }
+
+    // The same, with so many bytes for the stack of each worker. Where they are too many no thread is made.
+    pub(crate) fn start_with<G: Gate + Drop + 'static, R: Threads + Wait + Copy + Send + 'static>(
+        rt: R,
+        alloc: Global,
+        n: u32,
+        gate: Arc<G>,
+        stack: usize,
+    ) -> Result<Crew, AllocError>
+        requires some { 1 ≤ n }
+        requires few { n ≤ 16 }
+        ensures posted { IfOk result (λ crew. crew.posted ≡ []) }
+        ensures workers { IfOk result (λ crew. crew.workers ≤ n) }
+    {
         let (mut poster, takers) = stage(alloc, PLACES, n)?;
         let left = Vec::with_capacity(alloc, PLACES as usize)?;
         let mut by_worker = Vec::with_capacity(alloc, n as usize)?;
         let mut running = Vec::with_capacity(alloc, n as usize)?;
-        let (sender, replies) = crossbeam_channel::unbounded(alloc)?;
+        // A place for the reply to each job that may be posted and of each worker: a send takes no memory.
+        let (sender, replies) = crossbeam_channel::bounded(alloc, (PLACES + n) as usize)?;
         let mut seeds = make_seeds(alloc, &poster, takers, &sender, &gate)?;
         drop(sender);
         while let Some(seed) = seeds.pop() {
-            hire(rt, alloc, &mut poster, &mut running, &mut by_worker, seed);
+            hire(
+                rt,
+                alloc,
+                stack,
+                &mut poster,
+                &mut running,
+                &mut by_worker,
+                seed,
+            );
         }
         Ok(Crew {
             poster,
@@ -161,7 +190,8 @@ impl Crew {
     /// # Errors
     ///
     /// `Full` gives the job back, and nothing was changed. It comes only where 64 jobs or more were
-    /// posted before.
+    /// posted before. Where 64 replies and one for each worker are still to be received, a worker waits
+    /// with its reply and takes no job meanwhile.
     pub fn post<R: Wait>(&mut self, rt: &R, job: Job) -> Result<(), Full>
         ensures posted { OnOk result (self.new ≡ record self.old { posted = self.old.posted ++ job.number ∷ [] }) }
         ensures full { IfErr result (λ full. (full.job ≡ job) × (self.new ≡ self.old)) }
@@ -178,8 +208,8 @@ impl Crew {
         self.replies.recv(rt).ok()
     }
 
-    /// Takes back what no worker has taken, waits until each worker has ended, and says where each
-    /// job went that was posted. Replies that nobody has received yet are lost.
+    /// Takes back what no worker has taken, gives up the replies that nobody has received yet, waits
+    /// until each worker has ended, and says where each job went that was posted.
     pub fn close<R: Threads + Wait>(self, rt: &R) -> CrewReport
         ensures workers { vec_len result.by_worker ≡ self.workers }
         ensures each { (n : ℕ) → sum_by (λ list. times n list.items) result.by_worker.items + times n result.left.items ≡ times n self.posted }
@@ -191,9 +221,11 @@ impl Crew {
             running,
             mut by_worker,
             mut left,
-            ..
+            replies,
         } = self;
         take_all_back(rt, &mut poster, &mut left);
+        // No worker waits any more for room for its reply.
+        drop(replies);
         stop_all(rt, &mut poster, running.len());
         join_all(rt, &mut poster, running, &mut by_worker);
         take_all_back(rt, &mut poster, &mut left);

@@ -12,8 +12,7 @@ use std::alloc::{AllocError, Global};
 use std::snapshot::Snapshot;
 use std::sync::atomic::{AtomicBool, Ordering};
 use std::sync::{Arc, Wait};
-use std::thread;
-use std::thread::{PromisedHandle, Threads};
+use std::thread::{Builder, PromisedHandle, Threads};
 
 // What a worker is made of, with a second handle of its flag.
 #[derive(Drop)]
@@ -64,10 +63,11 @@ pub(crate) fn make_seeds<G: Gate + Drop>(
     Ok(seeds)
 }
 
-// Starts a worker. Where no thread can be made its Taker comes back unused.
+// Starts a worker with a stack of so many bytes. Where no thread can be made its Taker comes back unused.
 pub(crate) fn hire<G: Gate + Drop + 'static, R: Threads + Wait + Copy + Send + 'static>(
     rt: R,
     alloc: Global,
+    stack: usize,
     poster: &mut Poster,
     running: &mut Vec<PromisedHandle<Shift, Honest>>,
     by_worker: &mut Vec<Vec<u64>>,
@@ -102,7 +102,10 @@ pub(crate) fn hire<G: Gate + Drop + 'static, R: Threads + Wait + Copy + Send + '
         let own = taker;
         work(&rt, alloc, own, &replies, &*gate, &*unused)
     };
-    match thread::spawn_with(&rt, promise, shift) {
+    match Builder::new()
+        .stack_size(stack)
+        .spawn_with(&rt, promise, shift)
+    {
         Ok(handle) => running.push_reserved(handle),
         Err(refused) => {
             flag.store(true, Ordering::SeqCst);

@@ -10,7 +10,6 @@ use std::alloc::Global;
 use std::snapshot::Snapshot;
 use std::sync::Wait;
 use std::sync::atomic::{AtomicBool, Ordering};
-use std::thread;
 use std::thread::Promise;
 
 // What a worker gives back: its Taker, and the numbers of the jobs that it took, in order.
@@ -28,21 +27,9 @@ impl Promise<Shift> for Honest {
     ghost kept_by = { λ p r. IsShiftOf p.0.value r };
 }
 
-// Sends a reply, and again where memory was refused. Where the receiver is gone it is given up.
-fn tell<R: Wait>(rt: &R, replies: &Sender<Reply>, reply: Reply) {
-    let mut reply = reply;
-    for _ in rt.forever() {
-        match replies.send(rt, reply) {
-            Ok(()) => return,
-            Err(e) => {
-                if e.is_disconnected() {
-                    return;
-                }
-                reply = e.into_inner();
-                thread::yield_now();
-            }
-        }
-    }
+// Sends a reply, which takes no memory. It waits for room, and where the receiver is gone the reply is dropped.
+pub(crate) fn tell<R: Wait>(rt: &R, replies: &Sender<Reply>, reply: Reply) {
+    let _ = replies.send(rt, reply);
 }
 
 // Takes jobs and replies to them until there are none, or memory for one number more is refused.

@@ -31,6 +31,8 @@ pub(crate) struct Helper {
     habit: Habit,
     jobs: Vec<Job>,
     next: Vec<Reply>,
+    pub(crate) has_refused: bool,
+    pub(crate) was_awaited: bool,
 }
 
 pub(crate) fn helper_with(alloc: Global, habit: Habit) -> Helper {
@@ -39,6 +41,8 @@ pub(crate) fn helper_with(alloc: Global, habit: Habit) -> Helper {
         habit,
         jobs: Vec::new(alloc),
         next: Vec::new(alloc),
+        has_refused: false,
+        was_awaited: false,
     }
 }
 
@@ -91,12 +95,15 @@ impl Helper {
 }
 
 impl Helpers for Helper {
+    ghost count = { λ _. 2 };
+
     fn workers(&self) -> u32 {
         2
     }
 
     fn post<R: Wait>(&mut self, _rt: &R, job: Job) -> Result<(), Full> {
         if self.habit == Habit::Refuses {
+            self.has_refused = true;
             return Err(Full { job });
         }
         match self.jobs.push(job) {
@@ -106,6 +113,7 @@ impl Helpers for Helper {
     }
 
     fn next_answer<R: Wait>(&mut self, _rt: &R) -> Option<Reply> {
+        self.was_awaited = true;
         if self.habit == Habit::Leaves {
             return None;
         }

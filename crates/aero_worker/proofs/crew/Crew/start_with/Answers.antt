@@ -2,7 +2,7 @@ use Rattle.std.proofs.Common.{◌≡◌, ◌∙◌, ap, arith}
 use Rattle.aero_stage.specs.Ends.{Posting, new_taker}
 use Rattle.aero_worker.specs.declared.seed.Seed.{Seed}
 use Rattle.aero_worker.proofs.Hands.{all_front}
-use Rattle.aero_worker.proofs.crew.Crew.start.Goals as goal
+use Rattle.aero_worker.proofs.crew.Crew.start_with.Goals as goal
 
 pub loop-seed-preserved : goal.loop-seed-preserved
 loop-seed-preserved g c =

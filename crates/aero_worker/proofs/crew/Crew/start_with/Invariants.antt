@@ -2,7 +2,7 @@ use Rattle.std.proofs.Common.{◌≡◌, ◌+◌, ◌≤◌, [], All, vec_len, v
 use Rattle.aero_stage.specs.Ends.{new_taker}
 use Rattle.aero_worker.specs.Shifts.{Tells}
 use Rattle.aero_worker.specs.Shifts.{lists_of}
-use Rattle.aero_worker.proofs.crew.Crew.start.Given as goal
+use Rattle.aero_worker.proofs.crew.Crew.start_with.Given as goal
 
 abbrev pub invariant-loop-seed : goal.invariant-loop-seed
 invariant-loop-seed g l = record {
