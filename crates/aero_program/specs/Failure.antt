@@ -1,16 +1,16 @@
 -- What the program says and answers where it stops without a whole report.
-use Rattle.std.specs.Prelude.{ℕ, List, codes}
+use Rattle.std.specs.Prelude.{ℕ, List, [], ◌∷◌, ◌++◌, codes}
 use Rattle.aero_program.specs.declared.arguments.Unread.{Unread}
 use Rattle.aero_program.specs.declared.arguments.Unread.TheVariants as unread
 use Rattle.aero_program.specs.declared.failure.Failure.{Failure}
 use Rattle.aero_program.specs.declared.failure.Failure.TheVariants.{Memory, Write, TooManyFiles, NotUtf8}
 
--- the line on standard error
+-- the line on standard error, with the byte 10 that ends it
 abbrev pub line_of : Failure → List ℕ
-line_of Memory = codes "aerodrome: out of memory"
-line_of Write = codes "aerodrome: write failed"
-line_of TooManyFiles = codes "aerodrome: more than 65536 files"
-line_of NotUtf8 = codes "aerodrome: a word is not UTF-8"
+line_of Memory = codes "aerodrome: out of memory" ++ 10 ∷ []
+line_of Write = codes "aerodrome: write failed" ++ 10 ∷ []
+line_of TooManyFiles = codes "aerodrome: more than 65536 files" ++ 10 ∷ []
+line_of NotUtf8 = codes "aerodrome: a word is not UTF-8" ++ 10 ∷ []
 
 -- the exit status: 3 where the command line was refused
 abbrev pub failure_status : Failure → ℕ

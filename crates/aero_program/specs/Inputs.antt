@@ -1,49 +1,77 @@
 -- The names of the sources, how far an input has come, and what one read does to that.
-use Rattle.std.specs.Prelude.{◌≡◌, ◌<◌, ℕ, List, [], ◌∷◌, map, Result, Ok, Err, ⊤, IsErr, codes, string_bytes}
+use Rattle.std.specs.Prelude.{◌≡◌, ◌<◌, ◌+◌, ℕ, List, [], ◌∷◌, map, length, Option, None, Result, Ok, Err, ⊤, IsErr, is_err, if◌then◌else◌, codes, string_bytes}
+use Rattle.std.specs.Io.KnownBytes.{ReadConsumes}
+use Rattle.aero_model.specs.Counts.{Seen, seen_by, moves_nothing}
 use Rattle.aero_program.specs.declared.input.Input.{Input}
 use Rattle.aero_program.specs.declared.input.Stage.{Stage}
 use Rattle.aero_program.specs.declared.input.Stage.TheVariants as stage
+use Rattle.aero_program.specs.declared.reason.Reason.{Reason}
+use Rattle.aero_program.specs.Starts.{start_bytes}
 
--- standard input; a file that wasn't opened yet; a file that is open; a file whose end was found; a file that couldn't be opened or read
+-- standard input, whose reader is seen so; a file that wasn't opened yet; a file that is open; a file whose end was found; a file that couldn't be opened or read
 pub data Standing : Type 0 where
-  Standard : Standing
+  Standard : (reader : Seen) → Standing
   Unopened : (path : List ℕ) → Standing
   Reading : Standing
   Ended : Standing
   Failed : Standing
 
-abbrev pub stage_standing : {R F D : Type 0} → Stage R F D → Standing
-stage_standing (stage.Standard stdin) = Standard
-stage_standing (stage.Unopened files path) = Unopened (string_bytes path)
-stage_standing (stage.Reading file) = Reading
-stage_standing stage.Ended = Ended
-stage_standing (stage.Failed kind) = Failed
+-- `known` is the word of standard input's reader for the bytes that it has left
+abbrev pub stage_standing : {S R F D : Type 0} → (S → Option (List ℕ)) → Stage S R F D → Standing
+stage_standing known (stage.Standard stdin) = Standard (seen_by known stdin)
+stage_standing known (stage.Unopened files path) = Unopened (string_bytes path)
+stage_standing known (stage.Reading file) = Reading
+stage_standing known stage.Ended = Ended
+stage_standing known (stage.Failed kind) = Failed
 
-abbrev pub standing_of : {R F D : Type 0} → Input R F D → Standing
-standing_of input = stage_standing input.stage
+abbrev pub standing_of : {S R F D : Type 0} → (S → Option (List ℕ)) → Input S R F D → Standing
+standing_of known input = stage_standing known input.stage
 
--- how a read of an open file with room for so many bytes leaves it
-abbrev pub Leaves : {E : Type 0} → Standing → ℕ → Result ℕ E → Type 0
-Leaves Reading room (Ok n) = n ≡ 0 → room ≡ 0
-Leaves Ended room (Ok n) = (n ≡ 0) × (0 < room)
-Leaves Failed room (Err e) = ⊤
-Leaves standing room result = ⊥
+-- the first three bytes that came, as far as they came
+abbrev pub start_of : {S R F D : Type 0} → Input S R F D → List ℕ
+start_of input = start_bytes input.start
 
--- One read: a file is opened at the first, and is read until its end is found, from where on each read gives 0 bytes, or until an open or a read fails, from where on each read fails.
-abbrev pub StepsTo : {E : Type 0} → Standing → Standing → ℕ → Result ℕ E → Type 0
-StepsTo Standard Standard room result = ⊤
-StepsTo (Unopened path) new room result = Leaves new room result
-StepsTo Reading new room result = Leaves new room result
-StepsTo Ended Ended room result = result ≡ Ok 0
-StepsTo Failed Failed room result = IsErr result
-StepsTo old new room result = ⊥
+-- why the first read that failed did
+abbrev pub reason_of : {S R F D : Type 0} → Input S R F D → Option Reason
+reason_of input = input.reason
+
+-- a reader of which nothing was read
+abbrev pub unread : Option (List ℕ) → Seen
+unread bytes = record { bytes = bytes; faults = 0; ends = 0 }
+
+-- the bytes that an input has left, where they are known: those of standard input alone can be
+abbrev pub bytes_left : Standing → Option (List ℕ)
+bytes_left (Standard reader) = reader.bytes
+bytes_left standing = None
+
+-- a read that answers as its reader did: a failure exactly where the reader failed, the end exactly where the reader found it, and else the reader's bytes
+pub record AnswersAs {E : Type 0} (before after : Seen) (buffer : List ℕ) (result : Result ℕ E) : Type 0 where
+  pub bytes : ReadConsumes before.bytes after.bytes result buffer
+  pub faults : after.faults ≡ before.faults + (if is_err result then 1 else 0)
+  pub ends : after.ends ≡ before.ends + (if moves_nothing result buffer then 1 else 0)
+
+-- how a read of an open file into this buffer leaves it
+abbrev pub Leaves : {E : Type 0} → Standing → List ℕ → Result ℕ E → Type 0
+Leaves Reading buffer (Ok n) = n ≡ 0 → length buffer ≡ 0
+Leaves Ended buffer (Ok n) = (n ≡ 0) × (0 < length buffer)
+Leaves Failed buffer (Err e) = ⊤
+Leaves standing buffer result = ⊥
+
+-- One read: standard input answers as its reader does. A file is opened at the first, and is read until its end is found, from where on each read gives 0 bytes, or until an open or a read fails, from where on each read fails.
+abbrev pub StepsTo : {E : Type 0} → Standing → Standing → List ℕ → Result ℕ E → Type 0
+StepsTo (Standard before) (Standard after) buffer result = AnswersAs before after buffer result
+StepsTo (Unopened path) new buffer result = Leaves new buffer result
+StepsTo Reading new buffer result = Leaves new buffer result
+StepsTo Ended Ended buffer result = result ≡ Ok 0
+StepsTo Failed Failed buffer result = IsErr result
+StepsTo old new buffer result = ⊥
 
 -- the sources are named as the files that the words name, in order, or `-` where they name none
 abbrev pub source_names : List (List ℕ) → List (List ℕ)
 source_names [] = codes "-" ∷ []
 source_names (file ∷ more) = file ∷ more
 
--- the readers of the sources stand so: each for its own word, not opened yet, or standard input where there are no words
-abbrev pub source_standings : List (List ℕ) → List Standing
-source_standings [] = Standard ∷ []
-source_standings (file ∷ more) = map Unopened (file ∷ more)
+-- the readers of the sources stand so: each for its own word, not opened yet, or standard input with these bytes where there are no words
+abbrev pub source_standings : List (List ℕ) → Option (List ℕ) → List Standing
+source_standings [] given = Standard (unread given) ∷ []
+source_standings (file ∷ more) given = map Unopened (file ∷ more)

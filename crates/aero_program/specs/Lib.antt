@@ -1,3 +1,10 @@
+pub mod Answers
+pub mod Command
 pub mod Failure
 pub mod Inputs
+pub mod Notes
+pub mod Reasons
+pub mod Sightings
+pub mod Starts
 pub mod Status
+pub mod Streams

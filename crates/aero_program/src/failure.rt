@@ -19,15 +19,15 @@ pub enum Failure {
 }
 
 impl Failure {
-    /// The line on standard error, without its line end.
+    /// The line on standard error, with its line end.
     pub fn line(self) -> &'static str
         ensures { result.now ≡ line_of self }
     {
         match self {
-            Failure::Memory => "aerodrome: out of memory",
-            Failure::Write => "aerodrome: write failed",
-            Failure::TooManyFiles => "aerodrome: more than 65536 files",
-            Failure::NotUtf8 => "aerodrome: a word is not UTF-8",
+            Failure::Memory => "aerodrome: out of memory\n",
+            Failure::Write => "aerodrome: write failed\n",
+            Failure::TooManyFiles => "aerodrome: more than 65536 files\n",
+            Failure::NotUtf8 => "aerodrome: a word is not UTF-8\n",
         }
     }
 

@@ -1,25 +1,34 @@
-//! Standard input or a file, as a reader that opens its file at the first read.
+//! Standard input or a file, as a reader that opens its file at the first read, and notes how its
+//! bytes begin and why a read failed.
+ghost use Rattle.std.specs.Prelude.{◌≡◌};
+
+use crate::reason::Reason;
+use crate::start::Start;
+use aero_model::counting::Counting;
 use std::alloc::{AllocError, Global};
 use std::fs::File;
-use std::io::{ErrorKind, Read, Stdin};
+use std::io::{ErrorKind, Read};
 use std::rt::Files;
 use std::{io, mem};
 
-/// A source of bytes: standard input, or the file at a path. `R` reaches the files, as a runtime
-/// or a reference to one.
+/// A source of bytes: standard input, read by an `S`, or the file at a path. `R` reaches the files,
+/// as a runtime or a reference to one.
 ///
-/// The file is opened at the first read, and closed where a read finds its end or fails. A read
-/// after the end gives 0 bytes; after a failed open or a failed read each later read fails. So of
-/// many inputs that are read to their ends one after the other, one file at most is open.
+/// Standard input is read for as long as somebody reads. A file is opened at the first read, and
+/// closed where a read finds its end or fails. A read after the end gives 0 bytes; after a failed
+/// open or a failed read each later read fails. So of many files that are read to their ends one
+/// after the other, one at most is open.
 #[derive(Drop)]
-pub struct Input<R: Files> {
-    stage: Stage<R>,
+pub struct Input<S, R: Files> {
+    stage: Stage<S, R>,
+    start: Start,
+    reason: Option<Reason>,
 }
 
 // How far an input has come.
 #[derive(Drop)]
-enum Stage<R: Files> {
-    Standard(Stdin),
+enum Stage<S, R: Files> {
+    Standard(Counting<S>),
     Unopened(R, String),
     Reading(R::File),
     Ended,
@@ -27,54 +36,94 @@ enum Stage<R: Files> {
     Failed(ErrorKind),
 }
 
-impl<R: Files + Drop> Input<R> {
-    ghost use Rattle.std.specs.Prelude.{◌≡◌, IfOk};
-    ghost use Rattle.aero_program.specs.Inputs.{standing_of, Standard, Unopened};
+impl<S: Read + Drop, R: Files + Drop> Input<S, R> {
+    ghost use Rattle.std.specs.Prelude.{◌≡◌, [], None, IfOk, bytes_eq};
+    ghost use Rattle.aero_program.specs.Inputs.{standing_of, start_of, reason_of, unread, Standard, Unopened};
+    ghost use Rattle.aero_program.specs.Starts.{byte_order_mark};
 
     /// Standard input.
-    pub fn standard(stdin: Stdin) -> Input<R>
-        ensures { standing_of result ≡ Standard }
+    pub fn standard(stdin: S) -> Input<S, R>
+        ensures standing { standing_of S.remaining result ≡ Standard (unread (S.remaining stdin)) }
+        ensures start { start_of result ≡ [] }
+        ensures reason { reason_of result ≡ None }
     {
-        Input {
-            stage: Stage::Standard(stdin),
-        }
+        Input::at(Stage::Standard(Counting::new(stdin)))
     }
 
     /// The file at the path, which isn't touched yet. `-` is a path like any other.
-    pub fn path(alloc: Global, files: R, path: &str) -> Result<Input<R>, AllocError>
-        ensures { IfOk result (λ input. standing_of input ≡ Unopened path.now) }
+    pub fn path(alloc: Global, files: R, path: &str) -> Result<Input<S, R>, AllocError>
+        ensures standing { IfOk result (λ input. standing_of S.remaining input ≡ Unopened path.now) }
+        ensures start { IfOk result (λ input. start_of input ≡ []) }
+        ensures reason { IfOk result (λ input. reason_of input ≡ None) }
     {
         let path = String::from_str(alloc, path)?;
-        Ok(Input {
-            stage: Stage::Unopened(files, path),
-        })
+        Ok(Input::at(Stage::Unopened(files, path)))
+    }
+
+    fn at(stage: Stage<S, R>) -> Input<S, R>
+        ensures stage { result.stage ≡ stage }
+        ensures start { start_of result ≡ [] }
+        ensures reason { reason_of result ≡ None }
+    {
+        Input {
+            stage,
+            start: Start::Nothing,
+            reason: None,
+        }
+    }
+
+    /// Whether the bytes that came begin with a byte order mark, EF BB BF.
+    pub fn has_mark(&self) -> bool
+        ensures { result ≡ bytes_eq (start_of self.now) byte_order_mark }
+    {
+        self.start.is_mark()
+    }
+
+    /// Why the first read that failed did, if one did.
+    pub fn reason(&self) -> Option<Reason>
+        ensures { result ≡ reason_of self.now }
+    {
+        self.reason
     }
 }
 
-impl<R: Files + Drop> Read for Input<R> {
-    ghost use Rattle.std.specs.Prelude.{length};
+impl<S: Read + Drop, R: Files + Drop> Read for Input<S, R> {
     ghost use Rattle.std.specs.Io.{ReadsAtMost};
-    ghost use Rattle.aero_program.specs.Inputs.{standing_of, StepsTo};
+    ghost use Rattle.std.specs.Io.KnownBytes.{ReadConsumes};
+    ghost use Rattle.aero_program.specs.Inputs.{standing_of, bytes_left, start_of, reason_of, StepsTo};
+    ghost use Rattle.aero_program.specs.Starts.{start_after};
+    ghost use Rattle.std.specs.IoError.{raw_os_error};
+    ghost use Rattle.aero_program.specs.Reasons.{reason_after};
+
+    ghost remaining = { λ input. bytes_left (standing_of S.remaining input) };
 
     fn read(&mut self, buf: &mut [u8]) -> io::Result<usize>
         ensures bound { ReadsAtMost result buf.new }
-        ensures steps { StepsTo (standing_of self.old) (standing_of self.new) (length buf.new) result }
+        ensures bytes { ReadConsumes (bytes_left (standing_of S.remaining self.old)) (bytes_left (standing_of S.remaining self.new)) result buf.new }
+        ensures steps { StepsTo (standing_of S.remaining self.old) (standing_of S.remaining self.new) buf.new result }
+        ensures start { start_of self.new ≡ start_after (start_of self.old) result buf.new }
+        ensures reason { reason_of self.new ≡ reason_after raw_os_error (reason_of self.old) result }
     {
         let (stage, outcome) = mem::replace(&mut self.stage, Stage::Ended).read(buf);
         self.stage = stage;
+        match &outcome {
+            Ok(count) => self.start = self.start.after_all(&buf[..*count]),
+            Err(error) => self.reason = self.reason.or(Some(Reason::of(error))),
+        }
         outcome
     }
 }
 
-impl<R: Files + Drop> Stage<R> {
-    ghost use Rattle.std.specs.Prelude.{length};
+impl<S: Read + Drop, R: Files + Drop> Stage<S, R> {
     ghost use Rattle.std.specs.Io.{ReadsAtMost};
-    ghost use Rattle.aero_program.specs.Inputs.{stage_standing, StepsTo, Leaves};
+    ghost use Rattle.std.specs.Io.KnownBytes.{ReadConsumes};
+    ghost use Rattle.aero_program.specs.Inputs.{stage_standing, bytes_left, StepsTo, Leaves};
 
     // One read, and the stage after it.
-    fn read(self, buf: &mut [u8]) -> (Stage<R>, io::Result<usize>)
+    fn read(self, buf: &mut [u8]) -> (Stage<S, R>, io::Result<usize>)
         ensures bound { ReadsAtMost result.1 buf.new }
-        ensures steps { StepsTo (stage_standing self) (stage_standing result.0) (length buf.new) result.1 }
+        ensures bytes { ReadConsumes (bytes_left (stage_standing S.remaining self)) (bytes_left (stage_standing S.remaining result.0)) result.1 buf.new }
+        ensures steps { StepsTo (stage_standing S.remaining self) (stage_standing S.remaining result.0) buf.new result.1 }
     {
         match self {
             Stage::Standard(mut stdin) => {
@@ -92,9 +141,9 @@ impl<R: Files + Drop> Stage<R> {
     }
 
     // One read of an open file, which is closed where its end is found or the read fails.
-    fn read_file(mut file: R::File, buf: &mut [u8]) -> (Stage<R>, io::Result<usize>)
+    fn read_file(mut file: R::File, buf: &mut [u8]) -> (Stage<S, R>, io::Result<usize>)
         ensures bound { ReadsAtMost result.1 buf.new }
-        ensures leaves { Leaves (stage_standing result.0) (length buf.new) result.1 }
+        ensures leaves { Leaves (stage_standing S.remaining result.0) buf.new result.1 }
     {
         match file.read(buf) {
             Err(error) => (Stage::Failed(error.kind()), Err(error)),

@@ -1,26 +1,29 @@
 //! The sources that the words name.
 ghost use Rattle.std.specs.Prelude.{◌≡◌, ◌≤◌, ◌^◌, IfOk, length, map, string_bytes, vec_len};
 ghost use Rattle.aero_model.specs.Counts.{inner_of};
-ghost use Rattle.aero_program.specs.Inputs.{source_names, source_standings, standing_of, Unopened};
+ghost use Rattle.aero_batch.specs.Founds.{sighted};
+ghost use Rattle.aero_program.specs.Inputs.{bytes_left, source_names, source_standings, standing_of, Unopened};
+ghost use Rattle.aero_program.specs.Sightings.{file_sighting, source_sightings};
 
 use crate::input::Input;
 use aero_batch::source::Source;
 use aero_model::counting::Counting;
 use std::alloc::{AllocError, Global};
-use std::io::Stdin;
+use std::io::Read;
 use std::rt::Files;
 
 /// Standard input, named `-`, where there are no words, and else the file of each word, named as
 /// its word. No file is touched yet.
-pub fn sources_of<'a, R: Files + Drop>(
+pub fn sources_of<'a, S: Read + Drop, R: Files + Drop>(
     alloc: Global,
     files: &'a R,
-    stdin: Stdin,
+    stdin: S,
     words: &[String],
-) -> Result<Vec<Source<Input<&'a R>>>, AllocError>
+) -> Result<Vec<Source<Input<S, &'a R>>>, AllocError>
     ensures few { length words.now ≤ 2 ^ 16 → IfOk result (λ sources. vec_len sources ≤ 2 ^ 16) }
     ensures names { IfOk result (λ sources. map (λ s. s.name.items) sources.items ≡ source_names (map string_bytes words.now)) }
-    ensures readers { IfOk result (λ sources. map (λ s. standing_of (inner_of s.reader)) sources.items ≡ source_standings (map string_bytes words.now)) }
+    ensures readers { IfOk result (λ sources. map (λ s. standing_of S.remaining (inner_of s.reader)) sources.items ≡ source_standings (map string_bytes words.now) (S.remaining stdin)) }
+    ensures sighted { IfOk result (λ sources. map (sighted (λ input. bytes_left (standing_of S.remaining input))) sources.items ≡ source_sightings (map string_bytes words.now) (S.remaining stdin)) }
 {
     if !words.is_empty() {
         return files_of(alloc, files, words);
@@ -34,13 +37,14 @@ pub fn sources_of<'a, R: Files + Drop>(
 }
 
 // The file of each word, named as its word.
-fn files_of<'a, R: Files + Drop>(
+fn files_of<'a, S: Read + Drop, R: Files + Drop>(
     alloc: Global,
     files: &'a R,
     words: &[String],
-) -> Result<Vec<Source<Input<&'a R>>>, AllocError>
+) -> Result<Vec<Source<Input<S, &'a R>>>, AllocError>
     ensures names { IfOk result (λ sources. map (λ s. s.name.items) sources.items ≡ map string_bytes words.now) }
-    ensures readers { IfOk result (λ sources. map (λ s. standing_of (inner_of s.reader)) sources.items ≡ map Unopened (map string_bytes words.now)) }
+    ensures readers { IfOk result (λ sources. map (λ s. standing_of S.remaining (inner_of s.reader)) sources.items ≡ map Unopened (map string_bytes words.now)) }
+    ensures sighted { IfOk result (λ sources. map (sighted (λ input. bytes_left (standing_of S.remaining input))) sources.items ≡ map file_sighting (map string_bytes words.now)) }
 {
     let mut sources = Vec::new(alloc);
     for word in words {

@@ -1,8 +1,10 @@
 //! The exit status of a run.
-ghost use Rattle.std.specs.Prelude.{◌≡◌};
-ghost use Rattle.aero_program.specs.Status.{status_of};
+ghost use Rattle.std.specs.Prelude.{◌≡◌, is_err};
+ghost use Rattle.aero_program.specs.Status.{status_of, end_of_run};
 
-use aero_batch::outcome::Outcome;
+use crate::failure::Failure;
+use aero_batch::outcome::{Cause, Outcome};
+use std::io;
 
 /// The exit status of a run: 4 where it stopped before its summary was written, else 2 where a
 /// source is malformed, ill-formed, broken or too large, else 1 where one has a violation, else 0.
@@ -17,5 +19,22 @@ pub fn status(outcome: &Outcome) -> u8
         1
     } else {
         0
+    }
+}
+
+/// How the program ends after a run: its exit status, where the report was written and the flush of
+/// standard output, whose result this is, didn't fail.
+///
+/// # Errors
+///
+/// `Memory` or `Write` where the run stopped for that; `Write` where the flush failed.
+pub fn status_after(outcome: &Outcome, flushed: &io::Result<()>) -> Result<u8, Failure>
+    ensures { result ≡ end_of_run outcome.now.cause outcome.now.counts (is_err flushed.now) }
+{
+    match outcome.cause {
+        Some(Cause::Memory) => Err(Failure::Memory),
+        Some(Cause::Write) => Err(Failure::Write),
+        None if flushed.is_err() => Err(Failure::Write),
+        None => Ok(status(outcome)),
     }
 }

@@ -1,21 +1,24 @@
+use crate::answer::answer;
 use crate::arguments::{Unread, words_of};
+use crate::command::{Config, Refused, Stop};
 use crate::failure::Failure;
 use crate::input::Input;
-use crate::sources::sources_of;
-use crate::status::status;
+use crate::output::Output;
+use crate::reason::Reason;
+use crate::status::{status, status_after};
 use aero_batch::outcome::{Cause, Outcome};
-use aero_batch::plan::Plan;
-use aero_batch::run::run;
 use aero_gather::gather::Tally;
 use aero_model::counting::Counting;
-use aero_model::limits::Limits;
-use aero_model::verdict::{Counts, Ending};
-use aero_worker::NoGate;
+use aero_model::verdict::Counts;
 use std::alloc::Global;
 use std::env::{Env, FillError};
-use std::io::Read;
-use std::sync::Arc;
+use std::io;
+use std::io::{ErrorKind, Read, Write};
+use std::process::Abort;
+use std::rt::Files;
+use std::sync::Wait;
 use std::test::Fail;
+use std::thread::Threads;
 
 fn outcome_of(alloc: Global, counts: [u64; 4], cause: Option<Cause>) -> Outcome {
     let [serializable, pending, violations, faults] = counts;
@@ -52,44 +55,30 @@ fn each_end_has_its_status(rt: HostRuntime) {
         ([0, 0, 0, 1], Some(Cause::Write), 4),
     ];
     for (counts, cause, expected) in runs {
-        assert_eq!(rt; status(&outcome_of(rt.alloc(), counts, cause)), expected);
+        let outcome = outcome_of(rt.alloc(), counts, cause);
+        assert_eq!(rt; status(&outcome), expected);
+        let flushed = match status_after(&outcome, &Ok(())) {
+            Ok(status) => status,
+            Err(failure) => failure.status(),
+        };
+        assert_eq!(rt; flushed, expected);
+        let unflushed = Err(io::Error::from(ErrorKind::BrokenPipe));
+        assert!(rt; status_after(&outcome, &unflushed).is_err());
     }
     let failures = [
-        (Failure::Memory, "aerodrome: out of memory", 4),
-        (Failure::Write, "aerodrome: write failed", 4),
-        (Failure::TooManyFiles, "aerodrome: more than 65536 files", 3),
-        (Failure::NotUtf8, "aerodrome: a word is not UTF-8", 3),
+        (Failure::Memory, "aerodrome: out of memory\n", 4),
+        (Failure::Write, "aerodrome: write failed\n", 4),
+        (
+            Failure::TooManyFiles,
+            "aerodrome: more than 65536 files\n",
+            3,
+        ),
+        (Failure::NotUtf8, "aerodrome: a word is not UTF-8\n", 3),
     ];
     for (failure, line, expected) in failures {
         assert!(rt; failure.line() == line);
         assert_eq!(rt; failure.status(), expected);
     }
-}
-
-#[test]
-fn a_file_that_is_not_there_is_broken_after_0_bytes(rt: HostRuntime) -> Result<(), Fail> {
-    let alloc = rt.alloc();
-    let standard = sources_of(alloc, &rt, rt.stdin(), &[])?;
-    assert_eq!(rt; standard.len(), 1);
-    assert_eq!(rt; standard[0].name.as_slice(), b"-".as_slice());
-
-    let words = [String::from_str(alloc, "none")?];
-    let mut sources = sources_of(alloc, &rt, rt.stdin(), &words)?;
-    let Some(plan) = Plan::new(4, 65_536, Limits::greatest()) else {
-        return Err(Fail::from("no plan"));
-    };
-    let mut writer = Counting::new(Vec::new(alloc));
-    let gate = Arc::new(alloc, NoGate)?;
-    let outcome = run(rt, alloc, &mut sources, &mut writer, &plan, gate);
-    assert_eq!(rt; status(&outcome), 2);
-    assert_eq!(rt;
-        outcome.endings.as_slice(),
-        [(0, Ending::Broken)].as_slice()
-    );
-    let report = b"none: broken after 0 bytes\n\
-        traces 1: serializable 0, open 0, violations 0, faults 1\n";
-    assert_eq!(rt; writer.into_inner().as_slice(), report.as_slice());
-    Ok(())
 }
 
 // Three arguments, the first of which is the program's name.
@@ -144,21 +133,318 @@ fn words_come_without_the_program_s_name_as_utf_8_alone(rt: HostRuntime) -> Resu
 #[test]
 fn inputs_fail_at_each_read_or_are_read_to_their_ends(rt: HostRuntime) -> Result<(), Fail> {
     let mut buf = [1u8; 8];
-    for path in ["none/of/these", "/"] {
-        let mut input = Input::path(rt.alloc(), &rt, path)?;
+    for (path, words) in [
+        ("none/of/these", "No such file or directory"),
+        ("/dev/null/none", "Not a directory"),
+        ("/", "Is a directory"),
+    ] {
+        let mut input: Input<Text, _> = Input::path(rt.alloc(), &rt, path)?;
+        assert!(rt; input.reason().is_none(), "{path}");
         for _ in 0..3 {
             assert!(rt; input.read(&mut buf).is_err(), "{path}");
         }
         assert!(rt; input.read(&mut []).is_err(), "{path}");
+        assert!(rt; input.reason().map_or("", Reason::words) == words, "{path}");
     }
-    let mut zeros = Input::path(rt.alloc(), &rt, "/dev/zero")?;
+    let mut zeros: Input<Text, _> = Input::path(rt.alloc(), &rt, "/dev/zero")?;
     assert_eq!(rt; zeros.read(&mut [])?, 0);
     assert_eq!(rt; zeros.read(&mut buf)?, 8);
     assert_eq!(rt; buf, [0; 8]);
-    let mut nothing = Input::path(rt.alloc(), &rt, "/dev/null")?;
+    let mut nothing: Input<Text, _> = Input::path(rt.alloc(), &rt, "/dev/null")?;
     assert_eq!(rt; nothing.read(&mut [])?, 0);
     for _ in 0..3 {
         assert_eq!(rt; nothing.read(&mut buf)?, 0);
+    }
+    assert!(rt; nothing.reason().is_none());
+    Ok(())
+}
+
+// A text, and then its end or a failure.
+#[derive(Drop)]
+struct Text {
+    left: &'static [u8],
+    fails: bool,
+}
+
+impl Read for Text {
+    fn read(&mut self, buf: &mut [u8]) -> io::Result<usize> {
+        if self.fails && self.left.is_empty() {
+            return Err(io::Error::from_raw_os_error(5));
+        }
+        self.left.read(buf)
+    }
+}
+
+// A writer with room for so many bytes, whose flush may fail.
+#[derive(Drop)]
+struct Narrow {
+    taken: Vec<u8>,
+    room: usize,
+    flush_fails: bool,
+}
+
+impl Write for Narrow {
+    fn write(&mut self, buf: &[u8]) -> io::Result<usize> {
+        let count = buf.len().min(self.room);
+        if count == 0 {
+            return Err(io::Error::from(ErrorKind::BrokenPipe));
+        }
+        self.taken.extend_from_slice(&buf[..count])?;
+        self.room -= count;
+        Ok(count)
+    }
+
+    fn flush(&mut self) -> io::Result<()> {
+        if self.flush_fails {
+            return Err(io::Error::from(ErrorKind::BrokenPipe));
+        }
+        Ok(())
+    }
+}
+
+fn room_for(alloc: Global, room: usize, flush_fails: bool) -> Narrow {
+    Narrow {
+        taken: Vec::new(alloc),
+        room,
+        flush_fails,
+    }
+}
+
+// What one call is to answer: what goes out on standard output and standard error, and the status.
+type Wanted = (&'static [u8], &'static [u8], u8);
+
+fn expect<R: Abort + AllocGlobal + Files + Threads + Wait + Copy + Drop + Send + 'static>(
+    rt: R,
+    asked: Result<Config, Stop>,
+    stdin: Text,
+    streams: (Narrow, Narrow),
+    wanted: Wanted,
+) {
+    let mut output = Output::new(streams.0);
+    let mut errors = Counting::new(streams.1);
+    let status = answer(rt, rt.alloc(), asked, &rt, stdin, &mut output, &mut errors);
+    assert_eq!(rt; output.into_inner().taken.as_slice(), wanted.0);
+    assert_eq!(rt; errors.into_inner().taken.as_slice(), wanted.1);
+    assert_eq!(rt; status, wanted.2);
+}
+
+fn config_of(alloc: Global, file: Option<&str>) -> Result<Config, Fail> {
+    let mut files = Vec::new(alloc);
+    if let Some(file) = file {
+        files.push(String::from_str(alloc, file)?)?;
+    }
+    Ok(Config {
+        workers: 2,
+        piece: 1,
+        files,
+    })
+}
+
+const SERIALIZABLE: Wanted = (
+    b"-: serializable (1 events, 0 blocks)\n\
+        traces 1: serializable 1, open 0, violations 0, faults 0\n",
+    b"",
+    0,
+);
+
+// Reads give one byte each: standard input, one that fails or begins with a byte order mark, files that
+// can't be opened or read, and a standard output that is full or fails when flushed.
+#[test]
+fn what_is_asked_for_is_judged(rt: HostRuntime) -> Result<(), Fail> {
+    let (report, _, _) = SERIALIZABLE;
+    let rows: [(Option<&str>, &'static [u8], bool, usize, bool, Wanted); 9] = [
+        (None, b"T1|w(x)\n", false, 200, false, SERIALIZABLE),
+        (
+            None,
+            b"T1|begin\nT2|begin\nT1|w(x)\nT2|r(x)\nT2|w(y)\nT1|r(y)\n",
+            false,
+            200,
+            false,
+            (
+                b"-: violation at line 6: block of T1 from line 1\n\
+                    traces 1: serializable 0, open 0, violations 1, faults 0\n",
+                b"",
+                1,
+            ),
+        ),
+        (
+            None,
+            b"\xEF\xBB\xBFT1|w(x)\n",
+            false,
+            200,
+            false,
+            (
+                report,
+                b"aerodrome: -: starts with a byte order mark, which counts as part of the first thread's name\n",
+                0,
+            ),
+        ),
+        (
+            None,
+            b"T1|w(x)\n",
+            true,
+            200,
+            false,
+            (
+                b"-: broken after 8 bytes\n\
+                    traces 1: serializable 0, open 0, violations 0, faults 1\n",
+                b"aerodrome: -: Input/output error\n",
+                2,
+            ),
+        ),
+        (
+            None,
+            b"\xEF\xBB\xBF",
+            true,
+            200,
+            false,
+            (
+                b"-: broken after 3 bytes\n\
+                    traces 1: serializable 0, open 0, violations 0, faults 1\n",
+                b"aerodrome: -: starts with a byte order mark, which counts as part of the first thread's name\n\
+                    aerodrome: -: Input/output error\n",
+                2,
+            ),
+        ),
+        (
+            Some("none"),
+            b"",
+            false,
+            200,
+            false,
+            (
+                b"none: broken after 0 bytes\n\
+                    traces 1: serializable 0, open 0, violations 0, faults 1\n",
+                b"aerodrome: none: No such file or directory\n",
+                2,
+            ),
+        ),
+        (
+            Some("/"),
+            b"",
+            false,
+            200,
+            false,
+            (
+                b"/: broken after 0 bytes\n\
+                    traces 1: serializable 0, open 0, violations 0, faults 1\n",
+                b"aerodrome: /: Is a directory\n",
+                2,
+            ),
+        ),
+        (
+            None,
+            b"T1|w(x)\n",
+            false,
+            10,
+            false,
+            (b"-: seriali", b"aerodrome: write failed\n", 4),
+        ),
+        (
+            None,
+            b"T1|w(x)\n",
+            false,
+            200,
+            true,
+            (report, b"aerodrome: write failed\n", 4),
+        ),
+    ];
+    for (file, left, fails, room, flush_fails, wanted) in rows {
+        let config = config_of(rt.alloc(), file)?;
+        let streams = (
+            room_for(rt.alloc(), room, flush_fails),
+            room_for(rt.alloc(), 200, false),
+        );
+        expect(rt, Ok(config), Text { left, fails }, streams, wanted);
+    }
+    Ok(())
+}
+
+fn refused(alloc: Global, text: &str, is_help: bool) -> Result<Stop, Fail> {
+    let text = String::from_str(alloc, text)?;
+    Ok(Stop::Refused(if is_help {
+        Refused::Help(text)
+    } else {
+        Refused::Usage(text)
+    }))
+}
+
+// Help on standard output, all else on standard error; where that takes nothing, the status still tells.
+#[test]
+fn what_is_not_judged_is_told(rt: HostRuntime) -> Result<(), Fail> {
+    let alloc = rt.alloc();
+    let failed: &'static [u8] = b"aerodrome: write failed\n";
+    let memory: Wanted = (b"", b"aerodrome: out of memory\n", 4);
+    let rows: [(Stop, usize, bool, usize, Wanted); 10] = [
+        (
+            refused(alloc, "help\n", true)?,
+            200,
+            false,
+            200,
+            (b"help\n", b"", 0),
+        ),
+        (
+            refused(alloc, "help\n", true)?,
+            2,
+            false,
+            200,
+            (b"he", failed, 4),
+        ),
+        (
+            refused(alloc, "help\n", true)?,
+            200,
+            true,
+            200,
+            (b"help\n", failed, 4),
+        ),
+        (
+            refused(alloc, "why\n", false)?,
+            200,
+            false,
+            200,
+            (b"", b"why\n", 3),
+        ),
+        (
+            refused(alloc, "why\n", false)?,
+            200,
+            false,
+            2,
+            (b"", b"wh", 3),
+        ),
+        (
+            Stop::Refused(Refused::TooManyFiles),
+            200,
+            false,
+            200,
+            (b"", b"aerodrome: more than 65536 files\n", 3),
+        ),
+        (
+            Stop::Refused(Refused::TooManyFiles),
+            200,
+            false,
+            0,
+            (b"", b"", 3),
+        ),
+        (Stop::Refused(Refused::Memory), 200, false, 200, memory),
+        (
+            Stop::Unread(Unread::NotUtf8),
+            200,
+            false,
+            200,
+            (b"", b"aerodrome: a word is not UTF-8\n", 3),
+        ),
+        (Stop::Unread(Unread::Memory), 200, false, 200, memory),
+    ];
+    for (stop, room, flush_fails, error_room, wanted) in rows {
+        let stdin = Text {
+            left: b"",
+            fails: true,
+        };
+        let streams = (
+            room_for(alloc, room, flush_fails),
+            room_for(alloc, error_room, false),
+        );
+        expect(rt, Err(stop), stdin, streams, wanted);
     }
     Ok(())
 }

@@ -72,11 +72,18 @@ all of them. NAME is the FILE's word, byte by byte.
 Of a malformed line, an ill-formed event and a violation, what stands first by
 line is told; at one event ill-formed goes first.
 
+After the report, on standard error, in the order of the traces:
+  aerodrome: NAME: starts with a byte order mark, which counts as part of the
+  first thread's name
+      Such a mark (the bytes 239, 187, 191) is no part of the text form.
+  aerodrome: NAME: REASON
+      Why it couldn't be opened or read, as `No such file or directory`.
+
 The exit status, the highest that applies, so that 2 hides 1:
   0  no trace has a violation or a fault; also after --help and --version
   1  a trace has a violation
   2  a trace is malformed, ill-formed, broken or too large
   3  the command line was refused, or a word isn't UTF-8: what is wrong stands
      on standard error
-  4  memory ran out, or the report couldn't be written: one line on standard
-     error says which";
+  4  memory ran out, or the report couldn't be written: the last line on
+     standard error says which";

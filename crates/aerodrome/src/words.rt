@@ -5,6 +5,7 @@ ghost use Rattle.clap.specs.declared.builder.value_parser.ValueParser.TheVariant
 ghost use Rattle.aerodrome.specs.Words.{IsCommandLine, ReadsWithin};
 
 use crate::help;
+pub use aero_program::command::{Config, Refused};
 use clap::error::ErrorKind;
 use clap::{Arg, ArgAction, ArgMatches, Command, Error, value_parser};
 use std::alloc::{AllocError, Global};
@@ -19,45 +20,6 @@ const DEFAULT_WORKERS: u32 = 4;
 const MOST_PIECE: u32 = 1_048_576;
 
 const DEFAULT_PIECE: u32 = 65_536;
-
-/// What a command line asks for: 1 to 16 workers, reads of 1 to 1,048,576 bytes, and at most
-/// 65,536 files, in the order of the words. No files at all means standard input.
-#[derive(Drop)]
-pub struct Config {
-    pub workers: u32,
-    pub piece: u32,
-    pub files: Vec<String>,
-    ghost some_workers: { 0 < workers },
-    ghost most_workers: { workers ≤ 16 },
-    ghost some_piece: { 0 < piece },
-    ghost most_piece: { piece ≤ 2 ^ 20 },
-    ghost most_files: { vec_len files ≤ 2 ^ 16 },
-}
-
-/// Why a command line gives no `Config`. In checking order.
-#[derive(Debug, Drop)]
-pub enum Refused {
-    /// It asks for the help or the version, which is this text, with its last line end.
-    Help(String),
-    /// It is no command line of this program. The text says why, with its last line end.
-    Usage(String),
-    /// It names more than 65,536 files.
-    TooManyFiles,
-    /// Memory was refused.
-    Memory,
-}
-
-impl From<AllocError> for Refused {
-    ghost use Rattle.std.specs.Prelude.{◌≡◌};
-    ghost use Rattle.aerodrome.specs.declared.words.Refused.{Refused};
-    ghost use Rattle.aerodrome.specs.declared.words.Refused.TheVariants.{Memory};
-
-    ghost from_gives = { λ _ refused. refused ≡ Memory };
-
-    fn from(_error: AllocError) -> Refused {
-        Refused::Memory
-    }
-}
 
 /// Reads the words that follow the program's name.
 pub fn settle_words(alloc: Global, words: &[String]) -> Result<Config, Refused> {

@@ -1,0 +1,4 @@
+mod Fronts
+mod Judged
+mod Parts
+mod Tells

@@ -1,0 +1,40 @@
+-- What goes out on standard output and standard error.
+use Rattle.std.specs.Prelude.{◌≡◌, ◌+◌, ◌<◌, ◌⊎◌, ℕ, Bool, List, length, take, Option, if◌then◌else◌}
+use Rattle.std.specs.Io.KnownBytes.{Appends, Keeps}
+use Rattle.aero_model.specs.declared.counting.Counting.{Counting}
+use Rattle.aero_model.specs.Counts.{Seen, seen_by}
+use Rattle.aero_batch.specs.Founds.{Took}
+use Rattle.aero_program.specs.declared.output.Output.{Output}
+
+abbrev pub writer_of : {W : Type 0} → Output W → Counting W
+writer_of output = output.writer
+
+-- how many flushes have failed
+abbrev pub unflushed_of : {W : Type 0} → Output W → ℕ
+unflushed_of output = output.unflushed.number
+
+-- standard output at a moment: what is seen of its writer, and how many flushes have failed
+pub record Shown : Type 0 where
+  pub writer : Seen
+  pub unflushed : ℕ
+
+-- `known` is the type's own word for the bytes that a writer holds
+abbrev pub shown_by : {W : Type 0} → (W → Option (List ℕ)) → Output W → Shown
+shown_by known output = record { writer = seen_by known (writer_of output); unflushed = unflushed_of output }
+
+-- a front of the text went out that is not all of it, and then a write failed
+pub record WasCut (before after : Seen) (text : List ℕ) : Type 0 where
+  pub written : ℕ
+  pub part : written < length text
+  pub went : Appends before.bytes after.bytes (take written text)
+  pub faults : after.faults ≡ before.faults + 1
+
+-- the text went out, as far as a write didn't fail
+abbrev pub IsTold : Seen → Seen → List ℕ → Type 0
+IsTold before after text = Took before after text ⊎ WasCut before after text
+
+-- a flush, of which this is said whether it failed, changed nothing else
+pub record WasFlushed (before after : Shown) (has_failed : Bool) : Type 0 where
+  pub bytes : Keeps before.writer.bytes after.writer.bytes
+  pub faults : after.writer.faults ≡ before.writer.faults
+  pub unflushed : after.unflushed ≡ before.unflushed + (if has_failed then 1 else 0)

@@ -1,0 +1,163 @@
+//! What the program does with what its words ask for.
+ghost use Rattle.std.specs.Prelude.{◌≡◌, map, string_bytes, OnOk, OnErr};
+ghost use Rattle.aero_model.specs.Counts.{seen_by};
+ghost use Rattle.aero_batch.specs.Founds.{Took};
+ghost use Rattle.aero_program.specs.Answers.{AnswersTo, Ends, Fails, Helps, Judges, Stops};
+ghost use Rattle.aero_program.specs.Notes.{noted_of_all};
+ghost use Rattle.aero_program.specs.Streams.{WasCut, shown_by};
+
+use crate::command::{Config, Refused, Stop};
+use crate::failure::Failure;
+use crate::input::Input;
+use crate::notes::notes_of;
+use crate::output::Output;
+use crate::sources::sources_of;
+use crate::status::status_after;
+use aero_batch::run::run;
+use aero_batch::source::Source;
+use aero_model::counting::Counting;
+use aero_report::{Cut, put};
+use aero_worker::NoGate;
+use std::alloc::Global;
+use std::io::{Read, Write};
+use std::rt::Files;
+use std::sync::{Arc, Wait};
+use std::thread::Threads;
+
+/// Does what the words ask for, and gives the exit status.
+///
+/// Where they ask for traces to be judged, it judges the files, or standard input where there are
+/// none, writes the report to standard output and flushes it, and then writes the notes on the sources
+/// to standard error. Help goes to standard output, which is flushed; why there is nothing to judge,
+/// and why the program fails, goes to standard error. Where standard error takes nothing, the status
+/// still tells.
+pub fn answer<
+    S: Read + Drop,
+    F: Files + Drop,
+    O: Write,
+    E: Write,
+    T: Threads + Wait + Copy + Send + 'static,
+>(
+    rt: T,
+    alloc: Global,
+    asked: Result<Config, Stop>,
+    files: &F,
+    stdin: S,
+    output: &mut Output<O>,
+    errors: &mut Counting<E>,
+) -> u8
+    ensures { AnswersTo asked (S.remaining stdin) (shown_by O.contents output.old) (shown_by O.contents output.new)
+        (seen_by E.contents errors.old) (seen_by E.contents errors.new) result }
+{
+    match asked {
+        Ok(config) => judge(rt, alloc, &config, files, stdin, output, errors),
+        Err(stop) => tell_stop(&stop, output, errors),
+    }
+}
+
+// Judges the sources, and tells what is found.
+fn judge<
+    S: Read + Drop,
+    F: Files + Drop,
+    O: Write,
+    E: Write,
+    T: Threads + Wait + Copy + Send + 'static,
+>(
+    rt: T,
+    alloc: Global,
+    config: &Config,
+    files: &F,
+    stdin: S,
+    output: &mut Output<O>,
+    errors: &mut Counting<E>,
+) -> u8
+    ensures { Judges (map string_bytes config.now.files.items) (S.remaining stdin) (shown_by O.contents output.old) (shown_by O.contents output.new)
+        (seen_by E.contents errors.old) (seen_by E.contents errors.new) result }
+{
+    let Ok(mut sources) = sources_of(alloc, files, stdin, &config.files) else {
+        return fail(Failure::Memory, errors);
+    };
+    let Ok(gate) = Arc::new(alloc, NoGate) else {
+        return fail(Failure::Memory, errors);
+    };
+    let plan = config.plan();
+    let outcome = run(rt, alloc, &mut sources, &mut output.writer, &plan, gate);
+    let flushed = output.flush();
+    let end = status_after(&outcome, &flushed);
+    finish(alloc, end, sources, errors)
+}
+
+// Tells the notes on the sources, and then why the program fails, where it does.
+fn finish<S: Read + Drop, R: Files + Drop, E: Write>(
+    alloc: Global,
+    end: Result<u8, Failure>,
+    sources: Vec<Source<Input<S, R>>>,
+    errors: &mut Counting<E>,
+) -> u8
+    ensures { Ends (noted_of_all sources.items) end (seen_by E.contents errors.old) (seen_by E.contents errors.new) result }
+{
+    let Ok(notes) = notes_of(alloc, sources) else {
+        return match end {
+            Ok(_) => fail(Failure::Memory, errors),
+            Err(failure) => fail(failure, errors),
+        };
+    };
+    let told = tell(errors, &notes);
+    match end {
+        Ok(status) => status,
+        Err(failure) => match told {
+            Ok(()) => fail(failure, errors),
+            Err(_) => failure.status(),
+        },
+    }
+}
+
+// Tells why nothing is judged: the help on standard output, all else on standard error.
+fn tell_stop<O: Write, E: Write>(
+    stop: &Stop,
+    output: &mut Output<O>,
+    errors: &mut Counting<E>,
+) -> u8
+    ensures { Stops stop.now (shown_by O.contents output.old) (shown_by O.contents output.new)
+        (seen_by E.contents errors.old) (seen_by E.contents errors.new) result }
+{
+    match stop {
+        Stop::Refused(Refused::Help(text)) => tell_help(text.as_str(), output, errors),
+        Stop::Refused(Refused::Usage(text)) => {
+            let _ = tell(errors, text.as_bytes());
+            3
+        }
+        Stop::Refused(Refused::TooManyFiles) => fail(Failure::TooManyFiles, errors),
+        Stop::Refused(Refused::Memory) => fail(Failure::Memory, errors),
+        Stop::Unread(unread) => fail(Failure::from(*unread), errors),
+    }
+}
+
+fn tell_help<O: Write, E: Write>(text: &str, output: &mut Output<O>, errors: &mut Counting<E>) -> u8
+    ensures { Helps text.now (shown_by O.contents output.old) (shown_by O.contents output.new)
+        (seen_by E.contents errors.old) (seen_by E.contents errors.new) result }
+{
+    if tell(&mut output.writer, text.as_bytes()).is_err() {
+        return fail(Failure::Write, errors);
+    }
+    if output.flush().is_err() {
+        return fail(Failure::Write, errors);
+    }
+    0
+}
+
+// Tells why the program fails, and gives its status.
+fn fail<E: Write>(failure: Failure, errors: &mut Counting<E>) -> u8
+    ensures { Fails failure (seen_by E.contents errors.old) (seen_by E.contents errors.new) result }
+{
+    let _ = tell(errors, failure.line().as_bytes());
+    failure.status()
+}
+
+// Writes a text, or a front of it where a write fails.
+fn tell<W: Write>(writer: &mut Counting<W>, text: &[u8]) -> Result<(), Cut>
+    ensures whole { OnOk result (Took (seen_by W.contents writer.old) (seen_by W.contents writer.new) text.now) }
+    ensures cut { OnErr result (WasCut (seen_by W.contents writer.old) (seen_by W.contents writer.new) text.now) }
+{
+    put(writer, text)
+}

@@ -1,0 +1,75 @@
+//! What the program has to tell of its sources beside the report, on standard error.
+ghost use Rattle.std.specs.Prelude.{◌≡◌, ◌++◌, IfOk, OnOk};
+ghost use Rattle.aero_program.specs.Notes.{note, note_line, noted_of, noted_of_all, notes, mark_line, reason_line};
+
+use crate::input::Input;
+use crate::reason::Reason;
+use aero_batch::source::Source;
+use std::alloc::{AllocError, Global};
+use std::io::Read;
+use std::rt::Files;
+
+/// The lines on the sources, in order: of each that it starts with a byte order mark, if it does,
+/// and then why its first read that failed did, if one did.
+///
+/// # Errors
+///
+/// `AllocError` where memory is refused.
+pub fn notes_of<S: Read + Drop, R: Files + Drop>(
+    alloc: Global,
+    sources: Vec<Source<Input<S, R>>>,
+) -> Result<Vec<u8>, AllocError>
+    ensures { IfOk result (λ text. text.items ≡ notes (noted_of_all sources.items)) }
+{
+    let mut text = Vec::new(alloc);
+    for source in sources {
+        append_notes(&mut text, source)?;
+    }
+    Ok(text)
+}
+
+fn append_notes<S: Read + Drop, R: Files + Drop>(
+    text: &mut Vec<u8>,
+    source: Source<Input<S, R>>,
+) -> Result<(), AllocError>
+    ensures { OnOk result (text.new.items ≡ text.old.items ++ note (noted_of source)) }
+{
+    let Source { name, reader } = source;
+    let input = reader.into_inner();
+    append_mark(text, &name, input.has_mark())?;
+    append_reason(text, &name, input.reason())
+}
+
+fn append_mark(text: &mut Vec<u8>, name: &[u8], has_mark: bool) -> Result<(), AllocError>
+    ensures { OnOk result (text.new.items ≡ text.old.items ++ mark_line name.now has_mark) }
+{
+    if !has_mark {
+        return Ok(());
+    }
+    append_line(
+        text,
+        name,
+        "starts with a byte order mark, which counts as part of the first thread's name",
+    )
+}
+
+fn append_reason(text: &mut Vec<u8>, name: &[u8], reason: Option<Reason>) -> Result<(), AllocError>
+    ensures { OnOk result (text.new.items ≡ text.old.items ++ reason_line name.now reason) }
+{
+    match reason {
+        None => Ok(()),
+        Some(reason) => append_line(text, name, reason.words()),
+    }
+}
+
+// A line on the source of this name.
+fn append_line(text: &mut Vec<u8>, name: &[u8], words: &str) -> Result<(), AllocError>
+    ensures { OnOk result (text.new.items ≡ text.old.items ++ note_line name.now words.now) }
+{
+    text.extend_from_slice(b"aerodrome: ")?;
+    text.extend_from_slice(name)?;
+    text.extend_from_slice(b": ")?;
+    text.extend_from_slice(words.as_bytes())?;
+    text.extend_from_slice(b"\n")?;
+    Ok(())
+}
