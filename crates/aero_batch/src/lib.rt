@@ -29,8 +29,6 @@ mod progress;
 mod reading;
 pub mod run;
 mod step;
-#[cfg(test)]
-mod tests;
 mod told;
 
 pub use aero_intake::{intake, laws, plan, source};

@@ -25,5 +25,3 @@ pub mod reason;
 pub mod sources;
 pub mod start;
 pub mod status;
-#[cfg(test)]
-mod tests;

@@ -1,5 +1,5 @@
 // Helpers that answer in another order, more than once, wrongly, or never.
-use crate::helpers::Helpers;
+use aero_batch::helpers::Helpers;
 use aero_pieces::question::{Bytes, Question};
 use aero_stage::{Full, Job};
 use aero_worker::Reply;

@@ -5,10 +5,10 @@ mod habits;
 mod runs;
 mod streams;
 
-use crate::outcome::{Cause, Outcome};
-use crate::tests::habits::Habit;
-use crate::tests::runs::{Who, run_by};
-use crate::tests::streams::{BreaksOnce, CutsOnce, Endless};
+use aero_batch::outcome::{Cause, Outcome};
+use crate::batch::habits::Habit;
+use crate::batch::runs::{Who, run_by};
+use crate::batch::streams::{BreaksOnce, CutsOnce, Endless};
 use aero_intake::source::Source;
 use aero_model::counting::Counting;
 use aero_model::limits::Limits;
