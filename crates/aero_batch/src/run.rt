@@ -75,19 +75,23 @@ pub fn run_over<R: Read, W: Write, H: Helpers, T: Wait>(
     let Ok((mut progress, mut told)) = begin(alloc, plan, sources.len(), workers == 0) else {
         return refused(alloc, workers);
     };
-    match run_on(
+    let around = Around {
         rt,
         alloc,
-        &plan.limits,
-        sources,
-        writer,
-        helpers,
-        &mut progress,
-        &mut told,
-    ) {
+        limits: &plan.limits,
+    };
+    match run_on(&around, sources, writer, helpers, &mut progress, &mut told) {
         Ok(()) => outcome_of(told, None, &progress.inquiry, workers),
         Err(cause) => outcome_of(told, Some(cause), &progress.inquiry, workers),
     }
+}
+
+// What each step of a run is handed.
+#[derive(Drop)]
+struct Around<'a, T> {
+    rt: &'a T,
+    alloc: Global,
+    limits: &'a Limits,
 }
 
 // What stands before the first step, over so many sources.
@@ -149,25 +153,23 @@ fn outcome_of(told: Told, cause: Option<Cause>, inquiry: &Inquiry, workers: u32)
 
 // All steps, and the summary.
 fn run_on<R: Read, W: Write, H: Helpers, T: Wait>(
-    rt: &T,
-    alloc: Global,
-    limits: &Limits,
+    around: &Around<'_, T>,
     sources: &mut [Source<R>],
     writer: &mut Counting<W>,
     helpers: &mut H,
     progress: &mut Progress,
     told: &mut Told,
 ) -> Result<(), Cause>
-    requires { IsBegun limits.now (length sources.old) progress.old told.old }
-    ensures done { OnOk result (WasRun limits.now (map (sighted R.remaining) sources.old) (map (sighted R.remaining) sources.new)
+    requires { IsBegun around.now.limits.now (length sources.old) progress.old told.old }
+    ensures done { OnOk result (WasRun around.now.limits.now (map (sighted R.remaining) sources.old) (map (sighted R.remaining) sources.new)
         (seen_by W.contents writer.old) (seen_by W.contents writer.new) told.new.endings.items told.new.counts None) }
-    ensures stopped { IfErr result (λ cause. WasRun limits.now (map (sighted R.remaining) sources.old) (map (sighted R.remaining) sources.new)
+    ensures stopped { IfErr result (λ cause. WasRun around.now.limits.now (map (sighted R.remaining) sources.old) (map (sighted R.remaining) sources.new)
         (seen_by W.contents writer.old) (seen_by W.contents writer.new) told.new.endings.items told.new.counts (Some cause)) }
     ensures settled { OnOk result (length progress.new.inquiry.open_ones ≡ 0) }
 {
-    'steps: for _ in rt.forever() {
-        if advance(rt, alloc, limits, sources, writer, helpers, progress, told)? {
-            return tell_summary(alloc, &told.counts, writer);
+    'steps: for _ in around.rt.forever() {
+        if advance(around, sources, writer, helpers, progress, told)? {
+            return tell_summary(around.alloc, &told.counts, writer);
         }
     }
     unreachable!()
@@ -176,23 +178,22 @@ fn run_on<R: Read, W: Write, H: Helpers, T: Wait>(
 // The next line is written, or else one step is done. The answer says whether all is done but for
 // the summary.
 fn advance<R: Read, W: Write, H: Helpers, T: Wait>(
-    rt: &T,
-    alloc: Global,
-    limits: &Limits,
+    around: &Around<'_, T>,
     sources: &mut [Source<R>],
     writer: &mut Counting<W>,
     helpers: &mut H,
     progress: &mut Progress,
     told: &mut Told,
 ) -> Result<bool, Cause>
-    requires { HasNumbers limits.now (length sources.old) progress.old told.old }
-    ensures stands { OnOk result ((old : List Sighted) (before : Seen) → Stands limits.now old (map (sighted R.remaining) sources.old) before (seen_by W.contents writer.old) progress.old told.old
-        → Stands limits.now old (map (sighted R.remaining) sources.new) before (seen_by W.contents writer.new) progress.new told.new) }
-    ensures stopped { IfErr result (λ cause. (old : List Sighted) (before : Seen) → Stands limits.now old (map (sighted R.remaining) sources.old) before (seen_by W.contents writer.old) progress.old told.old
-        → WasRun limits.now old (map (sighted R.remaining) sources.new) before (seen_by W.contents writer.new) told.new.endings.items told.new.counts (Some cause)) }
+    requires { HasNumbers around.now.limits.now (length sources.old) progress.old told.old }
+    ensures stands { OnOk result ((old : List Sighted) (before : Seen) → Stands around.now.limits.now old (map (sighted R.remaining) sources.old) before (seen_by W.contents writer.old) progress.old told.old
+        → Stands around.now.limits.now old (map (sighted R.remaining) sources.new) before (seen_by W.contents writer.new) progress.new told.new) }
+    ensures stopped { IfErr result (λ cause. (old : List Sighted) (before : Seen) → Stands around.now.limits.now old (map (sighted R.remaining) sources.old) before (seen_by W.contents writer.old) progress.old told.old
+        → WasRun around.now.limits.now old (map (sighted R.remaining) sources.new) before (seen_by W.contents writer.new) told.new.endings.items told.new.counts (Some cause)) }
     ensures all_told { IfOk result (λ is_done. is_done ≡ true → vec_len told.new.endings ≡ length sources.new) }
     ensures all_settled { IfOk result (λ is_done. is_done ≡ true → length progress.new.inquiry.open_ones ≡ 0) }
 {
+    let Around { rt, alloc, limits } = *around;
     if tell_ready(alloc, limits, sources, progress, writer, told)? {
         return Ok(false);
     }

@@ -11,7 +11,7 @@ use Rattle.aero_batch.proofs.run.advance.Goals as goal
 
 pub returns-in-Ok-clause-stands : goal.returns-in-Ok-clause-stands
 returns-in-Ok-clause-stands g c = λ old before st.
-    let limits = c.args.limits.now in
+    let limits = c.args.around.now.limits.now in
     let now = map (sighted g.R.Read.remaining) c.args.sources.now in
     let after = map (sighted g.R.Read.remaining) c.step.new.sources in
     let mid = seen_by g.W.Write.contents c.args.writer.now in
@@ -22,7 +22,7 @@ returns-in-Ok-clause-stands g c = λ old before st.
 
 pub returns-in-Err-clause-stopped : goal.returns-in-Err-clause-stopped
 returns-in-Err-clause-stopped g c = λ old before st.
-    let limits = c.args.limits.now in
+    let limits = c.args.around.now.limits.now in
     let now = map (sighted g.R.Read.remaining) c.args.sources.now in
     let after = map (sighted g.R.Read.remaining) c.step.new.sources in
     let mid = seen_by g.W.Write.contents c.args.writer.now in

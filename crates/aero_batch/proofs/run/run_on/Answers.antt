@@ -9,12 +9,12 @@ use Rattle.aero_batch.proofs.run.run_on.Goals as goal
 pub steps-init : goal.steps-init
 steps-init g c =
     let old = map (sighted g.R.Read.remaining) c.args.sources.now in
-    begun_stands c.args.limits.now old (seen_by g.W.Write.contents c.args.writer.now) c.args.progress.now c.args.told.now
-    (subst (λ n. IsBegun c.args.limits.now n c.args.progress.now c.args.told.now) (sym (length-map c.args.sources.now (sighted g.R.Read.remaining))) c.requires)
+    begun_stands c.args.around.now.limits.now old (seen_by g.W.Write.contents c.args.writer.now) c.args.progress.now c.args.told.now
+    (subst (λ n. IsBegun c.args.around.now.limits.now n c.args.progress.now c.args.told.now) (sym (length-map c.args.sources.now (sighted g.R.Read.remaining))) c.requires)
 
 pub returns-then-branch-clause-done : goal.returns-then-branch-clause-done
 returns-then-branch-clause-done g c =
-    let limits = c.args.limits.now in
+    let limits = c.args.around.now.limits.now in
     let old = map (sighted g.R.Read.remaining) c.args.sources.now in
     let now = map (sighted g.R.Read.remaining) c.advance.new.sources in
     let before = seen_by g.W.Write.contents c.args.writer.now in
@@ -26,7 +26,7 @@ returns-then-branch-clause-done g c =
 
 pub returns-then-branch-clause-stopped : goal.returns-then-branch-clause-stopped
 returns-then-branch-clause-stopped g c =
-    let limits = c.args.limits.now in
+    let limits = c.args.around.now.limits.now in
     let old = map (sighted g.R.Read.remaining) c.args.sources.now in
     let now = map (sighted g.R.Read.remaining) c.advance.new.sources in
     let before = seen_by g.W.Write.contents c.args.writer.now in

@@ -6,5 +6,5 @@ use Rattle.aero_batch.specs.Holding.{Stands}
 use Rattle.aero_batch.proofs.run.run_on.Given as goal
 
 abbrev pub invariant-steps : goal.invariant-steps
-invariant-steps g l = Stands l.limits (map (sighted g.R.Read.remaining) l.fn.sources) (map (sighted g.R.Read.remaining) l.sources)
+invariant-steps g l = Stands l.around.limits.now (map (sighted g.R.Read.remaining) l.fn.sources) (map (sighted g.R.Read.remaining) l.sources)
     (seen_by g.W.Write.contents l.fn.writer) (seen_by g.W.Write.contents l.writer) l.progress l.told
