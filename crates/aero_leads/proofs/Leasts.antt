@@ -1,0 +1,237 @@
+-- The least place that a row has for a thread, as the row changes.
+use Rattle.std.proofs.Common.{◌≡◌, ◌⊎◌, inl, inr, ⊎_elim, ℕ, zero, suc, ◌+◌, ◌<◌, ◌≤◌, add-one, take, List, [], ◌∷◌, ◌++◌, Option, Some, None, refl, sym, ap, ap₂, subst, ◌∙◌, arith}
+use Rattle.std.specs.Prelude.{◌==◌, ◌||◌, ◌&&◌, min, nat_lt, not, filter, is_some, Bool, true, false, if◌then◌else◌, slice_get}
+use Rattle.std.proofs.lemmas.Bool.{cases_Bool, cases_eq, cases_lt, both_ways, eqb-true, eq-eqb, ne_eqb, lt-ltb, le-ltb, ltb-true, ltb-false, or_cases, or_left, or_right, and_from, and_parts, not_from_true, not_from_false}
+use Rattle.aero_leads.specs.declared.row.Lead.{Lead}
+use Rattle.aero_leads.specs.Steps.{gains, lesser}
+use Rattle.aero_leads.specs.Kept.{least_in, is_below, absorbed, IsLeastBack}
+use Rattle.aero_leads.specs.Leads.{Rows}
+
+abbrev pub lead : ℕ → ℕ → Lead
+lead t n = record { opener = t; place = n }
+
+pub lesser_none : (r : Option ℕ) → lesser r None ≡ r
+lesser_none None = refl
+lesser_none (Some p) = refl
+
+pub lesser_assoc : (a b c : Option ℕ) → lesser (lesser a b) c ≡ lesser a (lesser b c)
+lesser_assoc None b c = refl
+lesser_assoc (Some p) None c = refl
+lesser_assoc (Some p) (Some q) None = refl
+lesser_assoc (Some p) (Some q) (Some r) = ap Some (omega arith)
+
+-- one more at the end
+pub least_push : (ls : List Lead) (l : Lead) (w : ℕ) → least_in (ls ++ l ∷ []) w ≡ (if l.opener == w then lesser (least_in ls w) (Some l.place) else least_in ls w)
+least_push [] l w = refl
+least_push (k ∷ ks) l w = ap (λ r. if k.opener == w then lesser (Some k.place) r else r) (least_push ks l w) ∙ go (k.opener == w) (l.opener == w)
+  where
+    go : (b c : Bool) → (if b then lesser (Some k.place) (if c then lesser (least_in ks w) (Some l.place) else least_in ks w) else (if c then lesser (least_in ks w) (Some l.place) else least_in ks w)) ≡ (if c then lesser (if b then lesser (Some k.place) (least_in ks w) else least_in ks w) (Some l.place) else (if b then lesser (Some k.place) (least_in ks w) else least_in ks w))
+    go true true = sym (lesser_assoc (Some k.place) (least_in ks w) (Some l.place))
+    go true false = refl
+    go false true = refl
+    go false false = refl
+
+take_next : (ls : List Lead) (i : ℕ) (l : Lead) → slice_get ls i ≡ Some l → take (suc i) ls ≡ take i ls ++ l ∷ []
+take_next [] i l h = cc
+take_next (k ∷ ks) zero l h = cc
+take_next (k ∷ ks) (suc i) l h = ap (λ xs. k ∷ xs) (take_next ks i l h)
+
+-- one more of the first ones
+pub least_next : (ls : List Lead) (i : ℕ) (l : Lead) (w : ℕ) → slice_get ls i ≡ Some l → least_in (take (i + 1) ls) w ≡ (if l.opener == w then lesser (least_in (take i ls) w) (Some l.place) else least_in (take i ls) w)
+least_next ls i l w h = ap (λ m. least_in (take m ls) w) (add-one i) ∙ ap (λ xs. least_in xs w) (take_next ls i l h) ∙ least_push (take i ls) l w
+
+-- without those of a thread
+pub least_without : (ls : List Lead) (t w : ℕ) → least_in (filter (λ (l : Lead). not (l.opener == t)) ls) w ≡ (if t == w then None else least_in ls w)
+least_without [] t w = go (t == w)
+  where
+    nothing : Option ℕ
+    nothing = None
+
+    go : (b : Bool) → nothing ≡ (if b then None else nothing)
+    go true = refl
+    go false = refl
+least_without (k ∷ ks) t w = go (least_without ks t w) (cases_Bool (k.opener == t))
+  where
+    on : List Lead
+    on = filter (λ (l : Lead). not (l.opener == t)) ks
+
+    kept : k.opener == t ≡ false → (b : Bool) → t == w ≡ b → (if k.opener == w then lesser (Some k.place) (if b then None else least_in ks w) else (if b then None else least_in ks w)) ≡ (if b then None else least_in (k ∷ ks) w)
+    kept e true f = ap (λ c. if c then lesser (Some k.place) None else None) (ne_eqb k.opener w (λ g. both_ways (k.opener == t) e (eq-eqb k.opener t (g ∙ sym (eqb-true t w f)))))
+    kept e false f = refl
+
+    gone : k.opener == t ≡ true → (b : Bool) → t == w ≡ b → (if b then None else least_in ks w) ≡ (if b then None else least_in (k ∷ ks) w)
+    gone e true f = refl
+    gone e false f = sym (ap (λ c. if c then lesser (Some k.place) (least_in ks w) else least_in ks w) (ne_eqb k.opener w (λ g. both_ways (t == w) f (eq-eqb t w (sym (eqb-true k.opener t e) ∙ g)))))
+
+    go : least_in on w ≡ (if t == w then None else least_in ks w) → (k.opener == t ≡ true) ⊎ (k.opener == t ≡ false) → least_in (if not (k.opener == t) then k ∷ on else on) w ≡ (if t == w then None else least_in (k ∷ ks) w)
+    go rest (inl e) = ap (λ b. least_in (if not b then k ∷ on else on) w) e ∙ rest ∙ gone e (t == w) refl
+    go rest (inr e) = ap (λ b. least_in (if not b then k ∷ on else on) w) e ∙ ap (λ r. if k.opener == w then lesser (Some k.place) r else r) rest ∙ kept e (t == w) refl
+
+-- what is below of two
+pub below_lesser : (a b : Option ℕ) (n : ℕ) → is_below (lesser a b) n ≡ (is_below a n || is_below b n)
+below_lesser None b n = refl
+below_lesser (Some p) None n = go (nat_lt p n)
+  where
+    go : (b : Bool) → b ≡ (b || false)
+    go true = refl
+    go false = refl
+below_lesser (Some p) (Some q) n = go (cases_lt p n) (cases_lt q n)
+  where
+    go : (p < n) ⊎ (n ≤ p) → (q < n) ⊎ (n ≤ q) → nat_lt (min p q) n ≡ (nat_lt p n || nat_lt q n)
+    go (inl h) _ = lt-ltb (min p q) n (omega (arith, h)) ∙ sym (ap (λ b. b || nat_lt q n) (lt-ltb p n h))
+    go (inr h) (inl k) = lt-ltb (min p q) n (omega (arith, k)) ∙ sym (ap₂ (λ a b. a || b) (le-ltb p n h) (lt-ltb q n k))
+    go (inr h) (inr k) = le-ltb (min p q) n (omega (arith, h, k)) ∙ sym (ap₂ (λ a b. a || b) (le-ltb p n h) (le-ltb q n k))
+
+pub gains_none : (r : Option ℕ) (n : ℕ) → gains r false n ≡ r
+gains_none None n = refl
+gains_none (Some p) n = refl
+
+pub gains_more : (r : Option ℕ) (a b : Bool) (n : ℕ) → gains (gains r a n) b n ≡ gains r (a || b) n
+gains_more (Some p) a b n = refl
+gains_more None true b n = refl
+gains_more None false b n = refl
+
+-- a thread that is there gains nothing, and one that isn't comes to the end
+pub gains_there : (ls : List Lead) (t n : ℕ) → is_some (least_in ls t) ≡ true → (w : ℕ) → least_in ls w ≡ gains (least_in ls w) (t == w) n
+gains_there ls t n h w = go (least_in ls w) refl (t == w) refl
+  where
+    go : (r : Option ℕ) → least_in ls w ≡ r → (b : Bool) → t == w ≡ b → r ≡ gains r b n
+    go (Some p) e b f = refl
+    go None e false f = refl
+    go None e true f = let z : false ≡ true = sym (ap is_some e) ∙ ap (λ v. is_some (least_in ls v)) (sym (eqb-true t w f)) ∙ h in cc
+
+pub gains_pushed : (ls : List Lead) (t n : ℕ) → is_some (least_in ls t) ≡ false → (w : ℕ) → least_in (ls ++ lead t n ∷ []) w ≡ gains (least_in ls w) (t == w) n
+gains_pushed ls t n h w = least_push ls (lead t n) w ∙ go (least_in ls w) refl (t == w) refl
+  where
+    go : (r : Option ℕ) → least_in ls w ≡ r → (b : Bool) → t == w ≡ b → (if b then lesser r (Some n) else r) ≡ gains r b n
+    go None e true f = refl
+    go None e false f = refl
+    go (Some p) e true f = let z : true ≡ false = sym (ap is_some e) ∙ ap (λ v. is_some (least_in ls v)) (sym (eqb-true t w f)) ∙ h in cc
+    go (Some p) e false f = refl
+
+-- a place that is no later stays, and a later one goes
+pub lowered_stays : (ls : List Lead) (t n : ℕ) → is_below (least_in ls t) n ≡ true → (w : ℕ) → least_in ls w ≡ (if t == w then lesser (least_in ls w) (Some n) else least_in ls w)
+lowered_stays ls t n h w = go (least_in ls w) refl (t == w) refl
+  where
+    go : (r : Option ℕ) → least_in ls w ≡ r → (b : Bool) → t == w ≡ b → r ≡ (if b then lesser r (Some n) else r)
+    go r e false f = refl
+    go None e true f = let z : false ≡ true = sym (ap (λ r. is_below r n) e) ∙ ap (λ v. is_below (least_in ls v) n) (sym (eqb-true t w f)) ∙ h in cc
+    go (Some p) e true f =
+        let less : nat_lt p n ≡ true = sym (ap (λ r. is_below r n) e) ∙ ap (λ v. is_below (least_in ls v) n) (sym (eqb-true t w f)) ∙ h in
+        ap Some (omega (arith, ltb-true p n less))
+
+pub lowered_moves : (ls now : List Lead) (t n : ℕ) → is_below (least_in ls t) n ≡ false → ((w : ℕ) → least_in now w ≡ (if t == w then None else least_in ls w)) → (w : ℕ) → least_in (now ++ lead t n ∷ []) w ≡ (if t == w then lesser (least_in ls w) (Some n) else least_in ls w)
+lowered_moves ls now t n h dropped w =
+    least_push now (lead t n) w ∙ ap (λ r. if t == w then lesser r (Some n) else r) (dropped w) ∙ go (least_in ls w) refl (t == w) refl
+  where
+    go : (r : Option ℕ) → least_in ls w ≡ r → (b : Bool) → t == w ≡ b → (if b then lesser (if b then None else r) (Some n) else (if b then None else r)) ≡ (if b then lesser r (Some n) else r)
+    go r e false f = refl
+    go None e true f = refl
+    go (Some p) e true f =
+        let less : nat_lt p n ≡ false = sym (ap (λ r. is_below r n) e) ∙ ap (λ v. is_below (least_in ls v) n) (sym (eqb-true t w f)) ∙ h in
+        ap Some (omega (arith, ltb-false p n less))
+
+-- one more of the first ones is looked at
+pub gained_next : (old now ls : List Lead) (i : ℕ) (l : Lead) (below n : ℕ) (new : List Lead) → slice_get ls i ≡ Some l
+    → ((w : ℕ) → least_in now w ≡ gains (least_in old w) (is_below (least_in (take i ls) w) below) n)
+    → ((w : ℕ) → least_in new w ≡ gains (least_in now w) (if l.opener == w then nat_lt l.place below else false) n)
+    → (w : ℕ) → least_in new w ≡ gains (least_in old w) (is_below (least_in (take (i + 1) ls) w) below) n
+gained_next old now ls i l below n new at so_far next w =
+    next w ∙ ap (λ r. gains r (if l.opener == w then nat_lt l.place below else false) n) (so_far w)
+    ∙ gains_more (least_in old w) (is_below (least_in (take i ls) w) below) (if l.opener == w then nat_lt l.place below else false) n
+    ∙ ap (λ b. gains (least_in old w) b n) (go (l.opener == w) ∙ sym (ap (λ r. is_below r below) (least_next ls i l w at)))
+  where
+    stays : (b : Bool) → (b || false) ≡ b
+    stays true = refl
+    stays false = refl
+
+    go : (b : Bool) → (is_below (least_in (take i ls) w) below || (if b then nat_lt l.place below else false)) ≡ is_below (if b then lesser (least_in (take i ls) w) (Some l.place) else least_in (take i ls) w) below
+    go true = sym (below_lesser (least_in (take i ls) w) (Some l.place) below)
+    go false = stays (is_below (least_in (take i ls) w) below)
+
+pub lowered_next : (old now ls : List Lead) (i : ℕ) (l : Lead) (n : ℕ) (new : List Lead) → slice_get ls i ≡ Some l
+    → ((w : ℕ) → least_in now w ≡ (if is_some (least_in (take i ls) w) then lesser (least_in old w) (Some n) else least_in old w))
+    → ((w : ℕ) → least_in new w ≡ (if l.opener == w then lesser (least_in now w) (Some n) else least_in now w))
+    → (w : ℕ) → least_in new w ≡ (if is_some (least_in (take (i + 1) ls) w) then lesser (least_in old w) (Some n) else least_in old w)
+lowered_next old now ls i l n new at so_far next w =
+    next w ∙ ap (λ r. if l.opener == w then lesser r (Some n) else r) (so_far w)
+    ∙ go (l.opener == w) (least_in (take i ls) w)
+    ∙ sym (ap (λ r. if is_some r then lesser (least_in old w) (Some n) else least_in old w) (least_next ls i l w at))
+  where
+    twice : (r : Option ℕ) → lesser (lesser r (Some n)) (Some n) ≡ lesser r (Some n)
+    twice None = ap Some (omega arith)
+    twice (Some p) = ap Some (omega arith)
+
+    go : (b : Bool) (r : Option ℕ) → (if b then lesser (if is_some r then lesser (least_in old w) (Some n) else least_in old w) (Some n) else (if is_some r then lesser (least_in old w) (Some n) else least_in old w)) ≡ (if is_some (if b then lesser r (Some l.place) else r) then lesser (least_in old w) (Some n) else least_in old w)
+    go false r = refl
+    go true None = refl
+    go true (Some p) = twice (least_in old w)
+
+-- an end
+same_test : (t w : ℕ) → (t == w) ≡ (w == t)
+same_test t w = ⊎_elim (λ e. eq-eqb t w e ∙ sym (eq-eqb w t (sym e))) (λ ne. ne_eqb t w ne ∙ sym (ne_eqb w t (λ e. ne (sym e)))) (cases_eq t w)
+
+pub absorbed_none : (row ended : List Lead) (t : ℕ) → None ≡ least_in row t → (w : ℕ) → least_in row w ≡ absorbed (least_in ended) (least_in row) t w
+absorbed_none row ended t none w = go (w == t) refl (is_some (least_in ended w))
+  where
+    go : (b : Bool) → w == t ≡ b → (c : Bool) → least_in row w ≡ (if b then None else (if c then lesser (least_in row w) (least_in row t) else least_in row w))
+    go true f c = ap (least_in row) (eqb-true w t f) ∙ sym none
+    go false f true = sym (ap (lesser (least_in row w)) (sym none) ∙ lesser_none (least_in row w))
+    go false f false = refl
+
+pub absorbed_some : (row ended now new : List Lead) (t n : ℕ) → Some n ≡ least_in row t
+    → ((w : ℕ) → least_in now w ≡ (if is_some (least_in ended w) then lesser (least_in row w) (Some n) else least_in row w))
+    → ((w : ℕ) → least_in new w ≡ (if t == w then None else least_in now w))
+    → (w : ℕ) → least_in new w ≡ absorbed (least_in ended) (least_in row) t w
+absorbed_some row ended now new t n there lowered dropped w =
+    dropped w ∙ ap₂ (λ b r. if b then None else r) (same_test t w) (lowered w ∙ ap (λ r. if is_some (least_in ended w) then lesser (least_in row w) r else least_in row w) there)
+
+-- the least opener that passes a test, if there is one
+abbrev pub LeastPassing : (ℕ → Bool) → List Lead → Option ℕ → Type 0
+LeastPassing test ls None = (u : ℕ) → is_some (least_in ls u) ≡ true → test u ≡ false
+LeastPassing test ls (Some v) = (test v ≡ true) × (is_some (least_in ls v) ≡ true) × ((u : ℕ) → is_some (least_in ls u) ≡ true → test u ≡ true → v ≤ u)
+
+some_next : (ls : List Lead) (i : ℕ) (l : Lead) (u : ℕ) → slice_get ls i ≡ Some l → is_some (least_in (take (i + 1) ls) u) ≡ (l.opener == u || is_some (least_in (take i ls) u))
+some_next ls i l u at = ap is_some (least_next ls i l u at) ∙ go (l.opener == u) (least_in (take i ls) u)
+  where
+    go : (b : Bool) (r : Option ℕ) → is_some (if b then lesser r (Some l.place) else r) ≡ (b || is_some r)
+    go true None = refl
+    go true (Some p) = refl
+    go false r = refl
+
+pub passing_still : (test : ℕ → Bool) (ls : List Lead) (i : ℕ) (l : Lead) (o : Option ℕ) → slice_get ls i ≡ Some l → test l.opener ≡ false → LeastPassing test (take i ls) o → LeastPassing test (take (i + 1) ls) o
+passing_still test ls i l None at fails h = λ u some. ⊎_elim (λ e. ap test (sym (eqb-true l.opener u e)) ∙ fails) (λ k. h u k) (or_cases _ _ (sym (some_next ls i l u at) ∙ some))
+passing_still test ls i l (Some v) at fails (passes, there, least) = (
+  passes,
+  some_next ls i l v at ∙ or_right (l.opener == v) _ there,
+  λ u some ok. ⊎_elim (λ e. absurd (both_ways (test u) (ap test (sym (eqb-true l.opener u e)) ∙ fails) ok)) (λ k. least u k ok) (or_cases _ _ (sym (some_next ls i l u at) ∙ some)),
+)
+
+pub passing_next : (test : ℕ → Bool) (ls : List Lead) (i : ℕ) (l : Lead) (o : Option ℕ) → slice_get ls i ≡ Some l → test l.opener ≡ true → LeastPassing test (take i ls) o → LeastPassing test (take (i + 1) ls) (lesser o (Some l.opener))
+passing_next test ls i l None at passes h = (
+  passes,
+  some_next ls i l l.opener at ∙ or_left _ _ (eq-eqb l.opener l.opener refl),
+  λ u some ok. ⊎_elim (λ e. let same = eqb-true l.opener u e in omega (arith, same)) (λ k. absurd (both_ways (test u) (h u k) ok)) (or_cases _ _ (sym (some_next ls i l u at) ∙ some)),
+)
+passing_next test ls i l (Some v) at passes (was, there, least) = go (cases_lt l.opener v)
+  where
+    either_way : (m : ℕ) → m ≤ v → m ≤ l.opener → (u : ℕ) → is_some (least_in (take (i + 1) ls) u) ≡ true → test u ≡ true → m ≤ u
+    either_way m a b u some ok = ⊎_elim (λ e. let same = eqb-true l.opener u e in omega (arith, same, b)) (λ k. omega (arith, least u k ok, a)) (or_cases _ _ (sym (some_next ls i l u at) ∙ some))
+
+    go : (l.opener < v) ⊎ (v ≤ l.opener) → LeastPassing test (take (i + 1) ls) (Some (min v l.opener))
+    go (inl less) =
+        subst (λ m. LeastPassing test (take (i + 1) ls) (Some m)) (omega (arith, less))
+        (passes, some_next ls i l l.opener at ∙ or_left _ _ (eq-eqb l.opener l.opener refl), either_way l.opener (omega (arith, less)) (omega arith))
+    go (inr le) =
+        subst (λ m. LeastPassing test (take (i + 1) ls) (Some m)) (omega (arith, le))
+        (was, some_next ls i l v at ∙ or_right (l.opener == v) _ there, either_way v (omega arith) le)
+
+-- and the least thread back
+pub is_least_back : (rows : Rows) (t : ℕ) (row : List Lead) (o : Option ℕ) → ((u : ℕ) → least_in row u ≡ rows t u) → LeastPassing (λ u. not (u == t) && is_some (rows u t)) row o → IsLeastBack rows t o
+is_least_back rows t row None same h = λ u b.
+    both_ways _ (h u (ap is_some (same u) ∙ b.into)) (and_from _ _ (not_from_false (u == t) (ne_eqb u t b.other)) b.back)
+is_least_back rows t row (Some v) same (passes, there, least) =
+    let p = and_parts (not (v == t)) _ passes in (
+      record { other = λ e. both_ways _ (not_from_true (v == t) (eq-eqb v t e)) p.0; into = ap is_some (sym (same v)) ∙ there; back = p.1 },
+      λ u b. least u (ap is_some (same u) ∙ b.into) (and_from _ _ (not_from_false (u == t) (ne_eqb u t b.other)) b.back),
+    )

@@ -1,0 +1,13 @@
+pub mod FirstPlaces
+pub mod Marked
+pub mod EventRows
+pub mod EndRows
+pub mod ByKind
+pub mod Told
+pub mod Leasts
+pub mod Takings
+pub mod StateSteps
+pub mod Lasts
+pub mod Moving
+pub mod Standings
+pub mod ThreadSteps

@@ -1,0 +1,240 @@
+-- What is kept of a trace, after one more event.
+use Rattle.std.proofs.Common.{◌≡◌, ◌≢◌, ◌⊎◌, inl, inr, ⊎_elim, ℕ, zero, suc, ◌+◌, ◌<◌, List, [], ◌∷◌, ◌++◌, length, Some, refl, sym, ap, ap₂, ◌∙◌, subst, le_refl, arith, length-append}
+use Rattle.std.specs.Prelude.{◌==◌, ◌&&◌, ◌||◌, not, nat_lt, Bool, true, false, if◌then◌else◌}
+use Rattle.std.proofs.lemmas.Bool.{cases_Bool, cases_eq, both_ways, eqb-true, eq-eqb, ne_eqb, lt-ltb, le-ltb, cond-true, cond-false, and_left, and_right, and_from}
+use Rattle.std.proofs.lemmas.Option.{same_Some}
+use Rattle.std.proofs.lemmas.List.Folds.{list_any-append}
+use Rattle.aero_model.specs.declared.numbered.Numbered.{Numbered}
+use Rattle.aero_model.specs.Blocks.{is_begin, is_end, by_thread, depth, opens, closes, blocks}
+use Rattle.aero_model.specs.Cycle.{HasTellingCycle}
+use Rattle.aero_model.specs.Shape.{is_release_of, has_acted}
+use Rattle.aero_model.proofs.Stability.{Agree, agree_front, depth_same, blocks_same}
+use Rattle.aero_model.proofs.Depths.{step, AtOpening, AtClosing, AtOther}
+use Rattle.aero_model.proofs.Telling.{telling_back}
+use Rattle.aero_access.specs.declared.slot.Slot.{Slot}
+use Rattle.aero_access.specs.declared.slot.Slot.TheVariants.{LastWrite, LastRead, LastRelease}
+use Rattle.aero_access.specs.Slots.{of_slot, is_read_of, is_write_of, last_event}
+use Rattle.aero_access.specs.States.{thread_of}
+use Rattle.aero_access.specs.Takes.{Among, here, there}
+use Rattle.aero_access.proofs.LastEvents.{is_last, last_new, last_kept}
+use Rattle.aero_access.proofs.LongerTraces.{slice_get-push, last_event_same}
+use Rattle.aero_access.proofs.Taken.{among_left, among_right, among_first, among_parts}
+use Rattle.aero_leads.specs.declared.last.Last.{Last}
+use Rattle.aero_leads.specs.Leads.{AreFirst}
+use Rattle.aero_leads.specs.Kept.{last, reads_but}
+use Rattle.aero_leads.specs.States.{State, IsLastAt, IsLastOf, AreReadsSince, IsStateOf}
+use Rattle.aero_leads.proofs.FirstPlaces.{rows_same}
+
+-- after event e, which opens a block or ends one or neither
+pub record IsAfter (old new : State) (e : Numbered) (up down : Bool) : Type 0 where
+  pub write : (x : ℕ) → new.write x ≡ (if is_write_of x e.what then last e.thread (suc old.now) else old.write x)
+  pub reads : (x : ℕ) → new.reads x ≡ (if is_write_of x e.what then [] else if is_read_of x e.what then reads_but e.thread (old.reads x) ++ last e.thread (suc old.now) ∷ [] else old.reads x)
+  pub release : (l : ℕ) → new.release l ≡ (if is_release_of l e.what then last e.thread (suc old.now) else old.release l)
+  pub now : new.now ≡ suc old.now
+  pub acted : (t : ℕ) → new.acted t ≡ (if e.thread == t then true else old.acted t)
+  pub begins : (t : ℕ) → new.begins t ≡ (if (e.thread == t) && up then old.begins t + 1 else old.begins t)
+  pub in_block : (t : ℕ) → new.in_block t ≡ (if (e.thread == t) && up then true else if (e.thread == t) && down then false else old.in_block t)
+
+-- what is left of a list without a thread's
+pub among_but : (t : ℕ) (l : Last) (ls : List Last) → Among l (reads_but t ls) → Among l ls × (l.thread ≢ t)
+among_but t l [] a = elim a [ ]
+among_but t l (k ∷ ks) a = go (among_but t l ks) (k.thread == t) refl a
+  where
+    go : (Among l (reads_but t ks) → Among l ks × (l.thread ≢ t)) → (b : Bool) → k.thread == t ≡ b → Among l (if not b then k ∷ reads_but t ks else reads_but t ks) → Among l (k ∷ ks) × (l.thread ≢ t)
+    go on true e a = let r = on a in (there r.0, r.1)
+    go on false e a =
+        ⊎_elim
+        (λ same. (subst (λ j. Among l (j ∷ ks)) same here, λ h. both_ways (k.thread == t) e (eq-eqb k.thread t (ap (λ (j : Last). j.thread) (sym same) ∙ h))))
+        (λ more. let r = on more in (there r.0, r.1))
+        (among_first l k (reads_but t ks) a)
+
+pub but_among : (t : ℕ) (l : Last) (ls : List Last) → Among l ls → l.thread ≢ t → Among l (reads_but t ls)
+but_among t l [] a ne = elim a [ ]
+but_among t l (k ∷ ks) a ne = go (λ m. but_among t l ks m ne) (k.thread == t) refl (among_first l k ks a)
+  where
+    go : (Among l ks → Among l (reads_but t ks)) → (b : Bool) → k.thread == t ≡ b → (l ≡ k) ⊎ Among l ks → Among l (if not b then k ∷ reads_but t ks else reads_but t ks)
+    go on true e (inl same) = absurd (ne (ap (λ (j : Last). j.thread) same ∙ eqb-true k.thread t e))
+    go on true e (inr m) = on m
+    go on false e (inl same) = subst (λ j. Among l (j ∷ reads_but t ks)) same here
+    go on false e (inr m) = there (on m)
+
+module _ (old : State) (before : List Numbered) (e : Numbered) (stands : IsStateOf old before) where
+  abbrev more : List Numbered
+  more = before ++ e ∷ []
+
+  abbrev n : ℕ
+  n = length before
+
+  pub agree : Agree n before more
+  agree = agree_front n before (e ∷ []) (le_refl n)
+
+  pub length_more : suc n ≡ length more
+  length_more = omega (arith, length-append before (e ∷ []))
+
+  pub first : AreFirst more n old.rows
+  first = rows_same n before more agree old.rows stands.first
+
+  pub none : ¬ HasTellingCycle more n
+  none c = stands.none (telling_back before (e ∷ []) n (le_refl n) c)
+
+  pub depth_more : (t : ℕ) → depth more t n ≡ depth before t n
+  depth_more t = sym (depth_same before more t n agree)
+
+  -- the last event of a slot
+  kept_last : (s : Slot) → of_slot s e ≡ false → last_event more (length more) s ≡ last_event before n s
+  kept_last s b = ap (λ m. last_event more m s) (sym length_more) ∙ last_kept (of_slot s) more n e (slice_get-push before e) b ∙ sym (last_event_same n before more agree s)
+
+  new_last : (s : Slot) → of_slot s e ≡ true → last_event more (length more) s ≡ Some n
+  new_last s b = ap (λ m. last_event more m s) (sym length_more) ∙ last_new (of_slot s) more n e (slice_get-push before e) b
+
+  carried : (s : Slot) (t c : ℕ) → of_slot s e ≡ false → IsLastAt before s t c → IsLastAt more s t c
+  carried s t zero b h = kept_last s b ∙ h
+  carried s t (suc p) b (h, by) = (kept_last s b ∙ h, ap thread_of (sym (agree.same p (is_last (of_slot s) before n p h).below)) ∙ by)
+
+  last_pushed : (s : Slot) (l new : Last) → IsLastOf before s l → new ≡ (if of_slot s e then last e.thread (suc old.now) else l) → IsLastOf more s new
+  last_pushed s l new h is = go (cases_Bool (of_slot s e))
+    where
+      go : (of_slot s e ≡ true) ⊎ (of_slot s e ≡ false) → IsLastOf more s new
+      go (inl b) =
+          let now : new ≡ last e.thread (suc n) = is ∙ cond-true (of_slot s e) _ _ b ∙ ap (λ m. last e.thread (suc m)) stands.now in
+          subst (IsLastOf more s) (sym now) (new_last s b, ap thread_of (slice_get-push before e))
+      go (inr b) = subst (IsLastOf more s) (sym (is ∙ cond-false (of_slot s e) _ _ b)) (carried s l.thread l.count b h)
+
+  -- the reads of a variable
+  reads_pushed : (x : ℕ) (new : List Last) → new ≡ (if is_write_of x e.what then [] else if is_read_of x e.what then reads_but e.thread (old.reads x) ++ last e.thread (suc old.now) ∷ [] else old.reads x) → AreReadsSince more x new
+  reads_pushed x new is = go (cases_Bool (is_write_of x e.what)) (cases_Bool (is_read_of x e.what))
+    where
+      was : AreReadsSince before x (old.reads x)
+      was = stands.reads x
+
+      other_read : (u : ℕ) → e.thread ≢ u → of_slot (LastRead x u) e ≡ false
+      other_read u ne = and_left (e.thread == u) (is_read_of x e.what) (ne_eqb e.thread u ne)
+
+      no_read : (u : ℕ) → is_read_of x e.what ≡ false → of_slot (LastRead x u) e ≡ false
+      no_read u b = and_right (e.thread == u) (is_read_of x e.what) b
+
+      written : is_write_of x e.what ≡ true → AreReadsSince more x []
+      written b = record {
+        each = λ l a. elim a [ ];
+        all = λ u q at after.
+            let less = after n (new_last (LastWrite x) b) in
+            let i = is_last (of_slot (LastRead x u)) more (length more) q at in
+            absurd (omega (arith, less, i.below, length_more));
+      }
+
+      read : is_write_of x e.what ≡ false → is_read_of x e.what ≡ true → AreReadsSince more x (reads_but e.thread (old.reads x) ++ last e.thread (suc n) ∷ [])
+      read quiet b = record {
+        each = λ l a. ⊎_elim
+            (λ m. let r = among_but e.thread l (old.reads x) m in let i = was.each l r.0 in (i.0, i.1, kept_last (LastRead x l.thread) (other_read l.thread (λ h. r.1 (sym h))) ∙ i.2))
+            (λ m. ⊎_elim
+            (λ same. (n, ap (λ (j : Last). j.count) same, ap (λ (j : Last). last_event more (length more) (LastRead x j.thread)) same ∙ new_last (LastRead x e.thread) (and_from _ _ (eq-eqb e.thread e.thread refl) b)))
+            (λ m. elim m [ ])
+            (among_first l (last e.thread (suc n)) [] m))
+            (among_parts l (reads_but e.thread (old.reads x)) (last e.thread (suc n) ∷ []) a);
+        all = λ u q at after. ⊎_elim
+            (λ same.
+            let place : n ≡ q = same_Some n q (sym (new_last (LastRead x u) (and_from _ _ (eq-eqb e.thread u same) b)) ∙ at) in
+            among_right (last u (suc q)) (reads_but e.thread (old.reads x)) (last e.thread (suc n) ∷ [])
+            (subst (λ (l : Last). Among (last u (suc q)) (l ∷ [])) (ap₂ (λ (v m : ℕ). last v (suc m)) (sym same) (sym place)) here))
+            (λ ne.
+            among_left (last u (suc q)) (reads_but e.thread (old.reads x)) (last e.thread (suc n) ∷ [])
+            (but_among e.thread (last u (suc q)) (old.reads x)
+            (was.all u q (sym (kept_last (LastRead x u) (other_read u ne)) ∙ at) (λ p h. after p (kept_last (LastWrite x) quiet ∙ h)))
+            (λ h. ne (sym h))))
+            (cases_eq e.thread u);
+      }
+
+      neither : is_write_of x e.what ≡ false → is_read_of x e.what ≡ false → AreReadsSince more x (old.reads x)
+      neither quiet b = record {
+        each = λ l a. let i = was.each l a in (i.0, i.1, kept_last (LastRead x l.thread) (no_read l.thread b) ∙ i.2);
+        all = λ u q at after. was.all u q (sym (kept_last (LastRead x u) (no_read u b)) ∙ at) (λ p h. after p (kept_last (LastWrite x) quiet ∙ h));
+      }
+
+      go : (is_write_of x e.what ≡ true) ⊎ (is_write_of x e.what ≡ false) → (is_read_of x e.what ≡ true) ⊎ (is_read_of x e.what ≡ false) → AreReadsSince more x new
+      go (inl b) _ = subst (AreReadsSince more x) (sym (is ∙ cond-true (is_write_of x e.what) _ _ b)) (written b)
+      go (inr a) (inl b) =
+          subst (AreReadsSince more x) (sym (is ∙ cond-false (is_write_of x e.what) _ _ a ∙ cond-true (is_read_of x e.what) _ _ b ∙ ap (λ m. reads_but e.thread (old.reads x) ++ last e.thread (suc m) ∷ []) stands.now)) (read a b)
+      go (inr a) (inr b) = subst (AreReadsSince more x) (sym (is ∙ cond-false (is_write_of x e.what) _ _ a ∙ cond-false (is_read_of x e.what) _ _ b)) (neither a b)
+
+  -- the threads' blocks
+  module _ (new : State) (up down : Bool) (opening : opens more e.thread n ≡ up) (closing : closes more e.thread n ≡ down) (after : IsAfter old new e up down) where
+    opens_by : (t : ℕ) → opens more t n ≡ ((e.thread == t) && up)
+    opens_by t =
+        ⊎_elim
+        (λ same. ap (λ v. opens more v n) (sym same) ∙ opening ∙ ap (λ b. b && up) (sym (eq-eqb e.thread t same)))
+        (λ ne.
+        ap (λ a. by_thread t is_begin a && (depth more t n == 0)) (slice_get-push before e)
+        ∙ and_left _ _ (and_left (e.thread == t) (is_begin e.what) (ne_eqb e.thread t ne))
+        ∙ ap (λ b. b && up) (sym (ne_eqb e.thread t ne)))
+        (cases_eq e.thread t)
+
+    closes_by : (t : ℕ) → closes more t n ≡ ((e.thread == t) && down)
+    closes_by t =
+        ⊎_elim
+        (λ same. ap (λ v. closes more v n) (sym same) ∙ closing ∙ ap (λ b. b && down) (sym (eq-eqb e.thread t same)))
+        (λ ne.
+        ap (λ a. by_thread t is_end a && (depth more t n == 1)) (slice_get-push before e)
+        ∙ and_left _ _ (and_left (e.thread == t) (is_end e.what) (ne_eqb e.thread t ne))
+        ∙ ap (λ b. b && down) (sym (ne_eqb e.thread t ne)))
+        (cases_eq e.thread t)
+
+    record Agrees (t : ℕ) : Type 0 where
+      begins : new.begins t ≡ blocks more t (suc n)
+      in_block : new.in_block t ≡ nat_lt 0 (depth more t (suc n))
+
+    same_begins : (t : ℕ) → old.begins t ≡ blocks more t n
+    same_begins t = stands.begins t ∙ blocks_same n before more agree t n (le_refl n)
+
+    agrees : (t : ℕ) → Agrees t
+    agrees t = go (step more t n)
+      where
+        go : AtOpening more t n ⊎ (AtClosing more t n ⊎ AtOther more t n) → Agrees t
+        go (inl s) =
+            let b : ((e.thread == t) && up) ≡ true = sym (opens_by t) ∙ s.opens in
+            record {
+              begins = after.begins t ∙ cond-true ((e.thread == t) && up) _ _ b ∙ ap (λ m. m + 1) (same_begins t) ∙ sym s.number;
+              in_block = after.in_block t ∙ cond-true ((e.thread == t) && up) _ _ b ∙ sym (lt-ltb 0 (depth more t (suc n)) (omega (arith, s.after)));
+            }
+        go (inr (inl s)) =
+            let a : ((e.thread == t) && up) ≡ false = sym (opens_by t) ∙ s.opens in
+            let b : ((e.thread == t) && down) ≡ true = sym (closes_by t) ∙ s.closes in
+            record {
+              begins = after.begins t ∙ cond-false ((e.thread == t) && up) _ _ a ∙ same_begins t ∙ sym s.number;
+              in_block = after.in_block t ∙ cond-false ((e.thread == t) && up) _ _ a ∙ cond-true ((e.thread == t) && down) _ _ b ∙ sym (le-ltb 0 (depth more t (suc n)) (omega (arith, s.after)));
+            }
+        go (inr (inr s)) =
+            let a : ((e.thread == t) && up) ≡ false = sym (opens_by t) ∙ s.opens in
+            let b : ((e.thread == t) && down) ≡ false = sym (closes_by t) ∙ s.closes in
+            record {
+              begins = after.begins t ∙ cond-false ((e.thread == t) && up) _ _ a ∙ same_begins t ∙ sym s.number;
+              in_block = after.in_block t ∙ cond-false ((e.thread == t) && up) _ _ a ∙ cond-false ((e.thread == t) && down) _ _ b ∙ stands.in_block t ∙ ap (nat_lt 0) (sym (depth_more t)) ∙ still s (cases_eq (depth more t n) 0);
+            }
+          where
+            still : AtOther more t n → (depth more t n ≡ 0) ⊎ (depth more t n ≢ 0) → nat_lt 0 (depth more t n) ≡ nat_lt 0 (depth more t (suc n))
+            still s (inl z) = le-ltb 0 (depth more t n) (omega (arith, z)) ∙ sym (le-ltb 0 (depth more t (suc n)) (omega (arith, s.outside z)))
+            still s (inr z) = let inside : 0 < depth more t n = omega (arith, z) in lt-ltb 0 (depth more t n) inside ∙ sym (lt-ltb 0 (depth more t (suc n)) (s.inside inside))
+
+    acted_new : (t : ℕ) → new.acted t ≡ has_acted more t
+    acted_new t =
+        after.acted t ∙ ap (λ b. if e.thread == t then true else b) (stands.acted t) ∙ either_one (e.thread == t) (has_acted before t)
+        ∙ sym (list_any-append (λ (f : Numbered). f.thread == t) before (e ∷ []))
+      where
+        either_one : (b c : Bool) → (if b then true else c) ≡ (c || (b || false))
+        either_one true true = refl
+        either_one true false = refl
+        either_one false true = refl
+        either_one false false = refl
+
+    -- with rows that are right, and no telling cycle, all is right
+    pub stands_after : AreFirst more (suc n) new.rows → ¬ HasTellingCycle more (suc n) → IsStateOf new more
+    stands_after rows no_cycle = record {
+      first = subst (λ m. AreFirst more m new.rows) length_more rows;
+      none = subst (λ m. ¬ HasTellingCycle more m) length_more no_cycle;
+      write = λ x. last_pushed (LastWrite x) (old.write x) (new.write x) (stands.write x) (after.write x);
+      reads = λ x. reads_pushed x (new.reads x) (after.reads x);
+      release = λ l. last_pushed (LastRelease l) (old.release l) (new.release l) (stands.release l) (after.release l);
+      now = after.now ∙ ap suc stands.now ∙ length_more;
+      acted = acted_new;
+      begins = λ t. (agrees t).begins ∙ ap (blocks more t) length_more;
+      in_block = λ t. (agrees t).in_block ∙ ap (λ m. nat_lt 0 (depth more t m)) length_more;
+    }

@@ -1,0 +1,10 @@
+use Rattle.std.proofs.Common.{refl}
+use Rattle.aero_model.specs.declared.numbered.What.TheVariants.{Acquire}
+use Rattle.aero_access.specs.StateWords.{event}
+use Rattle.aero_leads.proofs.Standings.{follows}
+use Rattle.aero_leads.proofs.leads.Leads.acquire.Goals as goal
+
+pub returns-clause-follows : goal.returns-clause-follows
+returns-clause-follows c =
+    follows c.args.self.now c.start.new.self _ c.finish.new.self _ (event c.args.t (Acquire c.args.l)) c.finish.result c.in_ok-closes.closes
+    c.in_ok-start.ensures.ok c.in_ok-closes.ensures.moves refl c.finish.ensures.told c.finish.ensures.untold c.finish.ensures.finished

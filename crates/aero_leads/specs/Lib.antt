@@ -1,0 +1,6 @@
+pub mod Leads
+pub mod Marks
+pub mod Steps
+pub mod Kept
+pub mod States
+pub mod Standing

@@ -1,0 +1,41 @@
+-- Which last events an event takes: of each, the thread that made it and its place.
+use Rattle.std.specs.Prelude.{◌≡◌, ◌≢◌, ℕ, ◌<◌, true, List, [], ◌∷◌, ◌++◌, Some, None, slice_get}
+use Rattle.aero_model.specs.declared.numbered.Numbered.{Numbered}
+use Rattle.aero_model.specs.declared.numbered.What.TheVariants.{Read, Write, Acquire, Join}
+use Rattle.aero_access.specs.declared.slot.Slot.{Slot}
+use Rattle.aero_access.specs.declared.slot.Slot.TheVariants.{OfThread, LastWrite, LastRead, LastRelease}
+use Rattle.aero_access.specs.Slots.{last_event}
+use Rattle.aero_access.specs.Takes.{Among, takes_only_own, HasActed}
+
+pub record Mark : Type 0 where
+  pub thread : ℕ
+  pub place : ℕ
+
+abbrev pub mark : ℕ → ℕ → Mark
+mark o p = record { thread = o; place = p }
+
+module _ (trace : List Numbered) (n : ℕ) where
+  -- the slot's last event, if it is of another thread than t
+  pub data IfOther (t : ℕ) (s : Slot) : List Mark → Type 0 where
+    nobodys : last_event trace n s ≡ None → IfOther t s []
+    its_own : (q : ℕ) (f : Numbered) → last_event trace n s ≡ Some q → slice_get trace q ≡ Some f → f.thread ≡ t → IfOther t s []
+    other : (q : ℕ) (f : Numbered) → last_event trace n s ≡ Some q → slice_get trace q ≡ Some f → f.thread ≢ t → IfOther t s (mark f.thread q ∷ [])
+
+  -- last reads of the variable by threads other than t, and all of them that come after its last write
+  pub record AreReads (t x : ℕ) (ms : List Mark) : Type 0 where
+    pub each : (m : Mark) → Among m ms → (m.thread ≢ t) × (last_event trace n (LastRead x m.thread) ≡ Some m.place)
+    pub all : (u q : ℕ) → u ≢ t → last_event trace n (LastRead x u) ≡ Some q → ((p : ℕ) → last_event trace n (LastWrite x) ≡ Some p → p < q) → Among (mark u q) ms
+
+  -- what event e at place n takes of other threads
+  pub data TakesMarks (e : Numbered) : List Mark → Type 0 where
+    -- a begin, an end, a release or a fork: nothing
+    plain : takes_only_own e.what ≡ true → TakesMarks e []
+    -- a read: the last write
+    read : (x : ℕ) (ms : List Mark) → e.what ≡ Read x → IfOther e.thread (LastWrite x) ms → TakesMarks e ms
+    -- a write: the last write and the last reads; those before the last write may be left out
+    write : (x : ℕ) (ms rs : List Mark) → e.what ≡ Write x → IfOther e.thread (LastWrite x) ms → AreReads e.thread x rs → TakesMarks e (ms ++ rs)
+    -- an acquire: the last release
+    acquire : (l : ℕ) (ms : List Mark) → e.what ≡ Acquire l → IfOther e.thread (LastRelease l) ms → TakesMarks e ms
+    -- a join: the last event of the thread that is joined, if it has acted
+    join : (u q : ℕ) → e.what ≡ Join u → HasActed trace n u → last_event trace n (OfThread u) ≡ Some q → TakesMarks e (mark u q ∷ [])
+    idle_join : (u : ℕ) → e.what ≡ Join u → ¬ HasActed trace n u → TakesMarks e []

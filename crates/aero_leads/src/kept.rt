@@ -1,0 +1,223 @@
+//! What is kept of a trace, and how each event changes it. A function for an event answers whether
+//! that closes a cycle through the open block of its thread; then it leaves the blocks as they were.
+ghost use Rattle.std.specs.Prelude.{◌≡◌, ◌≢◌, ◌<◌, ◌-◌, ◌^◌, ℕ, suc, [], true, false, IfOk, OnOk, OnErr, vec_len};
+ghost use Rattle.aero_model.specs.declared.numbered.What.TheVariants.{Read, Write, Acquire, Release, Fork, Join, Begin};
+ghost use Rattle.aero_access.specs.StateWords.{event};
+ghost use Rattle.aero_leads.specs.Kept.{last, IsLeastBack};
+
+use crate::last::Last;
+use crate::thread;
+use crate::thread::{Thread, gain, least_back, take, take_all};
+use crate::variable::{
+    Variable, last_reads, last_release, last_write, note_read, note_release, note_write,
+};
+use std::alloc::{AllocError, Global};
+
+/// The threads, variables and locks, each by its number, and how many events there are.
+#[derive(Drop)]
+pub struct Kept {
+    pub threads: Vec<Thread>,
+    pub variables: Vec<Variable>,
+    pub releases: Vec<Last>,
+    pub events: u32,
+}
+
+impl Kept {
+    ghost use Rattle.aero_leads.specs.States.{IsStateOf, Moves, acting};
+    ghost use Rattle.aero_leads.specs.Standing.{state_in, AreSame, HaveSameBlocks, EndsState, HasRoom};
+
+    /// No event.
+    pub(crate) fn new(alloc: Global) -> Kept
+        ensures { IsStateOf (state_in result) [] }
+    {
+        Kept {
+            threads: Vec::new(alloc),
+            variables: Vec::new(alloc),
+            releases: Vec::new(alloc),
+            events: 0,
+        }
+    }
+
+    /// Whether thread `t` is in a block.
+    pub(crate) fn in_block(&self, t: u32) -> bool
+        ensures { result ≡ (state_in self.now).in_block t }
+    {
+        match self.threads.get(t as usize) {
+            Some(thread) => thread.in_block,
+            None => false,
+        }
+    }
+
+    /// How many outermost begins thread `t` has made.
+    pub(crate) fn begins(&self, t: u32) -> u32
+        ensures { result ≡ (state_in self.now).begins t }
+    {
+        match self.threads.get(t as usize) {
+            Some(thread) => thread.begins,
+            None => 0,
+        }
+    }
+
+    /// Whether thread `t` has made an event.
+    pub(crate) fn acted(&self, t: u32) -> bool
+        ensures { result ≡ (state_in self.now).acted t }
+    {
+        match self.threads.get(t as usize) {
+            Some(thread) => thread.acted,
+            None => false,
+        }
+    }
+
+    /// Makes room for thread `t` and an event. An event whose number doesn't fit 32 bits is refused
+    /// as memory is.
+    pub(crate) fn reach(&mut self, t: u32) -> Result<(), AllocError>
+        ensures room { OnOk result (HasRoom self.new t) }
+        ensures same { AreSame (state_in self.old) (state_in self.new) }
+    {
+        if self.events == u32::MAX {
+            return Err(AllocError);
+        }
+        thread::reach(&mut self.threads, t)
+    }
+
+    /// Thread `t` has made an event.
+    pub(crate) fn act(&mut self, t: u32)
+        requires { HasRoom self.old t }
+        ensures { AreSame (acting (state_in self.old) t) (state_in self.new) }
+    {
+        self.threads[t as usize].acted = true;
+        self.events += 1;
+    }
+
+    /// Thread `t` reads variable `x`.
+    pub(crate) fn read(&mut self, t: u32, x: u32) -> Result<bool, AllocError>
+        requires { HasRoom self.old t }
+        ensures moves { IfOk result (Moves (state_in self.old) (state_in self.new) (event t (Read x))) }
+        ensures same { HaveSameBlocks (state_in self.old) (state_in self.new) }
+        ensures room { HasRoom self.new t }
+    {
+        let write = last_write(&self.variables, x);
+        if take(&mut self.threads, t, write, self.events)? {
+            return Ok(true);
+        }
+        let event = self.event(t);
+        note_read(&mut self.variables, x, event)?;
+        Ok(false)
+    }
+
+    /// Thread `t` writes variable `x`.
+    pub(crate) fn write(&mut self, t: u32, x: u32) -> Result<bool, AllocError>
+        requires { HasRoom self.old t }
+        ensures moves { IfOk result (Moves (state_in self.old) (state_in self.new) (event t (Write x))) }
+        ensures same { HaveSameBlocks (state_in self.old) (state_in self.new) }
+        ensures room { HasRoom self.new t }
+    {
+        let write = last_write(&self.variables, x);
+        if take(&mut self.threads, t, write, self.events)? {
+            return Ok(true);
+        }
+        let reads = last_reads(&self.variables, x);
+        if take_all(&mut self.threads, t, reads, self.events)? {
+            return Ok(true);
+        }
+        let event = self.event(t);
+        note_write(&mut self.variables, x, event)?;
+        Ok(false)
+    }
+
+    /// Thread `t` acquires lock `l`.
+    pub(crate) fn acquire(&mut self, t: u32, l: u32) -> Result<bool, AllocError>
+        requires { HasRoom self.old t }
+        ensures moves { IfOk result (Moves (state_in self.old) (state_in self.new) (event t (Acquire l))) }
+        ensures same { HaveSameBlocks (state_in self.old) (state_in self.new) }
+        ensures room { HasRoom self.new t }
+    {
+        let release = last_release(&self.releases, l);
+        let closes = take(&mut self.threads, t, release, self.events)?;
+        Ok(closes)
+    }
+
+    /// Thread `t` releases lock `l`.
+    pub(crate) fn release(&mut self, t: u32, l: u32) -> Result<(), AllocError>
+        requires { HasRoom self.old t }
+        ensures moves { OnOk result (Moves (state_in self.old) (state_in self.new) (event t (Release l)) false) }
+        ensures same { HaveSameBlocks (state_in self.old) (state_in self.new) }
+        ensures room { HasRoom self.new t }
+    {
+        let event = self.event(t);
+        note_release(&mut self.releases, l, event)?;
+        Ok(())
+    }
+
+    /// Thread `t` forks thread `u`.
+    pub(crate) fn fork(&mut self, t: u32, u: u32) -> Result<(), AllocError>
+        requires room { HasRoom self.old t }
+        requires target { u < vec_len self.old.threads }
+        requires other { u ≢ t }
+        ensures moves { OnOk result (Moves (state_in self.old) (state_in self.new) (event t (Fork u)) false) }
+        ensures same { HaveSameBlocks (state_in self.old) (state_in self.new) }
+        ensures room { HasRoom self.new t }
+    {
+        gain(&mut self.threads, u, t, self.events, self.events)?;
+        Ok(())
+    }
+
+    /// Thread `t` joins thread `u`.
+    pub(crate) fn join(&mut self, t: u32, u: u32) -> Result<bool, AllocError>
+        requires room { HasRoom self.old t }
+        requires other { u ≢ t }
+        requires acted { (state_in self.old).acted u ≡ true }
+        ensures moves { IfOk result (Moves (state_in self.old) (state_in self.new) (event t (Join u))) }
+        ensures same { HaveSameBlocks (state_in self.old) (state_in self.new) }
+        ensures room { HasRoom self.new t }
+    {
+        let last = Last {
+            thread: u,
+            count: self.events,
+        };
+        let closes = take(&mut self.threads, t, last, self.events)?;
+        Ok(closes)
+    }
+
+    /// Thread `t` begins a block, and is in none.
+    pub(crate) fn begin(&mut self, t: u32) -> Result<(), AllocError>
+        requires room { HasRoom self.old t }
+        requires outside { (state_in self.old).in_block t ≡ false }
+        requires count { (state_in self.old).begins t < 2 ^ 32 - 1 }
+        ensures moves { OnOk result (Moves (state_in self.old) (state_in self.new) (event t Begin) false) }
+        ensures err { OnErr result (HaveSameBlocks (state_in self.old) (state_in self.new)) }
+        ensures room { HasRoom self.new t }
+    {
+        thread::begin(&mut self.threads, t, self.events)?;
+        Ok(())
+    }
+
+    /// The least thread whose open block closes a cycle through the block that thread `t` ends now.
+    pub(crate) fn least_back(&self, t: u32) -> Option<u32>
+        ensures { IsLeastBack (state_in self.now).rows t result }
+    {
+        least_back(&self.threads, t)
+    }
+
+    /// Thread `t` ends its outermost block.
+    pub(crate) fn end(&mut self, t: u32) -> Result<(), AllocError>
+        requires { HasRoom self.old t }
+        ensures ends { OnOk result (EndsState (state_in self.old) (state_in self.new) t) }
+        ensures err { OnErr result (HaveSameBlocks (state_in self.old) (state_in self.new)) }
+        ensures room { HasRoom self.new t }
+    {
+        thread::end(&mut self.threads, t)?;
+        Ok(())
+    }
+
+    // The next event, by thread t.
+    fn event(&self, t: u32) -> Last
+        requires { HasRoom self.now t }
+        ensures { result ≡ last t (suc self.now.events) }
+    {
+        Last {
+            thread: t,
+            count: self.events + 1,
+        }
+    }
+}

@@ -1,0 +1,229 @@
+//! The first places of a trace, kept event by event.
+ghost use Rattle.std.specs.Prelude.{◌≡◌, ◌≢◌, ◌<◌, ◌-◌, ◌^◌, ◌++◌, ◌∷◌, [], ℕ, true, false, None, Some, List, length, IsErr, IfOk, OnOk, OnErr};
+ghost use Rattle.aero_model.specs.declared.numbered.Numbered.{Numbered};
+ghost use Rattle.aero_model.specs.declared.numbered.What.{What};
+ghost use Rattle.aero_model.specs.declared.numbered.What.TheVariants.{Read, Write, Acquire, Release, Fork, Join, Begin, End};
+ghost use Rattle.aero_model.specs.Blocks.{closes};
+ghost use Rattle.aero_model.specs.Shape.{IsWellFormed};
+ghost use Rattle.aero_access.specs.StateWords.{event, IsIdle};
+
+use crate::kept::Kept;
+use aero_access::clocks::Spent;
+use std::alloc::Global;
+
+/// The first places of the events so far. Threads, variables and locks go by numbers from 0.
+///
+/// A call for an event answers the thread whose open block closes a cycle with it, if there is
+/// one. Then `closed` answers that thread, and no further event may be given. Where memory is
+/// refused, or the event would be the 2^32nd, a call answers `Spent`, and so does each later call
+/// for an event; then `in_block`, `begins`, `acted` and `closed` answer as before the first of these.
+#[derive(Drop)]
+pub struct Leads {
+    kept: Kept,
+    closed: Option<u32>,
+    spent: bool,
+}
+
+impl Leads {
+    ghost use Rattle.aero_leads.specs.Standing.{in_block_at, begins_at, acted_at, closed_by, is_spent, StandsFor, Answers, Follows, Tells, quiet, IsStarted, IsRefused, IsFinished, IsClosed, IsToldOf, HasRoom};
+
+    /// No event.
+    pub fn new(alloc: Global) -> Leads
+        ensures { StandsFor result [] }
+    {
+        Leads {
+            kept: Kept::new(alloc),
+            closed: None,
+            spent: false,
+        }
+    }
+
+    /// Whether thread `t` is in a block.
+    pub fn in_block(&self, t: u32) -> bool
+        ensures { result ≡ in_block_at self.now t }
+    {
+        self.kept.in_block(t)
+    }
+
+    /// How many outermost begins thread `t` has made.
+    pub fn begins(&self, t: u32) -> u32
+        ensures { result ≡ begins_at self.now t }
+    {
+        self.kept.begins(t)
+    }
+
+    /// Whether thread `t` has made an event.
+    pub fn acted(&self, t: u32) -> bool
+        ensures { result ≡ acted_at self.now t }
+    {
+        self.kept.acted(t)
+    }
+
+    /// The thread that an earlier call answered, if one did.
+    pub fn closed(&self) -> Option<u32>
+        ensures { result ≡ closed_by self.now }
+    {
+        self.closed
+    }
+
+    /// Thread `t` reads variable `x`.
+    pub fn read(&mut self, t: u32, x: u32) -> Result<Option<u32>, Spent>
+        requires { closed_by self.old ≡ None }
+        ensures answers { Answers self.old self.new result }
+        ensures follows { Follows self.old self.new (event t (Read x)) result }
+    {
+        self.start(t)?;
+        let closes = self.kept.read(t, x)?;
+        Ok(self.finish(t, closes))
+    }
+
+    /// Thread `t` writes variable `x`.
+    pub fn write(&mut self, t: u32, x: u32) -> Result<Option<u32>, Spent>
+        requires { closed_by self.old ≡ None }
+        ensures answers { Answers self.old self.new result }
+        ensures follows { Follows self.old self.new (event t (Write x)) result }
+    {
+        self.start(t)?;
+        let closes = self.kept.write(t, x)?;
+        Ok(self.finish(t, closes))
+    }
+
+    /// Thread `t` acquires lock `l`.
+    pub fn acquire(&mut self, t: u32, l: u32) -> Result<Option<u32>, Spent>
+        requires { closed_by self.old ≡ None }
+        ensures answers { Answers self.old self.new result }
+        ensures follows { Follows self.old self.new (event t (Acquire l)) result }
+    {
+        self.start(t)?;
+        let closes = self.kept.acquire(t, l)?;
+        Ok(self.finish(t, closes))
+    }
+
+    /// Thread `t` releases lock `l`.
+    pub fn release(&mut self, t: u32, l: u32) -> Result<Option<u32>, Spent>
+        requires { closed_by self.old ≡ None }
+        ensures answers { Answers self.old self.new result }
+        ensures follows { Follows self.old self.new (event t (Release l)) result }
+    {
+        self.start(t)?;
+        self.kept.release(t, l)?;
+        Ok(self.finish(t, false))
+    }
+
+    /// Thread `t` forks thread `u`, which has made no event.
+    pub fn fork(&mut self, t: u32, u: u32) -> Result<Option<u32>, Spent>
+        requires closed { closed_by self.old ≡ None }
+        requires other { u ≢ t }
+        requires fresh { acted_at self.old u ≡ false }
+        ensures answers { Answers self.old self.new result }
+        ensures follows { Follows self.old self.new (event t (Fork u)) result }
+    {
+        self.start(t.max(u))?;
+        self.kept.fork(t, u)?;
+        Ok(self.finish(t, false))
+    }
+
+    /// Thread `t` joins thread `u`, which has made an event.
+    pub fn join(&mut self, t: u32, u: u32) -> Result<Option<u32>, Spent>
+        requires closed { closed_by self.old ≡ None }
+        requires other { u ≢ t }
+        requires acted { acted_at self.old u ≡ true }
+        ensures answers { Answers self.old self.new result }
+        ensures follows { Follows self.old self.new (event t (Join u)) result }
+    {
+        self.start(t)?;
+        let closes = self.kept.join(t, u)?;
+        Ok(self.finish(t, closes))
+    }
+
+    /// Thread `t`, which is in no block, begins one.
+    pub fn begin(&mut self, t: u32) -> Result<Option<u32>, Spent>
+        requires closed { closed_by self.old ≡ None }
+        requires outside { in_block_at self.old t ≡ false }
+        requires count { begins_at self.old t < 2 ^ 32 - 1 }
+        ensures answers { Answers self.old self.new result }
+        ensures follows { Follows self.old self.new (event t Begin) result }
+    {
+        self.start(t)?;
+        self.kept.begin(t)?;
+        Ok(self.finish(t, false))
+    }
+
+    /// Thread `t` makes an event that takes no other: a begin or an end within a block, or a join
+    /// of a thread that has made no event.
+    pub fn plain(&mut self, t: u32) -> Result<(), Spent>
+        requires { closed_by self.old ≡ None }
+        ensures answers { Answers self.old self.new (quiet result) }
+        ensures follows { (h : List Numbered) (what : What)
+            → StandsFor self.old h
+            → IsWellFormed (h ++ event t what ∷ [])
+            → IsIdle h t what
+            → OnOk result (Tells self.new (h ++ event t what ∷ []) (length h) None) }
+    {
+        self.start(t)?;
+        self.finish(t, false);
+        Ok(())
+    }
+
+    /// Ends the outermost block of thread `t`, which is in a block. Answers the least thread whose
+    /// open block closes a cycle through the block that ends, and `None` where there is none: then
+    /// thread `t` is in no block any more.
+    pub fn end(&mut self, t: u32) -> Result<Option<u32>, Spent>
+        requires inside { in_block_at self.old t ≡ true }
+        requires closed { closed_by self.old ≡ None }
+        ensures answers { Answers self.old self.new result }
+        ensures follows { (h : List Numbered)
+            → StandsFor self.old h
+            → IsWellFormed (h ++ event t End ∷ [])
+            → closes (h ++ event t End ∷ []) t (length h) ≡ true
+            → IfOk result (Tells self.new (h ++ event t End ∷ []) (length h)) }
+    {
+        self.start(t)?;
+        let closing = self.kept.least_back(t);
+        if closing.is_some() {
+            self.tell(closing);
+            return Ok(closing);
+        }
+        self.kept.end(t)?;
+        Ok(self.finish(t, false))
+    }
+
+    // Begins a call, which is spent until it is finished, and makes room for thread t.
+    fn start(&mut self, t: u32) -> Result<(), Spent>
+        ensures ok { OnOk result (IsStarted self.old self.new t) }
+        ensures err { OnErr result (IsRefused self.old self.new) }
+        ensures spent { is_spent self.old ≡ true → IsErr result }
+    {
+        if self.spent {
+            return Err(Spent);
+        }
+        self.spent = true;
+        self.kept.reach(t)?;
+        Ok(())
+    }
+
+    // Ends a call: this block is told.
+    fn tell(&mut self, closing: Option<u32>)
+        ensures { IsToldOf self.old self.new closing }
+    {
+        self.spent = false;
+        self.closed = closing;
+    }
+
+    // Ends a call: thread t has acted, or its block is told.
+    fn finish(&mut self, t: u32, closes: bool) -> Option<u32>
+        requires { HasRoom self.old.kept t }
+        ensures told { closes ≡ true → result ≡ Some t }
+        ensures closed { closes ≡ true → IsClosed self.old self.new t }
+        ensures untold { closes ≡ false → result ≡ None }
+        ensures finished { closes ≡ false → IsFinished self.old self.new t }
+    {
+        self.spent = false;
+        if closes {
+            self.closed = Some(t);
+            return self.closed;
+        }
+        self.kept.act(t);
+        None
+    }
+}

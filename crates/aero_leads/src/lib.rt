@@ -1,0 +1,36 @@
+//! First places: to which event of each thread an open block leads first.
+//!
+//! Where a thread's block leads to an event, it leads to each later event of the same thread. So
+//! for a thread and an open block the least place of an event of that thread to which the block
+//! leads says all: the block leads to the last write of a variable exactly where that place is
+//! the write's or an earlier one, and so for last reads, last releases and last events of threads.
+//! Of each of these the thread that made it and its place are enough, and no clock is kept.
+//!
+//! `Leads` keeps that for each thread as a row, the open blocks that lead to the thread with the place
+//! from which on they do, and answers as `Clocks` and `end` do together: which open block closes a cycle
+//! with an event, if one does.
+//!
+//! - A thread that takes an event is closed where its own open block leads there. Else what leads to
+//!   the event leads to the thread from now on.
+//! - A begin is the first place of its block, and a fork gives all that leads to the thread.
+//! - At an end, what leads to the block leads to all that the block led to, each from where the block
+//!   did, and the block leaves all rows. No variable and no lock is looked at.
+//!
+//! ```text
+//! let mut leads = Leads::new(alloc);
+//! leads.begin(0)?;
+//! leads.begin(1)?;
+//! leads.write(1, 1)?;
+//! leads.write(0, 0)?;
+//! leads.read(1, 0)?;
+//! leads.read(0, 1)?;
+//! assert_eq!(rt; leads.end(0), Ok(Some(1)));
+//! ```
+#![tactic(auto)]
+
+mod kept;
+mod last;
+pub mod leads;
+mod row;
+mod thread;
+mod variable;

@@ -1,0 +1,123 @@
+//! What is kept of variables and locks.
+ghost use Rattle.std.specs.Prelude.{◌≡◌, ◌==◌, ◌<◌, ◌++◌, ◌∷◌, [], ℕ, not, filter, OnOk, vec_len, slice_get, if◌then◌else◌};
+ghost use Rattle.aero_leads.specs.Kept.{last, last_or_none, variable_write, variable_reads, reads_but};
+
+use crate::last::Last;
+use std::alloc::{AllocError, Global};
+
+/// The last write, and the last read by each thread that has read the variable since.
+#[derive(Drop)]
+pub struct Variable {
+    pub write: Last,
+    pub reads: Vec<Last>,
+}
+
+/// The last write of variable `x`.
+pub(crate) fn last_write(variables: &[Variable], x: u32) -> Last
+    ensures { result ≡ variable_write (slice_get variables.now x) }
+{
+    match variables.get(x as usize) {
+        Some(variable) => variable.write,
+        None => Last::none(),
+    }
+}
+
+/// The reads of variable `x` since.
+pub(crate) fn last_reads(variables: &[Variable], x: u32) -> &[Last]
+    ensures { result.now ≡ variable_reads (slice_get variables.now x) }
+{
+    match variables.get(x as usize) {
+        Some(variable) => &variable.reads,
+        None => &[],
+    }
+}
+
+/// The last release of lock `l`.
+pub(crate) fn last_release(releases: &[Last], l: u32) -> Last
+    ensures { result ≡ last_or_none (slice_get releases.now l) }
+{
+    match releases.get(l as usize) {
+        Some(release) => *release,
+        None => Last::none(),
+    }
+}
+
+/// Variable `x` is written by this event. The reads before it are forgotten.
+pub(crate) fn note_write(
+    variables: &mut Vec<Variable>,
+    x: u32,
+    event: Last,
+) -> Result<(), AllocError>
+    ensures writes { OnOk result ((y : ℕ) → variable_write (slice_get variables.new.items y) ≡ (if y == x then event else variable_write (slice_get variables.old.items y))) }
+    ensures reads { OnOk result ((y : ℕ) → variable_reads (slice_get variables.new.items y) ≡ (if y == x then [] else variable_reads (slice_get variables.old.items y))) }
+{
+    reach(variables, x)?;
+    let variable = &mut variables[x as usize];
+    variable.write = event;
+    variable.reads.clear();
+    Ok(())
+}
+
+/// Variable `x` is read by this event, the last read by its thread.
+pub(crate) fn note_read(
+    variables: &mut Vec<Variable>,
+    x: u32,
+    event: Last,
+) -> Result<(), AllocError>
+    ensures writes { OnOk result ((y : ℕ) → variable_write (slice_get variables.new.items y) ≡ variable_write (slice_get variables.old.items y)) }
+    ensures reads { OnOk result ((y : ℕ) → variable_reads (slice_get variables.new.items y) ≡ (if y == x then reads_but event.thread (variable_reads (slice_get variables.old.items y)) ++ event ∷ [] else variable_reads (slice_get variables.old.items y))) }
+{
+    reach(variables, x)?;
+    put_read(&mut variables[x as usize].reads, event)
+}
+
+/// Lock `l` is released by this event.
+pub(crate) fn note_release(releases: &mut Vec<Last>, l: u32, event: Last) -> Result<(), AllocError>
+    ensures { OnOk result ((m : ℕ) → last_or_none (slice_get releases.new.items m) ≡ (if m == l then event else last_or_none (slice_get releases.old.items m))) }
+{
+    reach_lock(releases, l)?;
+    releases[l as usize] = event;
+    Ok(())
+}
+
+// The event in the place of an earlier one by its thread.
+fn put_read(reads: &mut Vec<Last>, event: Last) -> Result<(), AllocError>
+    ensures { OnOk result (reads.new.items ≡ reads_but event.thread reads.old.items ++ event ∷ []) }
+{
+    drop_reader(reads, event.thread);
+    reads.push(event)?;
+    Ok(())
+}
+
+fn drop_reader(reads: &mut Vec<Last>, t: u32)
+    ensures { reads.new.items ≡ reads_but t reads.old.items }
+{
+    reads.retain(|read| read.thread != t);
+}
+
+fn reach(variables: &mut Vec<Variable>, x: u32) -> Result<(), AllocError>
+    ensures room { OnOk result (x < vec_len variables.new) }
+    ensures writes { (y : ℕ) → variable_write (slice_get variables.new.items y) ≡ variable_write (slice_get variables.old.items y) }
+    ensures reads { (y : ℕ) → variable_reads (slice_get variables.new.items y) ≡ variable_reads (slice_get variables.old.items y) }
+{
+    let at = x as usize;
+    while variables.len() <= at {
+        let reads = Vec::new(*variables.allocator());
+        variables.push(Variable {
+            write: Last::none(),
+            reads,
+        })?;
+    }
+    Ok(())
+}
+
+fn reach_lock(releases: &mut Vec<Last>, l: u32) -> Result<(), AllocError>
+    ensures room { OnOk result (l < vec_len releases.new) }
+    ensures same { (m : ℕ) → last_or_none (slice_get releases.new.items m) ≡ last_or_none (slice_get releases.old.items m) }
+{
+    let at = l as usize;
+    while releases.len() <= at {
+        releases.push(Last::none())?;
+    }
+    Ok(())
+}

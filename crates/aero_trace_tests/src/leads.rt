@@ -1,0 +1,353 @@
+use aero_access::clocks::{Clocks, Spent};
+use aero_end::end;
+use aero_leads::leads::Leads;
+use std::test::Fail;
+
+#[derive(Clone, Copy)]
+enum Event {
+    Begin,
+    End,
+    Read(u32),
+    Write(u32),
+    Acquire(u32),
+    Release(u32),
+    Fork(u32),
+    Join(u32),
+}
+
+fn digit(byte: u8) -> u32 {
+    byte.wrapping_sub(b'0') as u32
+}
+
+// The event of this line, as `0|w(1)`, where threads, variables and locks are digits, and its thread.
+fn event_of(line: &[u8]) -> Option<(u32, Event)> {
+    let [thread, b'|', what @ ..] = line else {
+        return None;
+    };
+    let event = match what {
+        b"begin" => Event::Begin,
+        b"end" => Event::End,
+        [b'r', b'(', x, b')'] => Event::Read(digit(*x)),
+        [b'w', b'(', x, b')'] => Event::Write(digit(*x)),
+        [b'a', b'c', b'q', b'(', l, b')'] => Event::Acquire(digit(*l)),
+        [b'r', b'e', b'l', b'(', l, b')'] => Event::Release(digit(*l)),
+        [b'f', b'o', b'r', b'k', b'(', u, b')'] => Event::Fork(digit(*u)),
+        [b'j', b'o', b'i', b'n', b'(', u, b')'] => Event::Join(digit(*u)),
+        _ => return None,
+    };
+    Some((digit(*thread), event))
+}
+
+// Begins a block that is in no other.
+fn begin(leads: &mut Leads, t: u32) -> Result<Option<u32>, Spent> {
+    if leads.closed().is_some() || leads.in_block(t) || leads.begins(t) == u32::MAX {
+        return Err(Spent);
+    }
+    leads.begin(t)
+}
+
+// Forks thread `u`, which has to have made no event.
+fn fork(leads: &mut Leads, t: u32, u: u32) -> Result<Option<u32>, Spent> {
+    if leads.closed().is_some() || t == u || leads.acted(u) {
+        return Err(Spent);
+    }
+    leads.fork(t, u)
+}
+
+// Joins thread `u`, which may have made no event.
+fn join(leads: &mut Leads, t: u32, u: u32) -> Result<Option<u32>, Spent> {
+    if leads.closed().is_some() || t == u {
+        return Err(Spent);
+    }
+    if leads.acted(u) {
+        return leads.join(t, u);
+    }
+    leads.plain(t)?;
+    Ok(None)
+}
+
+// Makes the event, or refuses one that is not allowed.
+fn make(leads: &mut Leads, t: u32, event: Event) -> Result<Option<u32>, Spent> {
+    if leads.closed().is_some() {
+        return Err(Spent);
+    }
+    match event {
+        Event::Begin => begin(leads, t),
+        Event::End if leads.in_block(t) => leads.end(t),
+        Event::End => Err(Spent),
+        Event::Read(x) => leads.read(t, x),
+        Event::Write(x) => leads.write(t, x),
+        Event::Acquire(l) => leads.acquire(t, l),
+        Event::Release(l) => leads.release(t, l),
+        Event::Fork(u) => fork(leads, t, u),
+        Event::Join(u) => join(leads, t, u),
+    }
+}
+
+// The answer to the last event of the trace, with `/` between its lines. Each before it has to answer
+// that nothing is told.
+fn run(leads: &mut Leads, trace: &str) -> Result<Option<u32>, Spent> {
+    let mut last = None;
+    for line in trace.split('/') {
+        let (t, event) = event_of(line.as_bytes()).ok_or(Spent)?;
+        last = make(leads, t, event)?;
+    }
+    Ok(last)
+}
+
+// Traces, and the thread that is answered to the last event of each.
+#[test]
+fn the_last_event_closes_a_cycle_or_none(rt: HostRuntime) -> Result<(), Fail> {
+    let rows = [
+        // A read comes back from a second thread, whose block is open too.
+        ("0|begin/1|begin/0|w(0)/1|r(0)/1|w(1)/0|r(1)", Some(0)),
+        // An acquire, and a join.
+        (
+            "0|begin/0|acq(0)/0|rel(0)/1|acq(0)/1|rel(0)/0|acq(0)",
+            Some(0),
+        ),
+        ("0|begin/0|fork(1)/1|w(0)/0|join(1)", Some(0)),
+        // A write: only the reader shows it.
+        ("0|begin/0|w(0)/1|r(0)/1|r(1)/0|w(1)", Some(0)),
+        // A write between the read and the write back forgets the read, and shows the same.
+        ("0|begin/0|w(0)/1|r(0)/1|r(1)/2|w(1)/0|w(1)", Some(0)),
+        // A thread closes none by itself.
+        ("0|begin/0|w(0)/0|r(0)/0|w(0)", None),
+        ("0|begin/0|acq(0)/0|rel(0)/0|acq(0)", None),
+        // There is a cycle, but it passes two open blocks, until one ends.
+        ("0|begin/1|begin/1|w(1)/0|w(0)/1|r(0)/0|r(1)", None),
+        ("0|begin/1|begin/1|w(1)/0|w(0)/1|r(0)/0|r(1)/0|end", Some(1)),
+        // A thread that has made no event is joined, and the block ends.
+        ("0|begin/0|fork(1)/0|join(1)", None),
+        ("0|begin/0|fork(1)/0|join(1)/0|end", None),
+        // The blocks of threads 1 and 2 both close, in either order in which they came to lead.
+        (
+            "0|begin/1|begin/2|begin/1|w(0)/2|w(1)/0|w(2)/1|r(2)/2|r(2)/0|r(0)/0|r(1)/0|end",
+            Some(1),
+        ),
+        (
+            "0|begin/1|begin/2|begin/1|w(0)/2|w(1)/0|w(2)/1|r(2)/2|r(2)/0|r(1)/0|r(0)/0|end",
+            Some(1),
+        ),
+        // Thread 2 wrote variable 1 after it had read of thread 1's block, into which thread 0 led
+        // only later. The end of the block brings thread 0's block to that last write.
+        (
+            "0|begin/1|begin/1|w(0)/2|r(0)/2|w(1)/0|w(2)/1|r(2)/1|end/0|r(1)",
+            Some(0),
+        ),
+        // The same where thread 2's write stands before it read of thread 1's block.
+        (
+            "0|begin/1|begin/1|w(0)/2|w(1)/2|r(0)/0|w(2)/1|r(2)/1|end/0|r(1)",
+            None,
+        ),
+    ];
+    for (trace, told) in rows {
+        let mut leads = Leads::new(rt.alloc());
+        let answer = run(&mut leads, trace);
+        assert!(rt; answer == Ok(told) && leads.closed() == told, "{trace}");
+    }
+    Ok(())
+}
+
+// Traces, and of each thread of 0 to 2 then: whether it is in a block, whether it has made an event,
+// and how many outermost begins it has made.
+#[test]
+fn the_tests_answer_for_each_thread(rt: HostRuntime) -> Result<(), Fail> {
+    let rows = [
+        (
+            "0|begin/0|w(0)/1|r(0)",
+            [(true, true, 1), (false, true, 0), (false, false, 0)],
+        ),
+        // A thread is answered, by an event and by an end: what the tests say stays.
+        (
+            "0|begin/0|w(0)/1|r(0)/1|r(1)/0|w(1)",
+            [(true, true, 1), (false, true, 0), (false, false, 0)],
+        ),
+        (
+            "0|begin/1|begin/1|w(1)/0|w(0)/1|r(0)/0|r(1)/0|end",
+            [(true, true, 1), (true, true, 1), (false, false, 0)],
+        ),
+        // A thread that is forked and joined has made no event.
+        (
+            "0|begin/0|fork(1)/0|join(1)/0|end",
+            [(false, true, 1), (false, false, 0), (false, false, 0)],
+        ),
+        (
+            "0|begin/0|w(0)/1|r(0)/0|end",
+            [(false, true, 1), (false, true, 0), (false, false, 0)],
+        ),
+    ];
+    for (trace, threads) in rows {
+        let mut leads = Leads::new(rt.alloc());
+        assert!(rt; run(&mut leads, trace).is_ok(), "{trace}");
+        for (t, says) in (0..).zip(threads) {
+            let answers = (leads.in_block(t), leads.acted(t), leads.begins(t));
+            assert!(rt; answers == says, "{t} after {trace}");
+        }
+    }
+    Ok(())
+}
+
+// The same through clocks.
+fn begin_by_clocks(clocks: &mut Clocks, t: u32) -> Result<Option<u32>, Spent> {
+    if clocks.closed().is_some() || clocks.in_block(t) || clocks.begins(t) == u32::MAX {
+        return Err(Spent);
+    }
+    clocks.begin(t)
+}
+
+fn fork_by_clocks(clocks: &mut Clocks, t: u32, u: u32) -> Result<Option<u32>, Spent> {
+    if clocks.closed().is_some() || t == u || clocks.acted(u) {
+        return Err(Spent);
+    }
+    clocks.fork(t, u)
+}
+
+fn join_by_clocks(clocks: &mut Clocks, t: u32, u: u32) -> Result<Option<u32>, Spent> {
+    if clocks.closed().is_some() || t == u {
+        return Err(Spent);
+    }
+    if clocks.acted(u) {
+        return clocks.join(t, u);
+    }
+    clocks.plain(t)?;
+    Ok(None)
+}
+
+fn make_by_clocks(clocks: &mut Clocks, t: u32, event: Event) -> Result<Option<u32>, Spent> {
+    if clocks.closed().is_some() {
+        return Err(Spent);
+    }
+    match event {
+        Event::Begin => begin_by_clocks(clocks, t),
+        Event::End if clocks.in_block(t) => end(clocks, t),
+        Event::End => Err(Spent),
+        Event::Read(x) => clocks.read(t, x),
+        Event::Write(x) => clocks.write(t, x),
+        Event::Acquire(l) => clocks.acquire(t, l),
+        Event::Release(l) => clocks.release(t, l),
+        Event::Fork(u) => fork_by_clocks(clocks, t, u),
+        Event::Join(u) => join_by_clocks(clocks, t, u),
+    }
+}
+
+// Events that fit each other: a linear congruential generator, who holds the one lock, and which
+// threads were forked and joined.
+#[derive(Drop)]
+struct Plan {
+    state: u32,
+    holder: Option<u32>,
+    forked: Option<u32>,
+    joined: Option<u32>,
+}
+
+impl Plan {
+    // A number below this one.
+    fn roll(&mut self, sides: u32) -> u32 {
+        self.state = self
+            .state
+            .wrapping_mul(1_664_525)
+            .wrapping_add(1_013_904_223);
+        (self.state >> 16).checked_rem(sides).unwrap_or(0)
+    }
+
+    // An acquire or a release of the lock by thread t, where that fits.
+    fn lock(&mut self, t: u32) -> Event {
+        match self.holder {
+            None => {
+                self.holder = Some(t);
+                Event::Acquire(0)
+            }
+            Some(holder) if holder == t => {
+                self.holder = None;
+                Event::Release(0)
+            }
+            Some(_) => Event::Read(2),
+        }
+    }
+
+    // A fork or a join of thread u, where that fits.
+    fn thread(&mut self, leads: &Leads, u: u32) -> Event {
+        if self.forked.is_none() && !leads.acted(u) {
+            self.forked = Some(u);
+            return Event::Fork(u);
+        }
+        if self.joined.is_none() && self.holder != Some(u) && !leads.in_block(u) {
+            self.joined = Some(u);
+            return Event::Join(u);
+        }
+        Event::Write(2)
+    }
+
+    // The next event, and its thread.
+    fn next(&mut self, leads: &Leads) -> (u32, Event) {
+        let mut t = self.roll(3);
+        if self.joined == Some(t) {
+            t = if t == 0 { 1 } else { 0 };
+        }
+        let event = match self.roll(24) {
+            0..=9 => Event::Write(self.roll(20)),
+            10..=15 if !leads.in_block(t) => Event::Begin,
+            16..=19 if leads.in_block(t) => Event::End,
+            20 => self.lock(t),
+            21 => self.thread(leads, if t == 2 { 1 } else { 2 }),
+            _ => Event::Read(self.roll(20)),
+        };
+        (t, event)
+    }
+}
+
+// Whether both say the same of the thread.
+fn agree(leads: &Leads, clocks: &Clocks, t: u32) -> bool {
+    leads.in_block(t) == clocks.in_block(t)
+        && leads.acted(t) == clocks.acted(t)
+        && leads.begins(t) == clocks.begins(t)
+}
+
+// Gives both up to so many events. The thread of the last one and the answer, where both always gave
+// the same.
+fn compare(
+    leads: &mut Leads,
+    clocks: &mut Clocks,
+    seed: u32,
+    events: u32,
+) -> Option<(u32, Option<u32>)> {
+    let mut plan = Plan {
+        state: seed,
+        holder: None,
+        forked: None,
+        joined: None,
+    };
+    let mut last = 0;
+    for _ in 0..events {
+        let (t, event) = plan.next(leads);
+        let answer = make(leads, t, event);
+        if answer != make_by_clocks(clocks, t, event) || !agree(leads, clocks, t) {
+            return None;
+        }
+        last = t;
+        if answer != Ok(None) {
+            return Some((t, answer.ok()?));
+        }
+    }
+    Some((last, None))
+}
+
+#[test]
+fn both_engines_answer_the_same(rt: HostRuntime) -> Result<(), Fail> {
+    // Traces whose last event closes its own thread's block, another's at an end, or none.
+    let (mut own, mut other, mut none) = (0_u32, 0_u32, 0_u32);
+    for seed in 0..160 {
+        let mut leads = Leads::new(rt.alloc());
+        let mut clocks = Clocks::new(rt.alloc());
+        match compare(&mut leads, &mut clocks, seed, 4 + seed % 96) {
+            Some((t, Some(u))) if t == u => own = own.saturating_add(1),
+            Some((_, Some(_))) => other = other.saturating_add(1),
+            Some((_, None)) => none = none.saturating_add(1),
+            None => assert!(rt; false, "seed {seed}"),
+        }
+    }
+    // Each kind has to come.
+    assert!(rt; own >= 8 && other >= 4 && none >= 8, "{own} {other} {none}");
+    Ok(())
+}
