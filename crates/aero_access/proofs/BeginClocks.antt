@@ -2,7 +2,7 @@
 use Rattle.std.proofs.Common.{◌≡◌, ◌↔◌, ◌⊎◌, inl, inr, ℕ, suc, ◌<◌, ◌≤◌, ⊎_elim, List, Some, refl, sym, ◌∙◌, arith}
 use Rattle.std.specs.Prelude.{true, slice_get}
 use Rattle.std.proofs.lemmas.Bool.{cases_lt}
-use Rattle.aero_model.specs.declared.event.Numbered.{Numbered}
+use Rattle.aero_model.specs.declared.numbered.Numbered.{Numbered}
 use Rattle.aero_model.specs.Blocks.{depth, opens, blocks, Block}
 use Rattle.aero_model.specs.Graph.{same_thread}
 use Rattle.aero_model.proofs.Reach.{Reach, reach_trans, reach_from_within}

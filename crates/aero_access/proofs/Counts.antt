@@ -3,7 +3,7 @@ use Rattle.std.proofs.Common.{◌≡◌, ◌⊎◌, ℕ, suc, ◌<◌, ◌≤◌
 use Rattle.std.specs.Prelude.{slice_get, true, false}
 use Rattle.std.proofs.lemmas.Bool.{cases_lt, both_ways, and_parts}
 use Rattle.std.proofs.lemmas.Option.{same_Some}
-use Rattle.aero_model.specs.declared.event.Numbered.{Numbered}
+use Rattle.aero_model.specs.declared.numbered.Numbered.{Numbered}
 use Rattle.aero_model.specs.Blocks.{is_end, closes, blocks, Transaction, Block}
 use Rattle.aero_model.specs.Graph.{same_thread}
 use Rattle.aero_model.proofs.Reach.{Reach, reach_trans, reach_from_within, reach_more}

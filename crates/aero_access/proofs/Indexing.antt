@@ -1,7 +1,7 @@
 -- The index after each step.
 use Rattle.std.proofs.Common.{◌≡◌, ◌≢◌, ⊎_elim, ℕ, ◌+◌, ◌-◌, ◌<◌, ◌≤◌, List, [], ◌∷◌, ◌++◌, length, get_or, max, Option, Some, None, refl, sym, ap, ap₂, ◌∙◌, subst, arith, add-zero}
 use Rattle.std.specs.Prelude.{◌==◌, ◌||◌, ◌&&◌, not, Bool, true, false, if◌then◌else◌, slice_get, slice_set, is_some}
-use Rattle.std.proofs.lemmas.Bool.{cases_eq, cases_lt, cond-true, cond-false, eq-eqb, ne_eqb}
+use Rattle.std.proofs.lemmas.Bool.{cases_Bool, cases_eq, cases_lt, cond-true, cond-false, eq-eqb, ne_eqb}
 use Rattle.std.proofs.lemmas.Option.{slice_get_cases}
 use Rattle.aero_clock.specs.Numbers.{number_at}
 use Rattle.aero_access.specs.declared.slot.Slot.{Slot}
@@ -14,19 +14,16 @@ use Rattle.aero_access.specs.declared.index.Index.{Index}
 use Rattle.aero_access.specs.Kept.{same_slot, kept_clock}
 use Rattle.aero_access.specs.Threads.{thread_clock, thread_begin, thread_begins, AreSameThreads}
 use Rattle.aero_access.specs.TableWords.{kept_of, labels_of, place_of, slot_clock, label_clock, JoinsSlot}
-use Rattle.aero_access.specs.StateWords.{clock_in, state_in, slot_in, HaveSameBlocks}
+use Rattle.aero_access.specs.StateWords.{clock_in, state_in, slot_in, JoinsClock, HaveSameBlocks}
 use Rattle.aero_access.specs.Heeds.{AreHeeded}
 use Rattle.aero_access.specs.Led.{leads, times, led_at, block_number, has_thread, places_in, ListsSame, GainsThread, GainsLabel, MovesLabel, IsOfBegin}
-use Rattle.aero_access.specs.Indexed.{open_number, CountsLabels, IsIndex, TakesOnly, KeepsLabels, OpensBlock}
+use Rattle.aero_access.specs.Indexed.{open_number, CountsLabels, IsIndex, TakesOnly, KeepsLabels, OpensBlock, IsPast, KeepsItsClock}
 use Rattle.aero_access.proofs.OwnSteps.{written, unwritten}
 use Rattle.aero_access.proofs.Visits.{leads_more}
 use Rattle.aero_access.proofs.Labels.{clock_at_place, clock_set, clock_joined}
-use Rattle.aero_access.proofs.SlotNumbers.{slot_thread, slot_label, label_kept}
+use Rattle.aero_access.proofs.SlotNumbers.{slot_thread, slot_label, label_kept, no_thread}
+use Rattle.aero_access.proofs.KeptLists.{same_slot_is}
 use Rattle.aero_access.proofs.Heeding.{kept_heeds, kept_slot}
-
-pub kept_at : (b : Bool) (o : Option Kept) (k : Kept) (u : ℕ) {n : ℕ} → number_at k.clock u ≡ n → kept_clock (if b then Some k else o) u ≡ (if b then n else kept_clock o u)
-kept_at true o k u e = e
-kept_at false o k u e = refl
 
 pub keeps_nothing : (table : Table) (index : Index) → KeepsLabels table table index index
 keeps_nothing table index = record { number = λ v. refl; threads = λ v s. refl; labels = λ h. h }
@@ -229,6 +226,19 @@ index_begun old new table a b t h opens begun others is = record { number = numb
         (λ ne. (at_other v ne).labels i ∙ is.labels v i ∙ ap (λ n. if leads n (label_clock table i v) then 1 else 0) (sym (at_other v ne).number))
         (cases_eq v t)
 
+-- thread t has taken what may have been new to it, or nothing
+pub index_news : (old new : List Thread) (before after : Table) (a b c : Index) (t : ℕ) (news : Bool) → HaveSameBlocks old new → TakesOnly t old new → KeepsLabels before after a b → (news ≡ true → (v : ℕ) → GainsThread (led_at b v) (led_at c v) t (thread_clock (slice_get new t) v)) → (news ≡ false → c ≡ b)
+    → (news ≡ false → KeepsItsClock old new t) → IsIndex old before a → IsIndex new after c
+index_news old new before after a b c t true same takes keeps gains other still is = index_taken old new before after a b c t same takes keeps (gains refl) is
+index_news old new before after a b c t false same takes keeps gains other still is =
+    subst (IsIndex new after) (sym (other refl)) (index_same old new after b b (open_same old new same) clock (λ v. lists_itself (led_at b v)) (index_kept old before after a b keeps is))
+  where
+    clock : (s u : ℕ) → thread_clock (slice_get new s) u ≡ thread_clock (slice_get old s) u
+    clock s u = ⊎_elim
+        (λ (e : s ≡ t). subst (λ r. thread_clock (slice_get new r) u ≡ thread_clock (slice_get old r) u) (sym e) (still refl u))
+        (λ ne. takes.clock s ne u)
+        (cases_eq s t)
+
 -- a thread and a slot take clocks as they are absorbed
 
 pub kept_is_slot : (all : List Thread) (table : Table) (slot i : ℕ) (s : Slot) → length all ≤ slot → i ≡ slot - length all → slice_get (labels_of table) i ≡ Some s → (u : ℕ) → clock_in all table (slot_in all table slot) u ≡ label_clock table i u
@@ -263,6 +273,24 @@ module _ (old new : List Thread) (before after : Table) (a b c : Index) (t slot 
       (λ le. let s = found le in
       ap (λ i. led_at i t) (then_label (omega (arith, le, lengths))) ∙ (first_label le t).still (sym (ap (leads (block_number (led_at a t))) (kept_is_slot old before slot (slot - length old) s.0 le refl s.1 t)) ∙ led))
       (cases_lt slot (length old))
+
+-- a slot that is past the clock takes nothing
+pub absorbs_nothing : (all : List Thread) (table : Table) (t slot : ℕ) → IsPast all table t slot → JoinsClock (state_in all table) (state_in all table) t (slot_in all table slot)
+absorbs_nothing all table t slot past = record { clock = clock; actor = λ r. refl }
+  where
+    here : (u : ℕ) → clock_in all table (slot_in all table slot) u ≡ kept_clock (kept_of table past.one) u
+    here u = kept_is_slot all table slot (slot - length all) past.one past.behind refl past.at u ∙ ap (λ o. slot_clock table o u) past.at
+
+    clock : (r : Slot) (u : ℕ) → clock_in all table r u ≡ (if same_slot r (slot_in all table slot) then max (clock_in all table r u) (thread_clock (slice_get all t) u) else clock_in all table r u)
+    clock r u = ⊎_elim
+        (λ (b : same_slot r (slot_in all table slot) ≡ true).
+        let e : clock_in all table r u ≡ kept_clock (kept_of table past.one) u = ap (λ s. clock_in all table s u) (same_slot_is r (slot_in all table slot) b) ∙ here u in
+        omega (arith, e, past.clock u) ∙ sym (cond-true (same_slot r (slot_in all table slot)) _ _ b))
+        (λ b. sym (cond-false (same_slot r (slot_in all table slot)) _ _ b))
+        (cases_Bool (same_slot r (slot_in all table slot)))
+
+pub absorbs_no_thread : (all : List Thread) (table : Table) (t slot u : ℕ) → IsPast all table t slot → slot_in all table slot ≡ OfThread u → ⊥
+absorbs_no_thread all table t slot u past e = no_thread all table (slot - length all) u (past.at ∙ ap Some (sym (slot_label all table slot past.one past.behind past.at) ∙ e))
 
 -- what is kept of a slot is listed by the place of its label
 pub label_listed : (all : List Thread) (table : Table) (a b : Index) (t i : ℕ) (s : Slot) (k : Kept) (th : Thread) → slice_get all t ≡ Some th → slice_get (labels_of table) i ≡ Some s → Some k ≡ kept_of table s

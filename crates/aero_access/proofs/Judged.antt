@@ -3,7 +3,7 @@ use Rattle.std.proofs.Common.{◌≡◌, ℕ, suc, ◌<◌, ◌≤◌, ◌⊎◌
 use Rattle.std.specs.Prelude.{false, slice_get}
 use Rattle.std.proofs.lemmas.Bool.{cases_lt}
 use Rattle.std.proofs.lemmas.Option.{same_Some}
-use Rattle.aero_model.specs.declared.event.Numbered.{Numbered}
+use Rattle.aero_model.specs.declared.numbered.Numbered.{Numbered}
 use Rattle.aero_model.specs.Blocks.{depth, closes, blocks, Transaction, Block, Unary, transaction}
 use Rattle.aero_model.specs.Graph.{Conflict}
 use Rattle.aero_model.specs.Shape.{IsWellFormed}

@@ -3,8 +3,8 @@ use Rattle.std.proofs.Common.{◌≡◌, ◌≢◌, ℕ, suc, ◌<◌, ◌⊎◌
 use Rattle.std.specs.Prelude.{Bool, true, slice_get}
 use Rattle.std.proofs.lemmas.Bool.{cases_eq, and_parts}
 use Rattle.std.proofs.lemmas.Option.{same_Some}
-use Rattle.aero_model.specs.declared.event.Numbered.{Numbered}
-use Rattle.aero_model.specs.declared.event.What.{What}
+use Rattle.aero_model.specs.declared.numbered.Numbered.{Numbered}
+use Rattle.aero_model.specs.declared.numbered.What.{What}
 use Rattle.aero_model.specs.Blocks.{is_begin, is_end, by_thread, depth, closes, blocks, Transaction, Block, Unary, transaction, IsOpen}
 use Rattle.aero_model.specs.Graph.{BeginsCycle}
 use Rattle.aero_model.specs.Shape.{IsWellFormed}

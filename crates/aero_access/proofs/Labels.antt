@@ -11,7 +11,7 @@ use Rattle.aero_access.specs.declared.table.Table.{Table}
 use Rattle.aero_access.specs.Kept.{same_slot, kept_clock}
 use Rattle.aero_access.specs.Table.{AreLabelled, ArePlaced}
 use Rattle.aero_access.specs.TableWords.{kept_of, labels_of, label_or, place_of, slot_clock, label_clock}
-use Rattle.aero_access.proofs.KeptLists.{same_slot_is, same_slot_self, pushed_here, pushed_other}
+use Rattle.aero_access.proofs.KeptLists.{same_slot_is, same_slot_self, pushed_here, pushed_other, labelled_keep, labelled_same}
 use Rattle.aero_access.proofs.SlotNumbers.{labelled_at, label_kept}
 
 module _ (old new : Slot → Option Kept) (before after : List Slot) (slot : Slot) (kept : Kept) (labelled : AreLabelled old before) (placed : ArePlaced old before) (keeps : (s : Slot) → new s ≡ (if same_slot s slot then Some kept else old s)) where
@@ -76,6 +76,12 @@ placed_set (Ok x) old new before after slot kept is_new labelled placed fresh la
         placed_new old new before after slot kept labelled placed keeps e (labels ∙ ap (λ b. if b then before ++ slot ∷ [] else before) (fresh ∙ ap is_none e)) (label ∙ ap (label_or (length before)) e)
     go (Some k) e =
         placed_known old new before after slot kept labelled placed keeps k e (labels ∙ ap (λ b. if b then before ++ slot ∷ [] else before) (fresh ∙ ap is_none e)) (label ∙ ap (label_or (length before)) e)
+
+-- and the slots that have labels are those of which something is kept
+pub labelled_set : {A E : Type 0} (r : Result A E) (old new : Slot → Option Kept) (before after : List Slot) (slot : Slot) (kept : Kept) (is_new : Bool) → AreLabelled old before → is_new ≡ is_none (old slot)
+    → OnOk r ((s : Slot) → new s ≡ (if same_slot s slot then Some kept else old s)) → OnErr r ((s : Slot) → new s ≡ old s) → OnOk r (after ≡ (if is_new then before ++ slot ∷ [] else before)) → OnErr r (after ≡ before) → AreLabelled new after
+labelled_set (Err e) old new before after slot kept is_new labelled fresh keeps same labels labels_same = labelled_same old new before after slot kept labelled same labels_same
+labelled_set (Ok x) old new before after slot kept is_new labelled fresh keeps same labels labels_same = labelled_keep old new before after slot kept labelled is_new fresh keeps labels
 
 -- a label's clock
 

@@ -1,7 +1,7 @@
 -- What held of a trace holds where it goes on.
 use Rattle.std.proofs.Common.{◌≡◌, ℕ, suc, ◌<◌, ◌≤◌, List, [], ◌∷◌, ◌++◌, length, Some, refl, sym, ◌∙◌, subst, le_refl, arith}
 use Rattle.std.specs.Prelude.{slice_get}
-use Rattle.aero_model.specs.declared.event.Numbered.{Numbered}
+use Rattle.aero_model.specs.declared.numbered.Numbered.{Numbered}
 use Rattle.aero_model.specs.Blocks.{Block}
 use Rattle.aero_model.proofs.Stability.{Agree, agree_front, agree_back, depth_same, opens_same, blocks_same}
 use Rattle.aero_model.proofs.Walks.{leads_same}

@@ -1,6 +1,6 @@
 -- What a result says, by its case.
-use Rattle.std.proofs.Common.{◌≡◌, ◌⊎◌, inl, inr}
-use Rattle.std.specs.Prelude.{Bool, true, false, IsTrue, Result, Ok, Err, OnOk, OnErr, IfOk}
+use Rattle.std.proofs.Common.{◌≡◌, ◌⊎◌, inl, inr, refl}
+use Rattle.std.specs.Prelude.{◌||◌, Bool, true, false, IsTrue, Result, Ok, Err, OnOk, OnErr, IfOk}
 
 pub either : {A E : Type 0} {P Q : Type 0} (r : Result A E) → OnOk r P → OnErr r Q → P ⊎ Q
 either (Ok x) p q = inl p
@@ -29,3 +29,8 @@ OnErr_map (Err e) f p = f p
 pub OnOk_both : {A E : Type 0} {P Q R : Type 0} (r : Result A E) → (P → Q → R) → OnOk r P → OnOk r Q → OnOk r R
 OnOk_both (Ok x) f p q = f p q
 OnOk_both (Err e) f p q = tt
+
+pub neither : (a b : Bool) → (a || b) ≡ false → (a ≡ false) × (b ≡ false)
+neither true b e = cc
+neither false true e = cc
+neither false false e = (refl, refl)

@@ -5,8 +5,8 @@ use Rattle.std.proofs.lemmas.Bool.{cases_eq, both_ways, eqb-true, eq-eqb, ne_eqb
 use Rattle.std.proofs.lemmas.Option.{slice_get_within, same_Some}
 use Rattle.aero_clock.specs.declared.clock.Clock.{Clock}
 use Rattle.aero_clock.specs.Numbers.{number_at}
-use Rattle.aero_model.specs.declared.event.Numbered.{Numbered}
-use Rattle.aero_model.specs.declared.event.What.{What}
+use Rattle.aero_model.specs.declared.numbered.Numbered.{Numbered}
+use Rattle.aero_model.specs.declared.numbered.What.{What}
 use Rattle.aero_model.specs.Blocks.{is_begin, is_end, by_thread, depth, opens, closes}
 use Rattle.aero_model.specs.Shape.{IsWellFormed}
 use Rattle.aero_model.proofs.Stability.{Agree, agree_front}
@@ -45,6 +45,12 @@ module _ (threads : List Thread) (t : ℕ) (th new : Thread) (at : slice_get thr
       go : (t ≡ u) ⊎ (t ≡ u → ⊥) → (if t == u then f (Some new) else f (slice_get threads u)) ≡ f (slice_get threads u)
       go (inl e) = cond-true (t == u) _ _ (eq-eqb t u e) ∙ h ∙ sym (ap f at) ∙ ap (λ v. f (slice_get threads v)) e
       go (inr ne) = cond-false (t == u) _ _ (ne_eqb t u ne)
+
+  -- where nothing of the clock that it takes is new, its own stays
+  pub taken_nothing : (K : ℕ → ℕ) → TakesClock th new K → ((u : ℕ) → K u ≤ thread_clock (slice_get threads t) u) → (u : ℕ) → thread_clock (slice_get (slice_set threads t new) t) u ≡ thread_clock (slice_get threads t) u
+  taken_nothing K takes le u =
+      let own : thread_clock (slice_get threads t) u ≡ number_at th.clock u = ap (λ o. thread_clock o u) at in
+      unwritten (λ o. thread_clock o u) t (takes.clock u ∙ omega (arith, le u, own))
 
   pub same_blocks_set : HasSameBlock th new → HaveSameBlocks threads (slice_set threads t new)
   same_blocks_set same = record {

@@ -3,7 +3,7 @@ use Rattle.std.proofs.Common.{◌≡◌, ◌↔◌, ◌⊎◌, inl, inr, ℕ, su
 use Rattle.std.specs.Prelude.{true, false, slice_get}
 use Rattle.std.proofs.lemmas.Bool.{cases_lt}
 use Rattle.std.proofs.lemmas.Option.{same_Some}
-use Rattle.aero_model.specs.declared.event.Numbered.{Numbered}
+use Rattle.aero_model.specs.declared.numbered.Numbered.{Numbered}
 use Rattle.aero_model.specs.Blocks.{opens, closes, blocks, Transaction, Block, transaction}
 use Rattle.aero_model.specs.Graph.{Visit, IsTelling, BeginsCycle, LeadsTo}
 use Rattle.aero_model.specs.Cycle.{HasTellingCycle, IsOpener, IsClosing}

@@ -3,7 +3,7 @@ use Rattle.std.proofs.Common.{◌≡◌, ◌⊎◌, inl, inr, ⊎_elim, ℕ, zer
 use Rattle.std.specs.Prelude.{◌↔◌, ◌==◌, nat_lt, true, false, if◌then◌else◌, slice_get, slice_set, is_some}
 use Rattle.std.specs.List.{list_any}
 use Rattle.std.proofs.lemmas.Bool.{cases_Bool, cases_eq, both_ways, eq-eqb, ne_eqb, lt-ltb, le-ltb, cond-true, cond-false, or_cases, or_left, or_right}
-use Rattle.std.proofs.lemmas.Option.{slice_get_within}
+use Rattle.std.proofs.lemmas.Option.{slice_get_within, slice_get_cases}
 use Rattle.std.proofs.Math.ListN.{length-set}
 use Rattle.aero_clock.specs.declared.clock.Clock.{Clock}
 use Rattle.aero_clock.specs.Numbers.{number_at}
@@ -70,6 +70,13 @@ module _ (threads : List Thread) (table : Table) where
   -- a label is no thread's
   pub no_thread : (i t : ℕ) → slice_get (labels_of table) i ≡ Some (OfThread t) → ⊥
   no_thread i t h = both_ways (is_some (kept_of table (OfThread t))) refl (label_kept table i (OfThread t) h)
+
+  -- nor is a slot with a number past the threads'
+  pub slot_behind : (n t : ℕ) → length threads ≤ n → n < length threads + length (labels_of table) → slot_in threads table n ≡ OfThread t → ⊥
+  slot_behind n t le within e = ⊎_elim
+      (λ r. no_thread (n - length threads) t (r.2 ∙ ap Some (sym (slot_label n r.0 le r.2) ∙ e)))
+      (λ r. absurd (omega (arith, r.0, le, within)))
+      (slice_get_cases (labels_of table) (n - length threads)).1
 
   -- a thread takes the clock of another
   pub join_thread : (t slot : ℕ) (th target new : Thread) → slice_get threads t ≡ Some th → slice_get threads slot ≡ Some target → (copy : Clock) → ((u : ℕ) → number_at copy u ≡ number_at th.clock u) → TakesClock target new (number_at copy) → JoinsClock (state_in threads table) (state_in (slice_set threads slot new) table) t (slot_in threads table slot)

@@ -4,8 +4,8 @@ use Rattle.std.specs.Prelude.{◌==◌, Bool, true, false, if◌then◌else◌, 
 use Rattle.std.proofs.lemmas.Bool.{cases_Bool, both_ways, eqb-true, eq-eqb, ne_eqb, cond-true, cond-false}
 use Rattle.std.proofs.lemmas.Option.{same_Some}
 use Rattle.aero_clock.specs.Numbers.{number_at}
-use Rattle.aero_model.specs.declared.event.Numbered.{Numbered}
-use Rattle.aero_model.specs.declared.event.What.TheVariants.{Read, Write}
+use Rattle.aero_model.specs.declared.numbered.Numbered.{Numbered}
+use Rattle.aero_model.specs.declared.numbered.What.TheVariants.{Read, Write}
 use Rattle.aero_model.specs.Shape.{IsWellFormed}
 use Rattle.aero_model.proofs.Stability.{Agree, agree_front}
 use Rattle.aero_access.specs.declared.slot.Slot.{Slot}

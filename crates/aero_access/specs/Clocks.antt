@@ -1,6 +1,6 @@
 -- Clocks: how many blocks of each thread lead to an event.
 use Rattle.std.specs.Prelude.{◌≡◌, ℕ, suc, ◌+◌, ◌<◌, ◌≤◌, ◌==◌, nat_le, true, false, if◌then◌else◌, max, List, [], ◌∷◌, Some, None, slice_get}
-use Rattle.aero_model.specs.declared.event.Numbered.{Numbered}
+use Rattle.aero_model.specs.declared.numbered.Numbered.{Numbered}
 use Rattle.aero_model.specs.Blocks.{depth, opens, closes, blocks, Block}
 use Rattle.aero_model.specs.Graph.{LeadsTo}
 use Rattle.aero_access.specs.declared.slot.Slot.{Slot}

@@ -1,10 +1,13 @@
 -- The index of threads and a table.
-use Rattle.std.specs.Prelude.{◌≡◌, ◌≢◌, ℕ, ◌+◌, ◌≤◌, true, if◌then◌else◌, List, Option, slice_get, is_some}
+use Rattle.std.specs.Prelude.{◌≡◌, ◌≢◌, ℕ, ◌+◌, ◌-◌, ◌≤◌, true, if◌then◌else◌, List, length, Option, Some, slice_get, is_some}
 use Rattle.aero_access.specs.declared.thread.Thread.{Thread}
 use Rattle.aero_access.specs.declared.table.Table.{Table}
 use Rattle.aero_access.specs.declared.index.Index.{Index}
 use Rattle.aero_access.specs.Threads.{thread_clock, thread_begin, thread_begins}
-use Rattle.aero_access.specs.TableWords.{label_clock}
+use Rattle.aero_access.specs.declared.slot.Slot.{Slot}
+use Rattle.aero_access.specs.Kept.{kept_clock}
+use Rattle.aero_access.specs.TableWords.{kept_of, labels_of, label_clock}
+use Rattle.aero_access.specs.StateWords.{last_but}
 use Rattle.aero_access.specs.Led.{leads, times, led_at, block_number, has_thread, places_in}
 
 -- the number of the thread's open block, 0 where it has none
@@ -39,3 +42,18 @@ pub record OpensBlock (old new : List Thread) (t : ℕ) : Type 0 where
   pub begins : thread_begins (slice_get new t) ≡ thread_begins (slice_get old t) + 1
   pub own : thread_clock (slice_get new t) t ≡ thread_clock (slice_get old t) t + 1
   pub clock : (u : ℕ) → u ≢ t → thread_clock (slice_get new t) u ≡ thread_clock (slice_get old t) u
+
+-- the slot with this number is no thread, and its clock is at least that of thread t
+pub record IsPast (all : List Thread) (table : Table) (t slot : ℕ) : Type 0 where
+  pub behind : length all ≤ slot
+  pub one : Slot
+  pub at : slice_get (labels_of table) (slot - length all) ≡ Some one
+  pub clock : (u : ℕ) → thread_clock (slice_get all t) u ≤ kept_clock (kept_of table one) u
+
+-- what is kept of the slot's last event has nothing that is new to thread t
+abbrev pub HasNoNews : List Thread → Table → ℕ → Slot → Type 0
+HasNoNews all table t slot = (u : ℕ) → last_but t (kept_of table slot) u ≤ thread_clock (slice_get all t) u
+
+-- thread t has the clock that it had
+abbrev pub KeepsItsClock : List Thread → List Thread → ℕ → Type 0
+KeepsItsClock old new t = (u : ℕ) → thread_clock (slice_get new t) u ≡ thread_clock (slice_get old t) u

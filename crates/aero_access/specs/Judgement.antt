@@ -1,6 +1,6 @@
 -- What the clocks say of the event at place n, and what is to be told.
 use Rattle.std.specs.Prelude.{◌≡◌, ◌≢◌, ℕ, suc, ◌<◌, ◌≤◌, true, false, List, length, Option, Some, None, slice_get}
-use Rattle.aero_model.specs.declared.event.Numbered.{Numbered}
+use Rattle.aero_model.specs.declared.numbered.Numbered.{Numbered}
 use Rattle.aero_model.specs.Blocks.{depth, closes, blocks}
 use Rattle.aero_model.specs.Cycle.{HasTellingCycle, IsOpener, IsClosing}
 use Rattle.aero_access.specs.declared.slot.Slot.{Slot}

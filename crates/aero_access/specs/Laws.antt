@@ -1,6 +1,6 @@
 -- What the clocks of a whole run say.
 use Rattle.std.specs.Prelude.{◌≡◌, ◌↔◌, ℕ, suc, ◌<◌, ◌≤◌, true, false, List, length, Option, Some, None, slice_get}
-use Rattle.aero_model.specs.declared.event.Numbered.{Numbered}
+use Rattle.aero_model.specs.declared.numbered.Numbered.{Numbered}
 use Rattle.aero_model.specs.Blocks.{closes, blocks, Block}
 use Rattle.aero_model.specs.Cycle.{HasTellingCycle}
 use Rattle.aero_model.specs.Graph.{LeadsTo, BeginsCycle}

@@ -1,8 +1,8 @@
 -- The last event of a kind, and the slots that keep one.
 use Rattle.std.specs.Prelude.{ℕ, zero, suc, ◌==◌, ◌&&◌, ◌||◌, Bool, false, if◌then◌else◌, List, Option, Some, None, slice_get}
-use Rattle.aero_model.specs.declared.event.Numbered.{Numbered}
-use Rattle.aero_model.specs.declared.event.What.{What}
-use Rattle.aero_model.specs.declared.event.What.TheVariants.{Read, Write}
+use Rattle.aero_model.specs.declared.numbered.Numbered.{Numbered}
+use Rattle.aero_model.specs.declared.numbered.What.{What}
+use Rattle.aero_model.specs.declared.numbered.What.TheVariants.{Read, Write}
 use Rattle.aero_model.specs.Shape.{is_release_of, is_fork_of}
 use Rattle.aero_access.specs.declared.slot.Slot.{Slot}
 use Rattle.aero_access.specs.declared.slot.Slot.TheVariants.{OfThread, LastWrite, LastRead, LastRelease}

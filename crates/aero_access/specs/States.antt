@@ -1,6 +1,6 @@
 -- What a trace says of the clocks that are kept of it.
 use Rattle.std.specs.Prelude.{◌≡◌, ℕ, nat_lt, Bool, true, List, length, Option, Some, None, slice_get}
-use Rattle.aero_model.specs.declared.event.Numbered.{Numbered}
+use Rattle.aero_model.specs.declared.numbered.Numbered.{Numbered}
 use Rattle.aero_model.specs.Blocks.{depth, blocks}
 use Rattle.aero_model.specs.Shape.{has_acted}
 use Rattle.aero_access.specs.declared.slot.Slot.{Slot}

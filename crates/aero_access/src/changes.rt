@@ -1,18 +1,20 @@
-//! What one event does to the threads, the table and the index. Where memory is refused the index
-//! may be wrong.
-ghost use Rattle.std.specs.Prelude.{◌≡◌, ◌≢◌, ◌<◌, ◌≤◌, ◌+◌, ◌↔◌, ◌-◌, ◌^◌, ℕ, true, false, None, Some, length, slice_get, IfOk, OnOk, OnErr, vec_len, max};
-ghost use Rattle.aero_model.specs.declared.event.What.TheVariants.{Read, Write, Acquire, Fork, Join, Begin};
+//! What one event does to the threads, the table and the index: what the clock rules do, and then
+//! the index is right again. Nothing but threads, table and index is touched. Where memory is refused
+//! the index may be wrong.
+ghost use Rattle.std.specs.Prelude.{◌≡◌, ◌≢◌, ◌<◌, ◌≤◌, ◌+◌, ◌↔◌, ◌-◌, ◌^◌, ◌||◌, ℕ, true, false, None, Some, length, slice_get, IsTrue, IfOk, OnOk, OnErr, vec_len, max};
+ghost use Rattle.aero_model.specs.declared.numbered.What.TheVariants.{Read, Write, Acquire, Fork, Join, Begin};
 ghost use Rattle.aero_access.specs.declared.slot.Slot.{Slot};
 ghost use Rattle.aero_access.specs.Threads.{AreSameThreads, IsClosedBy, thread_clock, thread_acted, thread_begin, thread_begins};
 ghost use Rattle.aero_access.specs.declared.table.Table.{Table};
 ghost use Rattle.aero_access.specs.TableWords.{labels_of, label_clock};
 ghost use Rattle.aero_access.specs.Heeds.{AreHeeded};
 ghost use Rattle.aero_access.specs.Led.{leads, led_at, block_number, GainsThread, GainsLabel};
-ghost use Rattle.aero_access.specs.Indexed.{IsIndex};
+ghost use Rattle.aero_access.specs.Indexed.{IsIndex, IsPast, HasNoNews};
 ghost use Rattle.aero_access.specs.StateWords.{event, clock_in, state_in, slot_in, JoinsClock, Moves, HaveSameBlocks};
 
+use crate::clock_rules;
 use crate::index::Index;
-use crate::moves;
+use crate::slot::Slot;
 use crate::table::Table;
 use crate::thread::{self, Thread};
 use std::alloc::AllocError;
@@ -45,8 +47,9 @@ pub(crate) fn read(
     ensures heeded { AreHeeded (state_in threads.new table.new) }
     ensures index { OnOk result (IsIndex threads.old table.old index.old → IsIndex threads.new table.new index.new) }
 {
-    let closes = moves::read(threads, table, index, t, x)?;
-    list(threads, index, t)?;
+    let news = has_news(threads, table, t, Slot::LastWrite(x));
+    let closes = clock_rules::read(threads, table, index, t, x)?;
+    list_news(threads, index, t, news, closes)?;
     Ok(closes)
 }
 
@@ -65,7 +68,7 @@ pub(crate) fn write(
     ensures heeded { AreHeeded (state_in threads.new table.new) }
     ensures index { OnOk result (IsIndex threads.old table.old index.old → IsIndex threads.new table.new index.new) }
 {
-    let closes = moves::write(threads, table, index, t, x)?;
+    let closes = clock_rules::write(threads, table, index, t, x)?;
     list(threads, index, t)?;
     Ok(closes)
 }
@@ -85,8 +88,9 @@ pub(crate) fn acquire(
     ensures heeded { AreHeeded (state_in threads.new table.now) }
     ensures index { OnOk result (IsIndex threads.old table.now index.old → IsIndex threads.new table.now index.new) }
 {
-    let closes = moves::acquire(threads, table, t, l)?;
-    list(threads, index, t)?;
+    let news = has_news(threads, table, t, Slot::LastRelease(l));
+    let closes = clock_rules::acquire(threads, table, t, l)?;
+    list_news(threads, index, t, news, closes)?;
     Ok(closes)
 }
 
@@ -107,7 +111,7 @@ pub(crate) fn fork(
     ensures heeded { AreHeeded (state_in threads.new table.now) }
     ensures index { OnOk result (IsIndex threads.old table.now index.old → IsIndex threads.new table.now index.new) }
 {
-    moves::fork(threads, table, t, u)?;
+    clock_rules::fork(threads, table, t, u)?;
     list(threads, index, u)
 }
 
@@ -129,7 +133,7 @@ pub(crate) fn join(
     ensures heeded { AreHeeded (state_in threads.new table.now) }
     ensures index { OnOk result (IsIndex threads.old table.now index.old → IsIndex threads.new table.now index.new) }
 {
-    let closes = moves::join(threads, table, t, u)?;
+    let closes = clock_rules::join(threads, table, t, u)?;
     list(threads, index, t)?;
     Ok(closes)
 }
@@ -152,7 +156,7 @@ pub(crate) fn begin(
     ensures index { OnOk result (IsIndex threads.old table.now index.old → IsIndex threads.new table.now index.new) }
 {
     index.open(t, threads[t as usize].begins + 1)?;
-    moves::begin(threads, table, t)
+    clock_rules::begin(threads, table, t)
 }
 
 /// Joins the clock of the slot with this number with the clock of thread `t`. Where the slot is a
@@ -177,8 +181,11 @@ pub(crate) fn absorb(
     ensures index { OnOk result (IsIndex threads.old table.old index.old → IsIndex threads.new table.new index.new) }
     ensures still { OnOk result (IsIndex threads.old table.old index.old → leads (block_number (led_at index.old t)) (clock_in threads.old table.old (slot_in threads.old table.old slot) t) ≡ true → led_at index.new t ≡ led_at index.old t) }
 {
+    if is_past(threads, table, t, slot) {
+        return Ok(None);
+    }
     list_label(threads, table, index, t, slot)?;
-    let told = moves::absorb(threads, table, t, slot)?;
+    let told = clock_rules::absorb(threads, table, t, slot)?;
     list_slot(threads, index, slot)?;
     Ok(told)
 }
@@ -189,6 +196,51 @@ fn list(threads: &[Thread], index: &mut Index, t: u32) -> Result<(), AllocError>
     ensures { OnOk result ((v : ℕ) → GainsThread (led_at index.old v) (led_at index.new v) t (thread_clock (slice_get threads.now t) v)) }
 {
     index.gain_thread(t, &threads[t as usize].clock)
+}
+
+// Whether what is kept of the slot's last event has something that is new to thread t.
+fn has_news(threads: &[Thread], table: &Table, t: u32, slot: Slot) -> bool
+    requires { t < length threads.now }
+    ensures { result ≡ false → HasNoNews threads.now table.now t slot }
+{
+    match table.get(slot) {
+        Some(kept) => kept.thread != t && !kept.clock.at_most(&threads[t as usize].clock),
+        None => false,
+    }
+}
+
+// Lists thread t for the blocks that lead to it now, where its clock may be another.
+fn list_news(
+    threads: &[Thread],
+    index: &mut Index,
+    t: u32,
+    news: bool,
+    closes: bool,
+) -> Result<(), AllocError>
+    requires { t < length threads.now }
+    ensures listed { OnOk result ((news || closes) ≡ true → (v : ℕ) → GainsThread (led_at index.old v) (led_at index.new v) t (thread_clock (slice_get threads.now t) v)) }
+    ensures same { (news || closes) ≡ false → index.new ≡ index.old }
+{
+    if news || closes {
+        return list(threads, index, t);
+    }
+    Ok(())
+}
+
+// Whether the slot with this number is no thread, and its clock is at least that of thread t, so
+// that there is nothing to absorb.
+fn is_past(threads: &[Thread], table: &Table, t: u32, slot: usize) -> bool
+    requires actor { t < length threads.now }
+    requires slot { slot < length threads.now + length (labels_of table.now) }
+    ensures { IsTrue result → IsPast threads.now table.now t slot }
+{
+    if slot < threads.len() {
+        return false;
+    }
+    table.is_past(
+        table.label(slot - threads.len()),
+        &threads[t as usize].clock,
+    )
 }
 
 // The same of the thread that a slot is, if it is one.

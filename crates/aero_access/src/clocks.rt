@@ -1,8 +1,8 @@
 //! The clocks of a trace, kept event by event.
 ghost use Rattle.std.specs.Prelude.{◌≡◌, ◌≢◌, ◌↔◌, ◌<◌, ◌≤◌, ◌+◌, ◌-◌, ◌^◌, ◌++◌, ◌∷◌, [], ℕ, true, false, None, Some, List, max, length, vec_len, IsTrue, IsErr, IfOk, OnOk, OnErr, slice_get};
-ghost use Rattle.aero_model.specs.declared.event.Numbered.{Numbered};
-ghost use Rattle.aero_model.specs.declared.event.What.{What};
-ghost use Rattle.aero_model.specs.declared.event.What.TheVariants.{Read, Write, Acquire, Release, Fork, Join, Begin};
+ghost use Rattle.aero_model.specs.declared.numbered.Numbered.{Numbered};
+ghost use Rattle.aero_model.specs.declared.numbered.What.{What};
+ghost use Rattle.aero_model.specs.declared.numbered.What.TheVariants.{Read, Write, Acquire, Release, Fork, Join, Begin};
 ghost use Rattle.aero_model.specs.Shape.{IsWellFormed};
 ghost use Rattle.aero_access.specs.declared.slot.Slot.{Slot};
 ghost use Rattle.aero_access.specs.StateWords.{event, state_in, IsIdle};
@@ -12,7 +12,7 @@ ghost use Rattle.aero_access.specs.Indexed.{IsIndex};
 use crate::index::Index;
 use crate::table::Table;
 use crate::thread::Thread;
-use crate::{changes, moves};
+use crate::{changes, clock_rules};
 use std::alloc::{AllocError, Global};
 
 /// Memory was refused. From then on each call that can answer this does.
@@ -27,9 +27,10 @@ impl From<AllocError> for Spent {
 
 /// The clocks of the events so far. Threads, variables and locks go by numbers from 0.
 ///
-/// A call for an event answers the thread whose open block closes a cycle with it, if there is
-/// one. Then `closed` answers that thread, and no further event may be given. Where memory is
-/// refused a call answers `Spent`; then `in_block`, `begins`, `acted` and `closed` answer as
+/// A call for an event answers the thread whose open block closes a telling cycle with it, if there
+/// is one: a cycle in which each block but the first has ended, or is left by no earlier event than it
+/// was entered by. Then `closed` answers that thread, and no further event may be given. Where memory
+/// is refused a call answers `Spent`; then `in_block`, `begins`, `acted` and `closed` answer as
 /// before that call.
 #[derive(Drop)]
 pub struct Clocks {
@@ -141,7 +142,7 @@ impl Clocks {
         ensures named { OnOk result (threads_of self.new ≡ max (threads_of self.old) (t + 1)) }
     {
         self.start(t)?;
-        moves::release(&self.threads, &mut self.table, &mut self.index, t, l)?;
+        clock_rules::release(&self.threads, &mut self.table, &mut self.index, t, l)?;
         Ok(self.finish(t, false))
     }
 
@@ -211,10 +212,12 @@ impl Clocks {
         self.threads.len()
     }
 
-    /// How many slots have a number: first the threads, by their numbers, then last writes, last
-    /// reads and last releases. A slot without a number has a zero clock.
+    /// How many slots have a number: first the threads, by their numbers, and from `threads()` on last
+    /// writes, last reads and last releases. A slot without a number has a zero clock.
     pub fn slots(&self) -> usize
         ensures count { result ≡ slots_of self.now }
+        ensures first { (n : ℕ) → n < threads_of self.now → slot_at self.now n ≡ Slot.OfThread n }
+        ensures behind { (n t : ℕ) → threads_of self.now ≤ n → n < result → slot_at self.now n ≢ Slot.OfThread t }
         ensures all { (s : Slot) (u : ℕ) → 0 < clock_of self.now s u → (n : ℕ) × (n < result) × (slot_at self.now n ≡ s) }
     {
         self.threads.len() + self.table.len()
@@ -227,7 +230,7 @@ impl Clocks {
         requires slot { slot < slots_of self.now }
         ensures { IsTrue result ↔ IsBehind self.now t (clock_of self.now (slot_at self.now slot)) }
     {
-        moves::leads(&self.threads, &self.table, t, slot)
+        clock_rules::leads(&self.threads, &self.table, t, slot)
     }
 
     /// How many slots have a clock that is at least the begin clock of thread `t`, which is in a
@@ -265,6 +268,7 @@ impl Clocks {
         ensures told { IfOk result (λ o. (u : ℕ) → (o ≡ Some u) ↔ ClosesBack self.old t (slot_at self.old slot) u) }
         ensures absorbed { IfOk result (λ o. o ≡ None → AbsorbsClock self.old self.new t (slot_at self.old slot)) }
         ensures led { IsBehind self.old t (clock_of self.old (slot_at self.old slot)) → IfOk result (λ o. o ≡ None → led_of self.new t ≡ led_of self.old t) }
+        ensures threads { threads_of self.new ≡ threads_of self.old }
     {
         if self.spent {
             return Err(Spent);
@@ -282,6 +286,7 @@ impl Clocks {
         requires inside { in_block_at self.old t ≡ true }
         ensures spent { is_spent self.old ≡ true → self.new ≡ self.old }
         ensures closes { is_spent self.old ≡ false → ClosesBlock self.old self.new t }
+        ensures threads { threads_of self.new ≡ threads_of self.old }
     {
         if self.spent {
             return;

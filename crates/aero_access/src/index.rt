@@ -1,6 +1,6 @@
-//! What the open blocks lead to.
+//! What the open blocks lead to, by the clocks that are passed in. No clock is changed here.
 ghost use Rattle.std.specs.Prelude.{◌≡◌, ◌≢◌, ◌<◌, ◌==◌, ◌||◌, ◌&&◌, ◌+◌, ℕ, true, false, nat_lt, not, max, if◌then◌else◌, length, Some, None, slice_get, OnOk, IfOk, [], vec_len, ◌≤◌, ◌^◌, filter};
-ghost use Rattle.aero_clock.specs.Numbers.{number_at, IsZero};
+ghost use Rattle.aero_clock.specs.Numbers.{number_at, IsZero, Lists};
 ghost use Rattle.aero_access.specs.Led.{leads, IsOfBegin, times, led_at, block_number, has_thread, places_in, slots_in, ListsSame, GainsThread, GainsLabel, DropsLabel, MovesLabel};
 
 use aero_clock::clock::Clock;
@@ -131,20 +131,33 @@ fn gain_label_at(leds: &mut [Led], place: u32, u: u32, was: u32, n: u32) -> Resu
     ensures here { OnOk result (GainsLabel (slice_get leds.old u) (slice_get leds.new u) place was n) }
     ensures others { (v : ℕ) → v ≢ u → slice_get leds.new v ≡ slice_get leds.old v }
 {
-    if (u as usize) < leds.len() {
+    if was < n && (u as usize) < leds.len() {
         leds[u as usize].gain_label(place, was, n)?;
     }
     Ok(())
+}
+
+// The number of thread u, which may stand at this place of the clock's pairs.
+#[inline(always)]
+fn number_near(clock: &Clock, pairs: &[(u32, u32)], at: usize, u: u32) -> u32
+    requires { Lists pairs.now clock.now }
+    ensures { result ≡ number_at clock.now u }
+{
+    if at < pairs.len() && pairs[at].0 == u {
+        return pairs[at].1;
+    }
+    clock.get(u)
 }
 
 // Lists the label at this place for each block that leads to its slot now, and didn't.
 fn gain_label(leds: &mut [Led], place: u32, was: &Clock, clock: &Clock) -> Result<(), AllocError>
     ensures { OnOk result ((v : ℕ) → GainsLabel (slice_get leds.old v) (slice_get leds.new v) place (number_at was.now v) (number_at clock.now v)) }
 {
+    let before = was.pairs();
     let pairs = clock.pairs();
     for i in 0..pairs.len() {
         let (u, n) = pairs[i];
-        gain_label_at(leds, place, u, was.get(u), n)?;
+        gain_label_at(leds, place, u, number_near(was, before, i, u), n)?;
     }
     Ok(())
 }

@@ -1,4 +1,4 @@
-//! What is kept of a last event.
+//! What is kept of a last event. It is read here, and gives its clock to a thread.
 ghost use Rattle.std.specs.Prelude.{◌≡◌, ◌≢◌, ◌≤◌, ◌↔◌, ℕ, false, IsTrue, IfOk};
 ghost use Rattle.aero_clock.specs.Numbers.{number_at};
 
@@ -20,8 +20,8 @@ impl Kept {
     ghost use Rattle.aero_access.specs.States.{State};
     ghost use Rattle.aero_access.specs.Heeds.{Heeds};
 
-    /// Thread `t` takes the clock, unless the event is its own, or the clock closes a cycle: then
-    /// the answer is true.
+    /// Thread `t` takes the clock, unless the event is its own, or the clock closes a telling cycle:
+    /// then the answer is true.
     pub(crate) fn give(&self, thread: &mut Thread, t: u32) -> Result<bool, AllocError>
         requires { CountIsTest thread.old t (number_at self.now.clock) }
         ensures closing { IfOk result (λ closes. IsTrue closes ↔ ((self.now.thread ≢ t) × IsClosedBy thread.old.begin (number_at self.now.clock))) }

@@ -1,3 +1,4 @@
+//! The laws of the clock rules over whole runs.
 ghost use Rattle.aero_access.specs.Laws.{ClocksExist, ClocksCountWhatLeads, NothingIsMissed, TheOpenerIsNamed, TheOpenerIsNamedAtEnd, BeginClockIsATest, NoEventNoCount, JudgedBegins, JudgedBeginsAtEnd};
 
 /// The first events of each trace have clocks by the rules.

@@ -4,13 +4,17 @@
 //! events one by one, threads, variables and locks by their numbers. For each thread, each last
 //! write, read and release it keeps a clock: how many blocks of each thread lead there. An event
 //! takes the clocks of what it conflicts with. Where one of them counts the open block of the
-//! event's own thread, there is a cycle through that block, and the thread is answered.
+//! event's own thread, there is a telling cycle through that block, and the thread is answered.
+//!
+//! A cycle of blocks is a telling one where each of them but the first has ended, or is left by no
+//! earlier event than it was entered by. A cycle that isn't is told when enough of its blocks have
+//! ended, so that `None` doesn't say that there is no cycle.
 //!
 //! `led` and `led_slot` list what an open block leads to: the slots whose clocks count it. The lists
 //! are kept while events come, so that the end of a block has to look at nothing else.
 //!
 //! The contracts speak of the trace of the events so far: what is answered is what is to be told,
-//! so `None` is answered exactly where the trace has no cycle that tells. `laws` has the laws of
+//! so `None` is answered exactly where the trace has no telling cycle. `laws` has the laws of
 //! such clocks, whatever keeps them.
 //!
 //! ```text
@@ -25,11 +29,11 @@
 #![tactic(auto)]
 
 mod changes;
+mod clock_rules;
 pub mod clocks;
 mod index;
 mod kept;
 pub mod laws;
-mod moves;
 mod places;
 mod readers;
 pub mod slot;

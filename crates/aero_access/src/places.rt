@@ -1,4 +1,5 @@
-//! What is kept by number.
+//! Lists with a place for each variable or lock, by its number. They know of no slots and no labels,
+//! and change what is kept at one place.
 ghost use Rattle.std.specs.Prelude.{◌≡◌, ◌==◌, ◌&&◌, ◌<◌, ℕ, Some, slice_get, find, OnOk, OnErr, vec_len, if◌then◌else◌};
 ghost use Rattle.std.specs.Option.{option_copied};
 ghost use Rattle.aero_access.specs.Kept.{flat, is_by};
@@ -7,6 +8,7 @@ ghost use Rattle.aero_access.specs.Table.{readers_in};
 use crate::kept::Kept;
 use crate::readers::Readers;
 use std::alloc::AllocError;
+use std::mem;
 
 /// What is kept at this number.
 pub(crate) fn kept_at(kept: &[Option<Kept>], number: u32) -> Option<&Kept>
@@ -18,14 +20,17 @@ pub(crate) fn kept_at(kept: &[Option<Kept>], number: u32) -> Option<&Kept>
     }
 }
 
-/// Keeps this at the number.
-pub(crate) fn put(kept: &mut Vec<Option<Kept>>, number: u32, entry: Kept) -> Result<(), AllocError>
+/// Keeps this at the number, and gives back what was kept there.
+pub(crate) fn put(
+    kept: &mut Vec<Option<Kept>>,
+    number: u32,
+    entry: Kept,
+) -> Result<Option<Kept>, AllocError>
     ensures ok { OnOk result ((n : ℕ) → flat (slice_get kept.new.items n) ≡ (if number == n then Some entry else flat (slice_get kept.old.items n))) }
     ensures err { OnErr result ((n : ℕ) → flat (slice_get kept.new.items n) ≡ flat (slice_get kept.old.items n)) }
 {
     make_room(kept, number)?;
-    kept[number as usize] = Some(entry);
-    Ok(())
+    Ok(mem::replace(&mut kept[number as usize], Some(entry)))
 }
 
 fn make_room(kept: &mut Vec<Option<Kept>>, number: u32) -> Result<(), AllocError>
@@ -39,8 +44,12 @@ fn make_room(kept: &mut Vec<Option<Kept>>, number: u32) -> Result<(), AllocError
     Ok(())
 }
 
-/// Keeps this of the last read of the variable by its thread.
-pub(crate) fn put_read(reads: &mut Vec<Readers>, x: u32, kept: Kept) -> Result<(), AllocError>
+/// Keeps this of the last read of the variable by its thread, and gives back what was kept of it.
+pub(crate) fn put_read(
+    reads: &mut Vec<Readers>,
+    x: u32,
+    kept: Kept,
+) -> Result<Option<Kept>, AllocError>
     ensures ok { OnOk result ((y t : ℕ) → find (is_by t) (readers_in (slice_get reads.new.items y)) ≡ (if (x == y) && (kept.thread == t) then Some kept else find (is_by t) (readers_in (slice_get reads.old.items y)))) }
     ensures err { OnErr result ((y t : ℕ) → find (is_by t) (readers_in (slice_get reads.new.items y)) ≡ find (is_by t) (readers_in (slice_get reads.old.items y))) }
 {

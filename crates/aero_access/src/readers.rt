@@ -1,10 +1,11 @@
-//! The last reads of a variable.
+//! The last reads of a variable, one of each thread that read it. They know of no other variable.
 ghost use Rattle.std.specs.Prelude.{◌≡◌, ◌++◌, ◌∷◌, [], OnOk, OnErr, position};
 ghost use Rattle.aero_access.specs.Kept.{AreApart, is_by};
 
 use crate::kept::Kept;
 use crate::thread::Thread;
 use std::alloc::{AllocError, Global};
+use std::mem;
 
 /// The last read of a variable by each thread that read it.
 #[derive(Drop)]
@@ -39,20 +40,22 @@ impl Readers {
         self.kept.iter().find(|kept| kept.thread == t)
     }
 
-    /// Keeps this of the last read by its thread.
-    pub(crate) fn set(&mut self, kept: Kept) -> Result<(), AllocError>
+    /// Keeps this of the last read by its thread, and gives back what was kept of it.
+    pub(crate) fn set(&mut self, kept: Kept) -> Result<Option<Kept>, AllocError>
         ensures ok { OnOk result ((t : ℕ) → find (is_by t) self.new.kept.items ≡ (if kept.thread == t then Some kept else find (is_by t) self.old.kept.items)) }
         ensures err { OnErr result (self.new.kept.items ≡ self.old.kept.items) }
     {
         match place_by(&self.kept, kept.thread) {
-            Some(i) => self.kept[i] = kept,
-            None => add(&mut self.kept, kept)?,
+            Some(i) => Ok(Some(mem::replace(&mut self.kept[i], kept))),
+            None => {
+                add(&mut self.kept, kept)?;
+                Ok(None)
+            }
         }
-        Ok(())
     }
 
-    /// Thread `t` takes the clocks of the others, up to one that closes a cycle: then the answer
-    /// is true.
+    /// Thread `t` takes the clocks of the others, up to one that closes a telling cycle: then the
+    /// answer is true.
     pub(crate) fn give(&self, thread: &mut Thread, t: u32) -> Result<bool, AllocError>
         requires { (i : ℕ) (k : Kept) → slice_get self.now.kept.items i ≡ Some k → CountIsTest thread.old t (number_at k.clock) }
         ensures closing { IfOk result (λ closes. closes ≡ true → ClosesOne thread.old.begin t self.now.kept.items) }

@@ -1,4 +1,4 @@
-//! What a clock is kept of.
+//! What a clock is kept of. A slot is a name, and has no state.
 
 /// An event that a clock is kept of: the last of a thread, the last write of a variable, its last
 /// read by a thread, or the last release of a lock. Threads, variables and locks go by numbers.

@@ -1,4 +1,5 @@
-//! The clocks of last writes, reads and releases.
+//! The clocks of last writes, reads and releases, with a label for each of these slots. No thread and
+//! no index is touched here.
 ghost use Rattle.std.specs.Prelude.{◌≡◌, ◌++◌, ◌∷◌, [], ℕ, true, Some, OnOk, OnErr, if◌then◌else◌};
 ghost use Rattle.aero_access.specs.declared.slot.Slot.{Slot};
 ghost use Rattle.aero_access.specs.Kept.{is_kept, same_slot};
@@ -10,23 +11,28 @@ use crate::readers::Readers;
 use crate::slot::Slot;
 use aero_clock::clock::Clock;
 use std::alloc::{AllocError, Global};
+use std::mem;
 
 /// What is kept of the last events that are no thread's own. Variables and locks are numbered, so
-/// that each is found by its place.
+/// that each is found by its place. The clock that was replaced last is spare: the next one to be
+/// kept has its room.
 #[derive(Drop)]
 pub struct Table {
     writes: Vec<Option<Kept>>,
     reads: Vec<Readers>,
     releases: Vec<Option<Kept>>,
     labels: Vec<Slot>,
+    spare: Clock,
     ghost labelled: { AreLabelled (kept_in writes.items reads.items releases.items) labels.items },
     ghost placed: { ArePlaced (kept_in writes.items reads.items releases.items) labels.items },
 }
 
 impl Table {
-    ghost use Rattle.std.specs.Prelude.{◌<◌, None, slice_get, length, IsSome, is_some, IfOk};
+    ghost use Rattle.std.specs.Prelude.{◌<◌, ◌≤◌, IsTrue, None, slice_get, length, IsSome, is_some, IfOk};
     ghost use Rattle.aero_clock.specs.Numbers.{number_at};
+    ghost use Rattle.aero_access.specs.StateWords.{KeepsClock};
     ghost use Rattle.std.specs.Option.{option_copied};
+    ghost use Rattle.aero_access.specs.Kept.{kept_clock};
     ghost use Rattle.aero_access.specs.TableWords.{kept_of, labels_of, place_of, Keeps, JoinsSlot};
 
     /// Nothing is kept.
@@ -38,6 +44,7 @@ impl Table {
             reads: Vec::new(alloc),
             releases: Vec::new(alloc),
             labels: Vec::new(alloc),
+            spare: Clock::new(alloc),
         }
     }
 
@@ -71,6 +78,34 @@ impl Table {
         }
     }
 
+    /// Keeps this clock of the slot's last event, which is by this thread.
+    pub(crate) fn keep(
+        &mut self,
+        slot: Slot,
+        thread: u32,
+        clock: &Clock,
+        label: u32,
+    ) -> Result<(), AllocError>
+        requires kept { is_kept slot ≡ true }
+        requires reader { (x t : ℕ) → slot ≡ Slot.LastRead x t → thread ≡ t }
+        requires label { label ≡ place_of self.old slot }
+        ensures ok { OnOk result (KeepsClock self.old self.new slot thread (number_at clock.now)) }
+        ensures err { OnErr result ((s : Slot) → kept_of self.new s ≡ kept_of self.old s) }
+        ensures labels { OnOk result (labels_of self.new ≡ (if is_some (kept_of self.old slot) then labels_of self.old else labels_of self.old ++ slot ∷ [])) }
+    {
+        let none = Clock::new(*self.labels.allocator());
+        let mut copied = mem::replace(&mut self.spare, none);
+        copied.copy_from(clock)?;
+        self.set(
+            slot,
+            Kept {
+                thread,
+                clock: copied,
+                label,
+            },
+        )
+    }
+
     /// Keeps this of the slot's last event.
     pub(crate) fn set(&mut self, slot: Slot, kept: Kept) -> Result<(), AllocError>
         requires kept { is_kept slot ≡ true }
@@ -81,7 +116,7 @@ impl Table {
         ensures labels { OnOk result (labels_of self.new ≡ (if is_some (kept_of self.old slot) then labels_of self.old else labels_of self.old ++ slot ∷ [])) }
     {
         let is_new = self.get(slot).is_none();
-        keep_labelled(
+        let replaced = keep_labelled(
             &mut self.writes,
             &mut self.reads,
             &mut self.releases,
@@ -89,7 +124,11 @@ impl Table {
             slot,
             is_new,
             kept,
-        )
+        )?;
+        if let Some(replaced) = replaced {
+            self.spare = replaced.clock;
+        }
+        Ok(())
     }
 
     /// Joins the clock that is kept of the slot with this one.
@@ -98,12 +137,14 @@ impl Table {
         ensures joins { OnOk result (JoinsSlot self.old self.new slot (number_at clock.now)) }
         ensures err { OnErr result ((s : Slot) → kept_of self.new s ≡ kept_of self.old s) }
     {
+        let none = Clock::new(*self.labels.allocator());
+        let mut joined = mem::replace(&mut self.spare, none);
         let Some(kept) = self.get(slot) else {
             return Ok(());
         };
         let thread = kept.thread;
         let label = kept.label;
-        let mut joined = kept.clock.copy()?;
+        joined.copy_from(&kept.clock)?;
         joined.join(clock)?;
         self.set(
             slot,
@@ -113,6 +154,17 @@ impl Table {
                 label,
             },
         )
+    }
+
+    /// Whether this clock is at most the one that is kept of the slot in every place, so that a join
+    /// changes nothing.
+    pub(crate) fn is_past(&self, slot: Slot, clock: &Clock) -> bool
+        ensures { IsTrue result → (u : ℕ) → number_at clock.now u ≤ kept_clock (kept_of self.now slot) u }
+    {
+        match self.get(slot) {
+            Some(kept) => clock.at_most(&kept.clock),
+            None => false,
+        }
     }
 
     /// How many slots have a label.
@@ -137,14 +189,14 @@ fn keep(
     releases: &mut Vec<Option<Kept>>,
     slot: Slot,
     kept: Kept,
-) -> Result<(), AllocError>
+) -> Result<Option<Kept>, AllocError>
     requires kept { is_kept slot ≡ true }
     requires reader { (x t : ℕ) → slot ≡ Slot.LastRead x t → kept.thread ≡ t }
     ensures ok { OnOk result ((s : Slot) → kept_in writes.new.items reads.new.items releases.new.items s ≡ (if same_slot s slot then Some kept else kept_in writes.old.items reads.old.items releases.old.items s)) }
     ensures err { OnErr result ((s : Slot) → kept_in writes.new.items reads.new.items releases.new.items s ≡ kept_in writes.old.items reads.old.items releases.old.items s) }
 {
     match slot {
-        Slot::OfThread(_) => Ok(()),
+        Slot::OfThread(_) => Ok(None),
         Slot::LastWrite(x) => put(writes, x, kept),
         Slot::LastRead(x, _) => put_read(reads, x, kept),
         Slot::LastRelease(l) => put(releases, l, kept),
@@ -160,7 +212,7 @@ fn keep_labelled(
     slot: Slot,
     is_new: bool,
     kept: Kept,
-) -> Result<(), AllocError>
+) -> Result<Option<Kept>, AllocError>
     requires kept { is_kept slot ≡ true }
     requires reader { (x t : ℕ) → slot ≡ Slot.LastRead x t → kept.thread ≡ t }
     ensures ok { OnOk result ((s : Slot) → kept_in writes.new.items reads.new.items releases.new.items s ≡ (if same_slot s slot then Some kept else kept_in writes.old.items reads.old.items releases.old.items s)) }
@@ -169,9 +221,9 @@ fn keep_labelled(
     ensures labels_err { OnErr result (labels.new.items ≡ labels.old.items) }
 {
     labels.reserve(1)?;
-    keep(writes, reads, releases, slot, kept)?;
+    let replaced = keep(writes, reads, releases, slot, kept)?;
     if is_new {
         labels.push_reserved(slot);
     }
-    Ok(())
+    Ok(replaced)
 }

@@ -1,4 +1,4 @@
-//! What is kept of a thread.
+//! What is kept of a thread: its clock and its open block. No other thread is touched here.
 ghost use Rattle.std.specs.Prelude.{◌≡◌, ◌+◌, ◌-◌, ◌^◌, ◌<◌, ◌≤◌, ◌==◌, ◌↔◌, ℕ, true, false, Some, None, IsTrue, IfOk, OnOk, OnErr, IsSome, vec_len, if◌then◌else◌, nat_lt, max};
 ghost use Rattle.aero_clock.specs.Numbers.{number_at, IsZero, IsSame, IsRaised};
 ghost use Rattle.aero_access.specs.Threads.{IsClosedBy, CountIsTest, HasSameBlock, TakesClock, AreSameThreads, number_in};
@@ -44,8 +44,8 @@ impl Thread {
         self.begin.is_some() && self.begins <= clock.get(t)
     }
 
-    /// Thread `t`, which this is, takes the clock, unless it closes a cycle: then the answer is
-    /// true.
+    /// Thread `t`, which this is, takes the clock, unless it closes a telling cycle: then the answer
+    /// is true.
     pub(crate) fn take(&mut self, t: u32, clock: &Clock) -> Result<bool, AllocError>
         requires { CountIsTest self.old t (number_at clock.now) }
         ensures closing { IfOk result (λ closes. IsTrue closes ↔ IsClosedBy self.old.begin (number_at clock.now)) }

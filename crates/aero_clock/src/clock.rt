@@ -1,8 +1,8 @@
 //! A clock as a list of the threads whose number isn't 0.
-ghost use Rattle.std.specs.Prelude.{◌≡◌, ◌<◌, ◌≤◌, ◌^◌, ◌-◌, ◌↔◌, ℕ, IsTrue, IfOk, OnOk, OnErr};
+ghost use Rattle.std.specs.Prelude.{◌≡◌, ◌<◌, ◌≤◌, ◌^◌, ◌-◌, ◌↔◌, ℕ, IsTrue, IfOk, IsOk, OnOk, OnErr};
 ghost use Rattle.aero_clock.specs.Pairs.{IsRising, HasNoZero};
 
-use crate::pairs::{are_at_most, join, raise, read};
+use crate::pairs::{are_at_most, copy_from, join, raise, read};
 use std::alloc::{AllocError, Global};
 
 /// A number for each thread, 0 at first. Threads are numbered from 0; a clock keeps a pair of
@@ -56,15 +56,18 @@ impl Clock {
     pub fn join(&mut self, other: &Clock) -> Result<(), AllocError>
         ensures ok { OnOk result (IsJoin self.new self.old other.now) }
         ensures err { OnErr result (IsSame self.new self.old) }
+        ensures room { ((t : ℕ) → 0 < number_at other.now t → 0 < number_at self.old t) → IsOk result }
     {
         join(&mut self.pairs, &other.pairs)
     }
 
-    /// One more at thread `t`. A refusal changes nothing.
+    /// One more at thread `t`. It takes memory only where the number was 0. A refusal changes
+    /// nothing.
     pub fn raise(&mut self, t: u32) -> Result<(), AllocError>
         requires { number_at self.old t < 2 ^ 32 - 1 }
         ensures ok { OnOk result (IsRaised self.new self.old t) }
         ensures err { OnErr result (IsSame self.new self.old) }
+        ensures room { 0 < number_at self.old t → IsOk result }
     {
         raise(&mut self.pairs, t)
     }
@@ -75,5 +78,14 @@ impl Clock {
     {
         let pairs = self.pairs.clone()?;
         Ok(Clock { pairs })
+    }
+
+    /// Takes the other's number at every thread. It takes memory only where the numbers that
+    /// aren't 0 don't fit into what is there. A refusal changes nothing.
+    pub fn copy_from(&mut self, other: &Clock) -> Result<(), AllocError>
+        ensures ok { OnOk result (IsSame self.new other.now) }
+        ensures err { OnErr result (IsSame self.new self.old) }
+    {
+        copy_from(&mut self.pairs, &other.pairs)
     }
 }

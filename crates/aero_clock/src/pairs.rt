@@ -1,5 +1,5 @@
 //! Lists of pairs of a thread and a number, rising by thread.
-ghost use Rattle.std.specs.Prelude.{◌≡◌, ◌<◌, ◌≤◌, ◌↔◌, ℕ, length, Some, slice_get, max, if◌then◌else◌, ◌==◌, ◌+◌, ◌-◌, ◌^◌, IsTrue, IfOk, OnOk, OnErr};
+ghost use Rattle.std.specs.Prelude.{◌≡◌, ◌<◌, ◌≤◌, ◌↔◌, ℕ, length, Some, slice_get, max, if◌then◌else◌, ◌==◌, ◌+◌, ◌-◌, ◌^◌, IsTrue, IfOk, IsOk, OnOk, OnErr};
 ghost use Rattle.aero_clock.specs.Pairs.{number_in, IsRising, HasNoZero, IsPlace, Covers, LeadsWith, merge, raised_to};
 
 use std::alloc::{AllocError, Global};
@@ -77,6 +77,24 @@ fn skip(pairs: &[(u32, u32)], from: usize, t: u32) -> usize
     at
 }
 
+// Whether each number is at most the other list's in the same place, which is of the same thread.
+// Without an early exit the test is made for several places at once.
+fn are_at_most_in_place(pairs: &[(u32, u32)], others: &[(u32, u32)]) -> bool
+    requires { IsRising others.now }
+    ensures { IsTrue result → (t : ℕ) → number_in pairs.now t ≤ number_in others.now t }
+{
+    if pairs.len() > others.len() {
+        return false;
+    }
+    let mut fitting = 0;
+    for i in 0..pairs.len() {
+        if (pairs[i].0 == others[i].0) & (pairs[i].1 <= others[i].1) {
+            fitting += 1;
+        }
+    }
+    fitting == pairs.len()
+}
+
 /// Whether each number is at most the other list's for the same thread.
 pub fn are_at_most(pairs: &[(u32, u32)], others: &[(u32, u32)]) -> bool
     requires rising { IsRising pairs.now }
@@ -84,6 +102,9 @@ pub fn are_at_most(pairs: &[(u32, u32)], others: &[(u32, u32)]) -> bool
     requires other { IsRising others.now }
     ensures { IsTrue result ↔ ((t : ℕ) → number_in pairs.now t ≤ number_in others.now t) }
 {
+    if are_at_most_in_place(pairs, others) {
+        return true;
+    }
     let mut at = 0;
     for i in 0..pairs.len() {
         let (t, number) = pairs[i];
@@ -99,7 +120,7 @@ pub fn are_at_most(pairs: &[(u32, u32)], others: &[(u32, u32)]) -> bool
 fn covers(pairs: &[(u32, u32)], others: &[(u32, u32)]) -> bool
     requires rising { IsRising pairs.now }
     requires other { IsRising others.now }
-    ensures { IsTrue result → Covers pairs.now others.now }
+    ensures { IsTrue result ↔ Covers pairs.now others.now }
 {
     let mut at = 0;
     for j in 0..others.len() {
@@ -198,6 +219,7 @@ pub fn join(pairs: &mut Vec<(u32, u32)>, others: &[(u32, u32)]) -> Result<(), Al
     requires other_nonzero { HasNoZero others.now }
     ensures ok { OnOk result ((t : ℕ) → number_in pairs.new.items t ≡ max (number_in pairs.old.items t) (number_in others.now t)) }
     ensures err { OnErr result (pairs.new.items ≡ pairs.old.items) }
+    ensures room { Covers pairs.old.items others.now → IsOk result }
     ensures rising { IsRising pairs.new.items }
     ensures nonzero { HasNoZero pairs.new.items }
 {
@@ -220,6 +242,7 @@ pub fn raise(pairs: &mut Vec<(u32, u32)>, t: u32) -> Result<(), AllocError>
     requires room { number_in pairs.old.items t < 2 ^ 32 - 1 }
     ensures ok { OnOk result ((u : ℕ) → number_in pairs.new.items u ≡ (if u == t then number_in pairs.old.items u + 1 else number_in pairs.old.items u)) }
     ensures err { OnErr result (pairs.new.items ≡ pairs.old.items) }
+    ensures counted { 0 < number_in pairs.old.items t → IsOk result }
     ensures rising { IsRising pairs.new.items }
     ensures nonzero { HasNoZero pairs.new.items }
 {
@@ -230,5 +253,19 @@ pub fn raise(pairs: &mut Vec<(u32, u32)>, t: u32) -> Result<(), AllocError>
     } else {
         pairs[at].1 = number + 1;
     }
+    Ok(())
+}
+
+/// The same pairs as the other list, in the room that is there where they fit.
+pub fn copy_from(pairs: &mut Vec<(u32, u32)>, others: &[(u32, u32)]) -> Result<(), AllocError>
+    ensures ok { OnOk result (pairs.new.items ≡ others.now) }
+    ensures err { OnErr result (pairs.new.items ≡ pairs.old.items) }
+{
+    if pairs.len() < others.len() {
+        let (_, rest) = others.split_at(pairs.len());
+        pairs.extend_from_slice(rest)?;
+    }
+    pairs.truncate(others.len());
+    pairs.copy_from_slice(others);
     Ok(())
 }

@@ -4,9 +4,9 @@ use Rattle.std.specs.Prelude.{◌==◌, ◌||◌, nat_lt, nat_le, Bool, true, fa
 use Rattle.std.proofs.lemmas.Bool.{cases_Bool, cases_lt, cases_eq, both_ways, eq-eqb, ne_eqb, lt-ltb, le-ltb, le-leb, leb-true, cond-true, cond-false, and_right, and_parts}
 use Rattle.std.proofs.lemmas.List.Folds.{list_any-append}
 use Rattle.std.proofs.lemmas.Option.{same_Some}
-use Rattle.aero_model.specs.declared.event.Numbered.{Numbered}
-use Rattle.aero_model.specs.declared.event.What.{What}
-use Rattle.aero_model.specs.declared.event.What.TheVariants.{End}
+use Rattle.aero_model.specs.declared.numbered.Numbered.{Numbered}
+use Rattle.aero_model.specs.declared.numbered.What.{What}
+use Rattle.aero_model.specs.declared.numbered.What.TheVariants.{End}
 use Rattle.aero_model.specs.Blocks.{is_begin, is_end, by_thread, depth, closes, blocks}
 use Rattle.aero_model.specs.Shape.{IsWellFormed, has_acted}
 use Rattle.aero_model.proofs.Stability.{Agree, agree_front, depth_same, blocks_same}

@@ -2,8 +2,8 @@
 use Rattle.std.proofs.Common.{◌≡◌, ℕ, List, [], ◌∷◌, ◌++◌, length, Option, Some, None, refl, ◌∙◌}
 use Rattle.std.specs.Prelude.{Ok, true, false, is_some}
 use Rattle.std.proofs.lemmas.Bool.{both_ways}
-use Rattle.aero_model.specs.declared.event.Numbered.{Numbered}
-use Rattle.aero_model.specs.declared.event.What.TheVariants.{End}
+use Rattle.aero_model.specs.declared.numbered.Numbered.{Numbered}
+use Rattle.aero_model.specs.declared.numbered.What.TheVariants.{End}
 use Rattle.aero_model.specs.Blocks.{closes}
 use Rattle.aero_model.specs.Shape.{IsWellFormed}
 use Rattle.aero_access.specs.declared.clocks.Clocks.{Clocks}

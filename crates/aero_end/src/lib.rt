@@ -4,7 +4,7 @@
 //! leads to comes after all that leads to the block: each thread, and each last write, read and
 //! release, whose clock counts the block takes the clock of the block's thread. Where another
 //! thread's clock counts it, and that thread has an open block that leads back to the block that
-//! ends, there is a cycle through the open block, and its thread is answered. Where there are
+//! ends, there is a telling cycle through the open block, and its thread is answered. Where there are
 //! several, the least is.
 //!
 //! ```text
@@ -20,19 +20,21 @@
 #![tactic(auto)]
 
 ghost use Rattle.std.specs.Prelude.{◌≡◌, ◌++◌, ◌∷◌, [], ℕ, true, None, Some, List, length, IfOk, OnErr};
-ghost use Rattle.aero_model.specs.declared.event.Numbered.{Numbered};
-ghost use Rattle.aero_model.specs.declared.event.What.TheVariants.{End};
+ghost use Rattle.aero_model.specs.declared.numbered.Numbered.{Numbered};
+ghost use Rattle.aero_model.specs.declared.numbered.What.TheVariants.{End};
 ghost use Rattle.aero_model.specs.Blocks.{closes};
 ghost use Rattle.aero_model.specs.Shape.{IsWellFormed};
 ghost use Rattle.aero_access.specs.StateWords.{event};
-ghost use Rattle.aero_access.specs.Standing.{in_block_at, closed_by, StandsFor, HaveSameTests, Answers, Tells};
+ghost use Rattle.aero_access.specs.Standing.{in_block_at, closed_by, threads_of, StandsFor, HaveSameTests, Answers, Tells};
 ghost use Rattle.aero_end.specs.Ends.{IsFirst, SpreadsToAll, IsRefused};
 
 use aero_access::clocks::{Clocks, Spent};
 
 /// Ends the outermost block of thread `t`, which is in a block. Answers the least thread whose
-/// open block closes a cycle through the block that ends, and `None` where there is none: then
-/// thread `t` is in no block any more.
+/// open block closes a telling cycle through the block that ends, and `None` where there is none:
+/// then thread `t` is in no block any more. A cycle is a telling one where each of its blocks but the
+/// first has ended, or is left by no earlier event than it was entered by; so `None` doesn't say that
+/// there is no cycle.
 ///
 /// Answers `Spent` where memory was refused, now or before, and each later call that can does so
 /// too. After that, and after a thread was answered, the tests answer as before the call.
@@ -41,6 +43,7 @@ pub fn end(clocks: &mut Clocks, t: u32) -> Result<Option<u32>, Spent>
     requires closed { closed_by clocks.old ≡ None }
     ensures answers { Answers clocks.old clocks.new result }
     ensures follows { (h : List Numbered) → StandsFor clocks.old h → IsWellFormed (h ++ event t End ∷ []) → closes (h ++ event t End ∷ []) t (length h) ≡ true → IfOk result (Tells clocks.new (h ++ event t End ∷ []) (length h)) }
+    ensures threads { threads_of clocks.new ≡ threads_of clocks.old }
 {
     let closing = spread(clocks, t)?;
     if closing.is_some() {
@@ -64,6 +67,7 @@ fn spread(clocks: &mut Clocks, t: u32) -> Result<Option<u32>, Spent>
     ensures named { IfOk result (λ o. (u : ℕ) → o ≡ Some u → IsFirst clocks.old clocks.new t u) }
     ensures spreads { IfOk result (λ o. o ≡ None → SpreadsToAll clocks.old clocks.new t) }
     ensures refused { OnErr result (IsRefused clocks.old clocks.new) }
+    ensures threads { threads_of clocks.new ≡ threads_of clocks.old }
 {
     let listed = clocks.led(t);
     for i in 0..listed {

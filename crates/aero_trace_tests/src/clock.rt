@@ -18,18 +18,25 @@ fn raised(alloc: Global, threads: &str) -> Result<Clock, Fail> {
 // threads 0, 1 and 2 in their join, with the pairs of those that aren't 0.
 type Row<'a> = (&'a str, &'a str, (bool, bool), [u32; 3], &'a [(u32, u32)]);
 
-// Whether two such clocks are so. The clock that was copied stays.
+// Whether two such clocks are so, and copied numbers are the same, in more room and in less. The
+// clock that was copied stays.
 fn fits(alloc: Global, row: &Row) -> Result<bool, Fail> {
     let (one, other, compared, numbers, pairs) = *row;
     let a = raised(alloc, one)?;
     let b = raised(alloc, other)?;
     let mut joined = a.copy()?;
     joined.join(&b)?;
+    let mut longer = raised(alloc, other)?;
+    longer.copy_from(&joined)?;
+    let mut shorter = joined.copy()?;
+    shorter.copy_from(&b)?;
+    let is_copied = longer.pairs() == pairs && shorter.pairs() == b.pairs();
     let is_above = a.at_most(&a) && a.at_most(&joined) && b.at_most(&joined);
     Ok(
         (a.at_most(&b), b.at_most(&a)) == compared
             && [joined.get(0), joined.get(1), joined.get(2)] == numbers
             && joined.pairs() == pairs
+            && is_copied
             && is_above,
     )
 }

@@ -95,6 +95,10 @@ fn the_last_event_closes_a_cycle_or_none(rt: HostRuntime) -> Result<(), Fail> {
         // A thread that has made no event is joined, and the block ends.
         ("0|begin/0|fork(1)/0|join(1)", None),
         ("0|begin/0|fork(1)/0|join(1)/0|end", None),
+        // Thread 0 joins such a thread and takes nothing of the block that forked it, so what it then
+        // writes doesn't come after that block. Where the thread has made an event, it does.
+        ("2|begin/2|fork(1)/0|join(1)/0|w(0)/2|r(0)", None),
+        ("2|begin/2|fork(1)/1|w(1)/0|join(1)/0|w(0)/2|r(0)", Some(2)),
         // The blocks of threads 1 and 2 both close.
         (
             "0|begin/1|begin/2|begin/1|w(0)/2|w(1)/0|w(2)/1|r(2)/2|r(2)/0|r(0)/0|r(1)/0|end",

@@ -14,6 +14,7 @@ loop-i-preserved-then-slot-t c =
       tests = c.loop-i.invariant.tests;
       inside = c.loop-i.invariant.inside;
       closed = c.loop-i.invariant.closed;
+      threads = c.loop-i.invariant.threads;
     }
 
 pub returns-then-is_some-clause-named : goal.returns-then-is_some-clause-named
@@ -45,6 +46,7 @@ loop-i-preserved c =
       };
       inside = same.in_block c.args.t ∙ c.loop-i.invariant.inside;
       closed = spreads.closed;
+      threads = c.absorb.ensures.threads ∙ c.loop-i.invariant.threads;
     }
 
 pub returns-clause-spreads : goal.returns-clause-spreads

@@ -1,7 +1,10 @@
-use Rattle.aero_access.proofs.Indexing.{index_taken, keeps_nothing}
+use Rattle.std.specs.Prelude.{◌||◌}
+use Rattle.aero_access.proofs.Outcomes.{neither}
+use Rattle.aero_access.proofs.Indexing.{index_news, keeps_nothing}
 use Rattle.aero_access.proofs.changes.acquire.Goals as goal
 
 pub returns-clause-index : goal.returns-clause-index
 returns-clause-index c =
-    index_taken c.args.threads.now c.acquire.new.threads c.args.table.now c.args.table.now c.args.index.now c.args.index.now c.list.new.index c.args.t c.acquire.ensures.same c.in_ok-closes.ensures.takes
-    (keeps_nothing c.args.table.now c.args.index.now) c.in_ok-list.ensures
+    index_news c.args.threads.now c.acquire.new.threads c.args.table.now c.args.table.now c.args.index.now c.args.index.now c.list_news.new.index c.args.t (c.has_news-news.result || c.in_ok-closes.closes) c.acquire.ensures.same c.in_ok-closes.ensures.takes
+    (keeps_nothing c.args.table.now c.args.index.now) c.in_ok-list_news.ensures.listed c.list_news.ensures.same
+    (λ quiet. let none = neither c.has_news-news.result c.in_ok-closes.closes quiet in c.in_ok-closes.ensures.still (c.has_news-news.ensures none.0) none.1)

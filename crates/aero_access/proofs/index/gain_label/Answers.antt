@@ -14,7 +14,7 @@ loop-i-preserved c =
       visits = visits_next (λ (p : ℕ × ℕ) (old new : Option Led). GainsLabel old new c.args.place (number_at c.args.was.now p.0) p.1) c.pairs-pairs.result.now c.args.clock.now c.pairs-pairs.ensures c.args.leds.now
           c.loop-i.leds c.gain_label_at.new.leds c.loop-i.i p c.loop-i.invariant.visits
           (slice_get-get_or c.pairs-pairs.result.now c.loop-i.i (0, 0) c.loop-i-test.true)
-          (subst (λ (n : ℕ). GainsLabel (slice_get c.loop-i.leds p.0) (slice_get c.gain_label_at.new.leds p.0) c.args.place n p.1) c.get.ensures c.in_ok-gain_label_at.ensures.here)
+          (subst (λ (n : ℕ). GainsLabel (slice_get c.loop-i.leds p.0) (slice_get c.gain_label_at.new.leds p.0) c.args.place n p.1) c.number_near.ensures c.in_ok-gain_label_at.ensures.here)
           c.gain_label_at.ensures.others;
     }
 

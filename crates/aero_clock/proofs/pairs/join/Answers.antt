@@ -14,7 +14,7 @@ returns-then-leads_with-clause-ok c =
 pub returns-then-covers-clause-ok : goal.returns-then-covers-clause-ok
 returns-then-covers-clause-ok c =
     let kept : length c.raise_all.new.pairs ≡ c.args.pairs.now.len = omega (arith, c.raise_all.auto.pairs, c.deref_mut-then-covers.ensures.len) in
-    let covers = subst (λ ps. Covers ps c.args.others.now) c.deref-2.ensures.value (c.covers.ensures c.if-covers.true) in
+    let covers = subst (λ ps. Covers ps c.args.others.now) c.deref-2.ensures.value (c.covers.ensures.0 c.if-covers.true) in
     (joined_raised c.args.pairs.now.items c.args.others.now _ c.requires.rising c.requires.nonzero covers
     (with_items_is c.args.pairs.now c.raise_all.new.pairs kept ∙ c.raise_all.ensures ∙ ap (raised_to c.args.others.now) c.deref_mut-then-covers.ensures.value)).number
 
@@ -33,7 +33,7 @@ returns-then-leads_with-clause-rising c =
 pub returns-then-covers-clause-rising : goal.returns-then-covers-clause-rising
 returns-then-covers-clause-rising c =
     let kept : length c.raise_all.new.pairs ≡ c.args.pairs.now.len = omega (arith, c.raise_all.auto.pairs, c.deref_mut-then-covers.ensures.len) in
-    let covers = subst (λ ps. Covers ps c.args.others.now) c.deref-2.ensures.value (c.covers.ensures c.if-covers.true) in
+    let covers = subst (λ ps. Covers ps c.args.others.now) c.deref-2.ensures.value (c.covers.ensures.0 c.if-covers.true) in
     (joined_raised c.args.pairs.now.items c.args.others.now _ c.requires.rising c.requires.nonzero covers
     (with_items_is c.args.pairs.now c.raise_all.new.pairs kept ∙ c.raise_all.ensures ∙ ap (raised_to c.args.others.now) c.deref_mut-then-covers.ensures.value)).rising
 
@@ -52,7 +52,7 @@ returns-then-leads_with-clause-nonzero c =
 pub returns-then-covers-clause-nonzero : goal.returns-then-covers-clause-nonzero
 returns-then-covers-clause-nonzero c =
     let kept : length c.raise_all.new.pairs ≡ c.args.pairs.now.len = omega (arith, c.raise_all.auto.pairs, c.deref_mut-then-covers.ensures.len) in
-    let covers = subst (λ ps. Covers ps c.args.others.now) c.deref-2.ensures.value (c.covers.ensures c.if-covers.true) in
+    let covers = subst (λ ps. Covers ps c.args.others.now) c.deref-2.ensures.value (c.covers.ensures.0 c.if-covers.true) in
     (joined_raised c.args.pairs.now.items c.args.others.now _ c.requires.rising c.requires.nonzero covers
     (with_items_is c.args.pairs.now c.raise_all.new.pairs kept ∙ c.raise_all.ensures ∙ ap (raised_to c.args.others.now) c.deref_mut-then-covers.ensures.value)).nonzero
 

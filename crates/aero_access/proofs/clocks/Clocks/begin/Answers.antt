@@ -1,6 +1,6 @@
 use Rattle.std.proofs.Common.{sym, subst, ◌≡◌, length, refl, arith, false}
 use Rattle.std.proofs.lemmas.List.{with_items_is}
-use Rattle.aero_model.specs.declared.event.What.TheVariants.{Begin}
+use Rattle.aero_model.specs.declared.numbered.What.TheVariants.{Begin}
 use Rattle.aero_access.proofs.Standings.{follows}
 use Rattle.aero_access.specs.Heeds.{AreHeeded}
 use Rattle.aero_access.specs.StateWords.{state_in}

@@ -1,6 +1,6 @@
 use Rattle.std.proofs.Common.{sym, subst, ◌≡◌, length, refl, arith}
 use Rattle.std.proofs.lemmas.List.{with_items_is}
-use Rattle.aero_model.specs.declared.event.What.TheVariants.{Read}
+use Rattle.aero_model.specs.declared.numbered.What.TheVariants.{Read}
 use Rattle.aero_access.proofs.Standings.{follows, answered}
 use Rattle.aero_access.specs.Heeds.{AreHeeded}
 use Rattle.aero_access.specs.StateWords.{state_in}

@@ -1,5 +1,5 @@
 use Rattle.std.proofs.Common.{subst, refl, sym, false}
-use Rattle.aero_model.specs.declared.event.What.TheVariants.{Release}
+use Rattle.aero_model.specs.declared.numbered.What.TheVariants.{Release}
 use Rattle.aero_access.proofs.Standings.{follows}
 use Rattle.aero_access.specs.Heeds.{AreHeeded}
 use Rattle.aero_access.specs.StateWords.{state_in}

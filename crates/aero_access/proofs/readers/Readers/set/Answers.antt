@@ -9,7 +9,7 @@ pub invariant_of-self : goal.invariant_of-self
 invariant_of-self c =
     let place : position (is_by c.args.kept.thread) c.args.self.now.kept.items ≡ Some c.in-Some.i = sym (ap (position (is_by c.args.kept.thread)) c.deref.ensures.value) ∙ sym c.place_by.ensures ∙ c.in-Some.is in
     let at = position_at c.args.self.now.kept.items c.args.kept.thread c.in-Some.i c.args.kept place in
-    record { apart = apart_set c.args.self.now.kept.items c.in-Some.i c.args.kept c.args.self.now.apart at.0 at.1 }
+    record { apart = rw c.replace.ensures.after (apart_set c.args.self.now.kept.items c.in-Some.i c.args.kept c.args.self.now.apart at.0 at.1) }
 
 pub invariant_of-self-in-None : goal.invariant_of-self-in-None
 invariant_of-self-in-None c =
@@ -23,7 +23,7 @@ pub returns-in-Some-clause-ok : goal.returns-in-Some-clause-ok
 returns-in-Some-clause-ok c =
     let place : position (is_by c.args.kept.thread) c.args.self.now.kept.items ≡ Some c.in-Some.i = sym (ap (position (is_by c.args.kept.thread)) c.deref.ensures.value) ∙ sym c.place_by.ensures ∙ c.in-Some.is in
     let at = position_at c.args.self.now.kept.items c.args.kept.thread c.in-Some.i c.args.kept place in
-    find-set c.args.self.now.kept.items c.in-Some.i c.args.kept c.args.self.now.apart at.0 at.1
+    rw c.replace.ensures.after (find-set c.args.self.now.kept.items c.in-Some.i c.args.kept c.args.self.now.apart at.0 at.1)
 
 pub returns-in_ok-add-in-None-clause-ok : goal.returns-in_ok-add-in-None-clause-ok
 returns-in_ok-add-in-None-clause-ok c =

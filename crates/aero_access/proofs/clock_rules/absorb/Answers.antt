@@ -1,4 +1,4 @@
-use Rattle.std.proofs.Common.{Some, ◌-◌, get_or, ap, sym, ◌∙◌, length}
+use Rattle.std.proofs.Common.{Some, refl, ◌-◌, get_or, ap, sym, ◌∙◌, length}
 use Rattle.std.proofs.lemmas.Option.{slice_get-get_or}
 use Rattle.aero_access.proofs.SlotNumbers.{label_kept, slot_label, no_thread, join_thread, join_kept}
 use Rattle.std.proofs.lemmas.Bool.{both_ways}
@@ -6,8 +6,8 @@ use Rattle.aero_clock.specs.Numbers.{number_at}
 use Rattle.aero_access.specs.StateWords.{state_in}
 use Rattle.aero_access.proofs.OwnSteps.{same_blocks_set}
 use Rattle.aero_access.proofs.Heeding.{heeds_same, slot_test, thread_heeds, kept_heeds, heeded_clock, heeded_table, joined_heeds, still_heeds, absorb_told}
-use Rattle.aero_access.proofs.moves.absorb.Goals as goal
-use Rattle.aero_access.proofs.moves.absorb.Goals.{then-closes, else-closes}
+use Rattle.aero_access.proofs.clock_rules.absorb.Goals as goal
+use Rattle.aero_access.proofs.clock_rules.absorb.Goals.{then-closes, else-closes}
 
 pub returns-then-slot-threads-clause-absorbed : goal.returns-then-slot-threads-clause-absorbed
 returns-then-slot-threads-clause-absorbed c = λ none.
@@ -32,9 +32,9 @@ returns-clause-told c = λ u. (
 
 pub returns-clause-absorbed : goal.returns-clause-absorbed
 returns-clause-absorbed c = λ none.
-    let at = slice_get-get_or c.args.threads.now c.args.t c.index-threads-t.result c.requires.actor in
-    join_kept c.args.threads.now c.args.table.now c.args.t c.args.slot c.label-label.result (get_or c.args.threads.now c.args.t c.index-threads-t.result) c.join.new.self at c.if-slot-threads.false c.label-label.ensures
-    c.in_ok-clock.clock (λ u. c.in_ok-clock.ensures.at u) c.in_ok-join.ensures.joins
+    let at = slice_get-get_or c.args.threads.now c.args.t c.index-threads-t-2.result c.requires.actor in
+    join_kept c.args.threads.now c.args.table.now c.args.t c.args.slot c.label-label.result (get_or c.args.threads.now c.args.t c.index-threads-t-2.result) c.join.new.self at c.if-slot-threads.false c.label-label.ensures
+    (get_or c.args.threads.now c.args.t c.index-threads-t-2.result).clock (λ u. refl) c.in_ok-join.ensures.joins
 
 pub take-requires : goal.take-requires
 take-requires c =
@@ -83,5 +83,5 @@ returns-in_err-join-clause-heeded c =
 
 pub returns-clause-heeded : goal.returns-clause-heeded
 returns-clause-heeded c =
-    let at = slice_get-get_or c.args.threads.now c.args.t c.index-threads-t.result c.requires.actor in
-    heeded_table c.args.threads.now c.args.table.now c.join.new.self (joined_heeds (state_in c.args.threads.now c.args.table.now) c.args.table.now c.join.new.self c.label-label.result (number_at c.in_ok-clock.clock) c.in_ok-join.ensures.joins (heeds_same (state_in c.args.threads.now c.args.table.now) (number_at (get_or c.args.threads.now c.args.t c.index-threads-t.result).clock) (number_at c.in_ok-clock.clock) (λ v. c.in_ok-clock.ensures.at v) (thread_heeds c.args.threads.now c.args.table.now c.requires.heeded c.args.t (get_or c.args.threads.now c.args.t c.index-threads-t.result) at)) (kept_heeds c.args.threads.now c.args.table.now c.requires.heeded)) c.requires.heeded
+    let at = slice_get-get_or c.args.threads.now c.args.t c.index-threads-t-2.result c.requires.actor in
+    heeded_table c.args.threads.now c.args.table.now c.join.new.self (joined_heeds (state_in c.args.threads.now c.args.table.now) c.args.table.now c.join.new.self c.label-label.result (number_at (get_or c.args.threads.now c.args.t c.index-threads-t-2.result).clock) c.in_ok-join.ensures.joins (thread_heeds c.args.threads.now c.args.table.now c.requires.heeded c.args.t (get_or c.args.threads.now c.args.t c.index-threads-t-2.result) at) (kept_heeds c.args.threads.now c.args.table.now c.requires.heeded)) c.requires.heeded

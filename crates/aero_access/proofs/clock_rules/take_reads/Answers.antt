@@ -5,7 +5,7 @@ use Rattle.aero_access.specs.declared.kept.Kept.{Kept}
 use Rattle.aero_access.specs.declared.readers.Readers.{Readers}
 use Rattle.aero_access.specs.Table.{readers_in}
 use Rattle.aero_access.specs.Threads.{CountIsTest}
-use Rattle.aero_access.proofs.moves.take_reads.Goals as goal
+use Rattle.aero_access.proofs.clock_rules.take_reads.Goals as goal
 
 pub give-requires : goal.give-requires
 give-requires c =

@@ -1,11 +1,19 @@
 use Rattle.std.proofs.Common.{get_or}
 use Rattle.std.proofs.lemmas.Option.{slice_get-get_or}
 use Rattle.aero_access.proofs.Outcomes.{not_true}
-use Rattle.aero_access.proofs.OwnSteps.{same_blocks_set}
+use Rattle.aero_access.proofs.OwnSteps.{same_blocks_set, taken_nothing}
 use Rattle.aero_access.proofs.Events.{read_closes, read_moves}
 use Rattle.aero_access.specs.declared.slot.Slot.TheVariants.{LastWrite}
 use Rattle.aero_access.proofs.Heeding.{kept_test, heeded_taken, heeded_taken_kept}
-use Rattle.aero_access.proofs.moves.read.Goals as goal
+use Rattle.aero_access.specs.TableWords.{kept_of}
+use Rattle.aero_access.specs.StateWords.{last_but}
+use Rattle.aero_access.proofs.clock_rules.read.Goals as goal
+
+pub returns-clause-still : goal.returns-clause-still
+returns-clause-still c = λ none no.
+    let at = slice_get-get_or c.args.threads.now c.args.t c.index-threads-t.result c.requires.actor in
+    taken_nothing c.args.threads.now c.args.t (get_or c.args.threads.now c.args.t c.index-threads-t.result) c.take_last.new.thread at (last_but c.args.t (kept_of c.args.table.now (LastWrite c.args.x)))
+    (c.in_ok-take_last.ensures.takes c.if-branch.false) none
 
 pub returns-then-branch-clause-moves : goal.returns-then-branch-clause-moves
 returns-then-branch-clause-moves c =

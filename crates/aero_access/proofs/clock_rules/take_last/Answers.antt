@@ -1,7 +1,7 @@
 use Rattle.std.proofs.Common.{subst}
 use Rattle.std.specs.Prelude.{◌↔◌, IsTrue, IfOk}
 use Rattle.aero_access.specs.StateWords.{ClosesLast}
-use Rattle.aero_access.proofs.moves.take_last.Goals as goal
+use Rattle.aero_access.proofs.clock_rules.take_last.Goals as goal
 
 pub returns-in-Some-clause-closing : goal.returns-in-Some-clause-closing
 returns-in-Some-clause-closing c =

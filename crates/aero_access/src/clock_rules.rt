@@ -1,8 +1,9 @@
-//! What one event does to the threads and the table. Each function answers whether the event
-//! closes a cycle through the open block of its thread; then it leaves the blocks as they were.
+//! The clock rules: what one event does to the clocks of threads and of the table. Each function
+//! answers whether the event closes a telling cycle through the open block of its thread; then it
+//! leaves the blocks as they were. Of the index they touch the labels of slots that are kept anew.
 ghost use Rattle.std.specs.Prelude.{◌≡◌, ◌≢◌, ◌<◌, ◌≤◌, ◌+◌, ◌↔◌, ◌-◌, ◌^◌, ℕ, true, false, None, Some, length, slice_get, IsTrue, IfOk, OnOk, OnErr, is_some};
 ghost use Rattle.aero_clock.specs.Numbers.{number_at};
-ghost use Rattle.aero_model.specs.declared.event.What.TheVariants.{Read, Write, Acquire, Release, Fork, Join, Begin};
+ghost use Rattle.aero_model.specs.declared.numbered.What.TheVariants.{Read, Write, Acquire, Release, Fork, Join, Begin};
 ghost use Rattle.aero_access.specs.Kept.{is_kept, greatest_but, kept_clock};
 ghost use Rattle.aero_access.specs.Threads.{CountIsTest, HasSameBlock, TakesClock, ClosesOne, ClosesNone, IsClosedBy, thread_clock, thread_acted, thread_begin, thread_begins};
 ghost use Rattle.aero_access.specs.declared.kept.Kept.{Kept};
@@ -11,11 +12,10 @@ ghost use Rattle.aero_access.specs.TableWords.{kept_of, readers_of, labels_of, J
 ghost use Rattle.aero_access.specs.States.{State};
 ghost use Rattle.aero_access.specs.Heeds.{Heeds, AreHeeded};
 ghost use Rattle.aero_access.specs.Led.{led_at, MovesLabel};
-ghost use Rattle.aero_access.specs.Indexed.{TakesOnly, KeepsLabels, OpensBlock};
+ghost use Rattle.aero_access.specs.Indexed.{TakesOnly, KeepsLabels, OpensBlock, HasNoNews, KeepsItsClock};
 ghost use Rattle.aero_access.specs.StateWords.{event, clock_in, state_in, slot_in, JoinsClock, Moves, HaveSameBlocks, ClosesLast, last_but, KeepsClock};
 
 use crate::index::Index;
-use crate::kept::Kept;
 use crate::slot::Slot;
 use crate::table::Table;
 use crate::thread::Thread;
@@ -34,6 +34,7 @@ pub(crate) fn read(
     requires heeded { AreHeeded (state_in threads.old table.old) }
     ensures moves { IfOk result (Moves (state_in threads.old table.old) (state_in threads.new table.new) (event t (Read x))) }
     ensures takes { OnOk result (TakesOnly t threads.old threads.new) }
+    ensures still { HasNoNews threads.old table.old t (Slot.LastWrite x) → IfOk result (λ closes. closes ≡ false → KeepsItsClock threads.old threads.new t) }
     ensures labels { OnOk result (KeepsLabels table.old table.new index.old index.new) }
     ensures same { HaveSameBlocks threads.old threads.new }
     ensures heeded { AreHeeded (state_in threads.new table.new) }
@@ -84,6 +85,7 @@ pub(crate) fn acquire(
     requires heeded { AreHeeded (state_in threads.old table.now) }
     ensures moves { IfOk result (Moves (state_in threads.old table.now) (state_in threads.new table.now) (event t (Acquire l))) }
     ensures takes { OnOk result (TakesOnly t threads.old threads.new) }
+    ensures still { HasNoNews threads.old table.now t (Slot.LastRelease l) → IfOk result (λ closes. closes ≡ false → KeepsItsClock threads.old threads.new t) }
     ensures same { HaveSameBlocks threads.old threads.new }
     ensures heeded { AreHeeded (state_in threads.new table.now) }
 {
@@ -195,13 +197,13 @@ pub(crate) fn absorb(
     ensures thread { OnOk result (slot < length threads.old → TakesOnly slot threads.old threads.new × (table.new ≡ table.old)) }
     ensures label { OnOk result (length threads.old ≤ slot → (threads.new ≡ threads.old) × ((s : Slot) → slice_get (labels_of table.old) (slot - length threads.old) ≡ Some s → JoinsSlot table.old table.new s (thread_clock (slice_get threads.old t)))) }
 {
-    let clock = threads[t as usize].clock.copy()?;
     if slot < threads.len() {
+        let clock = threads[t as usize].clock.copy()?;
         let closes = threads[slot].take(slot as u32, &clock)?;
         return Ok(if closes { Some(slot as u32) } else { None });
     }
     let label = table.label(slot - threads.len());
-    table.join(label, &clock)?;
+    table.join(label, &threads[t as usize].clock)?;
     Ok(None)
 }
 
@@ -269,13 +271,5 @@ fn keep(
 {
     let place = table.place(slot)?;
     note(index, table, slot, place, &thread.clock)?;
-    let clock = thread.clock.copy()?;
-    table.set(
-        slot,
-        Kept {
-            thread: t,
-            clock,
-            label: place,
-        },
-    )
+    table.keep(slot, t, &thread.clock, place)
 }

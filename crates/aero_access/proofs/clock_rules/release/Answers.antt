@@ -3,7 +3,7 @@ use Rattle.std.proofs.lemmas.Option.{slice_get-get_or}
 use Rattle.aero_access.proofs.Outcomes.{OnOk_map}
 use Rattle.aero_access.proofs.Events.{release_moves}
 use Rattle.aero_access.proofs.Heeding.{heeded_kept}
-use Rattle.aero_access.proofs.moves.release.Goals as goal
+use Rattle.aero_access.proofs.clock_rules.release.Goals as goal
 
 pub returns-clause-moves : goal.returns-clause-moves
 returns-clause-moves c =

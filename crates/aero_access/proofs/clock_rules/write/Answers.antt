@@ -10,7 +10,7 @@ use Rattle.aero_access.proofs.WriteSteps.{write_closes, reader_closes, write_mov
 use Rattle.aero_access.specs.declared.slot.Slot.TheVariants.{LastWrite}
 use Rattle.aero_access.specs.StateWords.{state_in}
 use Rattle.aero_access.proofs.Heeding.{kept_test, reader_test, reader_heeds, test_still, taken_heeds, heeded_clock, heeded_taken, heeded_taken_kept}
-use Rattle.aero_access.proofs.moves.write.Goals as goal
+use Rattle.aero_access.proofs.clock_rules.write.Goals as goal
 
 pub returns-then-branch-clause-moves : goal.returns-then-branch-clause-moves
 returns-then-branch-clause-moves c =

@@ -7,7 +7,7 @@ use Rattle.aero_access.proofs.OtherSteps.{join_answer}
 use Rattle.aero_clock.specs.Numbers.{number_at}
 use Rattle.aero_access.specs.StateWords.{state_in}
 use Rattle.aero_access.proofs.Heeding.{heeds_same, slot_test, thread_heeds, heeded_clock}
-use Rattle.aero_access.proofs.moves.join.Goals as goal
+use Rattle.aero_access.proofs.clock_rules.join.Goals as goal
 
 pub returns-clause-moves : goal.returns-clause-moves
 returns-clause-moves c =

@@ -3,7 +3,7 @@ use Rattle.std.proofs.lemmas.Option.{slice_get-get_or}
 use Rattle.aero_clock.specs.Numbers.{number_at}
 use Rattle.aero_access.proofs.SlotNumbers.{unlabelled}
 use Rattle.aero_access.proofs.Heeding.{slot_test, thread_heeds, one_heeds, tested_thread, tested_kept}
-use Rattle.aero_access.proofs.moves.leads.Goals as goal
+use Rattle.aero_access.proofs.clock_rules.leads.Goals as goal
 
 pub is_closed_by-requires : goal.is_closed_by-requires
 is_closed_by-requires c =

@@ -6,7 +6,7 @@ use Rattle.aero_access.proofs.Outcomes.{OnErr_map}
 use Rattle.aero_access.proofs.OwnSteps.{same_blocks_set}
 use Rattle.aero_access.proofs.OtherSteps.{begin_answer}
 use Rattle.aero_access.proofs.Heeding.{thread_heeds, heeded_begin_answer}
-use Rattle.aero_access.proofs.moves.begin.Goals as goal
+use Rattle.aero_access.proofs.clock_rules.begin.Goals as goal
 
 pub returns-clause-moves : goal.returns-clause-moves
 returns-clause-moves c =

@@ -6,7 +6,7 @@ use Rattle.aero_access.proofs.OtherSteps.{fork_moves}
 use Rattle.aero_clock.specs.Numbers.{number_at}
 use Rattle.aero_access.specs.StateWords.{state_in}
 use Rattle.aero_access.proofs.Heeding.{heeds_same, thread_heeds, heeded_clock}
-use Rattle.aero_access.proofs.moves.fork.Goals as goal
+use Rattle.aero_access.proofs.clock_rules.fork.Goals as goal
 
 pub returns-clause-moves : goal.returns-clause-moves
 returns-clause-moves c =
