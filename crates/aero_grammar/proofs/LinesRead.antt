@@ -1,5 +1,5 @@
 -- The reading of a text, a line at a time.
-use Rattle.std.proofs.Common.{◌≡◌, ◌<◌, ◌+◌, ◌==◌, ℕ, zero, suc, true, false, List, [], ◌∷◌, ◌++◌, length, take, drop, get_or, map, Some, None, Err, refl, sym, ◌∙◌, ap, arith}
+use Rattle.std.proofs.Common.{◌≡◌, ◌<◌, ◌+◌, ◌==◌, ℕ, zero, suc, true, false, List, [], ◌∷◌, ◌++◌, length, take, drop, get_or, map, Some, None, Result, Ok, Err, OnErr, refl, sym, ◌∙◌, ap, arith, length-append}
 use Rattle.std.specs.List.{slice_split}
 use Rattle.std.proofs.lemmas.List.{append-nil}
 use Rattle.std.proofs.lemmas.List.Splits.{length-slice_split}
@@ -10,7 +10,7 @@ use Rattle.aero_model.specs.declared.verdict.LineFault.TheVariants.{Memory}
 use Rattle.aero_model.specs.Lines.{is_line_end, without_empty_last, lines_of}
 use Rattle.aero_model.specs.Named.{Named}
 use Rattle.aero_grammar.specs.Meaning.{Meaning, Blank, Means, Faulty, TellsMeaning, meaning}
-use Rattle.aero_grammar.specs.Reading.{Reading, followed_by, whole_reading, line_reading, reading_of}
+use Rattle.aero_grammar.specs.Reading.{Reading, after_lines, followed_by, whole_reading, line_reading, reading_of}
 use Rattle.aero_grammar.proofs.Joined.{reading, followed_by_assoc, followed_by_nothing}
 
 -- no byte before the place n is 10
@@ -82,6 +82,22 @@ module _ (events : List (ℕ × Named)) (n : ℕ) (line : List ℕ) where
 
   pub after_fault : (f : LineFault) → meaning line ≡ Faulty f → followed_by (reading events n None) (line_reading (meaning line)) ≡ reading events (n + 1) (Some (n + 1, f))
   after_fault f is = ap (λ m. followed_by (reading events n None) (line_reading m)) is ∙ ap (λ es. reading es (n + 1) (Some (n + 1, f))) (append-nil events)
+
+on_err : {T E P : Type 0} (r : Result T E) → P → OnErr r P
+on_err (Ok x) p = tt
+on_err (Err e) p = p
+
+-- the text has an event where one of its lines does
+pub has_event : (events : List (ℕ × Named)) (n : ℕ) (whole : Reading) (rest line behind : List ℕ) (e : Named) → whole ≡ followed_by (reading events n None) (reading_of rest) → lines_of rest ≡ line ∷ lines_of behind → meaning line ≡ Means e →
+    {T E : Type 0} (r : Result T E) → OnErr r (0 < length whole.events)
+has_event events n whole rest line behind e is split means r =
+    let more = map (after_lines (n + 1)) (reading_of behind).events in
+    let whole_is : length whole.events ≡ length ((events ++ (n + 1, e) ∷ []) ++ more) =
+    ap (λ (r : Reading). length r.events) (one_more_line events n whole rest line behind is split ∙ ap (λ r. followed_by r (reading_of behind)) (after_event events n line e means)) in
+    let with_rest = length-append (events ++ (n + 1, e) ∷ []) more in
+    let with_event = length-append events ((n + 1, e) ∷ []) in
+    let some : 0 < length whole.events = omega arith in
+    on_err r some
 
 -- a fault that isn't about memory is the line's own
 pub tells_fault : (f : LineFault) (m : Meaning) → TellsMeaning (Err f) m → (f ≡ Memory → ⊥) → m ≡ Faulty f

@@ -3,7 +3,7 @@ use Rattle.std.proofs.Common.{◌||◌, ◌&&◌, ◌==◌, ℕ, Bool, true, fal
 use Rattle.std.specs.Prelude.{⊤, IsTrue}
 use Rattle.std.specs.List.{list_any, list_all}
 use Rattle.std.specs.Str.Lines.{strip_carriage_return}
-use Rattle.aero_model.specs.declared.named.Op.{Op}
+use Rattle.aero_model.specs.declared.event.Op.{Op}
 use Rattle.aero_model.specs.declared.verdict.LineFault.TheVariants.{TooLong, BadByte, NoOperation, EmptyThread, BadParenthesis, MissingTarget, NameTooLong}
 use Rattle.aero_model.specs.Lines.{is_too_long}
 use Rattle.aero_model.specs.Names.{is_bad_byte}

@@ -1,22 +1,23 @@
 -- The tables of a list of events, with one event more.
-use Rattle.std.proofs.Common.{◌≡◌, ℕ, true, List, [], ◌∷◌, ◌++◌, map, Option, Some, None, refl, sym, ◌∙◌, ap, ap₂, subst}
+use Rattle.std.proofs.Common.{◌≡◌, ℕ, ◌+◌, ◌≤◌, true, List, [], ◌∷◌, ◌++◌, map, Option, Some, None, refl, sym, ◌∙◌, ap, ap₂, subst, arith}
 use Rattle.std.specs.Prelude.{⊤, All, IfSome, bytes_eq, unwrap_or, fold}
 use Rattle.std.specs.List.{list_any}
 use Rattle.std.proofs.lemmas.Bool.{cond_both}
 use Rattle.std.proofs.lemmas.List.{append_assoc, append-nil, map-append}
 use Rattle.std.proofs.lemmas.List.Elements.{All-nil, All-push}
-use Rattle.aero_model.specs.declared.event.Numbered.{Numbered}
-use Rattle.aero_model.specs.declared.event.What.{What}
-use Rattle.aero_model.specs.declared.event.What.TheVariants.{Read, Write, Acquire, Release, Fork, Join, Begin, End}
-use Rattle.aero_model.specs.declared.named.Op.{Op}
-use Rattle.aero_model.specs.declared.named.Op.TheVariants as op
+use Rattle.aero_model.specs.declared.numbered.Numbered.{Numbered}
+use Rattle.aero_model.specs.declared.numbered.What.{What}
+use Rattle.aero_model.specs.declared.numbered.What.TheVariants.{Read, Write, Acquire, Release, Fork, Join, Begin, End}
+use Rattle.aero_model.specs.declared.event.Op.{Op}
+use Rattle.aero_model.specs.declared.event.Op.TheVariants as op
 use Rattle.aero_model.specs.Named.{Named, HasItsTarget}
 use Rattle.aero_model.specs.Numbering.{with_name, number_of, thread_target, Tables, tables_of, what_of, numbered}
 use Rattle.aero_names.specs.Numbers.{with_actor, with_target, with_event, what_after, numbered_after}
 use Rattle.aero_names.proofs.Fronts.{Extends, tables_pushed, tables_extended, numbered_kept}
 use Rattle.aero_names.proofs.Listings.{number_of-place}
 use Rattle.aero_names.proofs.NewNames.{has_name, still_has_name, still_passes, number_stays}
-use Rattle.aero_grammar.specs.Lists.{numbered_in_turn}
+use Rattle.aero_grammar.specs.Lists.{numbered_in_turn, HasRoom, HasGrown}
+use Rattle.aero_grammar.specs.declared.tables.Tables.{Tables as Kept}
 use Rattle.aero_grammar.specs.Tabled.{name_at, op_of, target_in, named_in, lines_in, numbered_line, IsTabled, AreNames}
 use Rattle.aero_grammar.specs.Words.{IsName, IsEvent}
 
@@ -186,3 +187,16 @@ numbered_by_turns tables e = λ i. record {
   thread = sym (number_stays (with_name tables.threads e.thread) (thread_target e.op e.target) e.thread (has_name tables.threads e.thread)) i;
   what = what_after (with_actor tables e) e.op e.target;
 }
+
+-- the room for more names
+pub room_within : (t : Kept) (more fewer : ℕ) → fewer ≤ more → HasRoom t more → HasRoom t fewer
+room_within t more fewer le room =
+    record { threads = omega (arith, le, room.threads); variables = omega (arith, le, room.variables); locks = omega (arith, le, room.locks) }
+
+pub room_left : (old new : Kept) (more fewer most : ℕ) → fewer + most ≤ more → HasRoom old more → HasGrown old new most → HasRoom new fewer
+room_left old new more fewer most le room grown =
+    record {
+      threads = omega (arith, le, room.threads, grown.threads, grown.threads_limit);
+      variables = omega (arith, le, room.variables, grown.variables, grown.variables_limit);
+      locks = omega (arith, le, room.locks, grown.locks, grown.locks_limit);
+    }

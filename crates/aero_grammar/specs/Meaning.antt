@@ -2,8 +2,8 @@
 use Rattle.std.specs.Prelude.{◌≡◌, ℕ, ◌-◌, ◌==◌, nat_lt, Bool, not, ◌&&◌, ◌||◌, if◌then◌else◌, List, length, take, drop, slice_index, bytes_eq, codes, Option, Some, None, Result, Ok, Err, ◌<◌, ◌⊎◌}
 use Rattle.std.specs.List.{list_any, list_all, prefix_len, suffix_len, before_first, after_first}
 use Rattle.std.specs.Str.Lines.{strip_carriage_return}
-use Rattle.aero_model.specs.declared.named.Op.{Op}
-use Rattle.aero_model.specs.declared.named.Op.TheVariants.{Read, Write, Acquire, Release, Fork, Join, Begin, End}
+use Rattle.aero_model.specs.declared.event.Op.{Op}
+use Rattle.aero_model.specs.declared.event.Op.TheVariants.{Read, Write, Acquire, Release, Fork, Join, Begin, End}
 use Rattle.aero_model.specs.declared.verdict.LineFault.{LineFault}
 use Rattle.aero_model.specs.declared.verdict.LineFault.TheVariants.{TooLong, BadByte, NoOperation, EmptyThread, UnknownOperation, BadParenthesis, MissingTarget, NameTooLong, Memory}
 use Rattle.aero_model.specs.Lines.{is_too_long}
@@ -112,6 +112,6 @@ TellsMeaning (Err Memory) m = (e : Named) × (m ≡ Means e) × NeedsMemory e
 TellsMeaning (Err f) m = m ≡ Faulty f
 
 -- the answer for a line that has an event or a fault
-abbrev pub TellsEvent : Result Named LineFault → Meaning → Type 0
-TellsEvent (Ok e) m = TellsMeaning (Ok (Some e)) m
-TellsEvent (Err f) m = TellsMeaning (Err f) m
+abbrev pub TellsLineEvent : Result Named LineFault → Meaning → Type 0
+TellsLineEvent (Ok e) m = TellsMeaning (Ok (Some e)) m
+TellsLineEvent (Err f) m = TellsMeaning (Err f) m

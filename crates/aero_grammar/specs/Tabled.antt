@@ -1,10 +1,10 @@
 -- A block's tables of names, and its events by their places in them.
 use Rattle.std.specs.Prelude.{◌≡◌, ℕ, List, [], map, slice_get, All, Option, Some, None, unwrap_or}
-use Rattle.aero_model.specs.declared.event.Numbered.{Numbered}
-use Rattle.aero_model.specs.declared.event.What.{What}
-use Rattle.aero_model.specs.declared.event.What.TheVariants.{Read, Write, Acquire, Release, Fork, Join, Begin, End}
-use Rattle.aero_model.specs.declared.named.Op.{Op}
-use Rattle.aero_model.specs.declared.named.Op.TheVariants as op
+use Rattle.aero_model.specs.declared.numbered.Numbered.{Numbered}
+use Rattle.aero_model.specs.declared.numbered.What.{What}
+use Rattle.aero_model.specs.declared.numbered.What.TheVariants.{Read, Write, Acquire, Release, Fork, Join, Begin, End}
+use Rattle.aero_model.specs.declared.event.Op.{Op}
+use Rattle.aero_model.specs.declared.event.Op.TheVariants as op
 use Rattle.aero_model.specs.declared.verdict.LineFault.{LineFault}
 use Rattle.aero_model.specs.Named.{Named}
 use Rattle.aero_model.specs.Numbering.{Tables, tables_of, numbered}

@@ -1,4 +1,5 @@
-ghost use Rattle.std.specs.Prelude.{◌≡◌, ◌<◌, ◌≤◌, ◌^◌, ◌∷◌, length, IfOk};
+//! What a block of lines says.
+ghost use Rattle.std.specs.Prelude.{◌≡◌, ◌<◌, ◌≤◌, ◌^◌, ◌∷◌, length, IfOk, OnErr};
 ghost use Rattle.aero_model.specs.Lines.{lines_of};
 ghost use Rattle.aero_grammar.specs.Lists.{lists_in};
 ghost use Rattle.aero_grammar.specs.Reading.{reading_of};
@@ -7,7 +8,7 @@ ghost use Rattle.aero_grammar.specs.Tabled.{lines_in, IsBlock};
 use crate::line::words_of;
 use crate::parsed::Parsed;
 use crate::tables::Tables;
-use aero_model::event::Numbered;
+use aero_model::numbered::Numbered;
 use aero_model::verdict::LineFault;
 use memchr::memchr;
 use std::alloc::{AllocError, Global};
@@ -16,11 +17,13 @@ use std::alloc::{AllocError, Global};
 /// block's end, and no line follows a byte 10 at the end. The block has at most 2^30 bytes, and
 /// the lines are no more than its bytes.
 ///
-/// An `AllocError` says that memory was refused, to the list of events or to a name.
+/// An `AllocError` says that memory was refused, to the list of events or to a name. So the block
+/// has an event: one without, or with none before its first fault, takes no memory.
 pub fn parse_block(alloc: Global, bytes: &[u8]) -> Result<Parsed, AllocError>
     requires { length bytes.now ≤ 2 ^ 30 }
     ensures reading { IfOk result (λ parsed. parsed ≡ reading_of bytes.now) }
     ensures lines { IfOk result (λ parsed. parsed.lines ≤ length bytes.now) }
+    ensures refused { OnErr result (0 < length (reading_of bytes.now).events) }
 {
     let mut tables = Tables::new(alloc);
     let mut events = Vec::new(alloc);

@@ -1,14 +1,14 @@
+//! What one line says.
 ghost use Rattle.aero_grammar.specs.Meaning.{TellsMeaning, meaning};
 ghost use Rattle.aero_grammar.specs.Words.{ReadsMeaning};
 
 use crate::bytes::{fields, has_bad_byte, is_all_blank, without_return};
 use crate::operation::parse_operation;
 use crate::words::{Words, event_of};
-use aero_model::named::Event;
+use aero_model::bytes::MOST_LINE_BYTES;
+use aero_model::event::Event;
 use aero_model::verdict::LineFault;
 use std::alloc::Global;
-
-const MOST_LINE_BYTES: usize = 4096;
 
 /// The event of one line, which comes without the byte 10 that ends it, or `None` for a blank
 /// line. One byte 13 at the end is dropped, and the line's length is counted before that.

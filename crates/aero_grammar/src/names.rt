@@ -3,10 +3,8 @@ ghost use Rattle.std.specs.Prelude.{◌≡◌, ◌<◌, length, None, IfOk, OnEr
 ghost use Rattle.aero_model.specs.Names.{name_fault, most_inline_bytes};
 ghost use Rattle.aero_grammar.specs.Meaning.{is_long_name as is_long};
 
-use aero_model::name::Name;
+use aero_model::name::{MOST_NAME_BYTES, Name, NameFault};
 use std::alloc::{AllocError, Global};
-
-const MOST_NAME_BYTES: usize = 255;
 
 #[inline(always)]
 pub fn is_long_name(name: &[u8]) -> bool
@@ -24,6 +22,9 @@ pub fn read_name(alloc: Global, bytes: &[u8]) -> Result<Name, AllocError>
 {
     match Name::read(alloc, bytes) {
         Ok(name) => Ok(name),
-        Err(_) => Err(AllocError),
+        Err(NameFault::Memory) => Err(AllocError),
+        Err(NameFault::Empty) => unreachable!(),
+        Err(NameFault::TooLong) => unreachable!(),
+        Err(NameFault::BadByte) => unreachable!(),
     }
 }

@@ -1,4 +1,5 @@
-use aero_model::event::Numbered;
+//! What was read of a block: its tables of names, its events, and its first fault.
+use aero_model::numbered::Numbered;
 use aero_model::verdict::LineFault;
 use aero_names::names::Names;
 use std::marker::Model;

@@ -1,13 +1,13 @@
 // The names of a block's events, each numbered in order of first appearance.
-ghost use Rattle.std.specs.Prelude.{◌≡◌, ℕ, List, true, IfOk, OnOk};
+ghost use Rattle.std.specs.Prelude.{◌≡◌, ◌+◌, ◌<◌, ◌≤◌, ℕ, List, length, true, IfOk, OnOk};
 ghost use Rattle.aero_model.specs.Named.{stands_alone};
 ghost use Rattle.aero_model.specs.Numbering.{Tables as Lists, with_name, what_of};
 ghost use Rattle.aero_names.specs.Numbers.{number_after};
 
 use crate::words::Words;
-use aero_model::event::{Numbered, What};
-use aero_model::named::Op;
-use aero_names::names::Names;
+use aero_model::event::Op;
+use aero_model::numbered::{Numbered, What};
+use aero_names::names::{Names, NamesFault};
 use std::alloc::{AllocError, Global};
 
 #[derive(Drop)]
@@ -22,11 +22,12 @@ impl Tables {
     ghost use Rattle.aero_model.specs.Named.{stands_alone};
     ghost use Rattle.aero_names.specs.Numbers.{with_event, with_target, what_after};
     ghost use Rattle.aero_grammar.specs.Words.{named_of, IsEvent};
-    ghost use Rattle.aero_grammar.specs.Lists.{lists_in, numbered_in_turn};
+    ghost use Rattle.aero_grammar.specs.Lists.{lists_in, numbered_in_turn, HasRoom, HasGrown};
 
     // No names yet.
     pub fn new(alloc: Global) -> Tables
-        ensures { lists_in result ≡ record { threads = []; variables = []; locks = [] } }
+        ensures none { lists_in result ≡ record { threads = []; variables = []; locks = [] } }
+        ensures room { HasRoom result u32.MAX }
     {
         Tables {
             threads: Names::new(alloc, u32::MAX),
@@ -38,9 +39,11 @@ impl Tables {
     // The event by its numbers, of which new names get the next. The actor comes before the target.
     #[inline(always)]
     pub fn number(&mut self, words: Words<'_>) -> Result<Numbered, AllocError>
-        requires { IsEvent (named_of words) }
+        requires event { IsEvent (named_of words) }
+        requires room { HasRoom self.old 2 }
         ensures numbered { IfOk result (λ numbered. numbered ≡ numbered_in_turn (lists_in self.old) (named_of words.entry)) }
         ensures names { OnOk result (lists_in self.new ≡ with_event (lists_in self.old) (named_of words.entry)) }
+        ensures grown { OnOk result (HasGrown self.old self.new 2) }
     {
         let thread = number_in(&mut self.threads, words.thread)?;
         let what = self.number_target(words.op, words.target)?;
@@ -50,9 +53,11 @@ impl Tables {
     // What an event with this operation does, by the number of its target, if it has one.
     #[inline(always)]
     fn number_target(&mut self, op: Op, target: Option<&[u8]>) -> Result<What, AllocError>
-        requires { is_none target ≡ true → stands_alone op ≡ true }
+        requires alone { is_none target ≡ true → stands_alone op ≡ true }
+        requires room { HasRoom self.old 1 }
         ensures what { IfOk result (λ what. what ≡ what_after (lists_in self.old) op (option_copied target.entry)) }
         ensures names { OnOk result (lists_in self.new ≡ with_target (lists_in self.old) op (option_copied target.entry)) }
+        ensures grown { OnOk result (HasGrown self.old self.new 1) }
     {
         match target {
             Some(target) => self.number_name(op, target),
@@ -63,8 +68,10 @@ impl Tables {
     // The same by the target's name.
     #[inline(always)]
     fn number_name(&mut self, op: Op, target: &[u8]) -> Result<What, AllocError>
+        requires { HasRoom self.old 1 }
         ensures what { IfOk result (λ what. what ≡ what_after (lists_in self.old) op (Some target.now)) }
         ensures names { OnOk result (lists_in self.new ≡ with_target (lists_in self.old) op (Some target.now)) }
+        ensures grown { OnOk result (HasGrown self.old self.new 1) }
     {
         match op {
             Op::Read => Ok(What::Read(number_in(&mut self.variables, target)?)),
@@ -92,14 +99,18 @@ fn what_alone(op: Op) -> What
     }
 }
 
-// The number of the name in the list. A block is too short for more names than there are numbers.
+// The number of the name in the list, which a block is too short to fill.
 #[inline(always)]
 fn number_in(names: &mut Names, name: &[u8]) -> Result<u32, AllocError>
+    requires { length names.old.names < names.old.limit }
     ensures number { IfOk result (λ number. number ≡ number_after names.old.names name.now) }
     ensures names { OnOk result (names.new.names ≡ with_name names.old.names name.now) }
+    ensures grown { OnOk result (length names.new.names ≤ length names.old.names + 1) }
+    ensures limit { OnOk result (names.new.limit ≡ names.old.limit) }
 {
     match names.number_of_bytes(name) {
         Ok(number) => Ok(number),
-        Err(_) => Err(AllocError),
+        Err(NamesFault::Memory) => Err(AllocError),
+        Err(NamesFault::Full) => unreachable!(),
     }
 }

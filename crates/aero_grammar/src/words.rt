@@ -1,10 +1,10 @@
 // An event by the words of its line.
 ghost use Rattle.std.specs.Prelude.{◌≡◌, Some};
-ghost use Rattle.aero_grammar.specs.Meaning.{TellsEvent, Means};
+ghost use Rattle.aero_grammar.specs.Meaning.{TellsLineEvent, Means};
 ghost use Rattle.aero_grammar.specs.Words.{named_of, IsEvent};
 
 use crate::names::read_name;
-use aero_model::named::{Event, Op};
+use aero_model::event::{Event, Op};
 use aero_model::verdict::LineFault;
 use std::alloc::Global;
 
@@ -20,7 +20,7 @@ pub struct Words<'a> {
 #[inline(always)]
 pub fn event_of(alloc: Global, words: Words<'_>) -> Result<Event, LineFault>
     requires { IsEvent (named_of words) }
-    ensures { TellsEvent result (Means (named_of words.entry)) }
+    ensures { TellsLineEvent result (Means (named_of words.entry)) }
 {
     let Ok(thread) = read_name(alloc, words.thread) else {
         return Err(LineFault::Memory);

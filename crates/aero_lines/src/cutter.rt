@@ -1,3 +1,4 @@
+//! The cutter, which is fed pieces and gives blocks of whole lines.
 use crate::scan::bytes_to_too_long;
 use memchr::memrchr;
 use std::alloc::{AllocError, Global};
@@ -57,7 +58,7 @@ impl Model for Cutter {
 }
 
 impl Cutter {
-    ghost use Rattle.std.specs.Prelude.{◌≡◌, ◌≤◌, ◌+◌, ◌++◌, [], true, length, IfOk, OnOk, OnErr, IfSome, IsOk, IsTrue, Ok, Some};
+    ghost use Rattle.std.specs.Prelude.{◌≡◌, ◌<◌, ◌≤◌, ◌+◌, ◌++◌, [], true, length, IfOk, OnOk, OnErr, IfSome, IsOk, IsTrue, Ok, Some};
     ghost use Rattle.aero_model.specs.Lines.{most_line_bytes};
     ghost use Rattle.aero_lines.specs.Cutting.{IsOpenLine, nothing_yet, fed, block_of, last_block};
 
@@ -83,13 +84,15 @@ impl Cutter {
     /// # Errors
     ///
     /// `AllocError` where memory runs out. The cutter is then as it was before the call, and the
-    /// same piece may be fed again. A cutter that is shut takes no memory.
+    /// same piece may be fed again. An empty piece takes no memory, nor does any to a cutter that is
+    /// shut.
     pub fn feed(&mut self, piece: &[u8]) -> Result<Option<Block>, AllocError>
         ensures block { IfOk result (λ block. block ≡ block_of self.old piece.now) }
         ensures few { IfOk result (λ block. IfSome block (λ bytes. length bytes ≤ most_line_bytes + length piece.now)) }
         ensures after { OnOk result (self.new ≡ fed self.old piece.now) }
         ensures refused { OnErr result (self.new ≡ self.old) }
         ensures shut { IsTrue self.old.shut → IsOk result }
+        ensures empty { OnErr result (0 < length piece.now) }
     {
         if self.shut {
             return Ok(None);
@@ -131,6 +134,7 @@ impl Cutter {
         requires { IsOpenLine (self.old.rest ++ piece.now) }
         ensures after { OnOk result (self.new ≡ record self.old { rest = self.old.rest ++ piece.now }) }
         ensures refused { OnErr result (self.new ≡ self.old) }
+        ensures some { OnErr result (0 < length piece.now) }
     {
         self.rest.extend_from_slice(piece)
     }
@@ -154,6 +158,7 @@ impl Cutter {
         ensures block { IfOk result (λ block. block ≡ Some (self.old.rest ++ front.now)) }
         ensures after { OnOk result (self.new ≡ record { rest = []; shut = true }) }
         ensures refused { OnErr result (self.new ≡ self.old) }
+        ensures some { OnErr result (0 < length front.now) }
     {
         self.rest.extend_from_slice(front)?;
         let bytes = mem::replace(&mut self.rest, Vec::new(self.alloc));

@@ -1,3 +1,4 @@
+//! That the blocks joined are the text.
 ghost use Rattle.aero_lines.specs.Laws.{BlocksAreTheText};
 
 /// However a text was cut into pieces, the blocks joined are the text, or its front up to the first

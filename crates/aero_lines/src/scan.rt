@@ -1,11 +1,10 @@
+//! Where a text that goes on with a piece has a line that is too long.
 ghost use Rattle.std.specs.Prelude.{◌≡◌, ◌++◌, ◌≤◌, false, true, take, length, MatchOption};
 ghost use Rattle.aero_model.specs.Lines.{cap};
 ghost use Rattle.aero_lines.specs.Cutting.{has_too_long, IsOpenLine};
 
+use aero_model::bytes::MOST_LINE_BYTES;
 use memchr::memrchr;
-
-// How many bytes a line has at most, its byte 10 not counted.
-const MOST_LINE_BYTES: usize = 4096;
 
 // Of the text `line` and then `piece`: how many bytes of the piece show that a line is too long,
 // or None where none is. It looks for the last line end among the bytes that a line may still

@@ -1,6 +1,7 @@
+pub mod BlockCounts
 pub mod Blocks
+pub mod CallCounts
 pub mod Cycle
-pub mod Counts
 pub mod Graph
 pub mod Laws
 pub mod LimitNumbers
@@ -10,4 +11,3 @@ pub mod Names
 pub mod Numbering
 pub mod Serial
 pub mod Shape
-pub mod Tally

@@ -18,7 +18,7 @@ pub struct Counting<T> {
 
 impl<T> Counting<T> {
     ghost use Rattle.std.specs.Prelude.{◌≡◌};
-    ghost use Rattle.aero_model.specs.Counts.{inner_of, faults_of, ends_of};
+    ghost use Rattle.aero_model.specs.CallCounts.{inner_of, faults_of, ends_of};
 
     /// Both numbers are 0.
     pub fn new(inner: T) -> Counting<T>
@@ -46,7 +46,7 @@ impl<R: Read> Read for Counting<R> {
     ghost use Rattle.std.specs.Prelude.{◌≡◌, ◌+◌, ◌||◌, if◌then◌else◌, is_err};
     ghost use Rattle.std.specs.Io.{ReadsAtMost};
     ghost use Rattle.std.specs.Io.KnownBytes.{ReadConsumes};
-    ghost use Rattle.aero_model.specs.Counts.{inner_of, faults_of, ends_of, moves_nothing};
+    ghost use Rattle.aero_model.specs.CallCounts.{inner_of, faults_of, ends_of, moves_nothing};
 
     ghost remaining = { λ c. R.remaining (inner_of c) };
 
@@ -74,7 +74,7 @@ impl<W: Write> Write for Counting<W> {
     ghost use Rattle.std.specs.Prelude.{◌≡◌, ◌+◌, ◌||◌, if◌then◌else◌, is_err};
     ghost use Rattle.std.specs.Io.{WritesAtMost};
     ghost use Rattle.std.specs.Io.KnownBytes.{WriteAppends, Keeps};
-    ghost use Rattle.aero_model.specs.Counts.{inner_of, faults_of, ends_of, moves_nothing};
+    ghost use Rattle.aero_model.specs.CallCounts.{inner_of, faults_of, ends_of, moves_nothing};
 
     ghost contents = { λ c. W.contents (inner_of c) };
 

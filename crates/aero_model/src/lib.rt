@@ -18,5 +18,5 @@ mod ghost_count;
 pub mod laws;
 pub mod limits;
 pub mod name;
-pub mod named;
+pub mod numbered;
 pub mod verdict;

@@ -1,3 +1,4 @@
+//! The limits under which a trace is judged.
 ghost use Rattle.std.specs.Prelude.{◌≡◌, ◌<◌, ◌≤◌, ◌^◌, ◌↔◌, IsSome, IfSome};
 ghost use Rattle.aero_model.specs.LimitNumbers.{AreLimits};
 

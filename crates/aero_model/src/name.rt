@@ -1,3 +1,4 @@
+//! Names of threads, variables and locks.
 ghost use Rattle.std.specs.Prelude.{◌≡◌};
 ghost use Rattle.std.specs.List.{list_any};
 ghost use Rattle.aero_model.specs.Names.{is_barred as is_barred_byte};
@@ -39,7 +40,8 @@ impl Model for Name {
     ghost invariant = { λ name. name_fault name.bytes.items ≡ None };
 }
 
-const MOST_NAME_BYTES: usize = 255;
+/// How many bytes a name has at most.
+pub const MOST_NAME_BYTES: usize = 255;
 
 impl Name {
     ghost use Rattle.std.specs.Prelude.{◌≡◌};

@@ -1,3 +1,4 @@
+//! Faults, verdicts and findings.
 use crate::name::Name;
 use thiserror::Error;
 

@@ -5,9 +5,9 @@ use Rattle.std.specs.List.{list_any}
 use Rattle.std.proofs.lemmas.List.{append-nil}
 use Rattle.std.proofs.lemmas.List.Sums.{fold-append}
 use Rattle.std.proofs.lemmas.Grind.{flat_map-append}
-use Rattle.aero_model.specs.declared.event.What.TheVariants.{Read, Write, Acquire, Release, Fork, Join}
-use Rattle.aero_model.specs.declared.named.Op.{Op}
-use Rattle.aero_model.specs.declared.named.Op.TheVariants as op
+use Rattle.aero_model.specs.declared.numbered.What.TheVariants.{Read, Write, Acquire, Release, Fork, Join}
+use Rattle.aero_model.specs.declared.event.Op.{Op}
+use Rattle.aero_model.specs.declared.event.Op.TheVariants as op
 use Rattle.aero_model.specs.Named.{Named, HasItsTarget}
 use Rattle.aero_model.specs.Numbering.{with_name, different_names, number_of, thread_target, threads_named, variables_named, locks_named, Tables, tables_of, what_of, numbered}
 use Rattle.aero_names.specs.Numbers.{with_target, with_event, what_after, numbered_after}

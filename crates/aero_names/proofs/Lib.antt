@@ -3,3 +3,4 @@ pub mod Listings
 pub mod NewNames
 pub mod SameNames
 pub mod Vectors
+pub mod LimitRule

@@ -1,8 +1,8 @@
 -- What one more name or event adds to the names that are numbered.
 use Rattle.std.specs.Prelude.{ℕ, List, [], fold, Option, unwrap_or}
-use Rattle.aero_model.specs.declared.event.Numbered.{Numbered}
-use Rattle.aero_model.specs.declared.event.What.{What}
-use Rattle.aero_model.specs.declared.named.Op.{Op}
+use Rattle.aero_model.specs.declared.numbered.Numbered.{Numbered}
+use Rattle.aero_model.specs.declared.numbered.What.{What}
+use Rattle.aero_model.specs.declared.event.Op.{Op}
 use Rattle.aero_model.specs.Named.{Named}
 use Rattle.aero_model.specs.Numbering.{with_name, number_of, thread_target, variable_target, lock_target, Tables, what_of, numbered}
 

@@ -13,4 +13,5 @@
 //! ```
 #![tactic(auto)]
 
+pub mod laws;
 pub mod names;

@@ -1,3 +1,4 @@
+//! A list of different names, numbered in order of first appearance.
 ghost use Rattle.std.specs.Prelude.{◌≡◌, ◌↔◌, IsTrue, option_copied, OnOk, OnErr};
 ghost use Rattle.aero_model.specs.Numbering.{with_name};
 ghost use Rattle.aero_names.specs.Listing.{bytes_of};

@@ -1,14 +1,14 @@
 -- What an event changes in the tables, field by field.
-use Rattle.std.proofs.Common.{◌≡◌, ℕ, ◌+◌, ◌-◌, ◌≤◌, ◌==◌, ◌&&◌, ◌||◌, Bool, true, false, if◌then◌else◌, List, Some, refl, sym, ◌∙◌, ap, arith}
+use Rattle.std.proofs.Common.{◌≡◌, ℕ, ◌+◌, ◌-◌, ◌≤◌, ◌==◌, ◌&&◌, ◌||◌, Bool, true, false, if◌then◌else◌, List, length, Some, refl, sym, ◌∙◌, ap, arith}
 use Rattle.std.proofs.lemmas.Bool.{or_right, cond-false}
-use Rattle.aero_model.specs.declared.event.Numbered.{Numbered}
-use Rattle.aero_model.specs.declared.event.What.{What}
-use Rattle.aero_model.specs.declared.event.What.TheVariants.{Acquire, Release, Fork, Join, Begin, End}
+use Rattle.aero_model.specs.declared.numbered.Numbered.{Numbered}
+use Rattle.aero_model.specs.declared.numbered.What.{What}
+use Rattle.aero_model.specs.declared.numbered.What.TheVariants.{Acquire, Release, Fork, Join, Begin, End}
 use Rattle.aero_model.specs.Blocks.{is_begin, is_end, by_thread}
 use Rattle.aero_model.specs.Shape.{is_acquire_of, is_release_of, is_fork_of, is_join_of}
 use Rattle.aero_shape.specs.declared.states.ThreadState.{ThreadState}
 use Rattle.aero_shape.specs.declared.states.LockState.{LockState}
-use Rattle.aero_shape.specs.States.{Tables, AreBounded, thread_at, lock_at, acting, affected, thread_after, lock_after}
+use Rattle.aero_shape.specs.States.{Tables, AreBounded, HasLockPlace, thread_at, lock_at, acting, affected, thread_after, lock_after}
 use Rattle.aero_shape.proofs.Pushed.{or_false}
 
 -- the tables after an event
@@ -16,6 +16,8 @@ pub record IsAfter (old new : Tables) (e : Numbered) : Type 0 where
   pub threads : (t : ℕ) → thread_at new.threads t ≡ thread_after t e (thread_at old.threads t)
   pub locks : (l : ℕ) → lock_at new.locks l ≡ lock_after l e.thread e.what (lock_at old.locks l)
   pub admitted : new.admitted ≡ old.admitted + 1
+  pub locks_grow : length old.locks ≤ length new.locks
+  pub lock_place : HasLockPlace new.locks e.what
 
 same_if : {X : Type 0} (field : ThreadState → X) (b : Bool) (x y : ThreadState) → field x ≡ field y → field (if b then x else y) ≡ field y
 same_if field true x y e = e
@@ -128,6 +130,11 @@ bounded_after old new e a bounded = record { depths = depths; counts = counts }
         let one = a.admitted in
         omega arith
 
+place_stays : (xs ys : List LockState) (w : What) → length xs ≡ length ys → HasLockPlace xs w → HasLockPlace ys w
+place_stays xs ys (Acquire l) same place = omega arith
+place_stays xs ys (Release l) same place = omega arith
+place_stays xs ys _ same place = tt
+
 -- the tables after an event, from what was said beyond their ends and what was noted
 pub noted :
     (old : Tables) (e : Numbered) (threads threads' : List ThreadState) (locks locks' : List LockState)
@@ -135,10 +142,15 @@ pub noted :
     → ((l : ℕ) → lock_at locks l ≡ lock_at old.locks l)
     → ((t : ℕ) → thread_at threads' t ≡ thread_after t e (thread_at threads t))
     → ((l : ℕ) → lock_at locks' l ≡ lock_after l e.thread e.what (lock_at locks l))
+    → length old.locks ≤ length locks
+    → HasLockPlace locks e.what
+    → length locks' ≡ length locks
     → IsAfter old (record { threads = threads'; locks = locks'; admitted = old.admitted + 1 }) e
-noted old e threads threads' locks locks' same_threads same_locks threads_noted locks_noted =
+noted old e threads threads' locks locks' same_threads same_locks threads_noted locks_noted grow place same_length =
     record {
       threads = λ t. threads_noted t ∙ ap (thread_after t e) (same_threads t);
       locks = λ l. locks_noted l ∙ ap (lock_after l e.thread e.what) (same_locks l);
       admitted = refl;
+      locks_grow = omega arith;
+      lock_place = place_stays locks locks' e.what (sym same_length) place;
     }

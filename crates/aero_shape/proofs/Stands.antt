@@ -1,19 +1,20 @@
 -- Tables that stand for a list of events stand, after one more, for the list with that event at its end.
-use Rattle.std.proofs.Common.{◌≡◌, ◌≢◌, ℕ, ◌+◌, ◌-◌, ◌==◌, ◌&&◌, ◌||◌, nat_lt, not, Bool, true, false, cond, if◌then◌else◌, List, [], ◌∷◌, ◌++◌, length, Option, Some, None, inl, inr, refl, sym, ◌∙◌, ap, arith}
-use Rattle.std.proofs.lemmas.Bool.{cases_Bool, cases_eq, cases_lt, and_from, and_left, and_right, eq-eqb, ne_eqb, eqb-true, not_from_false, lt-ltb, both_ways, cond-true, cond-false}
-use Rattle.aero_model.specs.declared.event.Numbered.{Numbered}
-use Rattle.aero_model.specs.declared.event.What.{What}
-use Rattle.aero_model.specs.declared.event.What.TheVariants.{Acquire, Release}
+use Rattle.std.proofs.Common.{◌≡◌, ◌≢◌, ◌⊎◌, ℕ, ◌+◌, ◌-◌, ◌<◌, ◌≤◌, ◌==◌, ◌&&◌, ◌||◌, nat_lt, not, Bool, true, false, cond, if◌then◌else◌, List, [], ◌∷◌, ◌++◌, length, Option, Some, None, inl, inr, refl, sym, ◌∙◌, ap, arith}
+use Rattle.std.proofs.lemmas.Bool.{cases_Bool, cases_eq, cases_lt, and_from, and_left, and_right, eq-eqb, ne_eqb, eqb-true, not_from_false, lt-ltb, both_ways, or_from, or_cases, cond-true, cond-false}
+use Rattle.std.proofs.lemmas.List.{get_or_past}
+use Rattle.aero_model.specs.declared.numbered.Numbered.{Numbered}
+use Rattle.aero_model.specs.declared.numbered.What.{What}
+use Rattle.aero_model.specs.declared.numbered.What.TheVariants.{Acquire, Release, Fork, Join}
 use Rattle.aero_model.specs.declared.verdict.ShapeFault.{ShapeFault}
 use Rattle.aero_model.specs.declared.verdict.ShapeFault.TheVariants.{ThreadJoined, LockHeldByOther, LockNotHeld}
 use Rattle.aero_model.specs.Blocks.{is_begin, is_end, by_thread, depth}
-use Rattle.aero_model.specs.Shape.{is_acquire_of, is_release_of, is_fork_of, is_join_of, held, is_held_by_other, was_joined, deed_fault, shape_fault}
+use Rattle.aero_model.specs.Shape.{is_acquire_of, is_release_of, is_fork_of, is_join_of, held, is_held_by_other, has_acted, was_forked, was_joined, has_started, deed_fault, shape_fault}
 use Rattle.aero_model.proofs.Locks.{acquire_is, release_is}
 use Rattle.aero_shape.specs.declared.states.LockState.{LockState}
-use Rattle.aero_shape.specs.States.{Tables, thread_at, lock_at, lock_after}
+use Rattle.aero_shape.specs.States.{Tables, idle, thread_at, lock_at, lock_after, HasThreadPlace, HasLockPlace, HavePlaces}
 use Rattle.aero_shape.specs.Told.{is_kept_from, fault_told}
-use Rattle.aero_shape.specs.Standing.{StandsFor}
-use Rattle.aero_shape.proofs.Pushed.{length_pushed, depth_pushed, any_pushed, count_pushed, well_formed_pushed, paired}
+use Rattle.aero_shape.specs.Standing.{StandsFor, was_locked, ReachesThread, ReachesLock, ReachesTarget, Reaches}
+use Rattle.aero_shape.proofs.Pushed.{or_false, length_pushed, depth_pushed, any_pushed, count_pushed, well_formed_pushed, paired}
 use Rattle.aero_shape.proofs.Told.{kept_told, fault_is_told}
 use Rattle.aero_shape.proofs.Changes.{IsAfter, depth_after, acted_after, forked_after, joined_after, lock_stays}
 
@@ -152,6 +153,11 @@ module _ (tables : Tables) (h : List Numbered) (s : StandsFor tables h) (e : Num
         ]
       ]
 
+placed : (locks : List LockState) (l : ℕ) (w : What) → HasLockPlace locks w → (is_acquire_of l w || is_release_of l w) ≡ true → l < length locks
+placed locks l (Acquire m) place now = let same = eqb-true l m (sym (or_false (l == m)) ∙ now) in omega arith
+placed locks l (Release m) place now = let same = eqb-true l m now in omega arith
+placed locks l _ place now = absurd (cc)
+
 -- what the tables tell of an event without a fault, they stand for once it is noted
 pub stands_after : (old new : Tables) (e : Numbered) → IsAfter old new e → fault_told old.threads old.locks e ≡ None → (h : List Numbered) → StandsFor old h → StandsFor new (h ++ e ∷ [])
 stands_after old new e a none h s =
@@ -163,8 +169,16 @@ stands_after old new e a none h s =
       forked = λ t. ap (λ x. x.forked) (a.threads t) ∙ forked_after t e (thread_at old.threads t) ∙ ap (λ b. b || is_fork_of t e.what) (s.forked t) ∙ sym (any_pushed h e (λ f. is_fork_of t f.what));
       joined = λ t. ap (λ x. x.joined) (a.threads t) ∙ joined_after t e (thread_at old.threads t) ∙ ap (λ b. b || is_join_of t e.what) (s.joined t) ∙ sym (any_pushed h e (λ f. is_join_of t f.what));
       held = λ l t. held_after old h s e fits t l ∙ sym (ap (holding t) (a.locks l));
+      locked = λ l some. lock_placed l (or_cases (was_locked h l) (names l) (sym (any_pushed h e (λ f. is_acquire_of l f.what || is_release_of l f.what)) ∙ some));
     }
   where
+    names : ℕ → Bool
+    names l = is_acquire_of l e.what || is_release_of l e.what
+
+    lock_placed : (l : ℕ) → (was_locked h l ≡ true) ⊎ (names l ≡ true) → l < length new.locks
+    lock_placed l (inl some) = let before = s.locked l some in let grow = a.locks_grow in omega arith
+    lock_placed l (inr now) = placed new.locks l e.what a.lock_place now
+
     fits : shape_fault h e ≡ None
     fits = sym (fault_is_told old h s e) ∙ none
 
@@ -174,3 +188,36 @@ stands_after old new e a none h s =
         ∙ depth_after t e (thread_at old.threads t)
         ∙ ap (λ d. if by_thread t is_begin (Some e) then d + 1 else if by_thread t is_end (Some e) then d - 1 else d) (s.depth t)
         ∙ sym (depth_pushed h e t)
+
+-- a thread or a lock that an event of the list has reached has a place in the table that stands for it
+module _ (tables : Tables) (h : List Numbered) (s : StandsFor tables h) where
+  started_within : (u : ℕ) → has_started h u ≡ true → u < length tables.threads
+  started_within u started = go (cases_lt u (length tables.threads))
+    where
+      go : (u < length tables.threads) ⊎ (length tables.threads ≤ u) → u < length tables.threads
+      go (inl within) = within
+      go (inr past) =
+          let idle_then : thread_at tables.threads u ≡ idle = get_or_past tables.threads u idle past in
+          let acted : has_acted h u ≡ false = sym (s.acted u) ∙ ap (λ x. x.acted) idle_then in
+          let forked : was_forked h u ≡ false = sym (s.forked u) ∙ ap (λ x. x.forked) idle_then in
+          let joined : was_joined h u ≡ false = sym (s.joined u) ∙ ap (λ x. x.joined) idle_then in
+          absurd (both_ways (has_started h u) (or_from (has_acted h u || was_forked h u) (was_joined h u) (or_from (has_acted h u) (was_forked h u) acted forked) joined) started)
+
+  reached_thread : (t : ℕ) → ReachesThread h t → t < length tables.threads
+  reached_thread t r = let within = started_within r.0 r.2 in let le = r.1 in omega arith
+
+  reached_lock : (l : ℕ) → ReachesLock h l → l < length tables.locks
+  reached_lock l r = let within = s.locked r.0 r.2 in let le = r.1 in omega arith
+
+  thread_place : (w : What) → ReachesTarget h w → HasThreadPlace tables.threads w
+  thread_place (Fork u) r = reached_thread u r
+  thread_place (Join u) r = reached_thread u r
+  thread_place _ r = tt
+
+  lock_place : (w : What) → ReachesTarget h w → HasLockPlace tables.locks w
+  lock_place (Acquire l) r = reached_lock l r
+  lock_place (Release l) r = reached_lock l r
+  lock_place _ r = tt
+
+  pub reached_places : (e : Numbered) → Reaches h e → HavePlaces tables.threads tables.locks e
+  reached_places e r = record { actor = reached_thread e.thread r.actor; target = thread_place e.what r.target; lock = lock_place e.what r.target }

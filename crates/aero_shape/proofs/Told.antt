@@ -5,9 +5,9 @@ use Rattle.std.specs.List.{list_any}
 use Rattle.std.proofs.lemmas.Bool.{cases_Bool, cases_lt, and_parts, and_from, and_right, or_left, or_right, or_from, lt-ltb, le-ltb, eq-eqb, ne_eqb, eqb-true, ltb-true, cond-true, cond-false}
 use Rattle.std.proofs.lemmas.List.Sums.{sum_by-append}
 use Rattle.std.proofs.lemmas.Option.{same_Some}
-use Rattle.aero_model.specs.declared.event.Numbered.{Numbered}
-use Rattle.aero_model.specs.declared.event.What.{What}
-use Rattle.aero_model.specs.declared.event.What.TheVariants.{Acquire, Release, Fork, Join, Begin, End}
+use Rattle.aero_model.specs.declared.numbered.Numbered.{Numbered}
+use Rattle.aero_model.specs.declared.numbered.What.{What}
+use Rattle.aero_model.specs.declared.numbered.What.TheVariants.{Acquire, Release, Fork, Join, Begin, End}
 use Rattle.aero_model.specs.declared.verdict.ShapeFault.{ShapeFault}
 use Rattle.aero_model.specs.declared.verdict.ShapeFault.TheVariants.{ThreadJoined, LockHeldByOther, LockNotHeld, ForkSelf, ForkStarted, JoinSelf, EndWithoutBegin, Memory}
 use Rattle.aero_model.specs.Blocks.{depth}

@@ -1,8 +1,8 @@
 -- What an event is that is admitted, and what the answer to an event tells of it.
 use Rattle.std.specs.Prelude.{◌≡◌, ℕ, ◌==◌, nat_lt, true, if◌then◌else◌, List, length, Some, None, Result, Ok, Err}
-use Rattle.aero_model.specs.declared.event.Numbered.{Numbered}
-use Rattle.aero_model.specs.declared.event.What.{What}
-use Rattle.aero_model.specs.declared.event.What.TheVariants.{Join, Begin, End}
+use Rattle.aero_model.specs.declared.numbered.Numbered.{Numbered}
+use Rattle.aero_model.specs.declared.numbered.What.{What}
+use Rattle.aero_model.specs.declared.numbered.What.TheVariants.{Join, Begin, End}
 use Rattle.aero_model.specs.declared.verdict.ShapeFault.{ShapeFault}
 use Rattle.aero_model.specs.declared.verdict.ShapeFault.TheVariants.{Memory}
 use Rattle.aero_model.specs.Blocks.{depth}

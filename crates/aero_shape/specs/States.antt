@@ -1,8 +1,8 @@
 -- What the tables of a `Shape` say of each thread and each lock, and what an event changes in it.
 use Rattle.std.specs.Prelude.{ℕ, ◌+◌, ◌-◌, ◌<◌, ◌≤◌, ◌==◌, true, false, if◌then◌else◌, List, length, slice_index_or}
-use Rattle.aero_model.specs.declared.event.Numbered.{Numbered}
-use Rattle.aero_model.specs.declared.event.What.{What}
-use Rattle.aero_model.specs.declared.event.What.TheVariants.{Acquire, Release, Fork, Join, Begin, End}
+use Rattle.aero_model.specs.declared.numbered.Numbered.{Numbered}
+use Rattle.aero_model.specs.declared.numbered.What.{What}
+use Rattle.aero_model.specs.declared.numbered.What.TheVariants.{Acquire, Release, Fork, Join, Begin, End}
 use Rattle.aero_shape.specs.declared.states.ThreadState.{ThreadState}
 use Rattle.aero_shape.specs.declared.states.LockState.{LockState}
 
@@ -42,6 +42,12 @@ abbrev pub HasLockPlace : List LockState → What → Type 0
 HasLockPlace locks (Acquire l) = l < length locks
 HasLockPlace locks (Release l) = l < length locks
 HasLockPlace locks _ = Unit {0}
+
+-- the tables have a place for each number of the event
+pub record HavePlaces (threads : List ThreadState) (locks : List LockState) (e : Numbered) : Type 0 where
+  pub actor : e.thread < length threads
+  pub target : HasThreadPlace threads e.what
+  pub lock : HasLockPlace locks e.what
 
 -- what becomes of a thread that does this
 abbrev pub acting : What → ThreadState → ThreadState

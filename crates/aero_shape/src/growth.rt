@@ -1,9 +1,9 @@
 //! Tables that grow to have a place for each number that an event names.
-ghost use Rattle.std.specs.Prelude.{◌≡◌, ℕ, ◌<◌, slice_index_or, take, vec_len, OnOk, OnErr};
-ghost use Rattle.aero_shape.specs.States.{thread_at, lock_at, HasThreadPlace, HasLockPlace};
+ghost use Rattle.std.specs.Prelude.{◌≡◌, ℕ, ◌<◌, ◌≤◌, slice_index_or, take, vec_len, IsOk, OnOk, OnErr};
+ghost use Rattle.aero_shape.specs.States.{thread_at, lock_at, HasThreadPlace, HasLockPlace, HavePlaces};
 
 use crate::states::{FREE, IDLE, LockState, ThreadState};
-use aero_model::event::{Numbered, What};
+use aero_model::numbered::{Numbered, What};
 use std::alloc::AllocError;
 
 // The table gets a place for the number, if it has none. New places are what was said beyond the
@@ -14,7 +14,9 @@ fn grow<T: Copy>(table: &mut Vec<T>, number: u32, beyond: T) -> Result<(), Alloc
         → slice_index_or table.new.items k beyond ≡ slice_index_or table.old.items k beyond }
     ensures ok { OnOk result (number < vec_len table.new) }
     ensures front { take (vec_len table.old) table.new.items ≡ table.old.items }
+    ensures longer { vec_len table.old ≤ vec_len table.new }
     ensures err { OnErr result (table.new.items ≡ table.old.items) }
+    ensures room { OnErr result (vec_len table.old ≤ number) }
 {
     let place = number as usize;
     if place < table.len() {
@@ -36,6 +38,8 @@ pub(crate) fn make_room(
     ensures actor { OnOk result (event.now.thread < vec_len threads.new) }
     ensures target { OnOk result (HasThreadPlace threads.new.items event.now.what) }
     ensures lock { OnOk result (HasLockPlace locks.new.items event.now.what) }
+    ensures locks_grow { vec_len locks.old ≤ vec_len locks.new }
+    ensures room { HavePlaces threads.old.items locks.old.items event.now → IsOk result }
     ensures threads_on_err { OnErr result (threads.new.items ≡ threads.old.items) }
     ensures locks_on_err { OnErr result (locks.new.items ≡ locks.old.items) }
 {

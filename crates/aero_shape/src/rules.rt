@@ -5,7 +5,7 @@ ghost use Rattle.aero_shape.specs.Told.{is_held_by, is_kept_from, is_started, fa
 
 use crate::admission::Admitted;
 use crate::states::{FREE, IDLE, LockState, ThreadState, state_at};
-use aero_model::event::{Numbered, What};
+use aero_model::numbered::{Numbered, What};
 use aero_model::verdict::ShapeFault;
 
 impl LockState {

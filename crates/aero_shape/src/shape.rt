@@ -1,13 +1,13 @@
 //! The list of the events that were admitted, as far as the rules ask of it.
 ghost use Rattle.std.specs.Prelude.{◌≡◌, ◌≢◌, ◌<◌, ◌++◌, List, [], ◌∷◌, OnOk, OnErr};
-ghost use Rattle.aero_model.specs.declared.event.Numbered.{Numbered};
+ghost use Rattle.aero_model.specs.declared.numbered.Numbered.{Numbered};
 
 use crate::admission::Admitted;
 use crate::growth::make_room;
 use crate::notes::{note_lock, note_threads};
 use crate::rules::{fault_of, kind_of};
 use crate::states::{LockState, ThreadState};
-use aero_model::event::Numbered;
+use aero_model::numbered::Numbered;
 use aero_model::verdict::ShapeFault;
 use std::alloc::Global;
 use std::marker::Model;
@@ -38,7 +38,7 @@ impl Model for Shape {
 
 impl Shape {
     ghost use Rattle.aero_shape.specs.Admission.{TellsEvent};
-    ghost use Rattle.aero_shape.specs.Standing.{StandsFor};
+    ghost use Rattle.aero_shape.specs.Standing.{StandsFor, Reaches};
 
     /// Stands for the empty list, and takes no memory until an event is admitted.
     pub fn new(alloc: Global) -> Shape
@@ -64,15 +64,18 @@ impl Shape {
     /// # Errors
     ///
     /// The first cause for which the event isn't well-formed, in the order of the variants of
-    /// `ShapeFault`, or `Memory`, if it is well-formed and memory for its numbers was refused. On
-    /// any error it counts for nothing. It is never `TooManyThreads` or `TooManyNames`: limits are
-    /// for the caller.
+    /// `ShapeFault`, or `Memory`, if it is well-formed and memory for its numbers was refused. None
+    /// is asked for where no number of a thread or a lock in it is above all those of its kind that
+    /// admitted events have named. On any error it counts for nothing. It is never
+    /// `TooManyThreads` or `TooManyNames`: limits are for the caller.
     pub fn admit(&mut self, event: &Numbered) -> Result<Admitted, ShapeFault>
         requires { self.old.admitted < u32.MAX }
         ensures told { (h : List Numbered) → StandsFor self.old h → TellsEvent h event.now result }
         ensures ok { OnOk result ((h : List Numbered)
             → StandsFor self.old h → StandsFor self.new (h ++ event.now ∷ [])) }
         ensures err { OnErr result (self.new ≡ self.old) }
+        ensures room { (h : List Numbered)
+            → StandsFor self.old h → Reaches h event.now → result ≢ Err ShapeFault.Memory }
         ensures threads_unlimited { result ≢ Err ShapeFault.TooManyThreads }
         ensures names_unlimited { result ≢ Err ShapeFault.TooManyNames }
     {

@@ -1,4 +1,4 @@
-use Rattle.std.proofs.Common.{◌≡◌, ◌+◌, ◌++◌, ◌∷◌, [], ◌==◌, true, length, None, Ok, sym, ◌∙◌, ap, ap₂, subst, arith}
+use Rattle.std.proofs.Common.{◌≡◌, ◌+◌, ◌*◌, ◌-◌, ◌^◌, ◌++◌, ◌∷◌, [], ◌==◌, true, length, None, Ok, sym, ◌∙◌, ap, ap₂, subst, arith}
 use Rattle.aero_names.specs.Numbers.{with_event, numbered_after}
 use Rattle.aero_grammar.specs.Lists.{lists_in}
 use Rattle.aero_grammar.specs.Meaning.{Means, meaning}
@@ -7,19 +7,20 @@ use Rattle.aero_grammar.specs.Tabled.{lines_in, IsTabled, AreNames}
 use Rattle.aero_grammar.specs.Words.{named_of, ReadsMeaning}
 use Rattle.aero_grammar.proofs.Events.{event_of_line}
 use Rattle.aero_grammar.proofs.Joined.{reading, nothing_followed_by}
-use Rattle.aero_grammar.proofs.LinesRead.{one_more_line, after_blank, after_event, read_to_end, read_to_fault}
+use Rattle.aero_grammar.proofs.LinesRead.{has_event, one_more_line, after_blank, after_event, read_to_end, read_to_fault}
 use Rattle.aero_grammar.proofs.Readings.{IsReading-of}
-use Rattle.aero_grammar.proofs.TablesGrown.{nothing_tabled, no_names, lines_pushed, tabled_pushed, names_added, numbered_by_turns}
+use Rattle.aero_grammar.proofs.TablesGrown.{room_within, room_left, nothing_tabled, no_names, lines_pushed, tabled_pushed, names_added, numbered_by_turns}
 use Rattle.aero_grammar.proofs.block.parse_block.Goals as goal
 
 pub lines-init : goal.lines-init
 lines-init c = record {
   read =
-      sym (ap₂ (λ t es. followed_by (reading (lines_in t es) 0 None) (reading_of c.args.bytes.now)) c.new-tables.ensures c.new-events.ensures.items
+      sym (ap₂ (λ t es. followed_by (reading (lines_in t es) 0 None) (reading_of c.args.bytes.now)) c.new-tables.ensures.none c.new-events.ensures.items
       ∙ nothing_followed_by (reading_of c.args.bytes.now));
-  tabled = subst (λ t. IsTabled t c.new-events.result.items) (sym c.new-tables.ensures) (subst (IsTabled _) (sym c.new-events.ensures.items) nothing_tabled);
-  names = subst AreNames (sym c.new-tables.ensures) no_names;
+  tabled = subst (λ t. IsTabled t c.new-events.result.items) (sym c.new-tables.ensures.none) (subst (IsTabled _) (sym c.new-events.ensures.items) nothing_tabled);
+  names = subst AreNames (sym c.new-tables.ensures.none) no_names;
   counted = omega arith;
+  room = room_within (c.new-tables.result) (2 ^ 32 - 1) (2 * length c.args.bytes.now) (omega (arith, c.requires)) c.new-tables.ensures.room;
 }
 
 pub lines-preserved-in-Ok-None : goal.lines-preserved-in-Ok-None
@@ -31,12 +32,17 @@ lines-preserved-in-Ok-None c =
           ∙ ap (λ r. followed_by r (reading_of c.first_line.result.1.now)) (after_blank so_far c.lines.lines c.first_line.result.0.now (subst (λ o. ReadsMeaning (Ok o) (meaning c.first_line.result.0.now)) c.in-Ok-None.field-0-is c.in-Ok-None.ensures));
       tabled = c.lines.invariant.tabled;
       names = c.lines.invariant.names;
+      room = room_within c.lines.tables (2 * length c.lines.rest.now) (2 * length c.first_line.result.1.now) (omega (arith, c.first_line.ensures.shorter)) c.lines.invariant.room;
       counted = omega (arith, c.lines.invariant.counted, c.first_line.ensures.shorter);
     }
 
-pub number-requires : goal.number-requires
-number-requires c =
+pub number-requires-clause-event : goal.number-requires-clause-event
+number-requires-clause-event c =
     event_of_line c.first_line.result.0.now (named_of c.in-Ok-Some.words) (subst (λ o. ReadsMeaning (Ok o) (meaning c.first_line.result.0.now)) c.in-Ok-Some.field-0-is c.in-Ok-Some.ensures)
+
+pub number-requires-clause-room : goal.number-requires-clause-room
+number-requires-clause-room c =
+    room_within c.lines.tables (2 * length c.lines.rest.now) 2 (omega (arith, c.first_line.ensures.shorter)) c.lines.invariant.room
 
 pub lines-preserved : goal.lines-preserved
 lines-preserved c =
@@ -58,6 +64,7 @@ lines-preserved c =
           (sym (ap₂ lines_in tables_are events_are ∙ lines_pushed tables events c.lines.invariant.tabled n e event.has_target));
       tabled = subst (λ t. IsTabled t c.push.new.self.items) (sym tables_are) (subst (IsTabled (with_event tables e)) (sym events_are) (tabled_pushed tables events c.lines.invariant.tabled n e event.has_target));
       names = subst AreNames (sym tables_are) (names_added tables e event c.lines.invariant.names);
+      room = room_left c.lines.tables c.number.new.self (2 * length c.lines.rest.now) (2 * length c.first_line.result.1.now) 2 (omega (arith, c.first_line.ensures.shorter)) c.lines.invariant.room c.in_ok-number-in-Ok-Some.ensures.grown;
       counted = omega (arith, c.lines.invariant.counted, c.first_line.ensures.shorter);
     }
 
@@ -88,3 +95,13 @@ returns-clause-reading c =
     let end : (length c.lines.rest.now == 0) ≡ true = cc in
     c.parsed-2.ensures
     ∙ sym (read_to_end (lines_in (lists_in c.lines.tables) c.lines.events.items) c.lines.lines (reading_of c.args.bytes.now) c.lines.rest.now c.lines.invariant.read end)
+
+pub returns-in_err-number-in-Ok-Some-clause-refused : goal.returns-in_err-number-in-Ok-Some-clause-refused
+returns-in_err-number-in-Ok-Some-clause-refused c =
+    has_event _ c.lines.lines (reading_of c.args.bytes.now) c.lines.rest.now c.first_line.result.0.now c.first_line.result.1.now (named_of c.in-Ok-Some.words) c.lines.invariant.read c.first_line.ensures.lines
+    (subst (λ o. ReadsMeaning (Ok o) (meaning c.first_line.result.0.now)) c.in-Ok-Some.field-0-is c.in-Ok-Some.ensures) c.from_residual.result
+
+pub returns-in_err-push-in-Ok-Some-clause-refused : goal.returns-in_err-push-in-Ok-Some-clause-refused
+returns-in_err-push-in-Ok-Some-clause-refused c =
+    has_event _ c.lines.lines (reading_of c.args.bytes.now) c.lines.rest.now c.first_line.result.0.now c.first_line.result.1.now (named_of c.in-Ok-Some.words) c.lines.invariant.read c.first_line.ensures.lines
+    (subst (λ o. ReadsMeaning (Ok o) (meaning c.first_line.result.0.now)) c.in-Ok-Some.field-0-is c.in-Ok-Some.ensures) c.from_residual-in_err-push-in-Ok-Some.result

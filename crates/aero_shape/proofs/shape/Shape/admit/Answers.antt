@@ -1,17 +1,17 @@
 -- The tables tell the event's fault, and after it they are as `IsAfter` says. The rest follows for any list that they stand for.
-use Rattle.std.proofs.Common.{◌≡◌, ◌+◌, List, Err, sym, ◌∙◌, ap, ap₂, subst, arith}
+use Rattle.std.proofs.Common.{◌≡◌, ◌+◌, List, length, Err, sym, ◌∙◌, ap, ap₂, subst, arith}
 use Rattle.std.specs.Vec.{with_items}
 use Rattle.std.proofs.lemmas.Grind.{common_steps}
 use Rattle.std.proofs.lemmas.List.{with_items_is}
-use Rattle.aero_model.specs.declared.event.Numbered.{Numbered}
+use Rattle.aero_model.specs.declared.numbered.Numbered.{Numbered}
 use Rattle.aero_model.specs.Shape.{shape_fault}
-use Rattle.aero_shape.specs.States.{Tables, thread_at, lock_at}
+use Rattle.aero_shape.specs.States.{Tables, HasLockPlace, thread_at, lock_at}
 use Rattle.aero_shape.specs.Told.{fault_told, kind_told}
 use Rattle.aero_shape.specs.Standing.{StandsFor}
 use Rattle.aero_shape.specs.Admission.{admitted_as, TellsEvent}
 use Rattle.aero_shape.proofs.Told.{fault_is_told, kind_is_told, tells_fault}
 use Rattle.aero_shape.proofs.Changes.{IsAfter, noted, bounded_after}
-use Rattle.aero_shape.proofs.Stands.{stands_after}
+use Rattle.aero_shape.proofs.Stands.{stands_after, reached_places}
 use Rattle.aero_shape.proofs.shape.Shape.admit.Goals as goal
 use Rattle.aero_shape.proofs.shape.Shape.admit.Goals.{After-fault_of, After-note_lock}
 
@@ -40,6 +40,9 @@ noted_in c =
       admitted = c.self.inside.admitted + 1;
     }
 
+placed_after : (c : After-note_lock) → HasLockPlace c.make_room.new.locks.items c.args.event.now.what
+placed_after c = grind (arith, common_steps)
+
 after : (c : After-note_lock) → IsAfter (record { threads = c.self.inside.threads.items; locks = c.self.inside.locks.items; admitted = c.self.inside.admitted }) (noted_in c) c.args.event.now
 after c =
     let threads = with_items_is c.make_room.new.threads c.note_threads.new.threads (c.note_threads.auto.threads ∙ c.deref_mut.ensures.len) in
@@ -49,6 +52,9 @@ after c =
     (λ l. ap (λ xs. lock_at xs l) c.deref_mut-2.ensures.value ∙ c.make_room.ensures.locks l)
     (λ t. ap (λ xs. thread_at xs t) threads ∙ (c.note_threads.ensures t ∙ (grind (arith, common_steps))))
     (λ l. ap (λ xs. lock_at xs l) locks ∙ (c.note_lock.ensures l ∙ (grind (arith, common_steps))))
+    (let grown = c.make_room.ensures.locks_grow in let same = c.deref_mut-2.ensures.value in let len = ap (λ xs. length xs) c.deref_mut-2.ensures.value in grind (arith, common_steps))
+    (subst (λ xs. HasLockPlace xs c.args.event.now.what) (sym c.deref_mut-2.ensures.value) (placed_after c))
+    (ap (λ xs. length xs) locks ∙ c.note_lock.auto.locks)
 
 pub returns-in-Some-clause-told : goal.returns-in-Some-clause-told
 returns-in-Some-clause-told c h s =
@@ -59,6 +65,13 @@ returns-in-Some-clause-told c h s =
 pub returns-then-is_err-clause-told : goal.returns-then-is_err-clause-told
 returns-then-is_err-clause-told c h s =
     ruled (goal.at.returns-then-is_err-clause-told c).After-fault_of h s ∙ (grind (arith, common_steps))
+
+pub returns-then-is_err-clause-room : goal.returns-then-is_err-clause-room
+returns-then-is_err-clause-room c h s reached same =
+    let at = (goal.at.returns-then-is_err-clause-room c).After-fault_of in
+    let places = reached_places (before at) h (stood at h s) c.args.event.now reached in
+    let fine = c.make_room.ensures.room places in
+    grind (arith, common_steps, fine)
 
 pub invariant_of-self-2 : goal.invariant_of-self-2
 invariant_of-self-2 c = bounded_after _ _ c.args.event.now (after (goal.at.invariant_of-self-2 c).After-note_lock) c.self.invariant

@@ -1,0 +1,5 @@
+use Rattle.aero_names.proofs.LimitRule.{too_many_threads}
+use Rattle.aero_names.proofs.laws.too_many_threads_are_new_ones.Goals as goal
+
+pub returns : goal.returns
+returns c = too_many_threads
