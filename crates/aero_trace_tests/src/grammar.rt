@@ -90,7 +90,14 @@ fn filled(
     Ok(bytes)
 }
 
-// A `#` stands for the byte so many times.
+// Whether the line says this, where each `#` in either stands for the byte so many times.
+fn says(alloc: Global, line: &str, byte: u8, count: usize, wanted: &str) -> Result<bool, Fail> {
+    let line = filled(alloc, line, b'#', byte, count)?;
+    let words = words_of_line(alloc, &line)?;
+    let wanted = filled(alloc, wanted, b'#', byte, count)?;
+    Ok(words.as_bytes() == wanted.as_slice())
+}
+
 #[test]
 fn long_names_and_lines_meet_their_limits(rt: HostRuntime) -> Result<(), Fail> {
     let rows = [
@@ -102,11 +109,27 @@ fn long_names_and_lines_meet_their_limits(rt: HostRuntime) -> Result<(), Fail> {
         ("#", b' ', 4097, "TooLong"),
         ("#", b' ', 4096, "blank"),
     ];
-    for (text, byte, count, wanted) in rows {
-        let line = filled(rt.alloc(), text, b'#', byte, count)?;
-        let words = words_of_line(rt.alloc(), &line)?;
-        let wanted = filled(rt.alloc(), wanted, b'#', byte, count)?;
-        assert!(rt; words.as_bytes() == wanted.as_slice(), "{text} {count}");
+    for (line, byte, count, wanted) in rows {
+        assert!(rt;
+            says(rt.alloc(), line, byte, count, wanted)?,
+            "{line} {count}"
+        );
+    }
+    Ok(())
+}
+
+#[test]
+fn names_of_1_to_255_bytes_are_read(rt: HostRuntime) -> Result<(), Fail> {
+    for count in 1..=256usize {
+        let wanted = if count == 256 {
+            "NameTooLong"
+        } else {
+            "# Read #"
+        };
+        assert!(rt;
+            says(rt.alloc(), "#|r(#)", b'a', count, wanted)?,
+            "{count} bytes"
+        );
     }
     Ok(())
 }

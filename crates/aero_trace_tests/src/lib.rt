@@ -12,6 +12,8 @@ mod end;
 #[cfg(test)]
 mod grammar;
 #[cfg(test)]
+mod leads;
+#[cfg(test)]
 mod lines;
 #[cfg(test)]
 mod model;

@@ -1,4 +1,4 @@
-use aero_model::event::{Numbered, What};
+use aero_model::numbered::{Numbered, What};
 use aero_model::verdict::ShapeFault;
 use aero_shape::admission::Admitted;
 use aero_shape::shape::Shape;

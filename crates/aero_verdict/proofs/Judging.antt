@@ -1,18 +1,18 @@
--- What the shape's answer to an event says of it, and so of the clocks' call for it.
+-- What the shape's answer to an event says of it, and so of the leads' call for it.
 use Rattle.std.proofs.Common.{◌≡◌, ◌≢◌, ◌⊎◌, ℕ, ◌-◌, ◌^◌, ◌<◌, ◌≤◌, ◌==◌, ◌&&◌, ◌||◌, nat_lt, Bool, true, false, if◌then◌else◌, List, [], ◌∷◌, ◌++◌, length, Option, Some, None, inl, inr, refl, sym, ◌∙◌, ap, subst, arith}
 use Rattle.std.specs.Prelude.{slice_get, Result, IfOk}
 use Rattle.std.proofs.lemmas.Bool.{cases_Bool, cases_eq, and_parts, and_from, eqb-true, eq-eqb, cond-true, cond-false, true≢false}
-use Rattle.aero_model.specs.declared.event.Numbered.{Numbered}
-use Rattle.aero_model.specs.declared.event.What.{What}
-use Rattle.aero_model.specs.declared.event.What.TheVariants.{Read, Write, Acquire, Release, Fork, Join, Begin, End}
+use Rattle.aero_model.specs.declared.numbered.Numbered.{Numbered}
+use Rattle.aero_model.specs.declared.numbered.What.{What}
+use Rattle.aero_model.specs.declared.numbered.What.TheVariants.{Read, Write, Acquire, Release, Fork, Join, Begin, End}
 use Rattle.aero_model.specs.declared.verdict.ShapeFault.TheVariants.{ForkSelf, ForkStarted, JoinSelf, EndWithoutBegin, ThreadJoined}
 use Rattle.aero_model.specs.Blocks.{depth, blocks, is_begin, is_end, by_thread, closes}
 use Rattle.aero_model.specs.Shape.{has_acted, was_forked, was_joined, has_started, deed_fault, shape_fault, IsWellFormed}
 use Rattle.aero_model.proofs.Begins.{blocks_at_most}
 use Rattle.aero_model.proofs.Stability.{agree_front, depth_same}
-use Rattle.aero_access.specs.declared.clocks.Clocks.{Clocks}
+use Rattle.aero_leads.specs.declared.leads.Leads.{Leads}
 use Rattle.aero_access.specs.declared.clocks.Spent.{Spent}
-use Rattle.aero_access.specs.Standing as clocks
+use Rattle.aero_leads.specs.Standing as leads
 use Rattle.aero_access.specs.StateWords.{event, IsIdle, inner_begin, inner_end, idle_join}
 use Rattle.aero_shape.specs.declared.admission.Admitted.{Admitted}
 use Rattle.aero_shape.specs.declared.admission.Admitted.TheVariants.{Plain, OuterBegin, OuterEnd, IdleJoin}
@@ -187,25 +187,25 @@ closes_last h t one =
     (eq-eqb _ 1 same)
 
 -- what the calls for the event say of the longer list
-module _ (c : Clocks) (h : List Numbered) (e : Numbered) (admitted : Admitted) (after : ComesAfter c h e admitted) where
+module _ (c : Leads) (h : List Numbered) (e : Numbered) (admitted : Admitted) (after : ComesAfter c h e admitted) where
   deep : ℕ
   deep = depth h e.thread (length h)
 
-  pub begins_few : length h < 2 ^ 32 - 1 → clocks.begins_at c e.thread < 2 ^ 32 - 1
+  pub begins_few : length h < 2 ^ 32 - 1 → leads.begins_at c e.thread < 2 ^ 32 - 1
   begins_few short =
-      let same : clocks.begins_at c e.thread ≡ blocks h e.thread (length h) = after.stands.state.begins e.thread in
+      let same : leads.begins_at c e.thread ≡ blocks h e.thread (length h) = after.stands.state.begins e.thread in
       let few : blocks h e.thread (length h) ≤ length h = blocks_at_most h e.thread (length h) in
       omega (arith, short, same, few)
 
   pub end_follows :
-      (new : Clocks) (result : Result (Option ℕ) Spent)
+      (new : Leads) (result : Result (Option ℕ) Spent)
       → admitted ≡ OuterEnd
-      → ((h : List Numbered) → clocks.StandsFor c h → IsWellFormed (h ++ event e.thread End ∷ []) → closes (h ++ event e.thread End ∷ []) e.thread (length h) ≡ true → IfOk result (clocks.Tells new (h ++ event e.thread End ∷ []) (length h)))
-      → IfOk result (clocks.Tells new (h ++ e ∷ []) (length h))
+      → ((h : List Numbered) → leads.StandsFor c h → IsWellFormed (h ++ event e.thread End ∷ []) → closes (h ++ event e.thread End ∷ []) e.thread (length h) ≡ true → IfOk result (leads.Tells new (h ++ event e.thread End ∷ []) (length h)))
+      → IfOk result (leads.Tells new (h ++ e ∷ []) (length h))
   end_follows new result is follows =
       let ends = outer_end h (depth h e.thread (length h)) e.what (sym is ∙ after.kind) in
       let same : e ≡ event e.thread End = ap (event e.thread) ends.0 in
-      subst (λ f. IfOk result (clocks.Tells new (h ++ f ∷ []) (length h))) (sym same)
+      subst (λ f. IfOk result (leads.Tells new (h ++ f ∷ []) (length h))) (sym same)
       (follows h after.stands (subst (λ f. IsWellFormed (h ++ f ∷ [])) same after.well_formed) (closes_last h e.thread ends.1))
 
   pub idle_here : admitted ≡ IdleJoin → IsIdle h e.thread e.what
@@ -214,7 +214,7 @@ module _ (c : Clocks) (h : List Numbered) (e : Numbered) (admitted : Admitted) (
       subst (IsIdle h e.thread) (sym joins.what) (idle_join joins.thread joins.idle)
 
 -- a begin or an end within a block
-pub idle_inside : (c : Clocks) (h : List Numbered) (t : ℕ) (what : What) (b : Bool) → ComesAfter c h (event t what) (Plain b) → (what ≡ Begin) ⊎ (what ≡ End) → IsIdle h t what
+pub idle_inside : (c : Leads) (h : List Numbered) (t : ℕ) (what : What) (b : Bool) → ComesAfter c h (event t what) (Plain b) → (what ≡ Begin) ⊎ (what ≡ End) → IsIdle h t what
 idle_inside c h t what b after (inl is) =
     subst (IsIdle h t) (sym is) (inner_begin (plain_begin h (depth h t (length h)) b (after.kind ∙ ap (deed_as h (depth h t (length h))) is)))
 idle_inside c h t what b after (inr is) =

@@ -25,7 +25,7 @@ untold_whole limits checker events stands told =
     let n = checker.shape.admitted in
     let many : n ≡ length (take n trace) = stands.counts.shape_stands.admitted in
     let front : HasTellingCycle (take n trace ++ drop n trace) n = subst (λ es. HasTellingCycle es n) (sym (front_and_rest trace n)) told in
-    stands.clocks_stand.state.untold.none (subst (HasTellingCycle (take n trace)) many (telling_back (take n trace) (drop n trace) n (omega (arith, many)) front))
+    stands.leads_stand.state.none (subst (HasTellingCycle (take n trace)) many (telling_back (take n trace) (drop n trace) n (omega (arith, many)) front))
 
 -- after the first i of these events: what was kept of those before them is kept of these too
 pub record Admits (start : Checker) (events : List (ℕ × Named)) (before most i : ℕ) (now : Checker) : Type 0 where

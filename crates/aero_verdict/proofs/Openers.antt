@@ -1,6 +1,6 @@
 -- The opener's block, where a trace has a violation.
 use Rattle.std.proofs.Common.{◌≡◌, ℕ, suc, ◌<◌, List, take, sym, ◌∙◌, le_refl, arith}
-use Rattle.aero_model.specs.declared.event.Numbered.{Numbered}
+use Rattle.aero_model.specs.declared.numbered.Numbered.{Numbered}
 use Rattle.aero_model.specs.Blocks.{blocks, Block, transaction}
 use Rattle.aero_model.specs.Cycle.{HasTellingCycle, IsClosing, IsOpener}
 use Rattle.aero_model.specs.Graph.{BeginsCycle}

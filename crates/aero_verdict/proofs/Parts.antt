@@ -11,7 +11,7 @@ use Rattle.aero_model.specs.declared.verdict.Verdict.{Verdict}
 use Rattle.aero_model.specs.Named.{Named}
 use Rattle.aero_model.specs.Shape.{IsLawful}
 use Rattle.aero_model.specs.Cycle.{HasTellingCycle}
-use Rattle.aero_model.specs.Tally.{count_below, is_outer_begin, is_outer_end}
+use Rattle.aero_model.specs.BlockCounts.{count_below, is_outer_begin, is_outer_end}
 use Rattle.aero_grammar.specs.Reading.{Reading, after_lines, whole_reading, IsReading, fault_within, malformed_line}
 use Rattle.aero_verdict.specs.declared.checker.Checker.{Checker}
 use Rattle.aero_verdict.specs.declared.checker.Stop.{Stop}

@@ -5,8 +5,8 @@ use Rattle.std.specs.Result.{is_err}
 use Rattle.std.specs.Option.{option_or, option_map_or}
 use Rattle.std.proofs.lemmas.Bool.{eq-eqb, eqb-true, cond_both, cond-true, cond-false, and_parts, and_right, true≢false}
 use Rattle.std.proofs.lemmas.Option.{slice_get-map, slice_get_within, same_Some}
-use Rattle.aero_model.specs.declared.event.Numbered.{Numbered}
-use Rattle.aero_model.specs.declared.event.What.{What}
+use Rattle.aero_model.specs.declared.numbered.Numbered.{Numbered}
+use Rattle.aero_model.specs.declared.numbered.What.{What}
 use Rattle.aero_model.specs.declared.limits.Limits.{Limits}
 use Rattle.aero_model.specs.declared.verdict.ShapeFault.{ShapeFault}
 use Rattle.aero_model.specs.declared.verdict.ShapeFault.TheVariants.{Memory, TooManyThreads, TooManyNames, ThreadJoined, LockHeldByOther, LockNotHeld, ForkSelf, ForkStarted, JoinSelf, EndWithoutBegin}
@@ -15,7 +15,7 @@ use Rattle.aero_model.specs.Cycle.{IsOpener}
 use Rattle.aero_model.specs.Named.{Named, HasItsTarget}
 use Rattle.aero_model.specs.Numbering.{Tables, tables_of, numbered}
 use Rattle.aero_model.specs.Shape.{shape_fault, limit_fault, fault_at, IsLawful}
-use Rattle.aero_model.specs.Tally.{count_below, is_outer_begin, is_outer_end}
+use Rattle.aero_model.specs.BlockCounts.{count_below, is_outer_begin, is_outer_end}
 use Rattle.aero_model.proofs.Ends.{begin_in}
 use Rattle.aero_model.proofs.Depths.{opening_at}
 use Rattle.aero_model.proofs.Places.{block_from}
@@ -25,8 +25,8 @@ use Rattle.aero_model.proofs.WellFormed.{slice_get-take}
 use Rattle.aero_shape.specs.declared.admission.Admitted.{Admitted}
 use Rattle.aero_shape.specs.Admission.{admitted_as, TellsEvent}
 use Rattle.aero_access.specs.Judgement.{IsTold}
-use Rattle.aero_access.specs.Standing.{Tells}
-use Rattle.aero_access.specs.Standing as clocks
+use Rattle.aero_leads.specs.Standing.{Tells}
+use Rattle.aero_leads.specs.Standing as leads
 use Rattle.aero_access.specs.StateWords.{event}
 use Rattle.aero_shape.specs.Standing as shapes
 use Rattle.aero_shape.specs.States as states
@@ -228,11 +228,11 @@ module _ (limits : Limits) (events : List (ℕ × Named)) (checker : Checker) (l
               lawful = subst (IsLawful limits trace) (sym (count ∙ sym (add-one n))) (below_more (λ i. fault_at limits trace i ≡ None) n kept.lawful (fault_by_shape ∙ tells.0));
             }
 
-      -- the event comes after those that the clocks stand for
-      pub comes_after : ComesAfter checker.clocks (take n trace) m admitted
-      comes_after = record { stands = next.0.clocks_stand; well_formed = stands.well_formed; in_shape = tells.0; kind = tells.1 }
+      -- the event comes after those that the leads stand for
+      pub comes_after : ComesAfter checker.leads (take n trace) m admitted
+      comes_after = record { stands = next.0.leads_stand; well_formed = stands.well_formed; in_shape = tells.0; kind = tells.1 }
 
-      pub short_enough : length events < 2 ^ 32 → IsAdmitted checker.clocks m admitted
+      pub short_enough : length events < 2 ^ 32 → IsAdmitted checker.leads m admitted
       short_enough short =
           let within = slice_get_within events n (line, e) next.1 in
           let many = kept.shape_stands.admitted in
@@ -244,7 +244,7 @@ module _ (limits : Limits) (events : List (ℕ × Named)) (checker : Checker) (l
       whole : (take n trace ++ m ∷ []) ++ drop (suc n) trace ≡ trace
       whole = ap (λ es. es ++ drop (suc n) trace) (sym taken) ∙ front_and_rest trace (suc n)
 
-      -- what the clocks tell of the first events is so of the whole
+      -- what the leads tell of the first events is so of the whole
       pub told_whole : (t : ℕ) → IsTold (take n trace ++ m ∷ []) (length (take n trace)) (Some t) → IsTold trace n (Some t)
       told_whole t told =
           let many : length (take n trace) ≡ n = sym kept.shape_stands.admitted in
@@ -260,12 +260,12 @@ module _ (limits : Limits) (events : List (ℕ × Named)) (checker : Checker) (l
           )
 
       pub judged : (counted : Blocks) → CountsBlock checker.blocks counted admitted m.thread line → (told : Option ℕ) → (new : Checker) → new.numbering ≡ numbering → new.shape ≡ shape → new.blocks ≡ counted →
-          Tells new.clocks (take n trace ++ m ∷ []) (length (take n trace)) told → Judged limits new events n told
+          Tells new.leads (take n trace ++ m ∷ []) (length (take n trace)) told → Judged limits new events n told
       judged counted counts None new same_numbering same_shape same_blocks tells_new =
           let count : new.shape.admitted ≡ suc n = ap (λ (s : states.Tables). s.admitted) same_shape ∙ count_next ∙ add-one n in
           record {
             counts = counts_next counted counts new same_numbering same_shape same_blocks;
-            clocks_stand = subst (clocks.StandsFor new.clocks) (sym taken ∙ ap (λ k. take k trace) (sym count)) (tells_new.stands refl);
+            leads_stand = subst (leads.StandsFor new.leads) (sym taken ∙ ap (λ k. take k trace) (sym count)) (tells_new.stands refl);
           }
       judged counted counts (Some t) new same_numbering same_shape same_blocks tells_new =
           (counts_next counted counts new same_numbering same_shape same_blocks, told_whole t tells_new.told)

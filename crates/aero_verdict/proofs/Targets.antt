@@ -1,10 +1,10 @@
 -- What is numbered of an event, name by name.
 use Rattle.std.proofs.Common.{◌≡◌, ℕ, nat_le, List, Some, None, refl, sym, ◌∙◌, ap, ap₂}
 use Rattle.std.proofs.lemmas.Bool.{cond-true, cond-false}
-use Rattle.aero_model.specs.declared.event.What.{What}
-use Rattle.aero_model.specs.declared.event.What.TheVariants.{Read, Write, Acquire, Release, Fork, Join, Begin, End}
+use Rattle.aero_model.specs.declared.numbered.What.{What}
+use Rattle.aero_model.specs.declared.numbered.What.TheVariants.{Read, Write, Acquire, Release, Fork, Join, Begin, End}
 use Rattle.aero_model.specs.declared.limits.Limits.{Limits}
-use Rattle.aero_model.specs.declared.named.Op.TheVariants as op
+use Rattle.aero_model.specs.declared.event.Op.TheVariants as op
 use Rattle.aero_model.specs.declared.verdict.ShapeFault.{ShapeFault}
 use Rattle.aero_model.specs.declared.verdict.ShapeFault.TheVariants.{TooManyThreads}
 use Rattle.aero_model.specs.Named.{Named}

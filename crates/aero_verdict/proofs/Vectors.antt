@@ -5,8 +5,8 @@ use Rattle.aero_model.specs.declared.limits.Limits.{Limits}
 use Rattle.aero_model.specs.declared.verdict.LineFault.TheVariants.{NoOperation, MissingTarget, TooManyLines}
 use Rattle.aero_model.specs.declared.verdict.ShapeFault.TheVariants.{TooManyThreads, TooManyNames, ThreadJoined, LockHeldByOther, LockNotHeld, ForkStarted, EndWithoutBegin}
 use Rattle.aero_model.specs.declared.verdict.Verdict.TheVariants.{Serializable, Violation, Malformed, IllFormed}
-use Rattle.aero_model.specs.declared.event.Numbered.{Numbered}
-use Rattle.aero_model.specs.declared.event.What.TheVariants.{Begin, Read, Write}
+use Rattle.aero_model.specs.declared.numbered.Numbered.{Numbered}
+use Rattle.aero_model.specs.declared.numbered.What.TheVariants.{Begin, Read, Write}
 use Rattle.aero_access.specs.StateWords.{event}
 use Rattle.aero_model.specs.Blocks.{Transaction, Block, Unary, transaction}
 use Rattle.aero_model.specs.Cycle.{HasTellingCycle}

@@ -1,6 +1,6 @@
 -- For which events of a list a `Checker` stands: the first of them, as many as its shape has admitted.
 use Rattle.std.specs.Prelude.{◌≡◌, ◌≢◌, ℕ, suc, ◌+◌, ◌^◌, ◌<◌, nat_le, true, List, length, filter, map, take, slice_get, option_map, Option, Some, None}
-use Rattle.aero_model.specs.declared.event.Numbered.{Numbered}
+use Rattle.aero_model.specs.declared.numbered.Numbered.{Numbered}
 use Rattle.aero_model.specs.declared.limits.Limits.{Limits}
 use Rattle.aero_model.specs.declared.verdict.ShapeFault.{ShapeFault}
 use Rattle.aero_model.specs.declared.verdict.ShapeFault.TheVariants.{Memory}
@@ -11,10 +11,10 @@ use Rattle.aero_model.specs.Named.{Named}
 use Rattle.aero_model.specs.Cycle.{HasTellingCycle}
 use Rattle.aero_model.specs.Numbering.{tables_of, trace_of}
 use Rattle.aero_model.specs.Shape.{IsLawful, fault_at}
-use Rattle.aero_model.specs.Tally.{count_below, is_outer_begin, is_outer_end}
+use Rattle.aero_model.specs.BlockCounts.{count_below, is_outer_begin, is_outer_end}
 use Rattle.aero_grammar.specs.Reading.{after_lines}
 use Rattle.aero_access.specs.Judgement.{IsTold}
-use Rattle.aero_access.specs.Standing as clocks
+use Rattle.aero_leads.specs.Standing as leads
 use Rattle.aero_shape.specs.Standing as shapes
 use Rattle.aero_verdict.specs.declared.checker.Checker.{Checker}
 use Rattle.aero_verdict.specs.declared.checker.Stop.{Stop}
@@ -46,10 +46,10 @@ pub record Counts (limits : Limits) (checker : Checker) (events : List (ℕ × N
   pub lines_are : (t : ℕ) → 0 < blocks (trace_in events) t checker.shape.admitted → LastBegins events checker.shape.admitted t (begin_line checker.blocks t)
   pub lawful : IsLawful limits (trace_in events) checker.shape.admitted
 
--- So are the clocks, and there is no telling cycle.
+-- So are the leads, and there is no telling cycle.
 pub record StandsFor (limits : Limits) (checker : Checker) (events : List (ℕ × Named)) : Type 0 where
   pub counts : Counts limits checker events
-  pub clocks_stand : clocks.StandsFor checker.clocks (take checker.shape.admitted (trace_in events))
+  pub leads_stand : leads.StandsFor checker.leads (take checker.shape.admitted (trace_in events))
 
 -- it stands for events of the list, and this is the event after them
 abbrev pub IsNext : Limits → Checker → List (ℕ × Named) → ℕ × Named → Type 0

@@ -86,8 +86,8 @@ fn make_room(lines: &mut Vec<u32>, t: u32) -> Result<(), AllocError>
     ensures same { (u : ℕ) → slice_index_or lines.new.items u 0 ≡ slice_index_or lines.old.items u 0 }
 {
     let at = t as usize;
-    while lines.len() <= at {
-        lines.push(0)?;
+    if at < lines.len() {
+        return Ok(());
     }
-    Ok(())
+    lines.resize(at + 1, 0)
 }

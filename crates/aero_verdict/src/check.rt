@@ -1,3 +1,4 @@
+//! The verdict on what the parts of a trace say.
 ghost use Rattle.std.specs.Prelude.{◌≡◌, ◌≢◌, ◌-◌, ℕ, List, Some, IfOk, OnOk, OnErr};
 ghost use Rattle.aero_model.specs.declared.limits.Limits.{Limits};
 ghost use Rattle.aero_grammar.specs.Reading.{Reading, fault_within};

@@ -6,10 +6,10 @@ use crate::blocks::Blocks;
 use crate::judge::judge;
 use crate::known::{BlockNames, Known};
 use crate::numbering::Numbering;
-use aero_access::clocks::Clocks;
-use aero_model::event::Numbered;
+use aero_leads::leads::Leads;
 use aero_model::limits::Limits;
 use aero_model::name::Name;
+use aero_model::numbered::Numbered;
 use aero_model::verdict::ShapeFault;
 use aero_shape::shape::Shape;
 use std::alloc::{AllocError, Global};
@@ -24,19 +24,21 @@ pub(crate) enum Stop {
 }
 
 // What is kept of the events that were admitted: their names, what they make of each thread and
-// lock, the clocks, and their outermost blocks.
+// lock, to which of them open blocks lead, and their outermost blocks.
 #[derive(Drop)]
 pub(crate) struct Checker {
     numbering: Numbering,
     shape: Shape,
-    clocks: Clocks,
+    leads: Leads,
     blocks: Blocks,
 }
 
 impl Checker {
-    ghost use Rattle.std.specs.Prelude.{◌≡◌, ◌≢◌, ◌+◌, ◌-◌, ◌≤◌, ◌<◌, ◌^◌, ℕ, List, length, slice_get, Some, OnOk, IfOk, IfErr};
+    ghost use Rattle.std.specs.Prelude.{◌≡◌, ◌≢◌, ◌+◌, ◌-◌, ◌≤◌, ◌<◌, ◌^◌, ℕ, List, length, slice_get, Some, IsOk, OnOk, IfOk, IfErr};
     ghost use Rattle.aero_model.specs.declared.limits.Limits.{Limits};
     ghost use Rattle.aero_model.specs.Named.{Named};
+    ghost use Rattle.aero_model.specs.Names.{most_inline_bytes};
+    ghost use Rattle.aero_grammar.specs.Words.{IsName};
     ghost use Rattle.aero_verdict.specs.Begun.{begin_line};
     ghost use Rattle.aero_verdict.specs.Kept.{StandsFor, IsNext, IsExpected, Refuses, Judged, up_to, AreNext, AreExpected, StopsIn};
     ghost use Rattle.aero_grammar.specs.Tabled.{named_in, lines_in};
@@ -51,7 +53,7 @@ impl Checker {
         Checker {
             numbering: Numbering::new(alloc, limits),
             shape: Shape::new(alloc),
-            clocks: Clocks::new(alloc),
+            leads: Leads::new(alloc),
             blocks: Blocks::new(alloc),
         }
     }
@@ -77,9 +79,11 @@ impl Checker {
         self.blocks.pending()
     }
 
-    // The name of the thread with this number, which an event has named.
+    // The name of the thread with this number, which an event has named. It takes no memory up to 16
+    // bytes.
     pub(crate) fn thread_name(&self, alloc: Global, t: u32) -> Result<Name, AllocError>
-        ensures { IfOk result (λ name. slice_get (names_in self.now.numbering).threads t ≡ Some name) }
+        ensures name { IfOk result (λ name. slice_get (names_in self.now.numbering).threads t ≡ Some name) }
+        ensures short { (name : List ℕ) → slice_get (names_in self.now.numbering).threads t ≡ Some name → IsName name → length name ≤ most_inline_bytes → IsOk result }
     {
         self.numbering.thread_name(alloc, t)
     }
@@ -116,7 +120,7 @@ impl Checker {
         if self.blocks.count(admitted, numbered.thread, line).is_err() {
             return Err(ShapeFault::Memory);
         }
-        match judge(&mut self.clocks, &numbered, admitted) {
+        match judge(&mut self.leads, &numbered, admitted) {
             Ok(told) => Ok(told),
             Err(_) => Err(ShapeFault::Memory),
         }

@@ -1,9 +1,9 @@
 //! The numbers of names: threads, variables and locks each for themselves, in order of first
 //! appearance, and no more of each than the limits allow.
 use crate::known::{BlockNames, Known, number_known};
-use aero_model::event::{Numbered, What};
 use aero_model::limits::Limits;
-use aero_model::name::Name;
+use aero_model::name::{Name, NameFault};
+use aero_model::numbered::{Numbered, What};
 use aero_model::verdict::ShapeFault;
 use aero_names::names::Names;
 use std::alloc::{AllocError, Global};
@@ -17,7 +17,9 @@ pub(crate) struct Numbering {
 }
 
 impl Numbering {
-    ghost use Rattle.std.specs.Prelude.{◌≡◌, [], slice_get, Some, IfOk, IfErr, OnOk};
+    ghost use Rattle.std.specs.Prelude.{◌≡◌, ◌≤◌, ℕ, List, [], length, slice_get, Some, IfOk, IfErr, IsOk, OnOk};
+    ghost use Rattle.aero_model.specs.Names.{most_inline_bytes};
+    ghost use Rattle.aero_grammar.specs.Words.{IsName};
     ghost use Rattle.aero_grammar.specs.Tabled.{op_of, target_in, named_in};
     ghost use Rattle.aero_verdict.specs.Known.{tables_in, Knows};
     ghost use Rattle.aero_verdict.specs.Limited.{names_in, IsLimited, NumbersTarget, RefusesTarget, NumbersEvent, RefusesEvent};
@@ -34,16 +36,21 @@ impl Numbering {
         }
     }
 
-    // The name of the thread with this number.
+    // The name of the thread with this number, which takes no memory up to 16 bytes.
+    //
+    // An error says that memory was refused to a longer name. Numbers that no thread has, and bytes
+    // that are no name, which no event has, have it too.
     pub(crate) fn thread_name(&self, alloc: Global, t: u32) -> Result<Name, AllocError>
-        ensures { IfOk result (λ name. slice_get (names_in self.now).threads t ≡ Some name) }
+        ensures name { IfOk result (λ name. slice_get (names_in self.now).threads t ≡ Some name) }
+        ensures short { (name : List ℕ) → slice_get (names_in self.now).threads t ≡ Some name → IsName name → length name ≤ most_inline_bytes → IsOk result }
     {
         let Some(bytes) = self.threads.name(t) else {
             return Err(AllocError);
         };
         match Name::read(alloc, bytes) {
             Ok(name) => Ok(name),
-            Err(_) => Err(AllocError),
+            Err(NameFault::Memory) => Err(AllocError),
+            Err(NameFault::Empty | NameFault::TooLong | NameFault::BadByte) => Err(AllocError),
         }
     }
 

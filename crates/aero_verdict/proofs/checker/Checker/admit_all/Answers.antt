@@ -1,7 +1,7 @@
 use Rattle.std.proofs.Common.{ℕ}
 use Rattle.std.specs.Prelude.{slice_index_or}
-use Rattle.aero_model.specs.declared.event.Numbered.{Numbered}
-use Rattle.aero_model.specs.declared.event.What.TheVariants.{Read}
+use Rattle.aero_model.specs.declared.numbered.Numbered.{Numbered}
+use Rattle.aero_model.specs.declared.numbered.What.TheVariants.{Read}
 use Rattle.aero_grammar.specs.Tabled.{line_in, lines_in}
 use Rattle.aero_verdict.specs.Known.{tables_in}
 use Rattle.aero_verdict.proofs.KnownLines.{line_at, line_less}

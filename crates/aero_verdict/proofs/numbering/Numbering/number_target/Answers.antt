@@ -1,5 +1,5 @@
 use Rattle.std.proofs.Common.{sym, subst}
-use Rattle.aero_model.specs.declared.event.What.TheVariants.{Read, Write, Acquire, Release, Fork, Join}
+use Rattle.aero_model.specs.declared.numbered.What.TheVariants.{Read, Write, Acquire, Release, Fork, Join}
 use Rattle.aero_grammar.specs.Tabled.{name_at, op_of, target_in}
 use Rattle.aero_verdict.specs.Known.{tables_in}
 use Rattle.aero_verdict.specs.Limited.{NumbersTarget}
