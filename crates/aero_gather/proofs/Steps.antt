@@ -1,11 +1,11 @@
 -- Each call keeps what a gatherer keeps.
-use Rattle.std.proofs.Common.{◌≡◌, ℕ, zero, suc, ◌+◌, ◌-◌, ◌<◌, ◌≤◌, Bool, true, false, cond, List, [], ◌∷◌, length, get_or, slice_get, slice_set, Option, Some, None, is_none, is_some, IfSome, drop, refl, sym, ◌∙◌, ap, subst, arith}
+use Rattle.std.proofs.Common.{◌≡◌, ℕ, zero, suc, ◌+◌, ◌-◌, ◌<◌, ◌≤◌, Bool, true, cond, List, [], ◌∷◌, length, get_or, slice_get, slice_set, Option, Some, None, is_none, is_some, IfSome, drop, refl, sym, ◌∙◌, ap, subst, arith}
 use Rattle.std.specs.Prelude.{count_by}
 use Rattle.std.proofs.lemmas.Bool.{le-leb}
 use Rattle.std.proofs.lemmas.List.{length-set}
 use Rattle.std.proofs.lemmas.List.Elements.{All-set}
 use Rattle.std.proofs.lemmas.List.Sums.{sum_by-cons}
-use Rattle.std.proofs.lemmas.Option.{get_or_from_slice_get, slice_get_read}
+use Rattle.std.proofs.lemmas.Option.{get_or_from_slice_get}
 use Rattle.aero_pieces.specs.declared.question.Question.{Question}
 use Rattle.aero_pieces.specs.declared.answer.Value.{Value}
 use Rattle.aero_pieces.specs.Values.{IsValueOf}
@@ -83,36 +83,24 @@ module _ (g : Gathered) (is : IsGathered g) where
         values = All-set (λ e. IfSome e.value (IsValueOf e.question)) g.entries place new (subst (λ p. IsValueOf p v) (sym k.waits.0) known) is.values;
       }
 
-by_none : {A : Type 0} (o : Option Value) (x y : A) → is_some o ≡ false → cond (is_none o) x y ≡ x
-by_none None x y no_value = refl
-by_none (Some v) x y no_value = cc
-
-by_some : {A : Type 0} (o : Option Value) (x y : A) → is_some o ≡ true → cond (is_none o) x y ≡ y
-by_some None x y has_value = cc
-by_some (Some v) x y has_value = refl
-
 set_same : (entries : List Entry) (place : ℕ) (e : Entry) → slice_get entries place ≡ Some e → slice_set entries place e ≡ entries
 set_same [] place e at = refl
 set_same (c ∷ more) zero e at = ap (λ d. d ∷ more) (the_some e c (sym at))
 set_same (c ∷ more) (suc place) e at = ap (λ es. c ∷ es) (set_same more place e at)
 
--- what is noted of the entry s, at the ticket's place
-module _ (n m k : ℕ) (entries : List Entry) (s : Entry) (gone : n ≡ m) (le : m ≤ k) (less : k - m < length entries) (at : s ≡ get_or entries (k - n) s) where
-  abbrev there : slice_get entries (k - m) ≡ Some s
-  there = slice_get_read entries (length entries) (k - m) s refl less (subst (λ x. s ≡ get_or entries (k - x) s) gone at)
+abbrev missed_of : Entry → Entry
+missed_of e = cond (is_none e.value) (record e { missed = true }) e
 
-  noted_is : with_note m k entries ≡ cond (is_none s.value) (slice_set entries (k - m) (record s { missed = true })) entries
-  noted_is = ap (λ b. cond b (noted entries (k - m) (slice_get entries (k - m))) entries) (le-leb m k le) ∙ ap (noted entries (k - m)) there
+note_there : (entries : List Entry) (place : ℕ) (question : Question) (value : Option Value) (missed : Bool) → slice_get entries place ≡ Some (record { question = question; value = value; missed = missed }) →
+    slice_set entries place (missed_of (record { question = question; value = value; missed = missed })) ≡ noted entries place (Some (record { question = question; value = value; missed = missed }))
+note_there entries place question None missed at = refl
+note_there entries place question (Some v) missed at = set_same entries place (record { question = question; value = Some v; missed = missed }) at
 
-  pub note_missed : is_some s.value ≡ false → slice_set entries (k - n) (record { question = s.question; value = s.value; missed = true }) ≡ with_note m k entries
-  note_missed no_value =
-      ap (λ x. slice_set entries (k - x) (record { question = s.question; value = s.value; missed = true })) gone
-      ∙ sym (noted_is ∙ by_none s.value _ entries no_value)
-
-  pub note_nothing : is_some s.value ≡ true → slice_set entries (k - n) s ≡ with_note m k entries
-  note_nothing has_value =
-      ap (λ x. slice_set entries (k - x) s) gone ∙ set_same entries (k - m) s there
-      ∙ sym (noted_is ∙ by_some s.value (slice_set entries (k - m) (record s { missed = true })) entries has_value)
+-- what is noted of the entry s, which is at the ticket's place, m is how many were settled
+pub note_at : (m k : ℕ) (entries : List Entry) (s : Entry) → m ≤ k → slice_get entries (k - m) ≡ Some s → slice_set entries (k - m) (missed_of s) ≡ with_note m k entries
+note_at m k entries s le at =
+    note_there entries (k - m) s.question s.value s.missed at
+    ∙ sym (ap (λ b. cond b (noted entries (k - m) (slice_get entries (k - m))) entries) (le-leb m k le) ∙ ap (noted entries (k - m)) at)
 
 value_settles : (g : Gathered) (question : Question) (value : Option Value) (missed : Bool) (more : List Entry) → is_some value ≡ true →
     Settles g (record { question = question; value = value; missed = missed } ∷ more) (record { window = g.window; entries = more; tally = g.tally }) value

@@ -52,6 +52,14 @@ Accepts q v old new accepted.Stranger = (¬ IsOpenQuestion q old.entries) × (ne
 abbrev pub with_missed : Gathered → ℕ → Gathered
 with_missed g ticket = record g { entries = with_note (g.tally.asked - length g.entries) ticket g.entries }
 
+-- The question with the ticket is open, has no value, and wasn't noted as missed. As many were settled as were asked and aren't open.
+pub record IsAwaited (g : Gathered) (ticket : ℕ) : Type 0 where
+  pub entry : Entry
+  pub was_asked : g.tally.asked - length g.entries ≤ ticket
+  pub at_place : slice_get g.entries (ticket - (g.tally.asked - length g.entries)) ≡ Some entry
+  pub no_value : entry.value ≡ None
+  pub not_missed : entry.missed ≡ false
+
 abbrev pub state_of : Option Value → Bool → Oldest
 state_of (Some v) missed = oldest.Kept
 state_of None true = oldest.Missed

@@ -1,8 +1,9 @@
-ghost use Rattle.std.specs.Prelude.{◌≡◌, ◌<◌, ◌≤◌, ◌^◌, ◌-◌, length, slice_get, option_map, IfOk, IfErr, OnOk, OnErr};
+//! Open questions in their order, and the answers that are kept for them.
+ghost use Rattle.std.specs.Prelude.{◌≡◌, ◌<◌, ◌≤◌, ◌^◌, ◌-◌, ◌↔◌, length, slice_get, option_map, IsTrue, IfOk, IfErr, OnOk, OnErr};
 ghost use Rattle.std.specs.Arc.{arc_value};
-ghost use Rattle.aero_gather.specs.Gathered.{IsGathered, Accepts, Settles, nothing_gathered, with_asked, with_missed, oldest_of};
+ghost use Rattle.aero_gather.specs.Gathered.{IsGathered, Accepts, Settles, IsAwaited, nothing_gathered, with_asked, with_missed, oldest_of};
 
-use crate::slot::{Slot, has_question, oldest_waiting};
+use crate::slot::{Slot, has_question, miss, oldest_waiting};
 use aero_pieces::answer::{Answer, Value};
 use aero_pieces::question::Question;
 use std::alloc::{AllocError, Global};
@@ -139,19 +140,18 @@ impl Gather {
         }
     }
 
-    /// Notes that no answer is to be awaited for the question with this ticket. Where it isn't open
-    /// or has an answer nothing changes.
-    pub fn note_missed(&mut self, ticket: Ticket)
-        ensures { self.new ≡ with_missed self.old ticket.number }
+    /// Notes that no answer is to be awaited for the question with this ticket, and says whether that
+    /// is news: the question is open, has no answer and wasn't noted as missed. Where it isn't news
+    /// nothing changes.
+    pub fn note_missed(&mut self, ticket: Ticket) -> bool
+        ensures news { IsTrue result ↔ IsAwaited self.old ticket.number }
+        ensures noted { self.new ≡ with_missed self.old ticket.number }
     {
         let settled = self.tally.asked - self.slots.len() as u64;
         if ticket.number < settled || self.tally.asked <= ticket.number {
-            return;
+            return false;
         }
-        let slot = &mut self.slots[(ticket.number - settled) as usize];
-        if slot.value.is_none() {
-            slot.missed = true;
-        }
+        miss(&mut self.slots[(ticket.number - settled) as usize])
     }
 
     /// What is known of the oldest open question.

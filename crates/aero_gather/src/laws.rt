@@ -1,3 +1,4 @@
+//! That values come in the order of the questions, and that each call is a step of the schedule.
 ghost use Rattle.aero_gather.specs.Laws.{CallsAreSteps, GivesInOrder};
 
 /// Whatever is called on a new gatherer, in whatever order, and whatever answers come, the values

@@ -1,4 +1,5 @@
-ghost use Rattle.std.specs.Prelude.{◌↔◌, length, IsTrue, IfSome, IfNone};
+//! An open question, and the search for the one that an answer is for.
+ghost use Rattle.std.specs.Prelude.{◌≡◌, ◌↔◌, length, IsTrue, IfSome, IfNone, None, true, false, is_none, if◌then◌else◌};
 ghost use Rattle.aero_pieces.specs.Schedule.{NoneWaits};
 ghost use Rattle.aero_gather.specs.Gathered.{IsOldestWaiting, IsOpenQuestion};
 
@@ -7,6 +8,7 @@ use aero_pieces::question::Question;
 use aero_pieces::same;
 use std::alloc::Global;
 use std::marker::Model;
+use std::mem;
 use std::sync::Arc;
 
 /// An open question, the value that was kept for it, and whether no answer is to be awaited.
@@ -51,4 +53,15 @@ pub fn has_question(slots: &[Slot], question: &Question) -> bool
         }
     }
     false
+}
+
+// Notes that no answer is to be awaited, where there is none yet. The answer says whether it is news.
+pub fn miss(slot: &mut Slot) -> bool
+    ensures news { IsTrue result ↔ ((slot.old.value ≡ None) × (slot.old.missed ≡ false)) }
+    ensures noted { slot.new ≡ if is_none slot.old.value then record slot.old { missed = true } else slot.old }
+{
+    if slot.value.is_some() {
+        return false;
+    }
+    !mem::replace(&mut slot.missed, true)
 }

@@ -1,13 +1,14 @@
+//! The crew: its start, its jobs and replies, and its close.
 ghost use Rattle.std.specs.Prelude.{◌≡◌, ℕ, ◌+◌, ◌-◌, ◌≤◌, IfOk, OnOk, IfErr, OnErr, All, [], ◌∷◌, ◌++◌, length, map, sum_by, vec_len, vec_capacity};
 ghost use Rattle.aero_pieces.specs.Kept.{IsSubsequence, times};
-ghost use Rattle.aero_stage.specs.Ends.{IsSettled};
+ghost use Rattle.aero_stage.specs.Ends.{IsSettled, IsStage};
 ghost use Rattle.aero_worker.specs.Shifts.{lists_of, number_of, Tells};
 
 use crate::gate::Gate;
 use crate::reply::Reply;
 use crate::seed::{hire, make_seeds};
 use crate::shift::{Honest, Shift};
-use aero_stage::{Full, Job, Poster, stage};
+use aero_stage::{Full, Job, Poster, Taker, stage};
 use crossbeam_channel::Receiver;
 use std::alloc::{AllocError, Global};
 use std::marker::Model;
@@ -91,6 +92,15 @@ fn join_all<R: Threads>(
     }
 }
 
+// The queue of so many workers, and a Taker for each.
+fn queue_for(alloc: Global, workers: u32) -> Result<(Poster, Vec<Taker>), AllocError>
+    requires some { 1 ≤ workers }
+    requires few { workers ≤ 16 }
+    ensures { IfOk result (λ queue. IsStage 64 workers queue.0 queue.1.items) }
+{
+    stage(alloc, PLACES, workers)
+}
+
 /// Workers, and the queue of their jobs. `close` joins the workers, and a drop doesn't.
 #[derive(Drop)]
 pub struct Crew {
@@ -150,7 +160,7 @@ impl Crew {
         ensures posted { IfOk result (λ crew. crew.posted ≡ []) }
         ensures workers { IfOk result (λ crew. crew.workers ≤ n) }
     {
-        let (mut poster, takers) = stage(alloc, PLACES, n)?;
+        let (mut poster, takers) = queue_for(alloc, n)?;
         let left = Vec::with_capacity(alloc, PLACES as usize)?;
         let mut by_worker = Vec::with_capacity(alloc, n as usize)?;
         let mut running = Vec::with_capacity(alloc, n as usize)?;
@@ -206,6 +216,13 @@ impl Crew {
         ensures { self.new ≡ self.old }
     {
         self.replies.recv(rt).ok()
+    }
+
+    /// A reply that has come, without waiting for one. `None` doesn't say that none is to come.
+    pub fn ready_answer<R: Wait>(&mut self, rt: &R) -> Option<Reply>
+        ensures { self.new ≡ self.old }
+    {
+        self.replies.try_recv(rt).ok()
     }
 
     /// Takes back what no worker has taken, gives up the replies that nobody has received yet, waits

@@ -1,3 +1,4 @@
+//! A caller's own code round each answer.
 use aero_pieces::answer::Answer;
 use aero_pieces::question::Question;
 

@@ -11,6 +11,8 @@
 //!
 //! A `Gate` is a caller's own code, which each worker runs before it works an answer out, and after.
 //!
+//! `Helpers` are whoever takes jobs and may reply, of whom nothing is promised: a `Crew`, or a caller's own.
+//!
 //! Of a reply its type alone tells something: the answer that it holds is that of the question which
 //! the answer carries. Nothing is promised on how many replies come, in what order, from which worker
 //! or when, nor that a call which waits returns.
@@ -29,6 +31,7 @@
 
 mod crew;
 mod gate;
+mod helpers;
 pub mod laws;
 mod reply;
 mod seed;
@@ -38,4 +41,5 @@ mod tests;
 
 pub use crew::{Crew, CrewReport};
 pub use gate::{Gate, NoGate};
+pub use helpers::Helpers;
 pub use reply::Reply;

@@ -1,3 +1,4 @@
+//! What a worker tells of a job that it took.
 ghost use Rattle.std.specs.Prelude.{◌≡◌, IfOk, IfErr};
 ghost use Rattle.aero_worker.specs.Shifts.{IsReplyTo};
 

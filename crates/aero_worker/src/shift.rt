@@ -1,10 +1,10 @@
 // What one worker does.
-ghost use Rattle.std.specs.Prelude.{◌≡◌, [], map};
+ghost use Rattle.std.specs.Prelude.{◌≡◌, ◌<◌, ◌++◌, ◌∷◌, [], map, vec_len, vec_capacity};
 ghost use Rattle.aero_worker.specs.Shifts.{IsShiftOf, number_of};
 
 use crate::gate::Gate;
 use crate::reply::{Reply, reply_to};
-use aero_stage::Taker;
+use aero_stage::{Job, Taker};
 use crossbeam_channel::Sender;
 use std::alloc::Global;
 use std::snapshot::Snapshot;
@@ -32,6 +32,14 @@ pub(crate) fn tell<R: Wait>(rt: &R, replies: &Sender<Reply>, reply: Reply) {
     let _ = replies.send(rt, reply);
 }
 
+// Notes the number of a job that was taken, for which there is room.
+fn note(numbers: &mut Vec<u64>, job: &Job)
+    requires { vec_len numbers.old < vec_capacity numbers.old }
+    ensures { numbers.new.items ≡ numbers.old.items ++ job.now.number ∷ [] }
+{
+    numbers.push_reserved(job.number);
+}
+
 // Takes jobs and replies to them until there are none, or memory for one number more is refused.
 // With the flag set it takes none.
 pub(crate) fn work<G: Gate, R: Wait>(
@@ -57,7 +65,7 @@ pub(crate) fn work<G: Gate, R: Wait>(
         let Some(job) = taker.take(rt) else {
             break;
         };
-        numbers.push_reserved(job.number);
+        note(&mut numbers, &job);
         tell(rt, replies, reply_to(alloc, gate, &job));
     }
     Shift { taker, numbers }

@@ -3,8 +3,8 @@
 use super::*;
 use crate::reply::reply_with;
 use crate::shift::tell;
-use aero_model::event::What;
 use aero_model::limits::Limits;
+use aero_model::numbered::What;
 use aero_model::verdict::Verdict;
 use aero_pieces::answer::{Answer, Value};
 use aero_pieces::question::{Bytes, Parts, Question};
