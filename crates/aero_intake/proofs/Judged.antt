@@ -3,7 +3,7 @@ use Rattle.std.proofs.Common.{◌≡◌, ℕ, suc, ◌+◌, true, List, [], ◌�
 use Rattle.std.proofs.lemmas.List.{append-nil}
 use Rattle.std.specs.Prelude.{map, option_map, slice_get, length}
 use Rattle.std.specs.List.{concat}
-use Rattle.aero_model.specs.declared.event.Numbered.{Numbered}
+use Rattle.aero_model.specs.declared.numbered.Numbered.{Numbered}
 use Rattle.aero_model.specs.declared.limits.Limits.{Limits}
 use Rattle.aero_model.specs.declared.verdict.LineFault.{LineFault}
 use Rattle.aero_model.specs.declared.verdict.ShapeFault.{ShapeFault}
@@ -14,7 +14,7 @@ use Rattle.aero_model.specs.Cycle.{HasTellingCycle, IsClosing, IsOpener}
 use Rattle.aero_model.specs.Named.{Named}
 use Rattle.aero_model.specs.Numbering.{tables_of, trace_of}
 use Rattle.aero_model.specs.Shape.{IsLawful, fault_at}
-use Rattle.aero_model.specs.Tally.{block_count, open_count}
+use Rattle.aero_model.specs.BlockCounts.{block_count, open_count}
 use Rattle.aero_grammar.specs.Reading.{Reading, reading_of, whole_reading, events_within, malformed_line}
 use Rattle.aero_grammar.proofs.Joined.{reading_of-cap, reading_of-concat}
 use Rattle.aero_lines.specs.Cutting.{nothing_yet, blocks_from}
@@ -29,7 +29,7 @@ blocks_read pieces =
     reading_of-concat (blocks_from nothing_yet pieces) law.1 ∙ (ap reading_of law.0 ∙ reading_of-cap (concat pieces))
 
 -- one part alone
-one_read : (r : Reading) → whole_reading (r ∷ []) ≡ r
+pub one_read : (r : Reading) → whole_reading (r ∷ []) ≡ r
 one_read r = go r.events r.lines r.fault
   where
     go : (events : List (ℕ × Named)) (lines : ℕ) (fault : Option (ℕ × LineFault)) →
@@ -39,37 +39,38 @@ one_read r = go r.events r.lines r.fault
         ap (λ es. record { events = es; lines = lines + 0; fault = None }) (append-nil events) ∙ ap (λ n. record { events = events; lines = n; fault = None }) none
     go events lines (Some f) = refl
 
--- a verdict speaks of parts through what they say as one
-module _ (limits : Limits) (parts others : List Reading) (same : whole_reading parts ≡ whole_reading others) where
-  abbrev counted : Reading → List (ℕ × Named)
-  counted r = events_within limits.lines r
+-- a verdict speaks of parts through the events that count and the malformed line
+module _ (limits : Limits) (parts others : List Reading) (same : events_within limits.lines (whole_reading parts) ≡ events_within limits.lines (whole_reading others))
+    (same_fault : malformed_line limits.lines (whole_reading parts) ≡ malformed_line limits.lines (whole_reading others)) where
+  abbrev counted : List Reading → List (ℕ × Named)
+  counted rs = events_within limits.lines (whole_reading rs)
 
-  abbrev named : Reading → List Named
-  named r = map (λ e. e.1) (counted r)
+  abbrev named : List (ℕ × Named) → List Named
+  named es = map (λ e. e.1) es
 
-  abbrev trace : Reading → List Numbered
-  trace r = trace_of (named r)
+  abbrev trace : List (ℕ × Named) → List Numbered
+  trace es = trace_of (named es)
 
-  on_line : (n line : ℕ) → option_map (λ e. e.0) (slice_get (counted (whole_reading parts)) n) ≡ Some line → option_map (λ e. e.0) (slice_get (counted (whole_reading others)) n) ≡ Some line
-  on_line n line is = subst (λ r. option_map (λ e. e.0) (slice_get (counted r) n) ≡ Some line) same is
+  on_line : (n line : ℕ) → option_map (λ e. e.0) (slice_get (counted parts) n) ≡ Some line → option_map (λ e. e.0) (slice_get (counted others) n) ≡ Some line
+  on_line n line is = subst (λ es. option_map (λ e. e.0) (slice_get es n) ≡ Some line) same is
 
-  lawful : (n : ℕ) → IsLawful limits (trace (whole_reading parts)) n → IsLawful limits (trace (whole_reading others)) n
-  lawful n is = subst (λ r. IsLawful limits (trace r) n) same is
+  lawful : (n : ℕ) → IsLawful limits (trace (counted parts)) n → IsLawful limits (trace (counted others)) n
+  lawful n is = subst (λ es. IsLawful limits (trace es) n) same is
 
   clean : (n : ℕ) → IsClean parts limits n → IsClean others limits n
   clean n is = record {
     lawful = lawful n is.lawful;
-    no_cycle = subst (λ r. ¬ HasTellingCycle (trace r) n) same is.no_cycle;
+    no_cycle = subst (λ es. ¬ HasTellingCycle (trace es) n) same is.no_cycle;
   }
 
-  clean_all : IsClean parts limits (length (trace (whole_reading parts))) → IsClean others limits (length (trace (whole_reading others)))
-  clean_all is = subst (λ r. IsClean others limits (length (trace r))) same (clean _ is)
+  clean_all : IsClean parts limits (length (trace (counted parts))) → IsClean others limits (length (trace (counted others)))
+  clean_all is = subst (λ es. IsClean others limits (length (trace es))) same (clean _ is)
 
   begins : (t number line : ℕ) → BeginsOnLine parts limits t number line → BeginsOnLine others limits t number line
   begins t number line is = record {
     place = is.place;
-    outermost = subst (λ r. opens (trace r) t is.place ≡ true) same is.outermost;
-    block = subst (λ r. transaction (trace r) is.place ≡ Block t number) same is.block;
+    outermost = subst (λ es. opens (trace es) t is.place ≡ true) same is.outermost;
+    block = subst (λ es. transaction (trace es) is.place ≡ Block t number) same is.block;
     line_of = on_line is.place line is.line_of;
   }
 
@@ -77,12 +78,12 @@ module _ (limits : Limits) (parts others : List Reading) (same : whole_reading p
   violation line thread begun is = record {
     place = is.place;
     lawful = lawful (suc is.place) is.lawful;
-    closing = subst (λ r. IsClosing (trace r) is.place) same is.closing;
+    closing = subst (λ es. IsClosing (trace es) is.place) same is.closing;
     line_of = on_line is.place line is.line_of;
     t = is.t;
     number = is.number;
-    opener = subst (λ r. IsOpener (trace r) (suc is.place) is.t is.number) same is.opener;
-    name = subst (λ r. slice_get (tables_of (named r)).threads is.t ≡ Some thread) same is.name;
+    opener = subst (λ es. IsOpener (trace es) (suc is.place) is.t is.number) same is.opener;
+    name = subst (λ es. slice_get (tables_of (named es)).threads is.t ≡ Some thread) same is.name;
     begins = begins is.t is.number begun is.begins;
   }
 
@@ -90,23 +91,23 @@ module _ (limits : Limits) (parts others : List Reading) (same : whole_reading p
   ill_formed line fault is = record {
     place = is.place;
     clean = clean is.place is.clean;
-    cause = subst (λ r. fault_at limits (trace r) is.place ≡ Some fault) same is.cause;
+    cause = subst (λ es. fault_at limits (trace es) is.place ≡ Some fault) same is.cause;
     line_of = on_line is.place line is.line_of;
   }
 
   malformed : (line : ℕ) (fault : LineFault) → IsMalformed parts limits line fault → IsMalformed others limits line fault
   malformed line fault is = record {
     clean = clean_all is.clean;
-    cause = subst (λ r. malformed_line limits.lines r ≡ Some (line, fault)) same is.cause;
+    cause = sym same_fault ∙ is.cause;
   }
 
   faultless : (events blocks pending : ℕ) → IsFaultless parts limits events blocks pending → IsFaultless others limits events blocks pending
   faultless events blocks pending is = record {
     clean = clean_all is.clean;
-    no_fault = subst (λ r. malformed_line limits.lines r ≡ None) same is.no_fault;
-    events_are = subst (λ r. events ≡ length (trace r)) same is.events_are;
-    blocks_are = subst (λ r. blocks ≡ block_count (trace r)) same is.blocks_are;
-    open_are = subst (λ r. pending ≡ open_count (trace r)) same is.open_are;
+    no_fault = sym same_fault ∙ is.no_fault;
+    events_are = subst (λ es. events ≡ length (trace es)) same is.events_are;
+    blocks_are = subst (λ es. blocks ≡ block_count (trace es)) same is.blocks_are;
+    open_are = subst (λ es. pending ≡ open_count (trace es)) same is.open_are;
   }
 
   pub same_verdict : (verdict : Verdict) → IsVerdict parts limits verdict → IsVerdict others limits verdict
@@ -122,4 +123,6 @@ judged_alike pieces limits verdict =
     let parts = map reading_of (blocks_from nothing_yet pieces) in
     let text = reading_of (concat pieces) in
     let same : whole_reading parts ≡ whole_reading (text ∷ []) = blocks_read pieces ∙ sym (one_read text) in
-    (same_verdict limits parts (text ∷ []) same verdict, same_verdict limits (text ∷ []) parts (sym same) verdict)
+    let events = ap (events_within limits.lines) same in
+    let fault = ap (malformed_line limits.lines) same in
+    (same_verdict limits parts (text ∷ []) events fault verdict, same_verdict limits (text ∷ []) parts (sym events) (sym fault) verdict)

@@ -1,3 +1,4 @@
+pub mod Decided
 pub mod Judged
 pub mod Taken
 pub mod Tracked

@@ -7,7 +7,7 @@ use Rattle.std.specs.List.{concat}
 use Rattle.std.specs.Io.KnownBytes.{Consumes}
 use Rattle.aero_model.specs.declared.verdict.Ending.{Ending}
 use Rattle.aero_model.specs.declared.verdict.Ending.TheVariants.{Whole, Broken, TooLarge}
-use Rattle.aero_model.specs.Counts.{Seen}
+use Rattle.aero_model.specs.CallCounts.{Seen}
 use Rattle.aero_lines.specs.Cutting.{Cutting, nothing_yet, fed, block_of, last_block, blocks_from}
 use Rattle.aero_intake.specs.Source.{WasRead}
 use Rattle.aero_intake.specs.Intake.{Taking, nothing_taken, with_piece, fed_all, blocks_so_far, IsTaken, HaveCome, Comes, Ends}

@@ -1,6 +1,6 @@
 -- Asking and settling questions keep what is known of each source.
 use Rattle.std.proofs.Common.{◌≡◌, ℕ, zero, suc, ◌≤◌, List, [], ◌∷◌, ◌++◌, map, length, slice_get, slice_set, Option, Some, None, refl, sym, ◌∙◌, ap, ap₂, subst, append_assoc, inl, inr, arith}
-use Rattle.std.specs.Prelude.{All, option_map, if◌then◌else◌}
+use Rattle.std.specs.Prelude.{All, true, option_map, if◌then◌else◌}
 use Rattle.std.specs.List.{concat}
 use Rattle.std.proofs.Math.Logic.{∥∥₁_elim}
 use Rattle.std.proofs.lemmas.Bool.{cases_eq, eq-eqb, ne_eqb}
@@ -22,8 +22,9 @@ use Rattle.aero_verdict.specs.Finding.{IsFinding}
 use Rattle.aero_verdict.specs.Verdict.{IsVerdict}
 use Rattle.aero_intake.specs.declared.track.Track.{Track}
 use Rattle.aero_intake.specs.declared.track.Track.TheVariants.{Arriving, Arrived, Checking, Found}
-use Rattle.aero_intake.specs.Stories.{Story, Asked, own_block, own_check, blocks_asked, checks_asked, HasArrived, AreSettled, IsTracked, AreTracked, changed, trace_of}
-use Rattle.aero_intake.specs.Tracks.{with_value}
+use Rattle.aero_intake.specs.Stories.{Story, Asked, AreEnough, own_block, own_check, blocks_asked, checks_asked, HasArrived, AreSettled, IsTracked, AreTracked, changed, trace_of}
+use Rattle.aero_intake.specs.Tracks.{decides, with_value}
+use Rattle.aero_intake.proofs.Decided.{first_blocks_decide, more_decide}
 use Rattle.aero_intake.proofs.Judged.{judged_alike}
 use Rattle.aero_intake.proofs.Values.{parsed_value, not_judged, not_parsed}
 
@@ -108,13 +109,50 @@ part_settled story rest s trace number bytes readings r same is before =
     ∙ (ap (λ x. readings ++ (x ∷ map reading_of (blocks_asked s rest))) is
     ∙ (sym (ap (λ bs. readings ++ map reading_of (bs ++ blocks_asked s rest)) (own_block-same s trace number bytes same)) ∙ before))
 
+-- the blocks that were asked about have the verdict of all
+enough_judged : (limits : Limits) (asked all : List (List ℕ)) (w : Verdict) → AreEnough limits asked all → IsVerdict (map reading_of asked) limits w → IsVerdict (map reading_of all) limits w
+enough_judged limits asked all w (inl same) is = subst (λ bs. IsVerdict (map reading_of bs) limits w) same is
+enough_judged limits asked all w (inr alike) is =
+    let first = (first_blocks_decide alike.front alike.rest limits w alike.decided).1 (subst (λ bs. IsVerdict (map reading_of bs) limits w) alike.asked_are is) in
+    subst (λ bs. IsVerdict (map reading_of bs) limits w) (sym alike.all_are) ((first_blocks_decide alike.front alike.others limits w alike.decided).0 first)
+
+-- one more block is asked about, or none
+pub enough_asked : (limits : Limits) (asked all more : List (List ℕ)) → AreEnough limits asked all → AreEnough limits (asked ++ more) (all ++ more)
+enough_asked limits asked all more (inl same) = inl (ap (λ bs. bs ++ more) same)
+enough_asked limits asked all more (inr alike) = inr (record {
+  front = alike.front;
+  rest = alike.rest ++ more;
+  others = alike.others ++ more;
+  asked_are = ap (λ bs. bs ++ more) alike.asked_are ∙ append_assoc alike.front alike.rest more;
+  all_are = ap (λ bs. bs ++ more) alike.all_are ∙ append_assoc alike.front alike.others more;
+  decided = alike.decided;
+})
+
+-- one more block is dropped, or none, where those that were asked about decide
+pub enough_dropped : (limits : Limits) (asked all more : List (List ℕ)) → decides limits (map reading_of asked) ≡ true → AreEnough limits asked all → AreEnough limits asked (all ++ more)
+enough_dropped limits asked all more decided (inl same) = inr (record {
+  front = asked;
+  rest = [];
+  others = more;
+  asked_are = sym (append-nil asked);
+  all_are = ap (λ bs. bs ++ more) (sym same);
+  decided = decided;
+})
+enough_dropped limits asked all more decided (inr alike) = inr (record {
+  front = alike.front;
+  rest = alike.rest;
+  others = alike.others ++ more;
+  asked_are = alike.asked_are;
+  all_are = ap (λ bs. bs ++ more) alike.all_are ∙ append_assoc alike.front alike.others more;
+  decided = alike.decided;
+})
+
 verdict_found : (limits : Limits) (story : Story) (bytes : ℕ) (parts : List Reading) (asked : Limits) (w : Verdict) →
     ◌≡◌ {A = Asked} (record { parts = parts; limits = asked }) (record { parts = map reading_of story.blocks; limits = limits }) →
-    HasArrived story bytes (length story.blocks) → ∥ IsVerdict parts asked w ∥₁ → ∥ IsFinding (concat story.pieces) endings.Whole limits (findings.Judged w) ∥₁
+    HasArrived limits story bytes (length story.blocks) → ∥ IsVerdict parts asked w ∥₁ → ∥ IsFinding (concat story.pieces) endings.Whole limits (findings.Judged w) ∥₁
 verdict_found limits story bytes parts asked w same has known =
     let there : ∥ IsVerdict (map reading_of story.blocks) limits w ∥₁ = subst (λ (a : Asked). ∥ IsVerdict a.parts a.limits w ∥₁) same known in
-    let cut : ∥ IsVerdict (map reading_of (blocks_from nothing_yet story.pieces)) limits w ∥₁ = subst (λ bs. ∥ IsVerdict (map reading_of bs) limits w ∥₁) has.all there in
-    ∥∥₁_elim cut squash₁ (λ v. merely (w, (judged_alike story.pieces limits w).0 v, refl))
+    ∥∥₁_elim there squash₁ (λ v. merely (w, (judged_alike story.pieces limits w).0 (enough_judged limits story.blocks (blocks_from nothing_yet story.pieces) w has.enough v), refl))
 
 -- what is known of the source of which a question is settled
 settled_own : (limits : Limits) (q : Question) (rest : List Question) (s : ℕ) (story : Story) (t : Track) (v : Value) → trace_of q ≡ s → IsValueOf q v →
@@ -182,6 +220,12 @@ asked_block limits qs s number block story pieces readings is = (
   refl,
 )
 
+-- what is settled of the blocks that were asked about decides, and so do all of them
+pub settled_decide : (limits : Limits) (qs : List Question) (s : ℕ) (story : Story) (readings : List Reading) → AreSettled story qs s readings → decides limits readings ≡ true →
+    decides limits (map reading_of story.blocks) ≡ true
+settled_decide limits qs s story readings are is =
+    subst (λ rs. decides limits rs ≡ true) are (more_decide limits readings (map reading_of (blocks_asked s qs)) is)
+
 no_blocks_left : (readings rs : List Reading) (blocks : List (List ℕ)) (bs : List (List ℕ)) → readings ++ map reading_of bs ≡ map reading_of blocks → length readings ≡ length blocks →
     readings ≡ map reading_of blocks
 no_blocks_left readings rs blocks [] is same = sym (append-nil readings) ∙ is
@@ -199,7 +243,7 @@ asked_check limits qs s bytes blocks story readings ready is =
       subst (λ cs. All (λ a. a ≡ record { parts = map reading_of story.blocks; limits = limits }) cs) (sym one)
           (All-cons (λ a. a ≡ record { parts = map reading_of story.blocks; limits = limits }) (record { parts = readings; limits = limits }) []
           (ap (λ rs. record { parts = rs; limits = limits }) all_read) (All-nil (λ a. a ≡ record { parts = map reading_of story.blocks; limits = limits }))),
-      record { ended = is.2.ended; all = is.2.all; byte_count = is.2.byte_count; block_count = refl },
+      record { ended = is.2.ended; enough = is.2.enough; byte_count = is.2.byte_count; block_count = refl },
     )
 
 -- a list with an element written at a place

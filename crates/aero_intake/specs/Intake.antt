@@ -4,7 +4,7 @@ use Rattle.std.specs.List.{concat}
 use Rattle.std.specs.Io.KnownBytes.{Consumes}
 use Rattle.aero_model.specs.declared.verdict.Ending.{Ending}
 use Rattle.aero_model.specs.declared.verdict.Ending.TheVariants.{TooLarge}
-use Rattle.aero_model.specs.Counts.{Seen}
+use Rattle.aero_model.specs.CallCounts.{Seen}
 use Rattle.aero_model.specs.Lines.{most_line_bytes}
 use Rattle.aero_lines.specs.Cutting.{Cutting, nothing_yet, fed, block_of}
 use Rattle.aero_intake.specs.Source.{WasRead, IsQuiet}

@@ -3,7 +3,7 @@ use Rattle.std.specs.Prelude.{◌≡◌, ℕ, ◌+◌, ◌≤◌, Bool, true, fa
 use Rattle.std.specs.Io.KnownBytes.{Consumes, IsAtEnd}
 use Rattle.aero_model.specs.declared.verdict.Ending.{Ending}
 use Rattle.aero_model.specs.declared.verdict.Ending.TheVariants.{Whole, Broken, TooLarge}
-use Rattle.aero_model.specs.Counts.{Seen}
+use Rattle.aero_model.specs.CallCounts.{Seen}
 
 abbrev pub is_whole : Ending → Bool
 is_whole Whole = true

@@ -1,5 +1,5 @@
 -- What is known of each source, while questions on it are asked and settled.
-use Rattle.std.specs.Prelude.{◌≡◌, ℕ, zero, suc, ◌==◌, if◌then◌else◌, List, [], ◌∷◌, ◌++◌, map, length, slice_get, Option, Some, None, All}
+use Rattle.std.specs.Prelude.{◌≡◌, ◌⊎◌, ℕ, zero, suc, ◌==◌, true, if◌then◌else◌, List, [], ◌∷◌, ◌++◌, map, length, slice_get, Option, Some, None, All}
 use Rattle.std.specs.List.{concat}
 use Rattle.aero_model.specs.declared.limits.Limits.{Limits}
 use Rattle.aero_model.specs.declared.verdict.Ending.{Ending}
@@ -13,9 +13,9 @@ use Rattle.aero_pieces.specs.Values.{IsValueOf}
 use Rattle.aero_verdict.specs.Finding.{IsFinding}
 use Rattle.aero_intake.specs.declared.track.Track.{Track}
 use Rattle.aero_intake.specs.declared.track.Track.TheVariants.{Arriving, Arrived, Checking, Found}
-use Rattle.aero_intake.specs.Tracks.{with_value}
+use Rattle.aero_intake.specs.Tracks.{decides, with_value}
 
--- what became of a source so far: the pieces that came, the blocks that they were cut into, and how it ended, if it has
+-- what became of a source so far: the pieces that came, those of the blocks that they were cut into that were asked about, and how it ended, if it has
 pub record Story : Type 0 where
   pub pieces : List (List ℕ)
   pub blocks : List (List ℕ)
@@ -44,23 +44,36 @@ abbrev pub checks_asked : ℕ → List Question → List Asked
 checks_asked s [] = []
 checks_asked s (q ∷ more) = own_check s q ++ checks_asked s more
 
--- What is known of a source that has come whole: how many bytes and blocks came.
-pub record HasArrived (story : Story) (bytes blocks : ℕ) : Type 0 where
+-- Both begin with the same blocks, and these decide.
+pub record BeginAlike (limits : Limits) (asked all : List (List ℕ)) : Type 0 where
+  pub front : List (List ℕ)
+  pub rest : List (List ℕ)
+  pub others : List (List ℕ)
+  pub asked_are : asked ≡ front ++ rest
+  pub all_are : all ≡ front ++ others
+  pub decided : decides limits (map reading_of front) ≡ true
+
+-- The blocks that were asked about are all, or have the same first ones, and those decide.
+abbrev pub AreEnough : Limits → List (List ℕ) → List (List ℕ) → Type 0
+AreEnough limits asked all = (asked ≡ all) ⊎ BeginAlike limits asked all
+
+-- What is known of a source that has come whole: how many bytes came, and how many of its blocks were asked about.
+pub record HasArrived (limits : Limits) (story : Story) (bytes blocks : ℕ) : Type 0 where
   pub ended : story.ending ≡ Some endings.Whole
-  pub all : story.blocks ≡ blocks_from nothing_yet story.pieces
+  pub enough : AreEnough limits story.blocks (blocks_from nothing_yet story.pieces)
   pub byte_count : bytes ≡ length (concat story.pieces)
   pub block_count : blocks ≡ length story.blocks
 
--- What its blocks say that are settled, and what those say that are asked about, is what all its blocks say.
+-- What its blocks say that are settled, and what those say that are still asked about, is what all say that were asked about.
 abbrev pub AreSettled : Story → List Question → ℕ → List Reading → Type 0
 AreSettled story qs s readings = readings ++ map reading_of (blocks_asked s qs) ≡ map reading_of story.blocks
 
 -- The track of source s fits the story.
 abbrev pub IsTracked : Limits → List Question → ℕ → Story → Track → Type 0
 IsTracked limits qs s story (Arriving readings) = AreSettled story qs s readings × (checks_asked s qs ≡ []) × (story.ending ≡ None)
-IsTracked limits qs s story (Arrived bytes blocks readings) = AreSettled story qs s readings × (checks_asked s qs ≡ []) × HasArrived story bytes blocks
+IsTracked limits qs s story (Arrived bytes blocks readings) = AreSettled story qs s readings × (checks_asked s qs ≡ []) × HasArrived limits story bytes blocks
 IsTracked limits qs s story (Checking bytes) =
-    All (λ a. a ≡ record { parts = map reading_of story.blocks; limits = limits }) (checks_asked s qs) × HasArrived story bytes (length story.blocks)
+    All (λ a. a ≡ record { parts = map reading_of story.blocks; limits = limits }) (checks_asked s qs) × HasArrived limits story bytes (length story.blocks)
 IsTracked limits qs s story (Found bytes ending finding) =
     (story.ending ≡ Some ending) × (bytes ≡ length (concat story.pieces)) × ∥ IsFinding (concat story.pieces) ending limits finding ∥₁
 

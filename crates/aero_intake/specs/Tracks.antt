@@ -1,13 +1,23 @@
 -- How far a source is.
-use Rattle.std.specs.Prelude.{◌≡◌, ℕ, List, [], ◌∷◌, ◌++◌, length, Option, Some, None, ⊤}
+use Rattle.std.specs.Prelude.{◌≡◌, ℕ, Bool, false, is_some, List, [], ◌∷◌, ◌++◌, length, Option, Some, None, ⊤}
+use Rattle.aero_model.specs.declared.limits.Limits.{Limits}
 use Rattle.aero_model.specs.declared.verdict.Ending.TheVariants as endings
 use Rattle.aero_model.specs.declared.verdict.Finding.TheVariants as findings
 use Rattle.aero_model.specs.declared.verdict.Verdict.{Verdict}
-use Rattle.aero_grammar.specs.Reading.{Reading}
+use Rattle.aero_grammar.specs.Reading.{Reading, whole_reading, malformed_line}
 use Rattle.aero_pieces.specs.declared.answer.Value.{Value}
 use Rattle.aero_pieces.specs.declared.answer.Value.TheVariants.{Parsed, Judged}
 use Rattle.aero_intake.specs.declared.track.Track.{Track}
 use Rattle.aero_intake.specs.declared.track.Track.TheVariants.{Arriving, Arrived, Checking, Found}
+
+-- Whether what was read decides, whatever comes after it: a line of it is malformed, or there are more lines than may be.
+abbrev pub decides : Limits → List Reading → Bool
+decides limits readings = is_some (malformed_line limits.lines (whole_reading readings))
+
+-- whether that is so of what is known of a source that is still coming
+abbrev pub is_decided : Limits → Track → Bool
+is_decided limits (Arriving readings) = decides limits readings
+is_decided limits track = false
 
 -- the track with one more part of its source read
 abbrev pub with_part : Track → Reading → Track
@@ -32,7 +42,7 @@ abbrev pub with_arrival : Track → ℕ → ℕ → Track
 with_arrival (Arriving readings) bytes blocks = Arrived bytes blocks readings
 with_arrival track bytes blocks = track
 
--- all blocks of the source were read, or it is found what is to be said of it
+-- all blocks of the source that were asked about were read, or it is found what is to be said of it
 abbrev pub IsReady : Track → Type 0
 IsReady (Arriving readings) = ⊥
 IsReady (Arrived bytes blocks readings) = length readings ≡ blocks

@@ -1,6 +1,6 @@
 //! A source that is being read.
 ghost use Rattle.std.specs.Prelude.{◌≡◌, ◌<◌, ◌≤◌, ◌+◌, ◌^◌, length, IfOk, IfSome, OnErr, Ok};
-ghost use Rattle.aero_model.specs.Counts.{seen_by};
+ghost use Rattle.aero_model.specs.CallCounts.{seen_by};
 ghost use Rattle.aero_model.specs.Lines.{most_line_bytes};
 ghost use Rattle.aero_lines.specs.Cutting.{last_block};
 ghost use Rattle.aero_intake.specs.Intake.{Takes, nothing_taken};

@@ -1,8 +1,9 @@
 //! What is known of a source while it is worked on.
 ghost use Rattle.std.specs.Prelude.{◌≡◌, ◌++◌, ◌∷◌, [], length, OnOk, MatchOption, ◌↔◌, IsTrue};
-ghost use Rattle.aero_intake.specs.Tracks.{with_part, with_verdict, with_value, with_arrival, IsReady, GivesReadings};
+ghost use Rattle.aero_intake.specs.Tracks.{with_part, with_verdict, with_value, with_arrival, decides, is_decided, IsReady, GivesReadings};
 
 use aero_grammar::parsed::Parsed;
+use aero_model::limits::Limits;
 use aero_model::verdict::{Ending, Finding, Verdict};
 use aero_pieces::answer::Value;
 use aero_pieces::question::Parts;
@@ -14,6 +15,9 @@ use std::mem;
 #[derive(Drop)]
 pub struct Readings {
     parts: Vec<Parsed>,
+    // How many lines they have, up to the first fault, but no more than 2^32 - 1.
+    lines: u32,
+    has_fault: bool,
 }
 
 impl Model for Readings {
@@ -23,6 +27,14 @@ impl Model for Readings {
     ghost Value = { List Reading };
 
     ghost view = { λ r. r.parts.items };
+
+    ghost use Rattle.std.specs.Prelude.{◌≡◌, ◌-◌, ◌^◌, min, is_some};
+    ghost use Rattle.aero_grammar.specs.Reading.{whole_reading};
+
+    ghost invariant = { λ r. record {
+      lines : r.lines ≡ min (whole_reading r.parts.items).lines (2 ^ 32 - 1);
+      fault : r.has_fault ≡ is_some (whole_reading r.parts.items).fault;
+    } };
 }
 
 impl Readings {
@@ -31,6 +43,8 @@ impl Readings {
     {
         Readings {
             parts: Vec::new(alloc),
+            lines: 0,
+            has_fault: false,
         }
     }
 
@@ -38,8 +52,22 @@ impl Readings {
     pub fn add(&mut self, part: Parsed) -> Result<(), AllocError>
         ensures { OnOk result (self.new ≡ self.old ++ part ∷ []) }
     {
+        let more_lines = part.lines;
+        let is_faulty = part.fault.is_some();
         self.parts.push(part)?;
+        if !self.has_fault {
+            self.lines = self.lines.saturating_add(more_lines);
+            self.has_fault = is_faulty;
+        }
         Ok(())
+    }
+
+    /// Whether they decide under these limits, whatever comes after them: a line of them is
+    /// malformed, or they have more lines than may be.
+    pub fn decide(&self, limits: &Limits) -> bool
+        ensures { result ≡ decides limits.now self.now }
+    {
+        self.has_fault || self.lines > limits.lines
     }
 
     pub fn len(&self) -> u64
@@ -51,7 +79,7 @@ impl Readings {
     pub fn into_parts(self) -> Parts
         ensures { result ≡ self }
     {
-        let Readings { parts } = self;
+        let Readings { parts, .. } = self;
         Parts::new(parts)
     }
 }
@@ -61,13 +89,13 @@ impl Readings {
 pub enum Track {
     /// Its bytes are coming, or are still to come. This is what its first blocks say.
     Arriving(Readings),
-    /// It is whole, and so many bytes and blocks came.
+    /// It is whole, so many bytes came, and so many of its blocks were asked about.
     Arrived {
         bytes: u64,
         blocks: u64,
         readings: Readings,
     },
-    /// All its blocks were read, and the verdict is asked for. So many bytes came.
+    /// The blocks that were asked about were read, and the verdict is asked for. So many bytes came.
     Checking {
         bytes: u64,
     },
@@ -117,7 +145,8 @@ fn take_verdict(track: &mut Track, verdict: Verdict)
     };
 }
 
-/// Notes that a source is whole, and that so many bytes and blocks came.
+/// Notes that a source is whole, that so many bytes came, and that so many of its blocks were asked
+/// about.
 pub fn arrive(track: &mut Track, bytes: u64, blocks: u64)
     ensures { track.new ≡ with_arrival track.old bytes blocks }
 {
@@ -147,7 +176,19 @@ pub fn is_ready(track: &Track) -> bool
     }
 }
 
-/// Takes what the blocks of a whole source say, where that is what its verdict is to be asked for.
+/// Whether what was read of a source that is still coming decides what is to be said of it, unless
+/// its bytes end otherwise than whole: no later block of it counts.
+pub fn is_decided(track: &Track, limits: &Limits) -> bool
+    ensures { result ≡ is_decided limits.now track.now }
+{
+    match track {
+        Track::Arriving(readings) => readings.decide(limits),
+        Track::Arrived { .. } | Track::Checking { .. } | Track::Found { .. } => false,
+    }
+}
+
+/// Takes what the blocks of a whole source say that were asked about, where that is what its verdict
+/// is to be asked for.
 pub fn take_readings(track: &mut Track) -> Option<Readings>
     ensures { GivesReadings track.old track.new result }
 {
