@@ -4,6 +4,7 @@ pub mod Failure
 pub mod Inputs
 pub mod Notes
 pub mod Reasons
+pub mod Retries
 pub mod Sightings
 pub mod Starts
 pub mod Status

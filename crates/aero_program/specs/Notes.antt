@@ -1,6 +1,6 @@
 -- The lines on the sources on standard error, each with the byte 10 that ends it.
 use Rattle.std.specs.Prelude.{ℕ, Bool, true, false, List, [], ◌∷◌, ◌++◌, Option, None, Some, codes, bytes_eq, flat_map, map}
-use Rattle.aero_model.specs.Counts.{inner_of}
+use Rattle.aero_model.specs.CallCounts.{inner_of}
 use Rattle.aero_intake.specs.declared.source.Source.{Source}
 use Rattle.aero_program.specs.declared.input.Input.{Input}
 use Rattle.aero_program.specs.declared.reason.Reason.{Reason}

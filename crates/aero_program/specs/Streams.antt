@@ -2,11 +2,13 @@
 use Rattle.std.specs.Prelude.{◌≡◌, ◌+◌, ◌<◌, ◌⊎◌, ℕ, Bool, List, length, take, Option, if◌then◌else◌}
 use Rattle.std.specs.Io.KnownBytes.{Appends, Keeps}
 use Rattle.aero_model.specs.declared.counting.Counting.{Counting}
-use Rattle.aero_model.specs.Counts.{Seen, seen_by}
+use Rattle.aero_model.specs.CallCounts.{Seen, seen_by}
 use Rattle.aero_batch.specs.Founds.{Took}
 use Rattle.aero_program.specs.declared.output.Output.{Output}
+use Rattle.aero_program.specs.declared.retrying.Retrying.{Retrying}
+use Rattle.aero_program.specs.Retries.{tried_by}
 
-abbrev pub writer_of : {W : Type 0} → Output W → Counting W
+abbrev pub writer_of : {W : Type 0} → Output W → Counting (Retrying W)
 writer_of output = output.writer
 
 -- how many flushes have failed
@@ -20,7 +22,7 @@ pub record Shown : Type 0 where
 
 -- `known` is the type's own word for the bytes that a writer holds
 abbrev pub shown_by : {W : Type 0} → (W → Option (List ℕ)) → Output W → Shown
-shown_by known output = record { writer = seen_by known (writer_of output); unflushed = unflushed_of output }
+shown_by known output = record { writer = seen_by (λ w. known (tried_by w)) (writer_of output); unflushed = unflushed_of output }
 
 -- a front of the text went out that is not all of it, and then a write failed
 pub record WasCut (before after : Seen) (text : List ℕ) : Type 0 where

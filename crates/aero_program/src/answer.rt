@@ -1,9 +1,10 @@
 //! What the program does with what its words ask for.
 ghost use Rattle.std.specs.Prelude.{◌≡◌, map, string_bytes, OnOk, OnErr};
-ghost use Rattle.aero_model.specs.Counts.{seen_by};
+ghost use Rattle.aero_model.specs.CallCounts.{seen_by};
 ghost use Rattle.aero_batch.specs.Founds.{Took};
 ghost use Rattle.aero_program.specs.Answers.{AnswersTo, Ends, Fails, Helps, Judges, Stops};
 ghost use Rattle.aero_program.specs.Notes.{noted_of_all};
+ghost use Rattle.aero_program.specs.Retries.{tried_by};
 ghost use Rattle.aero_program.specs.Streams.{WasCut, shown_by};
 
 use crate::command::{Config, Refused, Stop};
@@ -11,6 +12,7 @@ use crate::failure::Failure;
 use crate::input::Input;
 use crate::notes::notes_of;
 use crate::output::Output;
+use crate::retrying::Retrying;
 use crate::sources::sources_of;
 use crate::status::status_after;
 use aero_batch::run::run;
@@ -30,7 +32,7 @@ use std::thread::Threads;
 /// none, writes the report to standard output and flushes it, and then writes the notes on the sources
 /// to standard error. Help goes to standard output, which is flushed; why there is nothing to judge,
 /// and why the program fails, goes to standard error. Where standard error takes nothing, the status
-/// still tells.
+/// still tells. A read, a write or a flush that is interrupted is tried again.
 pub fn answer<
     S: Read + Drop,
     F: Files + Drop,
@@ -44,10 +46,10 @@ pub fn answer<
     files: &F,
     stdin: S,
     output: &mut Output<O>,
-    errors: &mut Counting<E>,
+    errors: &mut Counting<Retrying<E>>,
 ) -> u8
     ensures { AnswersTo asked (S.remaining stdin) (shown_by O.contents output.old) (shown_by O.contents output.new)
-        (seen_by E.contents errors.old) (seen_by E.contents errors.new) result }
+        (seen_by (λ w. E.contents (tried_by w)) errors.old) (seen_by (λ w. E.contents (tried_by w)) errors.new) result }
 {
     match asked {
         Ok(config) => judge(rt, alloc, &config, files, stdin, output, errors),

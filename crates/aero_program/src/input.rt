@@ -1,8 +1,11 @@
 //! Standard input or a file, as a reader that opens its file at the first read, and notes how its
 //! bytes begin and why a read failed.
-ghost use Rattle.std.specs.Prelude.{◌≡◌};
+ghost use Rattle.std.specs.Prelude.{◌≡◌, ◌≢◌, IfErr};
+ghost use Rattle.std.specs.IoError.{error_kind};
+ghost use Rattle.std.specs.declared.io.ErrorKind.TheVariants.{Interrupted};
 
 use crate::reason::Reason;
+use crate::retrying::Retrying;
 use crate::start::Start;
 use aero_model::counting::Counting;
 use std::alloc::{AllocError, Global};
@@ -17,7 +20,7 @@ use std::{io, mem};
 /// Standard input is read for as long as somebody reads. A file is opened at the first read, and
 /// closed where a read finds its end or fails. A read after the end gives 0 bytes; after a failed
 /// open or a failed read each later read fails. So of many files that are read to their ends one
-/// after the other, one at most is open.
+/// after the other, one at most is open. An open or a read that is interrupted is tried again.
 #[derive(Drop)]
 pub struct Input<S, R: Files> {
     stage: Stage<S, R>,
@@ -28,9 +31,9 @@ pub struct Input<S, R: Files> {
 // How far an input has come.
 #[derive(Drop)]
 enum Stage<S, R: Files> {
-    Standard(Counting<S>),
+    Standard(Counting<Retrying<S>>),
     Unopened(R, String),
-    Reading(R::File),
+    Reading(Retrying<R::File>),
     Ended,
     // An open or a read failed so.
     Failed(ErrorKind),
@@ -47,7 +50,7 @@ impl<S: Read + Drop, R: Files + Drop> Input<S, R> {
         ensures start { start_of result ≡ [] }
         ensures reason { reason_of result ≡ None }
     {
-        Input::at(Stage::Standard(Counting::new(stdin)))
+        Input::at(Stage::Standard(Counting::new(Retrying::new(stdin))))
     }
 
     /// The file at the path, which isn't touched yet. `-` is a path like any other.
@@ -130,8 +133,8 @@ impl<S: Read + Drop, R: Files + Drop> Stage<S, R> {
                 let outcome = stdin.read(buf);
                 (Stage::Standard(stdin), outcome)
             }
-            Stage::Unopened(files, path) => match File::open(&files, path.as_str()) {
-                Ok(file) => Stage::read_file(file, buf),
+            Stage::Unopened(files, path) => match open(&files, path.as_str()) {
+                Ok(file) => Stage::read_file(Retrying::new(file), buf),
                 Err(refusal) => (Stage::Failed(refusal.kind()), Err(refusal)),
             },
             Stage::Reading(file) => Stage::read_file(file, buf),
@@ -141,7 +144,7 @@ impl<S: Read + Drop, R: Files + Drop> Stage<S, R> {
     }
 
     // One read of an open file, which is closed where its end is found or the read fails.
-    fn read_file(mut file: R::File, buf: &mut [u8]) -> (Stage<S, R>, io::Result<usize>)
+    fn read_file(mut file: Retrying<R::File>, buf: &mut [u8]) -> (Stage<S, R>, io::Result<usize>)
         ensures bound { ReadsAtMost result.1 buf.new }
         ensures leaves { Leaves (stage_standing S.remaining result.0) buf.new result.1 }
     {
@@ -151,4 +154,18 @@ impl<S: Read + Drop, R: Files + Drop> Stage<S, R> {
             Ok(count) => (Stage::Reading(file), Ok(count)),
         }
     }
+}
+
+// Opens a file. An open that is interrupted is tried again.
+fn open<R: Files>(files: &R, path: &str) -> io::Result<R::File>
+    ensures { IfErr result (λ e. error_kind e ≢ Interrupted) }
+{
+    for _ in 0..u64::MAX {
+        match File::open(files, path) {
+            Ok(file) => return Ok(file),
+            Err(error) if error.kind() == ErrorKind::Interrupted => {}
+            Err(error) => return Err(error),
+        }
+    }
+    Err(io::Error::from(ErrorKind::Other))
 }

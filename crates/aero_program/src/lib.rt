@@ -8,7 +8,7 @@
 //!
 //! ```text
 //! let mut output = Output::new(rt.stdout());
-//! let mut errors = Counting::new(rt.stderr());
+//! let mut errors = Counting::new(Retrying::new(rt.stderr()));
 //! answer(rt, rt.alloc(), asked, &rt, rt.stdin(), &mut output, &mut errors)
 //! ```
 #![tactic(auto)]
@@ -22,6 +22,7 @@ pub mod input;
 pub mod notes;
 pub mod output;
 pub mod reason;
+pub mod retrying;
 pub mod sources;
 pub mod start;
 pub mod status;

@@ -1,6 +1,6 @@
 //! The sources that the words name.
 ghost use Rattle.std.specs.Prelude.{◌≡◌, ◌≤◌, ◌^◌, IfOk, length, map, string_bytes, vec_len};
-ghost use Rattle.aero_model.specs.Counts.{inner_of};
+ghost use Rattle.aero_model.specs.CallCounts.{inner_of};
 ghost use Rattle.aero_batch.specs.Founds.{sighted};
 ghost use Rattle.aero_program.specs.Inputs.{bytes_left, source_names, source_standings, standing_of, Unopened};
 ghost use Rattle.aero_program.specs.Sightings.{file_sighting, source_sightings};

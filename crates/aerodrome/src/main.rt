@@ -22,6 +22,7 @@ use aero_program::answer::answer;
 use aero_program::arguments::words_of;
 use aero_program::command::{Config, Stop};
 use aero_program::output::Output;
+use aero_program::retrying::Retrying;
 use std::process::ExitCode;
 use std::rt::Runtime;
 use words::settle_words;
@@ -29,7 +30,7 @@ use words::settle_words;
 fn main(rt: HostRuntime) -> ExitCode {
     // Only main can ask for the three streams: what is generic over the runtime is handed them.
     let mut output = Output::new(rt.stdout());
-    let mut errors = Counting::new(rt.stderr());
+    let mut errors = Counting::new(Retrying::new(rt.stderr()));
     let status = answer(
         rt,
         rt.alloc(),

@@ -1,8 +1,9 @@
 use Rattle.std.proofs.Common.{◌≡◌, ◌∙◌, ap, inl, map, string_bytes, length, arith, refl, is_err}
 use Rattle.std.proofs.lemmas.List.{with_items_is}
-use Rattle.aero_model.specs.Counts.{seen_by}
+use Rattle.aero_model.specs.CallCounts.{seen_by}
 use Rattle.aero_program.specs.Inputs.{bytes_left, standing_of}
 use Rattle.aero_program.specs.Sightings.{source_sightings}
+use Rattle.aero_program.specs.Retries.{tried_by}
 use Rattle.aero_program.specs.Streams.{shown_by}
 use Rattle.aero_program.proofs.Judged.{judged}
 use Rattle.aero_program.proofs.answer.judge.Goals as goal
@@ -16,7 +17,7 @@ returns g c =
     inl (judged (λ input. bytes_left (standing_of g.S.Read.remaining input)) (map string_bytes c.args.config.now.files.items) (g.S.Read.remaining c.args.stdin)
     c.plan-plan.result.limits c.in-Ok.sources.items c.deref_mut.result.now c.run-outcome.new.sources _
     (shown_by g.O.Write.contents c.args.output.now)
-    (record { writer = seen_by g.O.Write.contents c.run-outcome.new.writer; unflushed = c.args.output.now.unflushed.number })
+    (record { writer = seen_by (λ w. g.O.Write.contents (tried_by w)) c.run-outcome.new.writer; unflushed = c.args.output.now.unflushed.number })
     (shown_by g.O.Write.contents c.flush-flushed.new.self)
     c.run-outcome.result.endings.items c.run-outcome.result.counts c.run-outcome.result.cause (is_err c.flush-flushed.result) c.status_after-end.result _ _ c.finish.result
     c.plan-plan.ensures.limits

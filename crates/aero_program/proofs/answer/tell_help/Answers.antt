@@ -1,10 +1,11 @@
 use Rattle.std.proofs.Common.{rules, refl, true, false, inl}
-use Rattle.aero_model.specs.Counts.{seen_by}
+use Rattle.aero_model.specs.CallCounts.{seen_by}
+use Rattle.aero_program.specs.Retries.{tried_by}
 use Rattle.aero_program.proofs.answer.tell_help.Goals as goal
 
 pub returns-then-is_err-2 : goal.returns-then-is_err-2
 returns-then-is_err-2 g c = inl (record {
-  between = record { writer = seen_by g.O.Write.contents c.tell.new.writer; unflushed = c.args.output.now.unflushed.number };
+  between = record { writer = seen_by (λ w. g.O.Write.contents (tried_by w)) c.tell.new.writer; unflushed = c.args.output.now.unflushed.number };
   has_failed = true;
   took = search rules;
   same = refl;
@@ -14,7 +15,7 @@ returns-then-is_err-2 g c = inl (record {
 
 pub returns : goal.returns
 returns g c = inl (record {
-  between = record { writer = seen_by g.O.Write.contents c.tell.new.writer; unflushed = c.args.output.now.unflushed.number };
+  between = record { writer = seen_by (λ w. g.O.Write.contents (tried_by w)) c.tell.new.writer; unflushed = c.args.output.now.unflushed.number };
   has_failed = false;
   took = search rules;
   same = refl;

@@ -1,6 +1,6 @@
 use Rattle.std.proofs.Common.{◌≡◌, map, take}
 use Rattle.std.specs.Prelude.{string_bytes}
-use Rattle.aero_model.specs.Counts.{inner_of}
+use Rattle.aero_model.specs.CallCounts.{inner_of}
 use Rattle.aero_batch.specs.Founds.{sighted}
 use Rattle.aero_program.specs.Inputs.{standing_of, bytes_left, Unopened}
 use Rattle.aero_program.specs.Sightings.{file_sighting}

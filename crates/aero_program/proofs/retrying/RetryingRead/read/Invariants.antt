@@ -1,0 +1,7 @@
+-- Interrupted reads took nothing.
+use Rattle.std.specs.Io.KnownBytes.{Keeps}
+use Rattle.aero_program.specs.Retries.{tried_by}
+use Rattle.aero_program.proofs.retrying.RetryingRead.read.Given as goal
+
+abbrev pub invariant-loop : goal.invariant-loop
+invariant-loop g l = Keeps (g.R.Read.remaining (tried_by l.fn.self)) (g.R.Read.remaining (tried_by l.self))
