@@ -1,14 +1,16 @@
 -- Whatever is replied, the open questions stay as they are, and so does the number of those that were asked.
-use Rattle.std.proofs.Common.{◌≡◌, ℕ, zero, suc, ◌-◌, Bool, true, false, List, [], ◌∷◌, map, slice_get, slice_set, Option, Some, None, refl, sym, ◌∙◌, ap, ap₂, arith}
+use Rattle.std.proofs.Common.{◌≡◌, ℕ, zero, suc, ◌-◌, Bool, true, false, List, [], ◌∷◌, map, slice_get, slice_set, Option, Some, None, refl, sym, subst, ◌∙◌, ap, ap₂, arith}
 use Rattle.std.specs.Prelude.{is_none, nat_le, if◌then◌else◌, length}
 use Rattle.std.proofs.lemmas.List.{length-map}
 use Rattle.std.proofs.lemmas.List.Elements.{All-head}
 use Rattle.aero_pieces.specs.declared.question.Question.{Question}
 use Rattle.aero_pieces.specs.declared.answer.Value.{Value}
 use Rattle.aero_pieces.specs.Schedule.{Entry, noted, with_note}
-use Rattle.aero_gather.specs.Gathered.{Gathered, Accepts, with_missed}
+use Rattle.aero_gather.specs.Gathered.{Gathered, Accepts, with_missed, oldest_of}
 use Rattle.aero_gather.specs.declared.gather.Accepted.{Accepted}
 use Rattle.aero_gather.specs.declared.gather.Accepted.TheVariants.{Kept, Repeated, Stranger}
+use Rattle.std.proofs.lemmas.Bool.{le-leb}
+use Rattle.aero_gather.specs.declared.gather.Oldest.TheVariants.{Awaited, Missed, Kept as Kept_oldest}
 use Rattle.std.specs.Prelude.{IfSome, All, option_map}
 use Rattle.aero_pieces.specs.Values.{IsValueOf}
 use Rattle.aero_pieces.specs.Schedule.{IsWorkedOut, settled_value}
@@ -59,6 +61,26 @@ with_note_stays gone ticket entries = go (nat_le gone ticket)
 
 pub missed_stays : (old : Gathered) (ticket : ℕ) → questions_of (with_missed old ticket) ≡ questions_of old
 missed_stays old ticket = with_note_stays (old.tally.asked - length old.entries) ticket old.entries
+
+-- an open question that was noted, the oldest one, isn't awaited
+oldest_noted : (question : Question) (value : Option Value) (missed : Bool) (more : List Entry) (e : Entry) → e ≡ record { question = question; value = value; missed = missed } →
+    oldest_of (noted (e ∷ more) 0 (Some e)) ≡ Awaited → ⊥
+oldest_noted question None missed more e is awaits =
+    let no : Missed ≡ Awaited = subst (λ x. oldest_of (noted (x ∷ more) 0 (Some x)) ≡ Awaited) is awaits in cc
+oldest_noted question (Some v) missed more e is awaits =
+    let no : Kept_oldest ≡ Awaited = subst (λ x. oldest_of (noted (x ∷ more) 0 (Some x)) ≡ Awaited) is awaits in cc
+
+first_noted : (entries : List Entry) → oldest_of (noted entries 0 (slice_get entries 0)) ≡ Awaited → ⊥
+first_noted [] awaits = cc
+first_noted (e ∷ more) awaits = oldest_noted e.question e.value e.missed more e refl awaits
+
+pub missed_ends : (old : Gathered) (ticket : ℕ) → ticket ≡ old.tally.asked - length old.entries → oldest_of (with_missed old ticket).entries ≡ Awaited → ⊥
+missed_ends old ticket is awaits =
+    let gone = old.tally.asked - length old.entries in
+    let none : gone - gone ≡ 0 = omega (arith) in
+    let there : with_note gone gone old.entries ≡ noted old.entries 0 (slice_get old.entries 0) =
+    ap (λ b. if b then noted old.entries (gone - gone) (slice_get old.entries (gone - gone)) else old.entries) (le-leb gone gone (omega (arith))) ∙ ap (λ n. noted old.entries n (slice_get old.entries n)) none in
+    first_noted old.entries (subst (λ es. oldest_of es ≡ Awaited) there (subst (λ k. oldest_of (with_note gone k old.entries) ≡ Awaited) is awaits))
 
 known_value : (q : Question) (value : Option Value) (missed : Bool) (v : Value) → IfSome value (IsValueOf q) → IsWorkedOut (record { question = q; value = value; missed = missed }) v →
     IsValueOf q (settled_value (record { question = q; value = value; missed = missed }) v)

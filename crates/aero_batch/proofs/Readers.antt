@@ -3,7 +3,7 @@ use Rattle.std.proofs.Common.{◌≡◌, ℕ, zero, suc, List, [], ◌∷◌, ma
 use Rattle.std.specs.Prelude.{option_map, unwrap_or}
 use Rattle.std.proofs.lemmas.Option.{slice_get-map}
 use Rattle.aero_model.specs.declared.counting.Counting.{Counting}
-use Rattle.aero_model.specs.Counts.{seen_by}
+use Rattle.aero_model.specs.CallCounts.{seen_by}
 use Rattle.aero_intake.specs.declared.source.Source.{Source}
 use Rattle.aero_batch.specs.Founds.{Sighted, sighted}
 use Rattle.aero_batch.specs.Steps.{IsReadFrom}

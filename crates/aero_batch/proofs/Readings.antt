@@ -1,6 +1,6 @@
 -- A step of reading keeps what holds of the sources.
-use Rattle.std.proofs.Common.{◌≡◌, ℕ, ◌+◌, ◌<◌, List, [], ◌∷◌, ◌++◌, length, slice_get, Option, Some, None, refl, sym, ◌∙◌, ap, subst, inl, inr, arith}
-use Rattle.std.specs.Prelude.{option_to_list}
+use Rattle.std.proofs.Common.{◌≡◌, ℕ, ◌+◌, ◌<◌, Bool, true, false, List, [], ◌∷◌, ◌++◌, map, length, slice_get, Option, Some, None, refl, sym, ◌∙◌, ap, subst, inl, inr, arith}
+use Rattle.std.specs.Prelude.{if◌then◌else◌, option_to_list}
 use Rattle.std.specs.List.{concat}
 use Rattle.std.proofs.lemmas.Bool.{cases_eq}
 use Rattle.std.proofs.lemmas.Grind.{merely}
@@ -9,23 +9,24 @@ use Rattle.aero_model.specs.declared.limits.Limits.{Limits}
 use Rattle.aero_model.specs.declared.verdict.Ending.{Ending}
 use Rattle.aero_model.specs.declared.verdict.Ending.TheVariants.{Whole, Broken, TooLarge}
 use Rattle.aero_model.specs.declared.verdict.Finding.TheVariants as findings
-use Rattle.aero_model.specs.Counts.{Seen}
-use Rattle.aero_grammar.specs.Reading.{Reading}
+use Rattle.aero_model.specs.CallCounts.{Seen}
+use Rattle.aero_grammar.specs.Reading.{Reading, reading_of}
 use Rattle.aero_lines.specs.Cutting.{block_of}
 use Rattle.aero_pieces.specs.declared.question.Question.{Question}
 use Rattle.aero_batch.specs.declared.progress.Progress.{Progress}
 use Rattle.aero_intake.specs.declared.track.Track.{Track}
-use Rattle.aero_intake.specs.declared.track.Track.TheVariants.{Arriving}
+use Rattle.aero_intake.specs.declared.track.Track.TheVariants.{Arriving, Arrived, Checking, Found}
 use Rattle.aero_batch.specs.Founds.{Sighted}
 use Rattle.aero_batch.specs.Holding.{Holds, HasEnded, HaveComeFrom, nothing_known}
 use Rattle.aero_batch.specs.Inquiries.{Inquired}
 use Rattle.aero_intake.specs.Intake.{Taking, IsTaken, HaveCome, Ends}
 use Rattle.aero_intake.specs.Source.{WasRead}
-use Rattle.aero_batch.specs.Steps.{EndsSource, TakesPiece, IsReadFrom, with_block, last_of, ended_track}
-use Rattle.aero_intake.specs.Stories.{Story, IsTracked, AreTracked, changed}
+use Rattle.aero_batch.specs.Steps.{EndsSource, TakesPiece, IsReadFrom, decided_there, has_decided, wanted, with_block, last_of, ended_track}
+use Rattle.aero_intake.specs.Stories.{Story, AreEnough, IsTracked, AreTracked, changed}
+use Rattle.aero_intake.specs.Tracks.{decides}
 use Rattle.aero_batch.proofs.Retold.{retold, retold_there, retold_same, retold_elsewhere, with_pieces, block_tracked, still_arriving}
 use Rattle.aero_intake.proofs.Taken.{nothing_is_taken, piece_is_taken, blocks_with_last, nothing_has_come, piece_has_come, source_was_read}
-use Rattle.aero_intake.proofs.Tracked.{changed_there, changed_elsewhere, before_change}
+use Rattle.aero_intake.proofs.Tracked.{changed_there, changed_elsewhere, before_change, enough_asked, enough_dropped, settled_decide}
 
 the_some : {A : Type 0} (x y : A) → Some x ≡ Some y → x ≡ y
 the_some x y p = cc p
@@ -43,6 +44,28 @@ ended_stays limits old now after place s story others other has = record {
   read = has.read;
 }
 
+-- What is settled of the source that is being read decides, and so do all its blocks that were asked about.
+story_decides : (limits : Limits) (p : Progress) (tale : ℕ → Story) → AreTracked limits p.inquiry.open_ones tale p.tracks.items → has_decided limits p ≡ true →
+    decides limits (map reading_of (tale p.read).blocks) ≡ true
+story_decides limits p tale tracked is = go (slice_get p.tracks.items p.read) refl is
+  where
+    go : (o : Option Track) → slice_get p.tracks.items p.read ≡ o → decided_there limits o ≡ true → decides limits (map reading_of (tale p.read).blocks) ≡ true
+    go None at is = cc (is)
+    go (Some (Arriving readings)) at is = settled_decide limits p.inquiry.open_ones p.read (tale p.read) readings (tracked p.read (Arriving readings) at).0 is
+    go (Some (Arrived bytes blocks readings)) at is = cc (is)
+    go (Some (Checking bytes)) at is = cc (is)
+    go (Some (Found bytes ending finding)) at is = cc (is)
+
+-- the next block is asked about, or what was read decides
+enough_wanted : (limits : Limits) (p : Progress) (tale : ℕ → Story) (cut : List (List ℕ)) (o : Option (List ℕ)) → AreTracked limits p.inquiry.open_ones tale p.tracks.items →
+    AreEnough limits (tale p.read).blocks cut → AreEnough limits ((tale p.read).blocks ++ option_to_list (wanted limits p o)) (cut ++ option_to_list o)
+enough_wanted limits p tale cut o tracked enough = go (has_decided limits p) refl
+  where
+    go : (b : Bool) → has_decided limits p ≡ b → AreEnough limits ((tale p.read).blocks ++ option_to_list (if b then None else o)) (cut ++ option_to_list o)
+    go true is = subst (λ bs. AreEnough limits bs (cut ++ option_to_list o)) (sym (append-nil (tale p.read).blocks))
+        (enough_dropped limits (tale p.read).blocks cut (option_to_list o) (story_decides limits p tale tracked is) enough)
+    go false is = enough_asked limits (tale p.read).blocks cut (option_to_list o) enough
+
 block_count : (p : Progress) (o : Option (List ℕ)) (blocks : List (List ℕ)) → p.blocks ≡ length blocks → (with_block p o).blocks ≡ length (blocks ++ option_to_list o)
 block_count p None blocks is = is ∙ ap length (sym (append-nil blocks))
 block_count p (Some b) blocks is = omega (arith, is, length-append blocks (b ∷ []))
@@ -50,7 +73,9 @@ block_count p (Some b) blocks is = omega (arith, is, length-append blocks (b ∷
 pub piece_holds : (limits : Limits) (old now after : List Sighted) (p q : Progress) (tale : ℕ → Story) (before_read after_read : Seen) →
     IsReadFrom now after p.read before_read after_read → TakesPiece limits before_read after_read p q → Holds limits old now p tale → (new : ℕ → Story) × Holds limits old after q new × ((s : ℕ) → s < p.read → new s ≡ tale s)
 piece_holds limits old now after p q tale before_read after_read from takes holds =
-    let o = block_of p.intake.cutting takes.piece in
+    let given = block_of p.intake.cutting takes.piece in
+    let o = wanted limits p given in
+    let cut = holds.cut ++ option_to_list given in
     let pieces = (tale p.read).pieces ++ takes.piece ∷ [] in
     let story = with_pieces (tale p.read) pieces o in
     let new : ℕ → Story = retold tale p.read story in
@@ -66,9 +91,11 @@ piece_holds limits old now after p q tale before_read after_read from takes hold
             let less : s < p.read = subst (λ r. s < r) takes.read below in
             let other : p.read ≡ s → ⊥ = λ e. omega (arith, less, e) in
             subst (λ (x : Story). HasEnded limits old after s x) (sym (elsewhere s other)) (ended_stays limits old now after p.read s (tale s) from.others other (holds.ended s less));
-        taken = subst (λ (x : Story). IsTaken q.intake x.pieces x.blocks) (sym there')
-            (subst (λ (i : Taking). IsTaken i pieces ((tale p.read).blocks ++ option_to_list o)) (sym takes.intake)
-            (piece_is_taken p.intake (tale p.read).pieces (tale p.read).blocks takes.piece holds.taken));
+        cut = cut;
+        taken = subst (λ (x : Story). IsTaken q.intake x.pieces cut) (sym there')
+            (subst (λ (i : Taking). IsTaken i pieces cut) (sym takes.intake)
+            (piece_is_taken p.intake (tale p.read).pieces holds.cut takes.piece holds.taken));
+        enough = subst (λ (x : Story). AreEnough limits x.blocks cut) (sym there') (enough_wanted limits p tale holds.cut given holds.tracked holds.enough);
         come = subst (λ (x : Story). HaveComeFrom old after q.read x) (sym there') (subst (λ r. HaveComeFrom old after r story) (sym takes.read)
             (λ before last was is.
             let same : record { name = from.was.name; reader = after_read } ≡ last = the_some (record { name = from.was.name; reader = after_read }) last (sym from.is_there ∙ is) in
@@ -87,30 +114,30 @@ piece_holds limits old now after p q tale before_read after_read from takes hold
 
 -- a source that was arriving has ended
 ended_track_fits : (limits : Limits) (qs : List Question) (s count blocks : ℕ) (ending : Ending) (i : Taking) (pieces cut all : List (List ℕ)) (readings : List Reading) →
-    IsTaken i pieces cut → count ≡ i.count → all ≡ cut ++ option_to_list (last_of i.cutting ending) → blocks ≡ length all →
+    IsTaken i pieces cut → count ≡ i.count → AreEnough limits all (cut ++ option_to_list (last_of i.cutting ending)) → blocks ≡ length all →
     IsTracked limits qs s (record { pieces = pieces; blocks = all; ending = None }) (Arriving readings) →
     IsTracked limits qs s (record { pieces = pieces; blocks = all; ending = Some ending }) (ended_track ending count blocks (Arriving readings))
-ended_track_fits limits qs s count blocks Whole i pieces cut all readings taken is_count is_all is_blocks is = (
+ended_track_fits limits qs s count blocks Whole i pieces cut all readings taken is_count enough is_blocks is = (
   is.0,
   is.1,
   record {
     ended = refl;
-    all = is_all ∙ blocks_with_last i pieces cut taken;
+    enough = subst (λ bs. AreEnough limits all bs) (blocks_with_last i pieces cut taken) enough;
     byte_count = is_count ∙ taken.count;
     block_count = is_blocks;
   },
 )
-ended_track_fits limits qs s count blocks Broken i pieces cut all readings taken is_count is_all is_blocks is =
+ended_track_fits limits qs s count blocks Broken i pieces cut all readings taken is_count enough is_blocks is =
     (refl, is_count ∙ taken.count, merely (ap findings.Broken (is_count ∙ taken.count)))
-ended_track_fits limits qs s count blocks TooLarge i pieces cut all readings taken is_count is_all is_blocks is =
+ended_track_fits limits qs s count blocks TooLarge i pieces cut all readings taken is_count enough is_blocks is =
     (refl, is_count ∙ taken.count, merely refl)
 
-ended_tracked : (limits : Limits) (p : Progress) (tale : ℕ → Story) (ending : Ending) (o : Option (List ℕ)) (all : List (List ℕ)) → all ≡ (tale p.read).blocks ++ option_to_list (last_of p.intake.cutting ending) →
-    IsTaken p.intake (tale p.read).pieces (tale p.read).blocks → (with_block p o).blocks ≡ length all →
+ended_tracked : (limits : Limits) (p : Progress) (tale : ℕ → Story) (ending : Ending) (o : Option (List ℕ)) (all cut : List (List ℕ)) → AreEnough limits all (cut ++ option_to_list (last_of p.intake.cutting ending)) →
+    IsTaken p.intake (tale p.read).pieces cut → (with_block p o).blocks ≡ length all →
     AreTracked limits (with_block p o).inquiry.open_ones (retold tale p.read (record { pieces = (tale p.read).pieces; blocks = all; ending = None })) p.tracks.items →
     AreTracked limits (with_block p o).inquiry.open_ones (retold tale p.read (record { pieces = (tale p.read).pieces; blocks = all; ending = Some ending }))
     (changed p.read (ended_track ending p.intake.count (with_block p o).blocks) p.tracks.items)
-ended_tracked limits p tale ending o all is_all taken blocks tracked s t at =
+ended_tracked limits p tale ending o all cut enough taken blocks tracked s t at =
     let qs = (with_block p o).inquiry.open_ones in
     let f : Track → Track = ended_track ending p.intake.count (with_block p o).blocks in
     let mid : Story = record { pieces = (tale p.read).pieces; blocks = all; ending = None } in
@@ -121,9 +148,9 @@ ended_tracked limits p tale ending o all is_all taken blocks tracked s t at =
           let was = before_change f (slice_get p.tracks.items s) t (sym (changed_there s f p.tracks.items) ∙ at_place) in
           let is = subst (λ x. IsTracked limits qs s x was.0) (retold_same tale p.read s mid same) (tracked s was.0 was.1) in
           let arriving = still_arriving limits qs s mid was.0 refl is in
-          let fits = ended_track_fits limits qs s p.intake.count (with_block p o).blocks ending p.intake (tale p.read).pieces (tale p.read).blocks all arriving.0 taken refl is_all blocks
+          let fits = ended_track_fits limits qs s p.intake.count (with_block p o).blocks ending p.intake (tale p.read).pieces cut all arriving.0 taken refl enough blocks
           (subst (λ x. IsTracked limits qs s mid x) {y = Arriving arriving.0} arriving.1 is) in
-          subst (λ x. IsTracked limits qs s x t) {y = retold tale p.read story s} (sym (retold_same tale p.read s story same))
+          subst (λ x. IsTracked limits qs s x t) {x = story} {y = retold tale p.read story s} (sym (retold_same tale p.read s story same))
           (subst (λ x. IsTracked limits qs s story x) {y = t} (sym (was.2 ∙ ap f {y = Arriving arriving.0} arriving.1)) fits))
       | inr other ↦
           subst (λ x. IsTracked limits qs s x t) (retold_elsewhere tale p.read s mid other ∙ sym (retold_elsewhere tale p.read s story other))
@@ -139,7 +166,7 @@ ended_before limits old now after p q tale before_read after_read ending first s
     elim (cases_eq p.read s) [
       | inl same ↦
           (let mid = subst (λ (x : Seen). HaveCome first.reader x (tale p.read).pieces) from.used (holds.come first from.was was from.was_there) in
-          let read = source_was_read first.reader before_read after_read limits.bytes p.intake (tale p.read).pieces (tale p.read).blocks ending mid holds.taken ends in
+          let read = source_was_read first.reader before_read after_read limits.bytes p.intake (tale p.read).pieces holds.cut ending mid holds.taken ends in
           subst (λ n. HasEnded limits old after n (new n)) same
           (subst (λ (x : Story). HasEnded limits old after p.read x) (sym there)
           (record {
@@ -157,10 +184,11 @@ ended_before limits old now after p q tale before_read after_read ending first s
     ]
 
 pub ending_holds : (limits : Limits) (old now after : List Sighted) (p q : Progress) (tale : ℕ → Story) (before_read after_read : Seen) (ending : Ending) (first : Sighted) →
-    slice_get old p.read ≡ Some first → IsReadFrom now after p.read before_read after_read → Ends before_read after_read limits.bytes p.intake.count ending → EndsSource ending p q →
+    slice_get old p.read ≡ Some first → IsReadFrom now after p.read before_read after_read → Ends before_read after_read limits.bytes p.intake.count ending → EndsSource limits ending p q →
     Holds limits old now p tale → (new : ℕ → Story) × Holds limits old after q new × ((s : ℕ) → s < p.read → new s ≡ tale s)
 ending_holds limits old now after p q tale before_read after_read ending first was from ends is holds =
-    let o = last_of p.intake.cutting ending in
+    let given = last_of p.intake.cutting ending in
+    let o = wanted limits p given in
     let pieces = (tale p.read).pieces in
     let all = (tale p.read).blocks ++ option_to_list o in
     let mid : Story = with_pieces (tale p.read) pieces o in
@@ -179,9 +207,11 @@ ending_holds limits old now after p q tale before_read after_read ending first w
       record {
         tracked = subst (λ (i : Inquired). AreTracked limits i.open_ones new q.tracks.items) (sym is.inquiry)
             (subst (λ ts. AreTracked limits qs new ts) (sym is.tracks)
-            (ended_tracked limits p tale ending o all refl holds.taken blocks tracked));
+            (ended_tracked limits p tale ending o all holds.cut (enough_wanted limits p tale holds.cut given holds.tracked holds.enough) holds.taken blocks tracked));
         ended = λ s below. ended_before limits old now after p q tale before_read after_read ending first story new was from ends holds refl refl there elsewhere s (omega (arith, below, is.read));
-        taken = subst (λ (x : Story). IsTaken q.intake x.pieces x.blocks) (sym next_known) (subst (λ (i : Taking). IsTaken i [] []) (sym is.intake) nothing_is_taken);
+        cut = [];
+        taken = subst (λ (x : Story). IsTaken q.intake x.pieces []) (sym next_known) (subst (λ (i : Taking). IsTaken i [] []) (sym is.intake) nothing_is_taken);
+        enough = subst (λ (x : Story). AreEnough limits x.blocks []) (sym next_known) (inl refl);
         come = subst (λ (x : Story). HaveComeFrom old after q.read x) (sym next_known)
             (λ before last at_old at_new.
             let same : before ≡ last = the_some before last (sym at_old ∙ (sym (holds.later q.read next_above).1 ∙ (sym (from.others q.read next_other) ∙ at_new))) in

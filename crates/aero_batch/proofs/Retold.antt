@@ -15,7 +15,7 @@ use Rattle.aero_batch.specs.Holding.{Holds, HaveComeFrom}
 use Rattle.aero_batch.specs.Inquiries.{Inquired}
 use Rattle.aero_intake.specs.Intake.{Taking, IsTaken}
 use Rattle.aero_batch.specs.Steps.{ChecksNext, SettlesNext, Settles, with_block, with_check}
-use Rattle.aero_intake.specs.Stories.{Story, IsTracked, AreTracked, changed}
+use Rattle.aero_intake.specs.Stories.{Story, AreEnough, IsTracked, AreTracked, changed}
 use Rattle.aero_intake.specs.Tracks.{IsReady, GivesReadings}
 use Rattle.aero_intake.proofs.Tracked.{changed_there, changed_elsewhere, before_change, value_goes, asked_other, asked_block, asked_check}
 
@@ -38,7 +38,9 @@ pub without_reading : (limits : Limits) (old now : List Sighted) (p q : Progress
 without_reading limits old now p q tale read intake blocks tracked holds = record {
   tracked = tracked;
   ended = λ s below. holds.ended s (subst (λ r. s < r) read below);
-  taken = subst (λ r. IsTaken q.intake (tale r).pieces (tale r).blocks) (sym read) (subst (λ (i : Taking). IsTaken i (tale p.read).pieces (tale p.read).blocks) (sym intake) holds.taken);
+  cut = holds.cut;
+  taken = subst (λ r. IsTaken q.intake (tale r).pieces holds.cut) (sym read) (subst (λ (i : Taking). IsTaken i (tale p.read).pieces holds.cut) (sym intake) holds.taken);
+  enough = subst (λ r. AreEnough limits (tale r).blocks holds.cut) (sym read) holds.enough;
   come = subst (λ r. HaveComeFrom old now r (tale r)) (sym read) holds.come;
   asked = blocks ∙ (holds.asked ∙ ap (λ r. length (tale r).blocks) (sym read));
   not_ended = ap (λ r. (tale r).ending) read ∙ holds.not_ended;

@@ -10,7 +10,7 @@ use Rattle.std.proofs.lemmas.Option.{slice_get_within}
 use Rattle.aero_model.specs.declared.limits.Limits.{Limits}
 use Rattle.aero_model.specs.declared.verdict.Ending.{Ending}
 use Rattle.aero_model.specs.declared.verdict.Finding.{Finding}
-use Rattle.aero_model.specs.Counts.{Seen}
+use Rattle.aero_model.specs.CallCounts.{Seen}
 use Rattle.aero_report.specs.Texts.{source_line, source_lines, summary_line, counts_of, counted, no_counts}
 use Rattle.aero_batch.specs.declared.outcome.Cause.{Cause}
 use Rattle.aero_batch.specs.declared.outcome.Cause.TheVariants.{Memory, Write}
@@ -390,7 +390,9 @@ begun_stands limits old before p a is =
             let track : t ≡ tracks.Arriving [] = get_replicate (length old) s (tracks.Arriving []) t (subst (λ ts. slice_get ts s ≡ Some t) start.tracks at) in
             subst (λ (i : Inquired). IsTracked limits i.open_ones s nothing_known t) (sym start.inquiry) (subst (λ x. IsTracked limits [] s nothing_known x) (sym track) (refl, refl, refl));
         ended = λ s below. absurd (omega (arith, below, start.none_read));
+        cut = [];
         taken = subst (λ (i : Taking). IsTaken i [] []) (sym start.intake) nothing_is_taken;
+        enough = inl refl;
         come = λ x y at_old at_now. subst (λ (z : Sighted). HaveCome x.reader z.reader []) (the_some x y (sym at_old ∙ at_now)) (nothing_has_come x.reader);
         asked = start.no_blocks;
         not_ended = refl;

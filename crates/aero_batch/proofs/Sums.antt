@@ -3,7 +3,7 @@ use Rattle.std.proofs.Common.{◌≡◌, ℕ, ◌+◌, ◌<◌, ◌≤◌, ◌^�
 use Rattle.std.proofs.lemmas.List.{length_push}
 use Rattle.aero_model.specs.declared.limits.Limits.{Limits}
 use Rattle.aero_model.specs.declared.verdict.Ending.{Ending}
-use Rattle.aero_model.specs.Counts.{Seen}
+use Rattle.aero_model.specs.CallCounts.{Seen}
 use Rattle.aero_grammar.specs.Reading.{Reading}
 use Rattle.aero_lines.specs.Cutting.{block_of}
 use Rattle.aero_pieces.specs.declared.question.Question.{Question}
@@ -13,7 +13,7 @@ use Rattle.aero_intake.specs.declared.track.Track.{Track}
 use Rattle.aero_batch.specs.Holding.{Counted}
 use Rattle.aero_batch.specs.Inquiries.{Inquired}
 use Rattle.aero_intake.specs.Intake.{Taking}
-use Rattle.aero_batch.specs.Steps.{ChecksNext, SettlesNext, TakesPiece, EndsSource, MayAsk, with_block, with_check, last_of, ended_track, Settles}
+use Rattle.aero_batch.specs.Steps.{ChecksNext, SettlesNext, TakesPiece, EndsSource, MayAsk, with_block, wanted, with_check, last_of, ended_track, Settles}
 use Rattle.aero_intake.specs.Stories.{trace_of}
 use Rattle.aero_intake.specs.Tracks.{with_value}
 use Rattle.aero_intake.proofs.Tracked.{changed_length}
@@ -90,7 +90,7 @@ block_more p (Some b) = (1, record { one = omega arith; questions = length_push 
 
 pub piece_counted : (limits : Limits) (n : ℕ) (p q : Progress) (before after : Seen) → MayAsk p → TakesPiece limits before after p q → Counted limits n p → Counted limits n q
 piece_counted limits n p q before after may is c =
-    let more = block_more p (block_of p.intake.cutting is.piece) in
+    let more = block_more p (wanted limits p (block_of p.intake.cutting is.piece)) in
     let k = more.0 in
     let m = more.1 in
     let count : q.intake.count ≡ p.intake.count + length is.piece = ap (λ (i : Taking). i.count) is.intake in
@@ -111,9 +111,9 @@ piece_counted limits n p q before after may is c =
       short = subst (λ m. m ≤ 2 ^ 20) (sym is.buffer) c.short;
     }
 
-pub ending_counted : (limits : Limits) (n : ℕ) (p q : Progress) (ending : Ending) → p.read < n → MayAsk p → EndsSource ending p q → Counted limits n p → Counted limits n q
+pub ending_counted : (limits : Limits) (n : ℕ) (p q : Progress) (ending : Ending) → p.read < n → MayAsk p → EndsSource limits ending p q → Counted limits n p → Counted limits n q
 ending_counted limits n p q ending unread may is c =
-    let more = block_more p (last_of p.intake.cutting ending) in
+    let more = block_more p (wanted limits p (last_of p.intake.cutting ending)) in
     let k = more.0 in
     let m = more.1 in
     let count : q.intake.count ≡ 0 = ap (λ (i : Taking). i.count) is.intake in
@@ -121,7 +121,7 @@ ending_counted limits n p q ending unread may is c =
     let more_asked : q.inquiry.asked ≡ p.inquiry.asked + k = ap (λ (i : Inquired). i.asked) is.inquiry ∙ m.more_asked in
     let few : limits.bytes ≤ 1073741824 = c.few_bytes in
     record {
-      tracks = ap length is.tracks ∙ (changed_length p.read (ended_track ending p.intake.count ((with_block p (last_of p.intake.cutting ending)).blocks)) p.tracks.items ∙ c.tracks);
+      tracks = ap length is.tracks ∙ (changed_length p.read (ended_track ending p.intake.count ((with_block p (wanted limits p (last_of p.intake.cutting ending))).blocks)) p.tracks.items ∙ c.tracks);
       few_sources = c.few_sources;
       read = omega (arith, unread, is.read);
       checked = omega (arith, c.checked, is.checked, is.read);

@@ -5,7 +5,7 @@ use Rattle.aero_model.specs.declared.limits.Limits.{Limits}
 use Rattle.aero_model.specs.declared.verdict.Counts.{Counts}
 use Rattle.aero_model.specs.declared.verdict.Ending.{Ending}
 use Rattle.aero_model.specs.declared.verdict.Finding.{Finding}
-use Rattle.aero_model.specs.Counts.{Seen, seen_by}
+use Rattle.aero_model.specs.CallCounts.{Seen, seen_by}
 use Rattle.aero_report.specs.Texts.{source_line, source_lines, summary_line, counts_of, report}
 use Rattle.aero_verdict.specs.Finding.{IsFinding}
 use Rattle.aero_batch.specs.declared.outcome.Cause.{Cause}

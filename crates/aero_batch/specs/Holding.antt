@@ -3,7 +3,7 @@ use Rattle.std.specs.Prelude.{◌≡◌, ℕ, ◌+◌, ◌*◌, ◌<◌, ◌≤�
 use Rattle.std.specs.List.{concat}
 use Rattle.aero_model.specs.declared.limits.Limits.{Limits}
 use Rattle.aero_model.specs.declared.verdict.Ending.{Ending}
-use Rattle.aero_model.specs.Counts.{Seen}
+use Rattle.aero_model.specs.CallCounts.{Seen}
 use Rattle.aero_report.specs.Texts.{no_counts}
 use Rattle.aero_verdict.specs.Finding.{IsFinding}
 use Rattle.aero_batch.specs.declared.progress.Progress.{Progress}
@@ -13,7 +13,7 @@ use Rattle.aero_intake.specs.Intake.{IsTaken, HaveCome}
 use Rattle.aero_intake.specs.Source.{WasRead}
 use Rattle.aero_batch.specs.Steps.{IsStart}
 use Rattle.aero_batch.specs.Telling.{total}
-use Rattle.aero_intake.specs.Stories.{Story, AreTracked}
+use Rattle.aero_intake.specs.Stories.{Story, AreEnough, AreTracked}
 
 -- of a source that was not read yet
 abbrev pub nothing_known : Story
@@ -33,11 +33,13 @@ pub record HasEnded (limits : Limits) (old now : List Sighted) (s : ℕ) (story 
 abbrev pub HaveComeFrom : List Sighted → List Sighted → ℕ → Story → Type 0
 HaveComeFrom old now s story = (before after : Sighted) → slice_get old s ≡ Some before → slice_get now s ≡ Some after → HaveCome before.reader after.reader story.pieces
 
--- Each source has a story: it has ended, is being read, or was not read yet. What is known of each fits its story.
+-- Each source has a story: it has ended, is being read, or was not read yet. What is known of each fits its story. Of the blocks that the source that is being read was cut into, enough were asked about.
 pub record Holds (limits : Limits) (old now : List Sighted) (p : Progress) (tale : ℕ → Story) : Type 0 where
   pub tracked : AreTracked limits p.inquiry.open_ones tale p.tracks.items
   pub ended : (s : ℕ) → s < p.read → HasEnded limits old now s (tale s)
-  pub taken : IsTaken p.intake (tale p.read).pieces (tale p.read).blocks
+  pub cut : List (List ℕ)
+  pub taken : IsTaken p.intake (tale p.read).pieces cut
+  pub enough : AreEnough limits (tale p.read).blocks cut
   pub come : HaveComeFrom old now p.read (tale p.read)
   pub asked : p.blocks ≡ length (tale p.read).blocks
   pub not_ended : (tale p.read).ending ≡ None

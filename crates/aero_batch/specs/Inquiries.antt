@@ -1,11 +1,12 @@
 -- The questions that are open, as contracts see them: whatever the helpers reply, they stay in their order until they are given back.
-use Rattle.std.specs.Prelude.{◌≡◌, ℕ, ◌+◌, List, [], ◌∷◌, ◌++◌, map, Option, Some, None}
+use Rattle.std.specs.Prelude.{◌≡◌, ◌↔◌, IsTrue, ℕ, ◌+◌, Bool, List, [], ◌∷◌, ◌++◌, map, Option, Some, None}
 use Rattle.aero_pieces.specs.declared.question.Question.{Question}
 use Rattle.aero_pieces.specs.declared.answer.Value.{Value}
 use Rattle.aero_pieces.specs.Values.{IsValueOf}
 use Rattle.aero_pieces.specs.Schedule.{Entry}
-use Rattle.aero_gather.specs.Gathered.{Gathered, Accepts, with_missed}
+use Rattle.aero_gather.specs.Gathered.{Gathered, Accepts, IsAwaited, with_missed}
 use Rattle.aero_gather.specs.declared.gather.Accepted.{Accepted}
+use Rattle.aero_gather.specs.declared.gather.Accepted.TheVariants.{Kept}
 use Rattle.aero_worker.specs.declared.reply.Reply.{Reply}
 use Rattle.aero_worker.specs.declared.reply.Reply.TheVariants.{Done, Missed}
 use Rattle.aero_intake.specs.Stories.{trace_of}
@@ -36,7 +37,7 @@ SettlesKnown old [] new given = (given ≡ None) × (new ≡ old)
 SettlesKnown old (e ∷ more) new given =
     (v : Value) × IsValueOf e.question v × (given ≡ Some v) × (new.entries ≡ more) × (new.tally.asked ≡ old.tally.asked) × (new.window ≡ old.window)
 
--- what a reply does: an answer is accepted, whatever becomes of it, and a question that has none is noted as missed
-abbrev pub Heeds : Reply → Gathered → Gathered → Type 0
-Heeds (Done answer) old new = (accepted : Accepted) × Accepts answer.question answer.value old new accepted
-Heeds (Missed number) old new = new ≡ with_missed old number
+-- What a reply does, and whether it is of use: an answer is accepted, and is of use where it is kept, and a question that has none is noted as missed, which is of use where it is news.
+abbrev pub Heeds : Reply → Gathered → Gathered → Bool → Type 0
+Heeds (Done answer) old new is_of_use = (accepted : Accepted) × Accepts answer.question answer.value old new accepted × (IsTrue is_of_use ↔ (accepted ≡ Kept))
+Heeds (Missed number) old new is_of_use = (new ≡ with_missed old number) × (IsTrue is_of_use ↔ IsAwaited old number)

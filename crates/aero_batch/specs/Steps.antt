@@ -1,10 +1,10 @@
 -- The steps of a run.
-use Rattle.std.specs.Prelude.{◌≡◌, ℕ, ◌+◌, ◌-◌, ◌<◌, ◌^◌, ◌⊎◌, List, [], ◌∷◌, length, replicate, slice_get, Option, Some, None, vec_len}
+use Rattle.std.specs.Prelude.{◌≡◌, ℕ, ◌+◌, ◌-◌, ◌<◌, ◌^◌, ◌⊎◌, Bool, false, if◌then◌else◌, List, [], ◌∷◌, length, replicate, slice_get, Option, Some, None, vec_len}
 use Rattle.aero_model.specs.declared.limits.Limits.{Limits}
 use Rattle.aero_model.specs.declared.verdict.Ending.{Ending}
 use Rattle.aero_model.specs.declared.verdict.Ending.TheVariants as endings
 use Rattle.aero_model.specs.declared.verdict.Finding.TheVariants as findings
-use Rattle.aero_model.specs.Counts.{Seen}
+use Rattle.aero_model.specs.CallCounts.{Seen}
 use Rattle.aero_grammar.specs.Reading.{Reading}
 use Rattle.aero_lines.specs.Cutting.{Cutting, block_of, last_block}
 use Rattle.aero_pieces.specs.declared.question.Question.{Question}
@@ -15,7 +15,7 @@ use Rattle.aero_intake.specs.declared.track.Track.TheVariants.{Arriving, Found}
 use Rattle.aero_batch.specs.Founds.{Sighted}
 use Rattle.aero_batch.specs.Inquiries.{Inquired, nothing_asked, with_question}
 use Rattle.aero_intake.specs.Intake.{nothing_taken, with_piece, Comes, Ends}
-use Rattle.aero_intake.specs.Tracks.{with_arrival, IsReady, GivesReadings}
+use Rattle.aero_intake.specs.Tracks.{is_decided, with_arrival, IsReady, GivesReadings}
 use Rattle.aero_intake.specs.Stories.{changed, IsSettledWith}
 
 -- before the first step
@@ -39,6 +39,18 @@ abbrev pub with_block : Progress → Option (List ℕ) → Progress
 with_block p None = p
 with_block p (Some block) = record p { inquiry = with_question p.inquiry (Parse p.read p.blocks block); blocks = p.blocks + 1 }
 
+-- whether what was read of the source that is being read decides
+abbrev pub decided_there : Limits → Option Track → Bool
+decided_there limits None = false
+decided_there limits (Some track) = is_decided limits track
+
+abbrev pub has_decided : Limits → Progress → Bool
+has_decided limits p = decided_there limits (slice_get p.tracks.items p.read)
+
+-- the block that is to be asked about: none, once what was read decides
+abbrev pub wanted : Limits → Progress → Option (List ℕ) → Option (List ℕ)
+wanted limits p block = if has_decided limits p then None else block
+
 -- the last block of a source that is whole
 abbrev pub last_of : Cutting → Ending → Option (List ℕ)
 last_of cutting endings.Whole = last_block cutting
@@ -52,21 +64,21 @@ ended_track endings.Broken bytes blocks t = Found bytes endings.Broken (findings
 ended_track endings.TooLarge bytes blocks t = Found bytes endings.TooLarge findings.TooLarge
 
 -- The source that was being read has ended so, and the next one is to be read.
-pub record EndsSource (ending : Ending) (old new : Progress) : Type 0 where
-  pub inquiry : new.inquiry ≡ (with_block old (last_of old.intake.cutting ending)).inquiry
-  pub tracks : new.tracks.items ≡ changed old.read (ended_track ending old.intake.count ((with_block old (last_of old.intake.cutting ending)).blocks)) old.tracks.items
+pub record EndsSource (limits : Limits) (ending : Ending) (old new : Progress) : Type 0 where
+  pub inquiry : new.inquiry ≡ (with_block old (wanted limits old (last_of old.intake.cutting ending))).inquiry
+  pub tracks : new.tracks.items ≡ changed old.read (ended_track ending old.intake.count ((with_block old (wanted limits old (last_of old.intake.cutting ending))).blocks)) old.tracks.items
   pub read : new.read ≡ old.read + 1
   pub checked : new.checked ≡ old.checked
   pub intake : new.intake ≡ nothing_taken
   pub blocks : new.blocks ≡ 0
   pub buffer : vec_len new.buffer ≡ vec_len old.buffer
 
--- A piece came, and the block that it gave, if it gave one, is asked about.
+-- A piece came, and the block that it gave, if it gave one, is asked about, unless what was read decides.
 pub record TakesPiece (limits : Limits) (before after : Seen) (old new : Progress) : Type 0 where
   pub piece : List ℕ
   pub comes : Comes before after (vec_len old.buffer) limits.bytes old.intake.count piece
-  pub inquiry : new.inquiry ≡ (with_block old (block_of old.intake.cutting piece)).inquiry
-  pub blocks : new.blocks ≡ (with_block old (block_of old.intake.cutting piece)).blocks
+  pub inquiry : new.inquiry ≡ (with_block old (wanted limits old (block_of old.intake.cutting piece))).inquiry
+  pub blocks : new.blocks ≡ (with_block old (wanted limits old (block_of old.intake.cutting piece))).blocks
   pub intake : new.intake ≡ with_piece old.intake piece
   pub tracks : new.tracks.items ≡ old.tracks.items
   pub read : new.read ≡ old.read
@@ -77,7 +89,7 @@ pub record TakesPiece (limits : Limits) (before after : Seen) (old new : Progres
 abbrev pub ReadsOn : Limits → Seen → Seen → Progress → Progress → Type 0
 ReadsOn limits before after old new =
     TakesPiece limits before after old new
-    ⊎ ((ending : Ending) × Ends before after limits.bytes old.intake.count ending × EndsSource ending old new)
+    ⊎ ((ending : Ending) × Ends before after limits.bytes old.intake.count ending × EndsSource limits ending old new)
 
 -- the verdict is asked for on what the blocks of a source say
 abbrev pub with_check : Limits → Inquired → ℕ → Option (List Reading) → Inquired

@@ -4,7 +4,7 @@ use Rattle.std.specs.Io.KnownBytes.{Appends}
 use Rattle.aero_model.specs.declared.verdict.Counts.{Counts}
 use Rattle.aero_model.specs.declared.verdict.Ending.{Ending}
 use Rattle.aero_model.specs.declared.verdict.Finding.{Finding}
-use Rattle.aero_model.specs.Counts.{Seen}
+use Rattle.aero_model.specs.CallCounts.{Seen}
 use Rattle.aero_report.specs.Texts.{source_line, counted}
 use Rattle.aero_batch.specs.declared.outcome.Cause.{Cause}
 use Rattle.aero_batch.specs.declared.outcome.Cause.TheVariants.{Memory, Write}

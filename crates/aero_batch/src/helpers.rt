@@ -1,41 +1,8 @@
 //! Those who may answer questions while the sources are read.
-ghost use Rattle.std.specs.Prelude.{◌≡◌, ℕ};
-
 use aero_stage::{Full, Job};
-use aero_worker::{Crew, Reply};
+pub use aero_worker::Helpers;
+use aero_worker::Reply;
 use std::sync::Wait;
-
-/// Those to whom jobs are posted, and who may reply, in any order, more than once, or never. Nothing
-/// is promised of them but that they say how many they are.
-pub trait Helpers {
-    ghost count: { Self → ℕ };
-
-    /// How many there are.
-    fn workers(&self) -> u32
-        ensures { result ≡ count self.now };
-
-    /// Posts a job, or gives it back.
-    fn post<R: Wait>(&mut self, rt: &R, job: Job) -> Result<(), Full>;
-
-    /// Waits for a reply. `None` says that none is to be awaited any more.
-    fn next_answer<R: Wait>(&mut self, rt: &R) -> Option<Reply>;
-}
-
-impl Helpers for Crew {
-    ghost count = { λ crew. crew.workers };
-
-    fn workers(&self) -> u32 {
-        self.workers()
-    }
-
-    fn post<R: Wait>(&mut self, rt: &R, job: Job) -> Result<(), Full> {
-        self.post(rt, job)
-    }
-
-    fn next_answer<R: Wait>(&mut self, rt: &R) -> Option<Reply> {
-        self.next_answer(rt)
-    }
-}
 
 /// Nobody helps: all is worked out by the caller's own thread.
 #[derive(Drop)]
@@ -53,6 +20,10 @@ impl Helpers for Nobody {
     }
 
     fn next_answer<R: Wait>(&mut self, _rt: &R) -> Option<Reply> {
+        None
+    }
+
+    fn ready_answer<R: Wait>(&mut self, _rt: &R) -> Option<Reply> {
         None
     }
 }

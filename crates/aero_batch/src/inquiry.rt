@@ -2,15 +2,15 @@
 ghost use Rattle.std.specs.Prelude.{◌≡◌, ◌<◌, ◌≤◌, ◌-◌, ◌+◌, ◌^◌, ◌↔◌, [], length, map, true, false, IfOk, OnOk, OnErr, IsTrue, MatchBool};
 ghost use Rattle.std.specs.Arc.{arc_value};
 ghost use Rattle.aero_gather.specs.Gathered.{with_missed};
-ghost use Rattle.aero_batch.specs.Inquiries.{nothing_asked, with_question, Gives, SettlesKnown, Heeds, questions_of};
+ghost use Rattle.aero_batch.specs.Inquiries.{nothing_asked, with_question, Gives, SettlesKnown, questions_of};
 ghost use Rattle.aero_intake.specs.Stories.{trace_of};
 
 use crate::helpers::Helpers;
-use aero_gather::gather::{Gather, Oldest, Tally, Ticket};
+use crate::replies::{Listening, await_oldest, hear, is_answered};
+use aero_gather::gather::{Gather, Tally, Ticket};
 use aero_pieces::answer::Value;
 use aero_pieces::question::Question;
 use aero_stage::Job;
-use aero_worker::Reply;
 use std::alloc::{AllocError, Global};
 use std::marker::Model;
 use std::sync::{Arc, Wait};
@@ -24,7 +24,7 @@ const WINDOW: u32 = 64;
 pub struct Inquiry {
     gather: Gather,
     open_count: u32,
-    is_alone: bool,
+    listening: Listening,
 }
 
 impl Model for Inquiry {
@@ -48,7 +48,10 @@ impl Inquiry {
         Ok(Inquiry {
             gather: Gather::new(alloc, WINDOW)?,
             open_count: 0,
-            is_alone,
+            listening: Listening {
+                is_alone,
+                useless: 0,
+            },
         })
     }
 
@@ -92,13 +95,23 @@ impl Inquiry {
             unreachable!()
         };
         self.open_count += 1;
-        post(rt, helpers, &mut self.gather, self.is_alone, ticket, shared);
+        let is_alone = self.listening.is_alone;
+        post(rt, helpers, &mut self.gather, is_alone, ticket, shared);
         Ok(())
     }
 
+    /// Takes replies that have come, without waiting for one. The answer says whether the oldest open
+    /// question can be settled without waiting.
+    pub fn hear<H: Helpers, R: Wait>(&mut self, rt: &R, helpers: &mut H) -> bool
+        ensures { self.new ≡ self.old }
+    {
+        self.listening = hear(rt, helpers, &mut self.gather, self.listening);
+        is_answered(&self.gather)
+    }
+
     /// Takes the oldest open question away, and gives the number of its trace and its value. Waits
-    /// for its answer as long as one is to be awaited, and else works the value out. `None` where no
-    /// question is open.
+    /// for its answer as long as one is to be awaited, but for no more than 1,024 replies in a row that
+    /// are of no use, and else works the value out. `None` where no question is open.
     pub fn settle<H: Helpers, R: Wait>(
         &mut self,
         rt: &R,
@@ -106,7 +119,9 @@ impl Inquiry {
     ) -> Result<Option<(u64, Value)>, AllocError>
         ensures { IfOk result (λ given. Gives self.old.open_ones self.old.asked self.new given) }
     {
-        self.is_alone = !await_oldest(rt, helpers, &mut self.gather, self.is_alone);
+        let oldest = oldest_ticket(&self.gather, self.open_count);
+        let listening = await_oldest(rt, helpers, &mut self.gather, oldest, self.listening);
+        self.listening = listening;
         let trace = match self.gather.front() {
             Some(question) => trace_number(question),
             None => return Ok(None),
@@ -156,30 +171,14 @@ fn is_posted<H: Helpers, R: Wait>(
     helpers.post(rt, job).is_ok()
 }
 
-// Takes replies until the oldest open question awaits none, and says whether there may be more.
-fn await_oldest<H: Helpers, R: Wait>(
-    rt: &R,
-    helpers: &mut H,
-    gather: &mut Gather,
-    is_alone: bool,
-) -> bool
-    ensures questions { questions_of gather.new ≡ questions_of gather.old }
-    ensures asked { gather.new.tally.asked ≡ gather.old.tally.asked }
-    ensures window { gather.new.window ≡ gather.old.window }
+// The ticket of the oldest open question, where so many are open.
+fn oldest_ticket(gather: &Gather, open_count: u32) -> Ticket
+    requires { open_count ≡ length gather.now.entries }
+    ensures { result.number ≡ gather.now.tally.asked - length gather.now.entries }
 {
-    if is_alone {
-        return false;
+    Ticket {
+        number: gather.tally().asked - u64::from(open_count),
     }
-    'replies: for _ in rt.forever() {
-        if gather.oldest() != Oldest::Awaited {
-            break 'replies;
-        }
-        match helpers.next_answer(rt) {
-            Some(reply) => take_reply(gather, reply),
-            None => return false,
-        }
-    }
-    true
 }
 
 // Takes the oldest open question away, and gives its value.
@@ -190,21 +189,6 @@ fn settle_known(gather: &mut Gather) -> Result<Option<Value>, AllocError>
     // The kept values are those of their questions.
     let _ = gather.tally();
     gather.settle()
-}
-
-// Takes a reply: an answer is accepted, and where none comes the question is noted as missed.
-fn take_reply(gather: &mut Gather, reply: Reply)
-    ensures heeds { Heeds reply gather.old gather.new }
-    ensures questions { questions_of gather.new ≡ questions_of gather.old }
-    ensures asked { gather.new.tally.asked ≡ gather.old.tally.asked }
-    ensures window { gather.new.window ≡ gather.old.window }
-{
-    match reply {
-        Reply::Done(answer) => {
-            gather.accept(answer);
-        }
-        Reply::Missed(number) => gather.note_missed(Ticket { number }),
-    }
 }
 
 fn trace_number(question: &Question) -> u64

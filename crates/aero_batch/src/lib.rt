@@ -27,6 +27,7 @@ mod inquiry;
 pub mod outcome;
 mod progress;
 mod reading;
+mod replies;
 pub mod run;
 mod step;
 mod told;

@@ -1,13 +1,13 @@
 //! Reading the sources, and asking about their blocks.
 ghost use Rattle.std.specs.Prelude.{◌≡◌, ◌<◌, ◌≤◌, ◌+◌, ◌^◌, length, vec_len, IfOk, IfSome, OnOk};
 ghost use Rattle.std.specs.Arc.{arc_value};
-ghost use Rattle.aero_model.specs.Counts.{seen_by};
-ghost use Rattle.aero_batch.specs.Steps.{MayAsk, ReadsOn, EndsSource, with_block, last_of, ended_track};
+ghost use Rattle.aero_model.specs.CallCounts.{seen_by};
+ghost use Rattle.aero_batch.specs.Steps.{MayAsk, ReadsOn, EndsSource, with_block, wanted, last_of, ended_track};
 
 use crate::helpers::Helpers;
 use crate::progress::Progress;
 use aero_intake::intake::{Intake, Taken};
-use aero_intake::track::{Track, arrive};
+use aero_intake::track::{Track, arrive, is_decided};
 use aero_lines::cutter::Block;
 use aero_model::counting::Counting;
 use aero_model::limits::Limits;
@@ -18,8 +18,8 @@ use std::io::Read;
 use std::mem;
 use std::sync::{Arc, Wait};
 
-/// One step of reading the next source: a piece of it is read, and its block is asked about, or the
-/// source has ended. An `AllocError` says that memory was refused.
+/// One step of reading the next source: a piece of it is read, and its block is asked about, unless
+/// what was read before decides, or the source has ended. An `AllocError` says that memory was refused.
 pub fn read_on<R: Read, H: Helpers, T: Wait>(
     rt: &T,
     alloc: Global,
@@ -39,23 +39,29 @@ pub fn read_on<R: Read, H: Helpers, T: Wait>(
         .intake
         .take(reader, &mut progress.buffer, limits.bytes)?
     {
-        Taken::Piece(block) => ask_block(rt, alloc, helpers, progress, block),
-        Taken::Ended(ending) => end_source(rt, alloc, helpers, progress, ending),
+        Taken::Piece(block) => ask_block(rt, alloc, limits, helpers, progress, block),
+        Taken::Ended(ending) => end_source(rt, alloc, limits, helpers, progress, ending),
     }
 }
 
-// Asks about the next block of the source that is being read, if there is one.
+// Asks about the next block of the source that is being read, if there is one, unless what was read of
+// it decides.
 fn ask_block<H: Helpers, T: Wait>(
     rt: &T,
     alloc: Global,
+    limits: &Limits,
     helpers: &mut H,
     progress: &mut Progress,
     block: Option<Block>,
 ) -> Result<(), AllocError>
     requires may { MayAsk progress.old }
+    requires unread { progress.old.read < vec_len progress.old.tracks }
     requires short { IfSome block (λ bytes. length bytes ≤ 2 ^ 30) }
-    ensures { OnOk result (progress.new ≡ with_block progress.old block) }
+    ensures { OnOk result (progress.new ≡ with_block progress.old (wanted limits.now progress.old block)) }
 {
+    if is_decided(&progress.tracks[progress.read], limits) {
+        return Ok(());
+    }
     let Some(block) = block else {
         return Ok(());
     };
@@ -89,18 +95,19 @@ fn block_question(
 fn end_source<H: Helpers, T: Wait>(
     rt: &T,
     alloc: Global,
+    limits: &Limits,
     helpers: &mut H,
     progress: &mut Progress,
     ending: Ending,
 ) -> Result<(), AllocError>
     requires may { MayAsk progress.old }
     requires unread { progress.old.read < vec_len progress.old.tracks }
-    ensures { OnOk result (EndsSource ending progress.old progress.new) }
+    ensures { OnOk result (EndsSource limits.now ending progress.old progress.new) }
 {
     let intake = mem::replace(&mut progress.intake, Intake::new(alloc));
     let bytes = u64::from(intake.count());
     let last = last_block(intake, ending)?;
-    ask_block(rt, alloc, helpers, progress, last)?;
+    ask_block(rt, alloc, limits, helpers, progress, last)?;
     let place = progress.read;
     end_track(&mut progress.tracks[place], ending, bytes, progress.blocks);
     progress.blocks = 0;

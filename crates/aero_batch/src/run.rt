@@ -1,7 +1,7 @@
 //! A run over many sources.
 ghost use Rattle.std.specs.Prelude.{◌≡◌, ◌<◌, ◌≤◌, ◌+◌, ℕ, List, None, Some, true, false, length, map, vec_len, vec_capacity, [], IfOk, IfErr, OnOk};
 ghost use Rattle.aero_report.specs.Texts.{no_counts};
-ghost use Rattle.aero_model.specs.Counts.{Seen, seen_by};
+ghost use Rattle.aero_model.specs.CallCounts.{Seen, seen_by};
 ghost use Rattle.aero_batch.specs.Founds.{Sighted, sighted, WasRun};
 ghost use Rattle.aero_batch.specs.Holding.{HasNumbers, IsBegun, Stands};
 

@@ -1,6 +1,6 @@
 //! One step of a run.
 ghost use Rattle.std.specs.Prelude.{◌≡◌, ◌<◌, ◌≤◌, ℕ, length, map, slice_get, OnOk};
-ghost use Rattle.aero_model.specs.Counts.{seen_by};
+ghost use Rattle.aero_model.specs.CallCounts.{seen_by};
 ghost use Rattle.aero_batch.specs.Founds.{sighted};
 ghost use Rattle.aero_batch.specs.Holding.{Counted};
 ghost use Rattle.aero_batch.specs.Steps.{Steps};
@@ -16,9 +16,9 @@ use std::alloc::{AllocError, Global};
 use std::io::Read;
 use std::sync::Wait;
 
-/// One step: the verdict on a source is asked for, or a piece is read, or, where the window is full
-/// or nothing is left to read, the oldest question is settled. An `AllocError` says that memory was
-/// refused.
+/// One step: the verdict on a source is asked for, or a piece is read, or, where the oldest question has
+/// its answer, the window is full or nothing is left to read, that question is settled. So what is
+/// known of a source is told before the next read. An `AllocError` says that memory was refused.
 pub fn step<R: Read, H: Helpers, T: Wait>(
     rt: &T,
     alloc: Global,
@@ -32,13 +32,32 @@ pub fn step<R: Read, H: Helpers, T: Wait>(
     ensures names { map (λ s. s.name) (map (sighted R.remaining) sources.new) ≡ map (λ s. s.name) (map (sighted R.remaining) sources.old) }
     ensures others { (s : ℕ) → (progress.old.read ≡ s → ⊥) → slice_get (map (sighted R.remaining) sources.new) s ≡ slice_get (map (sighted R.remaining) sources.old) s }
 {
+    let is_answered = progress.inquiry.hear(rt, helpers);
+    step_on(rt, alloc, limits, sources, helpers, progress, is_answered)
+}
+
+// The same, where it is said whether the oldest question has its answer.
+fn step_on<R: Read, H: Helpers, T: Wait>(
+    rt: &T,
+    alloc: Global,
+    limits: &Limits,
+    sources: &mut [Source<R>],
+    helpers: &mut H,
+    progress: &mut Progress,
+    is_answered: bool,
+) -> Result<(), AllocError>
+    requires { Counted limits.now (length sources.old) progress.old }
+    ensures steps { OnOk result (Steps limits.now (map (sighted R.remaining) sources.old) (map (sighted R.remaining) sources.new) progress.old progress.new) }
+    ensures names { map (λ s. s.name) (map (sighted R.remaining) sources.new) ≡ map (λ s. s.name) (map (sighted R.remaining) sources.old) }
+    ensures others { (s : ℕ) → (progress.old.read ≡ s → ⊥) → slice_get (map (sighted R.remaining) sources.new) s ≡ slice_get (map (sighted R.remaining) sources.old) s }
+{
     if !progress.inquiry.has_room() {
         return settle_next(rt, helpers, progress);
     }
     if progress.checked < progress.read && is_ready(&progress.tracks[progress.checked]) {
         return check_next(rt, alloc, limits, helpers, progress);
     }
-    if progress.read < sources.len() {
+    if !is_answered && progress.read < sources.len() {
         let source = &mut sources[progress.read];
         return read_on(rt, alloc, limits, &mut source.reader, helpers, progress);
     }

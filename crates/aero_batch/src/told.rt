@@ -1,6 +1,6 @@
 //! What was told so far of the sources, and telling it.
 ghost use Rattle.std.specs.Prelude.{◌≡◌, ◌<◌, ◌≤◌, ◌+◌, ◌++◌, ◌∷◌, [], vec_len, vec_capacity, Ok, Err, IfOk, IfErr, OnOk};
-ghost use Rattle.aero_model.specs.Counts.{seen_by};
+ghost use Rattle.aero_model.specs.CallCounts.{seen_by};
 ghost use Rattle.aero_report.specs.Texts.{no_counts, counted, summary_line};
 ghost use Rattle.aero_batch.specs.Telling.{TellsNext, TellsText, HasRoom, total};
 

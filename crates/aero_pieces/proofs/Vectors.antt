@@ -2,7 +2,7 @@
 use Rattle.std.proofs.Common.{◌≢◌, ℕ, zero, suc, ◌<◌, ◌^◌, [], ◌∷◌, Some, None, inr, refl, sym, ◌∙◌, arith, lit<, lit≤}
 use Rattle.std.specs.Prelude.{codes}
 use Rattle.aero_model.specs.declared.limits.Limits.{Limits}
-use Rattle.aero_model.specs.declared.named.Op.TheVariants.{Read}
+use Rattle.aero_model.specs.declared.event.Op.TheVariants.{Read}
 use Rattle.aero_model.specs.declared.verdict.Verdict.TheVariants.{Serializable}
 use Rattle.aero_grammar.specs.Reading.{Reading}
 use Rattle.aero_verdict.proofs.Vectors.{below_suc, none_below, none_of_two}

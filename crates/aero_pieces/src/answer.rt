@@ -1,3 +1,4 @@
+//! Answers, each with its question.
 ghost use Rattle.std.specs.Prelude.{◌≡◌, IfOk};
 ghost use Rattle.std.specs.Arc.{arc_value};
 ghost use Rattle.aero_pieces.specs.Values.{IsValueOf};

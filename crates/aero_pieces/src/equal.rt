@@ -1,9 +1,10 @@
+//! Whether two questions have the same content.
 ghost use Rattle.std.specs.Prelude.{◌≡◌, ◌↔◌, IsTrue};
 
 use crate::question::Question;
 use aero_grammar::parsed::Parsed;
-use aero_model::event::Numbered;
 use aero_model::limits::Limits;
+use aero_model::numbered::Numbered;
 
 /// Whether the questions have the same content. The numbers and lengths are compared first, and the
 /// bytes, or the names and events, only where those agree.

@@ -1,3 +1,4 @@
+//! What every schedule of questions, jobs and answers keeps.
 ghost use Rattle.aero_pieces.specs.Laws.{KeepsJobs, KeepsOrder};
 
 /// Whatever happens, and in whatever order, the values that were given are those of the first

@@ -1,14 +1,15 @@
 // The rows of a run: what is written of a text, whoever helps, and where reads and writes fail. In
 // texts and reports `/` stands for the byte 10.
+mod damage;
 mod gates;
 mod habits;
 mod runs;
 mod streams;
 
-use aero_batch::outcome::{Cause, Outcome};
 use crate::batch::habits::Habit;
 use crate::batch::runs::{Who, run_by};
-use crate::batch::streams::{BreaksOnce, CutsOnce, Endless};
+use crate::batch::streams::{BreaksOnce, CutsOnce, Endless, Later, Tells};
+use aero_batch::outcome::{Cause, Outcome};
 use aero_intake::source::Source;
 use aero_model::counting::Counting;
 use aero_model::limits::Limits;
@@ -17,6 +18,7 @@ use std::alloc::{AllocError, Global};
 use std::io::Read;
 use std::process::Abort;
 use std::sync::Wait;
+use std::sync::atomic::AtomicBool;
 use std::test::Fail;
 use std::thread::Threads;
 
@@ -43,6 +45,10 @@ const LARGE: &str = "n: too large/traces 1: serializable 0, open 0, violations 0
 // What is written of the sources a, b and c, with these two texts and an empty one between them.
 const REPORT_OF_THREE: &str =
     "a: violation at line 6: block of T1 from line 1/b: serializable (0 events, 0 blocks)/c: violation at line 7: block of T2 from line 2/traces 3: serializable 1, open 0, violations 2, faults 0/";
+
+// What is written of the sources a and b, each with one block.
+const REPORT_OF_TWO: &str =
+    "a: serializable (5 events, 1 blocks)/b: serializable (5 events, 1 blocks)/traces 2: serializable 2, open 0, violations 0, faults 0/";
 
 fn lines_of(alloc: Global, text: &str) -> Result<Vec<u8>, AllocError> {
     let mut bytes = text.as_bytes().to_vec(alloc)?;
@@ -442,6 +448,7 @@ fn the_report_is_the_same_whoever_helps(rt: HostRuntime) -> Result<(), Fail> {
         Habit::Twice,
         Habit::Forges,
         Habit::Misses,
+        Habit::Babbles,
         Habit::Leaves,
         Habit::Refuses,
     ];
@@ -450,6 +457,135 @@ fn the_report_is_the_same_whoever_helps(rt: HostRuntime) -> Result<(), Fail> {
     }
     for who in EVERYBODY {
         expect_three(&rt, who)?;
+    }
+    Ok(())
+}
+
+// What is written of two sources of which the second fails where the first isn't told before it is read.
+fn told_before_the_next<T: AllocGlobal + Threads + Wait + Copy + Send + 'static>(
+    rt: &T,
+    text: &[u8],
+    who: Who,
+) -> Result<Vec<u8>, Fail> {
+    let is_told = AtomicBool::new(false);
+    let mut sources = Vec::new(rt.alloc());
+    for (name, is_first) in [("a", true), ("b", false)] {
+        let reader = Later {
+            text,
+            is_first,
+            is_told: &is_told,
+        };
+        sources.push(source_of(rt.alloc(), name, reader)?)?;
+    }
+    let mut writer = Counting::new(Tells {
+        taken: Vec::new(rt.alloc()),
+        is_told: &is_told,
+    });
+    run_by(
+        *rt,
+        who,
+        &mut sources,
+        &mut writer,
+        Limits::greatest(),
+        65_536,
+    )?;
+    Ok(writer.into_inner().taken)
+}
+
+#[test]
+fn a_verdict_that_has_come_is_told_before_the_next_read(rt: HostRuntime) -> Result<(), Fail> {
+    let text = lines_of(rt.alloc(), ONE_BLOCK)?;
+    let written = lines_of(rt.alloc(), REPORT_OF_TWO)?;
+    for who in [Who::Alone, Who::Helped(Habit::Twice)] {
+        assert_eq!(rt; told_before_the_next(&rt, &text, who)?, written);
+    }
+    Ok(())
+}
+
+// A text of so many lines, all of eight bytes, of which the first is malformed or not.
+fn long_text(alloc: Global, lines: usize, is_malformed: bool) -> Result<Vec<u8>, AllocError> {
+    let first: &[u8] = if is_malformed {
+        b"T1|w(xy\n"
+    } else {
+        b"T1|w(x)\n"
+    };
+    let mut text = Vec::from_slice(alloc, first)?;
+    for _ in 1..lines {
+        text.extend_from_slice(b"T1|w(x)\n")?;
+    }
+    Ok(text)
+}
+
+// Whether a run over a text, whose reader fails once after so many bytes, asks as many questions as it should, the
+// least and the most, and writes what begins so.
+fn asks<T: Abort + AllocGlobal + Threads + Wait + Copy + Send + 'static>(
+    rt: &T,
+    (text, left): (&[u8], usize),
+    limits: Limits,
+    who: Who,
+    start: &str,
+    (least, most): (u64, u64),
+) -> Result<bool, Fail> {
+    let reader = BreaksOnce {
+        text,
+        left,
+        has_failed: false,
+    };
+    let outcome = expect_start(rt, reader, limits, 8, who, start)?;
+    Ok(least <= outcome.tally.asked && outcome.tally.asked <= most)
+}
+
+// Once what is settled decides, no further block is asked about: at most 64 questions are open by then, and
+// each that was settled before made room for one. All the same the source is read on, to its end, to a
+// failure, or to one byte more than may be. Each row has how many questions there are at least and at most.
+#[test]
+fn no_block_is_asked_about_after_a_fault(rt: HostRuntime) -> Result<(), Fail> {
+    let faulty = long_text(rt.alloc(), 300, true)?;
+    let sound = long_text(rt.alloc(), 300, false)?;
+    let greatest = Limits::greatest();
+    let two_lines = limits_of(10_000, 2, 1, 1)?;
+    let narrow = limits_of(2_000, 1_000, 1, 1)?;
+    let rows = [
+        (
+            true,
+            3_000,
+            greatest,
+            "n:1: malformed: BadParenthesis/traces 1: ",
+            (2, 65),
+        ),
+        (
+            false,
+            3_000,
+            two_lines,
+            "n:3: malformed: TooManyLines/traces 1: ",
+            (4, 67),
+        ),
+        (
+            false,
+            3_000,
+            greatest,
+            "n: serializable (300 events, 0 blocks)/traces 1: ",
+            (301, 301),
+        ),
+        (true, 3_000, narrow, LARGE, (1, 64)),
+        (
+            true,
+            2_000,
+            greatest,
+            "n: broken after 2000 bytes/traces 1: ",
+            (1, 64),
+        ),
+    ];
+    for (is_faulty, left, limits, start, asked) in rows {
+        let text = if is_faulty { &faulty } else { &sound };
+        for who in [
+            Who::Alone,
+            Who::Crew(1),
+            Who::Crew(16),
+            Who::Helped(Habit::Leaves),
+        ] {
+            assert!(rt; asks(&rt, (text, left), limits, who, start, asked)?);
+        }
     }
     Ok(())
 }

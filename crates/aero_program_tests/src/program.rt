@@ -1,3 +1,7 @@
+use aero_batch::outcome::{Cause, Outcome};
+use aero_gather::gather::Tally;
+use aero_model::counting::Counting;
+use aero_model::verdict::Counts;
 use aero_program::answer::answer;
 use aero_program::arguments::{Unread, words_of};
 use aero_program::command::{Config, Refused, Stop};
@@ -5,11 +9,8 @@ use aero_program::failure::Failure;
 use aero_program::input::Input;
 use aero_program::output::Output;
 use aero_program::reason::Reason;
+use aero_program::retrying::Retrying;
 use aero_program::status::{status, status_after};
-use aero_batch::outcome::{Cause, Outcome};
-use aero_gather::gather::Tally;
-use aero_model::counting::Counting;
-use aero_model::verdict::Counts;
 use std::alloc::Global;
 use std::env::{Env, FillError};
 use std::io;
@@ -221,10 +222,10 @@ fn expect<R: Abort + AllocGlobal + Files + Threads + Wait + Copy + Drop + Send +
     wanted: Wanted,
 ) {
     let mut output = Output::new(streams.0);
-    let mut errors = Counting::new(streams.1);
+    let mut errors = Counting::new(Retrying::new(streams.1));
     let status = answer(rt, rt.alloc(), asked, &rt, stdin, &mut output, &mut errors);
     assert_eq!(rt; output.into_inner().taken.as_slice(), wanted.0);
-    assert_eq!(rt; errors.into_inner().taken.as_slice(), wanted.1);
+    assert_eq!(rt; errors.into_inner().into_inner().taken.as_slice(), wanted.1);
     assert_eq!(rt; status, wanted.2);
 }
 
@@ -445,6 +446,109 @@ fn what_is_not_judged_is_told(rt: HostRuntime) -> Result<(), Fail> {
             room_for(alloc, error_room, false),
         );
         expect(rt, Err(stop), stdin, streams, wanted);
+    }
+    Ok(())
+}
+
+// A reader or a writer of which each call is interrupted so many times before it is heeded.
+#[derive(Drop)]
+struct Interrupted<T> {
+    inner: T,
+    times: u32,
+    left: u32,
+}
+
+impl<T> Interrupted<T> {
+    fn new(inner: T, times: u32) -> Interrupted<T> {
+        Interrupted {
+            inner,
+            times,
+            left: times,
+        }
+    }
+
+    fn interrupt(&mut self) -> io::Result<()> {
+        if self.left == 0 {
+            self.left = self.times;
+            return Ok(());
+        }
+        self.left -= 1;
+        Err(io::Error::from(ErrorKind::Interrupted))
+    }
+}
+
+impl<R: Read> Read for Interrupted<R> {
+    fn read(&mut self, buf: &mut [u8]) -> io::Result<usize> {
+        self.interrupt()?;
+        self.inner.read(buf)
+    }
+}
+
+impl<W: Write> Write for Interrupted<W> {
+    fn write(&mut self, buf: &[u8]) -> io::Result<usize> {
+        self.interrupt()?;
+        self.inner.write(buf)
+    }
+
+    fn flush(&mut self) -> io::Result<()> {
+        self.interrupt()?;
+        self.inner.flush()
+    }
+}
+
+// Whether a call answers as without interruptions, where each call of the three streams is interrupted
+// so many times.
+fn is_answered<R: AllocGlobal + Files + Threads + Wait + Copy + Drop + Send + 'static>(
+    rt: R,
+    asked: Result<Config, Stop>,
+    stdin: Text,
+    times: u32,
+    wanted: Wanted,
+) -> bool {
+    let (taken, told) = (
+        room_for(rt.alloc(), 200, false),
+        room_for(rt.alloc(), 200, false),
+    );
+    let mut output = Output::new(Interrupted::new(taken, times));
+    let mut errors = Counting::new(Retrying::new(Interrupted::new(told, times)));
+    let status = answer(
+        rt,
+        rt.alloc(),
+        asked,
+        &rt,
+        Interrupted::new(stdin, times),
+        &mut output,
+        &mut errors,
+    );
+    let out = output.into_inner().inner.taken;
+    let err = errors.into_inner().into_inner().inner.taken;
+    out.as_slice() == wanted.0 && err.as_slice() == wanted.1 && status == wanted.2
+}
+
+// Reads, writes and flushes that are interrupted are made again: no note tells of it, and no source is
+// broken by it. A failure of another kind stays one.
+#[test]
+fn interrupted_calls_are_made_again(rt: HostRuntime) -> Result<(), Fail> {
+    let (report, _, _) = SERIALIZABLE;
+    let marked: Wanted = (
+        report,
+        b"aerodrome: -: starts with a byte order mark, which counts as part of the first thread's name\n",
+        0,
+    );
+    let broken: Wanted = (
+        b"-: broken after 8 bytes\n\
+            traces 1: serializable 0, open 0, violations 0, faults 1\n",
+        b"aerodrome: -: Input/output error\n",
+        2,
+    );
+    let rows: [(&'static [u8], bool, Wanted); 3] = [
+        (b"T1|w(x)\n", false, SERIALIZABLE),
+        (b"\xEF\xBB\xBFT1|w(x)\n", false, marked),
+        (b"T1|w(x)\n", true, broken),
+    ];
+    for (left, fails, wanted) in rows {
+        let config = config_of(rt.alloc(), None)?;
+        assert!(rt; is_answered(rt, Ok(config), Text { left, fails }, 3, wanted));
     }
     Ok(())
 }

@@ -8,7 +8,7 @@ use Rattle.std.specs.Result.{result_unwrap_or}
 use Rattle.std.specs.Io.{WritesAtMost}
 use Rattle.std.specs.Io.KnownBytes.{Appends, WriteAppends}
 use Rattle.std.proofs.KnownBytes.{Appends-nil, Appends-kept, Appends-trans}
-use Rattle.aero_model.specs.Counts.{moves_nothing}
+use Rattle.aero_model.specs.CallCounts.{moves_nothing}
 
 -- no more is taken than the rest of the text
 pub taken_within : {E : Type 0} (r : Result ℕ E) (text : List ℕ) (written : ℕ) → written ≤ length text

@@ -1,6 +1,7 @@
+//! Writing a text whole.
 ghost use Rattle.std.specs.Prelude.{◌≡◌, ◌+◌, ◌<◌, length, take, OnOk, IfErr, OnErr};
 ghost use Rattle.std.specs.Io.KnownBytes.{Appends};
-ghost use Rattle.aero_model.specs.Counts.{inner_of, faults_of, ends_of};
+ghost use Rattle.aero_model.specs.CallCounts.{inner_of, faults_of, ends_of};
 
 use aero_model::counting::Counting;
 use std::io::Write;

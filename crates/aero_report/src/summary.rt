@@ -1,3 +1,4 @@
+//! The text of the summary.
 ghost use Rattle.std.specs.Prelude.{◌≡◌, ◌+◌, ◌++◌, codes, decimal, IfOk, OnOk};
 ghost use Rattle.aero_report.specs.Texts.{summary_line};
 

@@ -1,3 +1,4 @@
+//! The text of a finding.
 ghost use Rattle.std.specs.Prelude.{◌≡◌, ◌++◌, codes, decimal, IfOk, OnOk};
 ghost use Rattle.aero_report.specs.Texts.{line_fault_name, shape_fault_name, sizes_text, verdict_text, finding_text, source_line};
 

@@ -78,8 +78,8 @@ fn answer_to(alloc: Global, gather: &mut Gather, step: Step) -> Result<String, F
             Ok(format!(in alloc; "{:?}", gather.accept(answer))?)
         }
         Step::Miss(number) => {
-            gather.note_missed(Ticket { number });
-            Ok(format!(in alloc; "noted")?)
+            let is_news = gather.note_missed(Ticket { number });
+            Ok(format!(in alloc; "{is_news}")?)
         }
         Step::Oldest => Ok(format!(in alloc; "{:?}", gather.oldest())?),
         Step::Front => match gather.front() {
@@ -125,7 +125,7 @@ const A_FULL_WINDOW_GIVES_THE_QUESTION_BACK: [(Step, &str); 6] = [
 ];
 
 // What is missed is worked out by the gatherer itself.
-const ONLY_THE_FIRST_ANSWER_TO_AN_OPEN_QUESTION_IS_KEPT: [(Step, &str); 14] = [
+const ONLY_THE_FIRST_ANSWER_TO_AN_OPEN_QUESTION_IS_KEPT: [(Step, &str); 15] = [
     (Step::Ask("T1|r(x)"), "ticket 0"),
     (Step::Accept("T1|w(x)"), "Stranger"),
     (Step::Oldest, "Awaited"),
@@ -136,7 +136,8 @@ const ONLY_THE_FIRST_ANSWER_TO_AN_OPEN_QUESTION_IS_KEPT: [(Step, &str); 14] = [
     (Step::Accept("T1|r(x)"), "Stranger"),
     (Step::Tally, "asked 1, kept 1, done here 0"),
     (Step::Ask("T1|w(x)"), "ticket 1"),
-    (Step::Miss(1), "noted"),
+    (Step::Miss(1), "true"),
+    (Step::Miss(1), "false"),
     (Step::Oldest, "Missed"),
     (Step::Settle, "Write(0)"),
     (Step::Tally, "asked 2, kept 1, done here 1"),
@@ -147,7 +148,7 @@ const VALUES_COME_IN_THE_ORDER_OF_THE_QUESTIONS: [(Step, &str); 13] = [
     (Step::Ask("T1|w(x)"), "ticket 1"),
     (Step::Ask("T1|begin"), "ticket 2"),
     (Step::Ask("T1|r(x)"), "ticket 3"),
-    (Step::Miss(3), "noted"),
+    (Step::Miss(3), "true"),
     (Step::Accept("T1|begin"), "Kept"),
     (Step::Accept("T1|r(x)"), "Kept"),
     (Step::Accept("T1|w(x)"), "Kept"),
@@ -160,13 +161,13 @@ const VALUES_COME_IN_THE_ORDER_OF_THE_QUESTIONS: [(Step, &str); 13] = [
 
 const AN_ANSWER_THAT_COMES_LATE_IS_KEPT: [(Step, &str); 10] = [
     (Step::Ask("T1|r(x)"), "ticket 0"),
-    (Step::Miss(1), "noted"),
+    (Step::Miss(1), "false"),
     (Step::Oldest, "Awaited"),
-    (Step::Miss(0), "noted"),
+    (Step::Miss(0), "true"),
     (Step::Oldest, "Missed"),
     (Step::Accept("T1|r(x)"), "Kept"),
     (Step::Oldest, "Kept"),
-    (Step::Miss(0), "noted"),
+    (Step::Miss(0), "false"),
     (Step::Oldest, "Kept"),
     (Step::Settle, "Read(0)"),
 ];

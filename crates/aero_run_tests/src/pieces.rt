@@ -1,6 +1,6 @@
 use aero_grammar::block::parse_block;
-use aero_model::event::What;
 use aero_model::limits::Limits;
+use aero_model::numbered::What;
 use aero_model::verdict::Verdict;
 use aero_pieces::answer::{Answer, Value};
 use aero_pieces::question::{Bytes, Parts, Question};

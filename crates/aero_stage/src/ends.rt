@@ -1,3 +1,4 @@
+//! The ends of the job queue: the Poster, and a Taker for each worker.
 ghost use Rattle.std.specs.Prelude.{◌≡◌, ℕ, ◌<◌, ◌≤◌, true, false, IfOk, OnOk, IfErr, IfSome, IfNone, MatchResult, MatchBool, List, [], ◌∷◌, ◌++◌};
 ghost use Rattle.crossbeam_channel.specs.Claims.{view, IsSeatAt};
 ghost use Rattle.crossbeam_channel.specs.Ends.{sends_on, receives_on, ruled_capacity};

@@ -1,3 +1,4 @@
+//! That each change of the queue is a step of the schedule.
 ghost use Rattle.aero_stage.specs.Steps.{ChangesAreSteps, OpensAsStart};
 
 /// A new queue with its ends is the start of a schedule of questions, jobs and answers.

@@ -1,7 +1,7 @@
 // Runs with a crew, under gates.
-use aero_batch::outcome::Outcome;
 use crate::batch::runs::run_gated;
 use crate::batch::{CROSSED, REPORT_OF_THREE, lines_of, source_of, texts_of_two, three_sources};
+use aero_batch::outcome::Outcome;
 use aero_intake::plan::Plan;
 use aero_model::counting::Counting;
 use aero_model::limits::Limits;

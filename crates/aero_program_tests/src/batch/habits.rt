@@ -1,8 +1,7 @@
 // Helpers that answer in another order, more than once, wrongly, or never.
-use aero_batch::helpers::Helpers;
 use aero_pieces::question::{Bytes, Question};
 use aero_stage::{Full, Job};
-use aero_worker::Reply;
+use aero_worker::{Helpers, Reply};
 use std::alloc::{AllocError, Global};
 use std::sync::Wait;
 
@@ -18,6 +17,8 @@ pub(crate) enum Habit {
     Forges,
     // Says that no answer comes.
     Misses,
+    // Gives the answer to one question that nobody asked, for ever.
+    Babbles,
     // Says that there are no more replies.
     Leaves,
     // Takes no job.
@@ -55,19 +56,22 @@ fn answer(alloc: Global, job: &Job) -> Reply {
 
 // The answer to a question with the same numbers and other bytes.
 fn forged(alloc: Global, question: &Question) -> Result<Option<Reply>, AllocError> {
-    let Question::Parse { trace, number, .. } = question else {
-        return Ok(None);
-    };
-    let Some(bytes) = Bytes::new(b"T9|end\n".to_vec(alloc)?) else {
-        return Ok(None);
-    };
+    match question {
+        Question::Parse { trace, number, .. } => Ok(Some(other_answer(alloc, *trace, *number)?)),
+        Question::Check { .. } => Ok(None),
+    }
+}
+
+// The answer to a question with these numbers on a block that no source has.
+fn other_answer(alloc: Global, trace: u64, number: u64) -> Result<Reply, AllocError> {
+    let bytes = Bytes::new(b"T9|end\n".to_vec(alloc)?).ok_or(AllocError)?;
     let other = Question::Parse {
-        trace: *trace,
-        number: *number,
+        trace,
+        number,
         bytes,
     }
     .share(alloc)?;
-    Ok(Some(Reply::Done(Question::answer(&other, alloc)?)))
+    Ok(Reply::Done(Question::answer(&other, alloc)?))
 }
 
 impl Helper {
@@ -88,7 +92,7 @@ impl Helper {
                 }
             }
             Habit::Misses => return Ok(Reply::Missed(job.number)),
-            Habit::Newest | Habit::Leaves | Habit::Refuses => {}
+            Habit::Newest | Habit::Babbles | Habit::Leaves | Habit::Refuses => {}
         }
         Ok(answer(self.alloc, job))
     }
@@ -114,8 +118,10 @@ impl Helpers for Helper {
 
     fn next_answer<R: Wait>(&mut self, _rt: &R) -> Option<Reply> {
         self.was_awaited = true;
-        if self.habit == Habit::Leaves {
-            return None;
+        match self.habit {
+            Habit::Leaves => return None,
+            Habit::Babbles => return other_answer(self.alloc, 0, 0).ok(),
+            _ => {}
         }
         if let Some(reply) = self.next.pop() {
             return Some(reply);
@@ -124,6 +130,14 @@ impl Helpers for Helper {
         match self.reply(&job) {
             Ok(reply) => Some(reply),
             Err(_) => Some(Reply::Missed(job.number)),
+        }
+    }
+
+    // Who gives each answer twice, none or a strange one does so at once, and the others when they are awaited.
+    fn ready_answer<R: Wait>(&mut self, rt: &R) -> Option<Reply> {
+        match self.habit {
+            Habit::Twice | Habit::Misses | Habit::Babbles => self.next_answer(rt),
+            _ => None,
         }
     }
 }

@@ -1,8 +1,8 @@
 // Runs by whoever it is. The callers need nothing of what a run promises.
+use crate::batch::habits::{Habit, helper_with};
 use aero_batch::helpers::Nobody;
 use aero_batch::outcome::Outcome;
 use aero_batch::run::{run, run_over};
-use crate::batch::habits::{Habit, helper_with};
 use aero_intake::plan::Plan;
 use aero_intake::source::Source;
 use aero_model::counting::Counting;

@@ -1,6 +1,7 @@
 // Readers and writers that fail, or never end.
 use std::io;
 use std::io::{Read, Write};
+use std::sync::atomic::{AtomicBool, Ordering};
 
 // A reader that fails at one call, once it has given so many bytes, and works again afterwards.
 #[derive(Drop)]
@@ -61,6 +62,69 @@ impl Write for CutsOnce {
         };
         self.taken.extend_from_slice(&buf[..count])?;
         self.left = self.left.saturating_sub(count);
+        Ok(count)
+    }
+
+    fn flush(&mut self) -> io::Result<()> {
+        Ok(())
+    }
+}
+
+// A reader that fails where nothing is told before it is read, if something is to be.
+#[derive(Drop)]
+pub(crate) struct Later<'a> {
+    pub(crate) text: &'a [u8],
+    pub(crate) is_first: bool,
+    pub(crate) is_told: &'a AtomicBool,
+}
+
+impl Read for Later<'_> {
+    fn read(&mut self, buf: &mut [u8]) -> io::Result<usize> {
+        if !self.is_first && !self.is_told.load(Ordering::SeqCst) {
+            return Err(io::Error::from(io::ErrorKind::Interrupted));
+        }
+        self.text.read(buf)
+    }
+}
+
+// A writer that tells the readers that it has taken something.
+#[derive(Drop)]
+pub(crate) struct Tells<'a> {
+    pub(crate) taken: Vec<u8>,
+    pub(crate) is_told: &'a AtomicBool,
+}
+
+impl Write for Tells<'_> {
+    fn write(&mut self, buf: &[u8]) -> io::Result<usize> {
+        self.taken.extend_from_slice(buf)?;
+        self.is_told.store(true, Ordering::SeqCst);
+        Ok(buf.len())
+    }
+
+    fn flush(&mut self) -> io::Result<()> {
+        Ok(())
+    }
+}
+
+// A writer that takes one byte a call, so many in all, and from then on fails, or takes nothing.
+#[derive(Drop)]
+pub(crate) struct TakesBytes {
+    pub(crate) taken: Vec<u8>,
+    pub(crate) left: usize,
+    pub(crate) takes_nothing: bool,
+}
+
+impl Write for TakesBytes {
+    fn write(&mut self, buf: &[u8]) -> io::Result<usize> {
+        if self.left == 0 {
+            if self.takes_nothing {
+                return Ok(0);
+            }
+            return Err(io::Error::from(io::ErrorKind::BrokenPipe));
+        }
+        let count = buf.len().min(1);
+        self.taken.extend_from_slice(&buf[..count])?;
+        self.left -= count;
         Ok(count)
     }
 

@@ -1,6 +1,6 @@
 use Rattle.std.proofs.Common.{map, refl, sym, subst, arith}
 use Rattle.std.proofs.KnownBytes.{Appends-nil}
-use Rattle.aero_model.specs.Counts.{Seen, seen_by}
+use Rattle.aero_model.specs.CallCounts.{Seen, seen_by}
 use Rattle.aero_batch.specs.declared.outcome.Cause.TheVariants.{Memory}
 use Rattle.aero_batch.specs.declared.told.Told.{Told}
 use Rattle.std.specs.Prelude.{Some}

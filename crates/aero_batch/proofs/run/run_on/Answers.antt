@@ -1,6 +1,6 @@
 use Rattle.std.proofs.Common.{map, sym, subst, ◌∙◌}
 use Rattle.std.proofs.lemmas.List.{length-map}
-use Rattle.aero_model.specs.Counts.{seen_by}
+use Rattle.aero_model.specs.CallCounts.{seen_by}
 use Rattle.aero_batch.specs.Founds.{sighted}
 use Rattle.aero_batch.specs.Holding.{IsBegun}
 use Rattle.aero_batch.proofs.Standing.{begun_stands, summary_done}

@@ -1,6 +1,6 @@
 -- What holds between two steps.
 use Rattle.std.proofs.Common.{map}
-use Rattle.aero_model.specs.Counts.{seen_by}
+use Rattle.aero_model.specs.CallCounts.{seen_by}
 use Rattle.aero_batch.specs.Founds.{sighted}
 use Rattle.aero_batch.specs.Holding.{Stands}
 use Rattle.aero_batch.proofs.run.run_on.Given as goal

@@ -1,5 +1,5 @@
 use Rattle.std.proofs.Common.{map}
-use Rattle.aero_model.specs.Counts.{seen_by}
+use Rattle.aero_model.specs.CallCounts.{seen_by}
 use Rattle.aero_batch.specs.Founds.{sighted}
 use Rattle.aero_batch.proofs.Standing.{refused_at_once}
 use Rattle.aero_batch.proofs.run.run_over.Goals as goal

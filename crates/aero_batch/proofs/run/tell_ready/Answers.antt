@@ -1,6 +1,6 @@
 use Rattle.std.proofs.Common.{◌≡◌, ◌<◌, length, map, get_or, refl, subst, sym, ◌∙◌, ap, arith}
 use Rattle.std.proofs.lemmas.Option.{slice_get_read}
-use Rattle.aero_model.specs.Counts.{seen_by}
+use Rattle.aero_model.specs.CallCounts.{seen_by}
 use Rattle.aero_batch.specs.Founds.{sighted}
 use Rattle.aero_batch.proofs.Readers.{name_there}
 use Rattle.aero_batch.proofs.Standing.{telling}

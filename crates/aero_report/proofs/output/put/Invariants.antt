@@ -1,7 +1,7 @@
 -- What has gone out so far is the front of the text, and no write has failed.
 use Rattle.std.proofs.Common.{length, ◌-◌, ◌≡◌, ◌≤◌, take}
 use Rattle.std.specs.Io.KnownBytes.{Appends}
-use Rattle.aero_model.specs.Counts.{inner_of, faults_of, ends_of}
+use Rattle.aero_model.specs.CallCounts.{inner_of, faults_of, ends_of}
 use Rattle.aero_report.proofs.output.put.Given as goal
 
 abbrev pub invariant-loop-written : goal.invariant-loop-written

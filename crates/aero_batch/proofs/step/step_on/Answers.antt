@@ -5,7 +5,7 @@ use Rattle.std.specs.Prelude.{slice_index_or}
 use Rattle.std.proofs.lemmas.Option.{slice_get-get_or}
 use Rattle.std.proofs.lemmas.Result.{on_ok_weaker}
 use Rattle.aero_batch.proofs.Readers.{read_from, names_stay, others_stay}
-use Rattle.aero_batch.proofs.step.step.Goals as goal
+use Rattle.aero_batch.proofs.step.step_on.Goals as goal
 
 pub returns-then-progress-sources : goal.returns-then-progress-sources
 returns-then-progress-sources g c =

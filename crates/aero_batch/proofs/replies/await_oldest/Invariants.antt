@@ -1,7 +1,7 @@
 -- The open questions stay.
 use Rattle.std.proofs.Common.{◌≡◌}
 use Rattle.aero_batch.specs.Inquiries.{questions_of}
-use Rattle.aero_batch.proofs.inquiry.await_oldest.Given as goal
+use Rattle.aero_batch.proofs.replies.await_oldest.Given as goal
 
 abbrev pub invariant-replies : goal.invariant-replies
 invariant-replies g l = record {
