@@ -31,7 +31,7 @@ use std::alloc::{AllocError, Global};
 ///   blocks there are.
 /// - `Serializable`: nothing is wrong, and no block is open.
 ///
-/// An `AllocError` says that memory was refused: to the names, the states, the clocks or the answer.
+/// An `AllocError` says that memory was refused: to the names, the states, the first places or the answer.
 pub fn check_trace(alloc: Global, parts: &[Parsed], limits: &Limits) -> Result<Verdict, AllocError>
     ensures { IfOk result (λ verdict. IsVerdict parts.now limits.now verdict) }
 {

@@ -2,9 +2,9 @@
 //!
 //! A trace comes as parts, one after the other, and each part says what its block of lines holds.
 //! The events are numbered and checked against the rules for well-formed traces, one after another,
-//! and limits bound how many lines, threads and names a trace may have. Clocks tell the first event
-//! with which a cycle closes that begins in an open block: it stands for an execution that no
-//! execution of whole blocks, one after another, has the same conflicts as.
+//! and limits bound how many lines, threads and names a trace may have. First places (`Leads`) tell the
+//! first event with which a cycle closes that begins in an open block: it stands for an execution that
+//! no execution of whole blocks, one after another, has the same conflicts as.
 //!
 //! ```text
 //! // T1|begin, T1|w(x) and T1|end, on three lines
