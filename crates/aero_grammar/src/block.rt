@@ -42,10 +42,10 @@ pub fn parse_block(alloc: Global, bytes: &[u8]) -> Result<Parsed, AllocError>
     Ok(parsed(tables, events, lines, None))
 }
 
-// What the block says, by its parts.
+// What the block says, by its parts. What is kept takes no more memory than it needs.
 fn parsed(
     tables: Tables,
-    events: Vec<(u32, Numbered)>,
+    mut events: Vec<(u32, Numbered)>,
     lines: u32,
     fault: Option<(u32, LineFault)>,
 ) -> Parsed
@@ -57,10 +57,11 @@ fn parsed(
         variables,
         locks,
     } = tables;
+    events.shrink_to_fit();
     Parsed {
-        threads,
-        variables,
-        locks,
+        threads: threads.into_list(),
+        variables: variables.into_list(),
+        locks: locks.into_list(),
         events,
         lines,
         fault,

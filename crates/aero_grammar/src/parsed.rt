@@ -1,7 +1,7 @@
 //! What was read of a block: its tables of names, its events, and its first fault.
 use aero_model::numbered::Numbered;
 use aero_model::verdict::LineFault;
-use aero_names::names::Names;
+use aero_names::list::NameList;
 use std::marker::Model;
 
 /// What a block of lines says, up to its first fault.
@@ -11,9 +11,9 @@ use std::marker::Model;
 /// no event has. Contracts see the events by their names.
 #[derive(Drop)]
 pub struct Parsed {
-    pub threads: Names,
-    pub variables: Names,
-    pub locks: Names,
+    pub threads: NameList,
+    pub variables: NameList,
+    pub locks: NameList,
     /// The events, in the order of their lines, each with its line's number, and by its names'
     /// places in the tables. Lines count from 1 within the block, and the numbers rise, since blank
     /// lines count and have no event.
@@ -33,10 +33,10 @@ impl Model for Parsed {
     ghost Value = { Reading };
 
     ghost view = { λ p. record {
-      events = lines_in (record { threads = p.threads.names; variables = p.variables.names; locks = p.locks.names }) p.events.items;
+      events = lines_in (record { threads = p.threads; variables = p.variables; locks = p.locks }) p.events.items;
       lines = p.lines;
       fault = p.fault;
     } };
 
-    ghost invariant = { λ p. IsBlock (record { threads = p.threads.names; variables = p.variables.names; locks = p.locks.names }) p.events.items p.lines p.fault };
+    ghost invariant = { λ p. IsBlock (record { threads = p.threads; variables = p.variables; locks = p.locks }) p.events.items p.lines p.fault };
 }

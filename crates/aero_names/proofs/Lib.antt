@@ -1,6 +1,9 @@
+pub mod Cuts
 pub mod Fronts
+pub mod Hashes
+pub mod Links
 pub mod Listings
 pub mod NewNames
-pub mod SameNames
+pub mod Searches
 pub mod Vectors
 pub mod LimitRule

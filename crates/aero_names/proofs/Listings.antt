@@ -1,47 +1,25 @@
--- A list of names, read through the keys that own their bytes.
-use Rattle.std.proofs.Common.{◌≡◌, ◌+◌, ℕ, suc, Bool, true, false, cond, not, ltb, eqb, ◌||◌, List, [], ◌∷◌, ◌++◌, length, refl, sym, ◌∙◌, ap, ◌⊎◌, inl, inr, arith, Some, None}
-use Rattle.std.proofs.lemmas.Bool.{cases_Bool, or_parts, or_left, or_right}
-use Rattle.std.proofs.lemmas.List.{length-map, map-append}
-use Rattle.std.proofs.lemmas.List.Folds.{list_any-append}
+-- A list of names, each with its number, and one name more.
+use Rattle.std.proofs.Common.{◌≡◌, ◌+◌, ◌<◌, ◌≤◌, ℕ, zero, suc, Bool, true, false, cond, not, ◌||◌, List, [], ◌∷◌, ◌++◌, length, refl, sym, ◌∙◌, ap, subst, ◌⊎◌, inl, inr, arith, Some, length-append}
+use Rattle.std.proofs.lemmas.Bool.{cases_Bool, or_parts, or_left, or_right, both_ways}
 use Rattle.std.proofs.lemmas.List.Sums.{fold-append}
+use Rattle.std.proofs.lemmas.Option.{same_Some, unwrap_or-slice_get}
+use Rattle.std.proofs.Math.ListN.{get_or-append}
 use Rattle.std.proofs.lemmas.Slice.Eq.{bytes_eq-Decides}
-use Rattle.std.specs.Prelude.{bytes_eq, position, slice_get}
-use Rattle.std.specs.Global.{Vec}
-use Rattle.std.specs.List.{list_any, position_or_len}
-use Rattle.std.specs.Cmp.Lexicographic.{pointwise}
+use Rattle.std.specs.Prelude.{bytes_eq, slice_get, slice_index, unwrap_or, Result, Ok, Err, IfOk, OnOk}
+use Rattle.std.specs.List.{list_any}
 use Rattle.aero_model.specs.Numbering.{with_name, different_names, number_of}
-use Rattle.aero_names.specs.Listing.{Listing, bytes_of, is_listed}
-
--- the test by which a key is looked up
-abbrev pub is_key : List ℕ → Vec ℕ → Bool
-is_key name key = pointwise eqb name key.items
-
-place : (name : List ℕ) (keys : List (Vec ℕ)) → position_or_len (is_key name) keys ≡ number_of (bytes_of keys) name
-place name [] = refl
-place name (key ∷ keys) = ap (λ n. cond (not (is_key name key)) (1 + n) 0) (place name keys)
-
-listed : (name : List ℕ) (keys : List (Vec ℕ)) → list_any (is_key name) keys ≡ list_any (bytes_eq name) (bytes_of keys)
-listed name [] = refl
-listed name (key ∷ keys) = ap (λ b. is_key name key || b) (listed name keys)
-
--- a key that is found has the name's number
-found_place : (name : List ℕ) (keys : List (Vec ℕ)) (i : ℕ) → Some i ≡ position (is_key name) keys → i ≡ number_of (bytes_of keys) name
-found_place name keys i at = go (cases_Bool (ltb (position_or_len (is_key name) keys) (length keys)))
-  where
-    go : (ltb (position_or_len (is_key name) keys) (length keys) ≡ true) ⊎ (ltb (position_or_len (is_key name) keys) (length keys) ≡ false) → i ≡ number_of (bytes_of keys) name
-    go (inl inside) =
-        let is : Some i ≡ Some (position_or_len (is_key name) keys) = at ∙ ap (λ b. cond b (Some (position_or_len (is_key name) keys)) None) inside in
-        (let same : i ≡ position_or_len (is_key name) keys = cc in same) ∙ place name keys
-    go (inr past) = absurd (let is : Some i ≡ None = at ∙ ap (λ b. cond b (Some (position_or_len (is_key name) keys)) None) past in cc)
+use Rattle.aero_names.specs.Hash.{hash_of}
+use Rattle.aero_names.specs.Indexed.{name_in, IsLatest, IsIndexed, AreDistinct, AreFound}
+use Rattle.aero_names.specs.Listing.{Listing, IsListing, is_listed}
 
 -- a new name goes last, and gets the next number
 with_name-known : (names : List (List ℕ)) (name : List ℕ) → list_any (bytes_eq name) names ≡ true → with_name names name ≡ names
 with_name-known names name is = ap (λ b. cond b names (names ++ name ∷ [])) is
 
-with_name-new : (names : List (List ℕ)) (name : List ℕ) → list_any (bytes_eq name) names ≡ false → with_name names name ≡ names ++ name ∷ []
+pub with_name-new : (names : List (List ℕ)) (name : List ℕ) → list_any (bytes_eq name) names ≡ false → with_name names name ≡ names ++ name ∷ []
 with_name-new names name is = ap (λ b. cond b names (names ++ name ∷ [])) is
 
-number_of-last : (names : List (List ℕ)) (name : List ℕ) → list_any (bytes_eq name) names ≡ false → number_of (names ++ name ∷ []) name ≡ length names
+pub number_of-last : (names : List (List ℕ)) (name : List ℕ) → list_any (bytes_eq name) names ≡ false → number_of (names ++ name ∷ []) name ≡ length names
 number_of-last [] name new = ap (λ b. cond (not b) (1 + 0) 0) ((bytes_eq-Decides name name).1 refl)
 number_of-last (first ∷ names) name new =
     let parts = or_parts (bytes_eq name first) (list_any (bytes_eq name) names) new in
@@ -58,46 +36,8 @@ different-with_name names name are = go (cases_Bool (list_any (bytes_eq name) na
         ap different_names (with_name-new names name new)
         ∙ (fold-append with_name [] names (name ∷ []) ∙ ap (λ before. with_name before name) are)
 
--- the same of a listing, as the code knows its fields
-pub found_number : (keys : List (Vec ℕ)) (limit : ℕ) (l : Listing) (bytes name : List ℕ) (i : ℕ) → record { names = bytes_of keys; limit = limit } ≡ l → bytes ≡ name →
-    Some i ≡ position (is_key bytes) keys → i ≡ number_of l.names name
-found_number keys limit l bytes name i view same at =
-    found_place bytes keys i at
-    ∙ (ap (λ b. number_of (bytes_of keys) b) same ∙ ap (λ (l : Listing). number_of l.names name) view)
-
-pub is_listed-from : (keys : List (Vec ℕ)) (limit : ℕ) (l : Listing) (bytes name : List ℕ) (found : Bool) → record { names = bytes_of keys; limit = limit } ≡ l → bytes ≡ name →
-    found ≡ list_any (is_key bytes) keys → is_listed l name ≡ found
-is_listed-from keys limit l bytes name found view same at =
-    sym (at ∙ (listed bytes keys ∙ (ap (λ b. list_any (bytes_eq b) (bytes_of keys)) same ∙ ap (λ (l : Listing). is_listed l name) view)))
-
 pub known_stays : (l : Listing) (name : List ℕ) → is_listed l name ≡ true → l ≡ record l { names = with_name l.names name }
 known_stays l name known = ap (λ names. record l { names = names }) (sym (with_name-known l.names name known))
-
--- how many names a listing has
-pub listing-size : (keys : List (Vec ℕ)) (limit : ℕ) (l : Listing) → record { names = bytes_of keys; limit = limit } ≡ l → (length l.names ≡ length keys) × (l.limit ≡ limit)
-listing-size keys limit l view =
-    (ap (λ (l : Listing). length l.names) (sym view) ∙ length-map keys (λ key. key.items), ap (λ (l : Listing). l.limit) (sym view))
-
--- a new name gets the number of the names before it
-pub number_of-new : (keys : List (Vec ℕ)) (limit : ℕ) (l : Listing) (bytes name : List ℕ) (after : List (List ℕ)) → record { names = bytes_of keys; limit = limit } ≡ l → bytes ≡ name →
-    is_listed l name ≡ false → after ≡ with_name (bytes_of keys) bytes → length keys ≡ number_of after name
-number_of-new keys limit l bytes name after view same new is =
-    let names = ap (λ (l : Listing). l.names) view in
-    let whole : after ≡ l.names ++ name ∷ [] =
-    is ∙ (ap (λ b. with_name (bytes_of keys) b) same ∙ (ap (λ n. with_name n name) names ∙ with_name-new l.names name new)) in
-    sym (ap (λ n. number_of n name) whole ∙ (number_of-last l.names name new ∙ (listing-size keys limit l view).0))
-
--- the keys behind an insert
-cond_bytes : (b : Bool) (keys : List (Vec ℕ)) (key : Vec ℕ) → bytes_of (cond b keys (keys ++ key ∷ [])) ≡ cond b (bytes_of keys) (bytes_of keys ++ key.items ∷ [])
-cond_bytes true keys key = refl
-cond_bytes false keys key = map-append (λ key. key.items) keys (key ∷ [])
-
-pub inserted : (keys after : List (Vec ℕ)) (key : Vec ℕ) (bytes : List ℕ) → after ≡ cond (list_any (is_key key.items) keys) keys (keys ++ key ∷ []) → key.items ≡ bytes →
-    bytes_of after ≡ with_name (bytes_of keys) bytes
-inserted keys after key bytes is same =
-    ap bytes_of is
-    ∙ (cond_bytes (list_any (is_key key.items) keys) keys key
-    ∙ (ap (λ b. cond b (bytes_of keys) (bytes_of keys ++ key.items ∷ [])) (listed key.items keys) ∙ ap (with_name (bytes_of keys)) same))
 
 -- a listed name stands at its number
 pub number_of-place : (names : List (List ℕ)) (name : List ℕ) → list_any (bytes_eq name) names ≡ true → slice_get names (number_of names name) ≡ Some name
@@ -111,20 +51,97 @@ number_of-place (first ∷ names) name is = go (bytes_eq name first) refl is (nu
         let next : 1 + number_of names name ≡ suc (number_of names name) = omega arith in
         ap (slice_get (first ∷ names)) next ∙ later is
 
-with_name-listed : (names : List (List ℕ)) (name : List ℕ) → list_any (bytes_eq name) (with_name names name) ≡ true
-with_name-listed names name = go (cases_Bool (list_any (bytes_eq name) names))
-  where
-    go : (list_any (bytes_eq name) names ≡ true) ⊎ (list_any (bytes_eq name) names ≡ false) → list_any (bytes_eq name) (with_name names name) ≡ true
-    go (inl known) = ap (list_any (bytes_eq name)) (with_name-known names name known) ∙ known
-    go (inr new) =
-        ap (list_any (bytes_eq name)) (with_name-new names name new)
-        ∙ (list_any-append (bytes_eq name) names (name ∷ [])
-        ∙ or_right (list_any (bytes_eq name) names) (bytes_eq name name || false) (or_left (bytes_eq name name) false ((bytes_eq-Decides name name).1 refl)))
+-- a name that stands at a place is listed
+listed_at : (names : List (List ℕ)) (name : List ℕ) (n : ℕ) → slice_get names n ≡ Some name → list_any (bytes_eq name) names ≡ true
+listed_at [] name n at = absurd (cc)
+listed_at (first ∷ names) name zero at = or_left (bytes_eq name first) (list_any (bytes_eq name) names) ((bytes_eq-Decides name first).1 (sym (same_Some first name at)))
+listed_at (first ∷ names) name (suc n) at = or_right (bytes_eq name first) (list_any (bytes_eq name) names) (listed_at names name n at)
 
--- a new name stands at the number that it got
-pub place_of-new : (keys : List (Vec ℕ)) (limit : ℕ) (l : Listing) (bytes name : List ℕ) (after : List (List ℕ)) → record { names = bytes_of keys; limit = limit } ≡ l → bytes ≡ name →
-    is_listed l name ≡ false → after ≡ with_name (bytes_of keys) bytes → slice_get after (length keys) ≡ Some name
-place_of-new keys limit l bytes name after view same new is =
-    let whole : after ≡ with_name (bytes_of keys) name = is ∙ ap (with_name (bytes_of keys)) same in
-    ap (slice_get after) (number_of-new keys limit l bytes name after view same new is)
-    ∙ number_of-place after name (ap (list_any (bytes_eq name)) whole ∙ with_name-listed (bytes_of keys) name)
+-- a name that is found has its number
+pub number_found : (l : Listing) (name : List ℕ) (n : ℕ) → AreDistinct l.names → slice_get l.names n ≡ Some name → n ≡ number_of l.names name
+number_found l name n distinct at = distinct n (number_of l.names name) name at (number_of-place l.names name (listed_at l.names name n at))
+
+pub listed_found : (l : Listing) (name : List ℕ) (n : ℕ) → slice_get l.names n ≡ Some name → is_listed l name ≡ true
+listed_found l name n at = listed_at l.names name n at
+
+-- one more that is new leaves all found
+end_or_front : (names : List (List ℕ)) (name x : List ℕ) (n : ℕ) → slice_get (names ++ name ∷ []) n ≡ Some x → ((n ≡ length names) × (x ≡ name)) ⊎ (slice_get names n ≡ Some x)
+end_or_front [] name x zero at = inl (refl, sym (same_Some name x at))
+end_or_front [] name x (suc n) at = absurd (cc)
+end_or_front (first ∷ names) name x zero at = inr at
+end_or_front (first ∷ names) name x (suc n) at = go (end_or_front names name x n at)
+  where
+    go : ((n ≡ length names) × (x ≡ name)) ⊎ (slice_get names n ≡ Some x) → ((suc n ≡ length (first ∷ names)) × (x ≡ name)) ⊎ (slice_get (first ∷ names) (suc n) ≡ Some x)
+    go (inl here) = inl (ap suc here.0, here.1)
+    go (inr there) = inr there
+
+distinct_pushed : (names : List (List ℕ)) (name : List ℕ) → list_any (bytes_eq name) names ≡ false → AreDistinct names → AreDistinct (names ++ name ∷ [])
+distinct_pushed names name new distinct a b x at_a at_b = go (end_or_front names name x a at_a) (end_or_front names name x b at_b)
+  where
+    twice : (n : ℕ) → x ≡ name → slice_get names n ≡ Some x → ⊥
+    twice n is at = both_ways (list_any (bytes_eq name) names) new (subst (λ y. list_any (bytes_eq y) names ≡ true) is (listed_at names x n at))
+
+    go : ((a ≡ length names) × (x ≡ name)) ⊎ (slice_get names a ≡ Some x) → ((b ≡ length names) × (x ≡ name)) ⊎ (slice_get names b ≡ Some x) → a ≡ b
+    go (inl here) (inl there) = here.0 ∙ sym there.0
+    go (inl here) (inr there) = absurd (twice b here.1 there)
+    go (inr here) (inl there) = absurd (twice a there.1 here)
+    go (inr here) (inr there) = distinct a b x here there
+
+same_name : (names more : List (List ℕ)) (n : ℕ) → n < length names → name_in (names ++ more) n ≡ name_in names n
+same_name names more n less = unwrap_or-slice_get (names ++ more) n [] ∙ (get_or-append names more [] n less ∙ sym (unwrap_or-slice_get names n []))
+
+last_place : (names : List (List ℕ)) (name : List ℕ) → slice_get (names ++ name ∷ []) (length names) ≡ Some name
+last_place [] name = refl
+last_place (first ∷ names) name = last_place names name
+
+latest_longer : (names more : List (List ℕ)) (hash below next : ℕ) → below ≤ length names → IsLatest names hash below next → IsLatest (names ++ more) hash below next
+latest_longer names more hash below next within latest =
+    record {
+      within = latest.within;
+      here = λ n is. ap hash_of (same_name names more n (let le = latest.within in omega (arith, le, is, within))) ∙ latest.here n is;
+      others = λ n le less at. latest.others n le less (sym (ap hash_of (same_name names more n (omega (arith, less, within)))) ∙ at);
+    }
+
+indexed_longer : (names more : List (List ℕ)) (count : ℕ) (next : ℕ → ℕ) (before : List ℕ) → count ≤ length names → IsIndexed names count next before → IsIndexed (names ++ more) count next before
+indexed_longer names more count next before within indexed =
+    record {
+      at_hashes = λ h. latest_longer names more h count (next h) within (indexed.at_hashes h);
+      behind = λ n less.
+          subst (λ name. IsLatest (names ++ more) (hash_of name) n (slice_index before n)) (sym (same_name names more n (omega (arith, less, within))))
+          (latest_longer names more (hash_of (name_in names n)) n (slice_index before n) (omega (arith, less, within)) (indexed.behind n less));
+      long = indexed.long;
+    }
+
+pub indexed_pushed : (names after : List (List ℕ)) (name : List ℕ) (next : ℕ → ℕ) (before : List ℕ) → after ≡ names ++ name ∷ [] → IsIndexed names (length names) next before → IsIndexed after (length names) next before
+indexed_pushed names after name next before is indexed =
+    subst (λ ns. IsIndexed ns (length names) next before) (sym is) (indexed_longer names (name ∷ []) (length names) next before (omega arith) indexed)
+
+-- the last name
+pub last_name : (names after : List (List ℕ)) (name : List ℕ) → after ≡ names ++ name ∷ [] → name_in after (length names) ≡ name
+last_name names after name is = ap (λ ns. name_in ns (length names)) is ∙ ap (λ o. unwrap_or o []) (last_place names name)
+
+listing_pushed : (l : Listing) (name : List ℕ) → IsListing l → is_listed l name ≡ false → length l.names < l.limit → IsListing (record l { names = l.names ++ name ∷ [] })
+listing_pushed l name listing new room =
+    record {
+      different = subst (λ ns. different_names ns ≡ ns) (with_name-new l.names name new) (different-with_name l.names name listing.different);
+      within = let long = length-append l.names (name ∷ []) in omega (arith, long, room);
+      in_range = listing.in_range;
+    }
+
+pub found_pushed : (l : Listing) (name : List ℕ) (after : List (List ℕ)) (next next' : ℕ → ℕ) (before before' : List ℕ) → AreFound l next before → is_listed l name ≡ false → length l.names < l.limit → after ≡ l.names ++ name ∷ [] →
+    IsIndexed after (length l.names + 1) next' before' → AreFound (record l { names = after }) next' before'
+found_pushed l name after next next' before before' found new room is indexed =
+    record {
+      listing = subst (λ ns. IsListing (record l { names = ns })) (sym is) (listing_pushed l name found.listing new room);
+      distinct = subst AreDistinct (sym is) (distinct_pushed l.names name new found.distinct);
+      indexed = subst (λ n. IsIndexed after n next' before') (sym (ap length is ∙ length-append l.names (name ∷ []))) indexed;
+    }
+
+-- the number that a new name got, and what stands there
+pub new_number : {E : Type 0} → (r : Result ℕ E) (l after : Listing) (name : List ℕ) → is_listed l name ≡ false → IfOk r (λ n. n ≡ length l.names) → OnOk r (after ≡ record l { names = l.names ++ name ∷ [] }) → IfOk r (λ n. n ≡ number_of after.names name)
+new_number (Ok n) l after name new is names = is ∙ (sym (number_of-last l.names name new) ∙ sym (ap (λ (a : Listing). number_of a.names name) names))
+new_number (Err e) l after name new is names = tt
+
+pub new_place : {E : Type 0} → (r : Result ℕ E) (l after : Listing) (name : List ℕ) → is_listed l name ≡ false → IfOk r (λ n. n ≡ length l.names) → OnOk r (after ≡ record l { names = l.names ++ name ∷ [] }) → IfOk r (λ n. slice_get after.names n ≡ Some name)
+new_place (Ok n) l after name new is names = ap (slice_get after.names) is ∙ (ap (λ (a : Listing). slice_get a.names (length l.names)) names ∙ last_place l.names name)
+new_place (Err e) l after name new is names = tt

@@ -1,3 +1,6 @@
+pub mod Ends
+pub mod Hash
+pub mod Indexed
 pub mod Listing
 pub mod Numbers
 pub mod Laws

@@ -1,6 +1,5 @@
 -- A list of different names, and how many it may have.
-use Rattle.std.specs.Prelude.{◌≡◌, ◌<◌, ◌≤◌, ◌^◌, ℕ, Bool, false, List, bytes_eq, length, map}
-use Rattle.std.specs.Global.{Vec}
+use Rattle.std.specs.Prelude.{◌≡◌, ◌<◌, ◌≤◌, ◌^◌, ℕ, Bool, false, List, bytes_eq, length}
 use Rattle.std.specs.List.{list_any}
 use Rattle.aero_model.specs.Numbering.{different_names}
 
@@ -8,10 +7,6 @@ use Rattle.aero_model.specs.Numbering.{different_names}
 pub record Listing : Type 0 where
   pub names : List (List ℕ)
   pub limit : ℕ
-
--- the bytes that the keys own
-abbrev pub bytes_of : List (Vec ℕ) → List (List ℕ)
-bytes_of keys = map (λ key. key.items) keys
 
 -- what every such list has
 pub record IsListing (l : Listing) : Type 0 where

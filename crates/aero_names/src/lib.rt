@@ -13,5 +13,8 @@
 //! ```
 #![tactic(auto)]
 
+mod hash;
+mod index;
 pub mod laws;
+pub mod list;
 pub mod names;

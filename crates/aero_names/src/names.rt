@@ -1,10 +1,9 @@
 //! A list of different names, numbered in order of first appearance.
-ghost use Rattle.std.specs.Prelude.{◌≡◌, ◌↔◌, IsTrue, option_copied, OnOk, OnErr};
-ghost use Rattle.aero_model.specs.Numbering.{with_name};
-ghost use Rattle.aero_names.specs.Listing.{bytes_of};
-
+use crate::hash::hash_of;
+use crate::index::{find, grow_hints, hinted, link, make_room, set_hint};
+use crate::list::NameList;
 use aero_model::name::Name;
-use indexmap::IndexSet;
+use indexmap::IndexMap;
 use std::alloc::{AllocError, Global};
 use std::marker::Model;
 use thiserror::Error;
@@ -21,28 +20,33 @@ pub enum NamesFault {
 /// Different names, numbered from 0 in order of first appearance, up to a limit.
 ///
 /// A look-up takes expected constant time in the number of names, and time linear in the name. The
-/// hash function has a fixed seed: whoever chooses the names can choose them to collide, and a
+/// hash function is fixed: whoever chooses the names can choose them to collide, and a
 /// look-up then takes time linear in the number of names.
 #[derive(Drop)]
 pub struct Names {
     alloc: Global,
-    keys: IndexSet<Vec<u8>>,
+    list: NameList,
+    latest: IndexMap<u64, u32>,
+    before: Vec<u32>,
+    hints: Vec<u32>,
     limit: u32,
 }
 
 impl Model for Names {
-    ghost use Rattle.aero_names.specs.Listing.{Listing, IsListing, bytes_of};
+    ghost use Rattle.aero_names.specs.Listing.{Listing};
+    ghost use Rattle.aero_names.specs.Indexed.{AreFound, next_at};
 
     ghost Value = { Listing };
 
-    ghost view = { λ n. record { names = bytes_of n.keys.keys; limit = n.limit } };
+    ghost view = { λ n. record { names = n.list; limit = n.limit } };
 
-    ghost invariant = { λ n. IsListing (record { names = bytes_of n.keys.keys; limit = n.limit }) };
+    ghost invariant = { λ n. AreFound (record { names = n.list; limit = n.limit }) (next_at n.latest) n.before.items };
 }
 
 impl Names {
-    ghost use Rattle.std.specs.Prelude.{◌≡◌, ◌↔◌, [], true, length, slice_get, option_copied, Some, IfOk, OnOk, OnErr, IsOk, IsErrOf, IsTrue};
+    ghost use Rattle.std.specs.Prelude.{◌≡◌, ◌↔◌, ◌≤◌, ◌<◌, ◌++◌, ◌∷◌, [], true, false, length, slice_get, option_copied, Some, IfOk, OnOk, OnErr, IsOk, IsErrOf, IsTrue};
     ghost use Rattle.aero_model.specs.Numbering.{with_name, number_of};
+    ghost use Rattle.aero_names.specs.Hash.{hash_of as hash_in};
     ghost use Rattle.aero_names.specs.Listing.{is_listed, HasNoRoom, IsListing};
 
     /// No names yet, and at most `limit` names to come. It takes no memory.
@@ -51,7 +55,10 @@ impl Names {
     {
         Names {
             alloc,
-            keys: IndexSet::new(alloc),
+            list: NameList::new(alloc),
+            latest: IndexMap::new(alloc),
+            before: Vec::new(alloc),
+            hints: Vec::new(alloc),
             limit,
         }
     }
@@ -62,7 +69,8 @@ impl Names {
     /// # Errors
     ///
     /// `NamesFault::Full` exactly where the name is new and the limit is met; else
-    /// `NamesFault::Memory` where memory runs out. Both change nothing.
+    /// `NamesFault::Memory` where memory runs out, or where the names have over 2^32 - 1 bytes in
+    /// all. Both change nothing.
     pub fn number(&mut self, name: &Name) -> Result<u32, NamesFault>
         ensures number { IfOk result (λ number. number ≡ number_of self.new.names name.now) }
         ensures place { IfOk result (λ number. slice_get self.new.names number ≡ Some name.now) }
@@ -76,6 +84,7 @@ impl Names {
     }
 
     /// The same of the name with these bytes: only where the name is new is it copied.
+    #[inline(always)]
     pub fn number_of_bytes(&mut self, bytes: &[u8]) -> Result<u32, NamesFault>
         ensures number { IfOk result (λ number. number ≡ number_of self.new.names bytes.now) }
         ensures place { IfOk result (λ number. slice_get self.new.names number ≡ Some bytes.now) }
@@ -85,40 +94,92 @@ impl Names {
         ensures err { OnErr result (self.new ≡ self.old) }
         ensures listing { IsListing self.new }
     {
-        if let Some(index) = self.keys.get_index_of(bytes) {
-            return Ok(index as u32);
+        let hash = hash_of(bytes);
+        match hinted(&self.hints, &self.list, bytes, hash) {
+            Some(number) => Ok(number),
+            None => self.number_without_hint(bytes, hash),
         }
-        let number = self.keys.len() as u32;
+    }
+
+    // The same where there is no hint for the name, whose hash this is.
+    fn number_without_hint(&mut self, name: &[u8], hash: u64) -> Result<u32, NamesFault>
+        requires { hash ≡ hash_in name.now }
+        ensures number { IfOk result (λ number. number ≡ number_of self.new.names name.now) }
+        ensures place { IfOk result (λ number. slice_get self.new.names number ≡ Some name.now) }
+        ensures names { OnOk result (self.new ≡ record self.old { names = with_name self.old.names name.now }) }
+        ensures known { is_listed self.old name.now ≡ true → IsOk result }
+        ensures full { IsErrOf result NamesFault.Full ↔ HasNoRoom self.old name.now }
+        ensures err { OnErr result (self.new ≡ self.old) }
+        ensures listing { IsListing self.new }
+    {
+        match find(&self.latest, &self.before, &self.list, name, hash) {
+            Some(number) => {
+                set_hint(&mut self.hints, hash, number);
+                Ok(number)
+            }
+            None => self.number_new(name, hash),
+        }
+    }
+
+    // The next number, for a name that is new.
+    fn number_new(&mut self, name: &[u8], hash: u64) -> Result<u32, NamesFault>
+        requires new { is_listed self.old name.now ≡ false }
+        requires hashed { hash ≡ hash_in name.now }
+        ensures number { IfOk result (λ number. number ≡ length self.old.names) }
+        ensures names { OnOk result (self.new ≡ record self.old { names = self.old.names ++ name.now ∷ [] }) }
+        ensures full { IsErrOf result NamesFault.Full ↔ (self.old.limit ≤ length self.old.names) }
+        ensures err { OnErr result (self.new ≡ self.old) }
+        ensures listing { IsListing self.new }
+    {
+        let number = self.list.len();
         if number >= self.limit {
             return Err(NamesFault::Full);
         }
-        match insert_key(self.alloc, &mut self.keys, bytes) {
+        match self.add(name, hash) {
             Ok(()) => Ok(number),
             Err(_) => Err(NamesFault::Memory),
         }
+    }
+
+    // Puts a name that is new behind the others.
+    fn add(&mut self, name: &[u8], hash: u64) -> Result<(), AllocError>
+        requires hashed { hash ≡ hash_in name.now }
+        requires new { is_listed self.old name.now ≡ false }
+        requires room { length self.old.names < self.old.limit }
+        ensures names { OnOk result (self.new ≡ record self.old { names = self.old.names ++ name.now ∷ [] }) }
+        ensures err { OnErr result (self.new ≡ self.old) }
+        ensures listing { IsListing self.new }
+    {
+        let number = self.list.len();
+        make_room(&mut self.latest, &mut self.before)?;
+        self.list.push(name)?;
+        link(&mut self.latest, &mut self.before, number, hash);
+        grow_hints(self.alloc, &mut self.hints, number);
+        set_hint(&mut self.hints, hash, number);
+        Ok(())
+    }
+
+    /// The names alone, without what it takes to look them up, and in no more memory than they need.
+    pub fn into_list(self) -> NameList
+        ensures { result ≡ self.names }
+    {
+        let Names { mut list, .. } = self;
+        list.shrink_to_fit();
+        list
     }
 
     /// The bytes of the name with this number, or None where there are fewer names.
     pub fn name(&self, number: u32) -> Option<&[u8]>
         ensures { option_copied result ≡ slice_get self.now.names number }
     {
-        let key = self.keys.get_index(number as usize)?;
-        Some(key.as_slice())
+        self.list.name(number)
     }
 
     /// Whether both lists have the same names, each with the same number.
     pub fn has_same_names(&self, other: &Names) -> bool
         ensures { IsTrue result ↔ (self.now.names ≡ other.now.names) }
     {
-        if self.len() != other.len() {
-            return false;
-        }
-        for number in 0..self.len() {
-            if !is_same_name(self.name(number), other.name(number)) {
-                return false;
-            }
-        }
-        true
+        self.list.has_same_names(&other.list)
     }
 
     /// How many names there are.
@@ -126,35 +187,13 @@ impl Names {
         ensures value { result ≡ length self.now.names }
         ensures listing { IsListing self.now }
     {
-        self.keys.len() as u32
+        self.list.len()
     }
 
     /// Whether there is no name.
     pub fn is_empty(&self) -> bool
         ensures { IsTrue result ↔ (self.now.names ≡ []) }
     {
-        self.keys.is_empty()
+        self.list.is_empty()
     }
-}
-
-// Whether both are the same name, or both are none.
-#[inline(always)]
-fn is_same_name(a: Option<&[u8]>, b: Option<&[u8]>) -> bool
-    ensures { IsTrue result ↔ (option_copied a.entry ≡ option_copied b.entry) }
-{
-    match (a, b) {
-        (Some(a), Some(b)) => a == b,
-        (None, None) => true,
-        _ => false,
-    }
-}
-
-// Copies the bytes, and puts the copy behind the keys unless they have it.
-fn insert_key(alloc: Global, keys: &mut IndexSet<Vec<u8>>, bytes: &[u8]) -> Result<(), AllocError>
-    ensures ok { OnOk result (bytes_of keys.new.keys ≡ with_name (bytes_of keys.old.keys) bytes.now) }
-    ensures err { OnErr result (keys.new.keys ≡ keys.old.keys) }
-{
-    let key = Vec::from_slice(alloc, bytes)?;
-    keys.insert(key)?;
-    Ok(())
 }

@@ -1,7 +1,7 @@
 use aero_grammar::block::parse_block;
 use aero_grammar::line::parse_line;
 use aero_grammar::parsed::Parsed;
-use aero_names::names::Names;
+use aero_names::list::NameList;
 use std::alloc::{AllocError, Global};
 use std::test::Fail;
 
@@ -134,7 +134,7 @@ fn names_of_1_to_255_bytes_are_read(rt: HostRuntime) -> Result<(), Fail> {
     Ok(())
 }
 
-fn push_names(alloc: Global, words: &mut String, kind: &str, names: &Names) -> Result<(), Fail> {
+fn push_names(alloc: Global, words: &mut String, kind: &str, names: &NameList) -> Result<(), Fail> {
     words.push_str(kind)?;
     for number in 0..names.len() {
         let Some(name) = names.name(number) else {

@@ -1,0 +1,34 @@
+-- The hash of a name, word by word.
+use Rattle.std.proofs.Common.{◌≡◌, ℕ, ◌<◌, ◌≤◌, ◌/◌, ◌^◌, List, [], ◌∷◌, length, take, drop, refl, ap, arith}
+use Rattle.std.specs.Int.{w64, from_le_bytes}
+use Rattle.aero_names.specs.Hash.{mixed, short_word, hash_from, hash_of}
+
+-- one word more
+pub one_word : (hash : ℕ) (bytes : List ℕ) → 8 ≤ length bytes → hash_from (mixed hash (from_le_bytes w64 (take 8 bytes))) (drop 8 bytes) ≡ hash_from hash bytes
+unfolding hash_from
+one_word hash (a ∷ b ∷ c ∷ d ∷ e ∷ f ∷ g ∷ h ∷ rest) long = refl
+one_word hash [] long = absurd (omega (arith, long))
+one_word hash (a ∷ []) long = absurd (omega (arith, long))
+one_word hash (a ∷ b ∷ []) long = absurd (omega (arith, long))
+one_word hash (a ∷ b ∷ c ∷ []) long = absurd (omega (arith, long))
+one_word hash (a ∷ b ∷ c ∷ d ∷ []) long = absurd (omega (arith, long))
+one_word hash (a ∷ b ∷ c ∷ d ∷ e ∷ []) long = absurd (omega (arith, long))
+one_word hash (a ∷ b ∷ c ∷ d ∷ e ∷ f ∷ []) long = absurd (omega (arith, long))
+one_word hash (a ∷ b ∷ c ∷ d ∷ e ∷ f ∷ g ∷ []) long = absurd (omega (arith, long))
+
+-- what is left at the end
+pub last_word : (hash : ℕ) (bytes : List ℕ) → length bytes < 8 → mixed hash (short_word bytes) ≡ hash_from hash bytes
+unfolding hash_from
+last_word hash [] short = refl
+last_word hash (a ∷ []) short = refl
+last_word hash (a ∷ b ∷ []) short = refl
+last_word hash (a ∷ b ∷ c ∷ []) short = refl
+last_word hash (a ∷ b ∷ c ∷ d ∷ []) short = refl
+last_word hash (a ∷ b ∷ c ∷ d ∷ e ∷ []) short = refl
+last_word hash (a ∷ b ∷ c ∷ d ∷ e ∷ f ∷ []) short = refl
+last_word hash (a ∷ b ∷ c ∷ d ∷ e ∷ f ∷ g ∷ []) short = refl
+last_word hash (a ∷ b ∷ c ∷ d ∷ e ∷ f ∷ g ∷ h ∷ rest) short = absurd (omega (arith, short))
+
+pub mixed_once_more : (last : ℕ) (name : List ℕ) → last ≡ hash_from (length name) name → mixed last (last / 2 ^ 32) ≡ hash_of name
+unfolding hash_of
+mixed_once_more last name is = ap (λ n. mixed n (n / 2 ^ 32)) is

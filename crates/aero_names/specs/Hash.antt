@@ -1,0 +1,22 @@
+-- A number made of all bytes of a name. Nothing is meant by it: a name is looked for among those with the same number.
+use Rattle.std.specs.Prelude.{ℕ, ◌+◌, ◌*◌, ◌/◌, ◌%◌, ◌^◌, List, [], ◌∷◌, length, fold}
+use Rattle.std.specs.Int.{w64, from_le_bytes, rotate_left}
+use Rattle.std.specs.Int.Bits.{bit_xor}
+
+-- what is left of the word, and of what was mixed before it
+unfoldable pub mixed : ℕ → ℕ → ℕ
+mixed hash word = (bit_xor (rotate_left w64 hash 5) word * 17378887893183147461) % 2 ^ 64
+
+-- bytes as one number
+abbrev pub short_word : List ℕ → ℕ
+short_word bytes = fold (λ word byte. ((word * 256) % 2 ^ 64 + byte) % 2 ^ 64) 0 bytes
+
+-- the words of eight bytes, and then the bytes that are left
+unfoldable pub hash_from : ℕ → List ℕ → ℕ
+hash_from hash (a ∷ b ∷ c ∷ d ∷ e ∷ f ∷ g ∷ h ∷ rest) = hash_from (mixed hash (from_le_bytes w64 (a ∷ b ∷ c ∷ d ∷ e ∷ f ∷ g ∷ h ∷ []))) rest
+hash_from hash rest = mixed hash (short_word rest)
+
+unfoldable pub hash_of : List ℕ → ℕ
+hash_of name =
+    let last = hash_from (length name) name in
+    mixed last (last / 2 ^ 32)

@@ -1,0 +1,135 @@
+//! How the names of a list are found. `latest` leads from a hash to one more than the number of the latest
+//! name that has it, and `before` has for each name the same of the one before it with its hash; 0 where
+//! there is none. A name is looked for along those of its hash, and compared with each.
+//!
+//! Hints come first: a place for some bits of the hash, and there the number of a name. What it says is
+//! compared too, so it may be wrong or old.
+ghost use Rattle.std.specs.Prelude.{◌≡◌, ◌+◌, ◌<◌, ◌↔◌, ◌++◌, ◌∷◌, [], ℕ, IsTrue, false, length, slice_get, Some, IfSome, IfNone, OnOk, bytes_eq, nat_eq, if◌then◌else◌, vec_capacity, vec_len};
+ghost use Rattle.std.specs.List.{list_any};
+ghost use Rattle.indexmap.specs.IndexMap.{spare};
+ghost use Rattle.aero_names.specs.Hash.{hash_of as hash_in};
+ghost use Rattle.aero_names.specs.Indexed.{IsIndexed, next_at};
+
+use crate::list::NameList;
+use indexmap::IndexMap;
+use std::alloc::{AllocError, Global};
+
+// How many places hints have at first, and at most: powers of two.
+const FEWEST_HINTS: usize = 64;
+
+const MOST_HINTS: usize = 65_536;
+
+// Whether the list's name with this number is this one.
+#[inline(always)]
+fn is_here(names: &NameList, number: u32, name: &[u8]) -> bool
+    ensures { IsTrue result ↔ (slice_get names.now number ≡ Some name.now) }
+{
+    match names.name(number) {
+        Some(here) => here == name,
+        None => false,
+    }
+}
+
+// The number that the hint for this hash tells, where it is the name's.
+#[inline(always)]
+pub(crate) fn hinted(hints: &[u32], names: &NameList, name: &[u8], hash: u64) -> Option<u32>
+    ensures { IfSome result (λ number. slice_get names.now number ≡ Some name.now) }
+{
+    let hint = *hints.get(hint_place(hash, hints.len()))?;
+    if is_here(names, hint, name) {
+        return Some(hint);
+    }
+    None
+}
+
+// Of so many hints, which is a power of two, the place of the one for this hash. There is none among none.
+#[inline(always)]
+fn hint_place(hash: u64, hints: usize) -> usize {
+    (hash >> 32) as usize & hints.wrapping_sub(1)
+}
+
+// The next time the hint is this number.
+#[inline(always)]
+pub(crate) fn set_hint(hints: &mut [u32], hash: u64, number: u32) {
+    let place = hint_place(hash, hints.len());
+    if let Some(hint) = hints.get_mut(place) {
+        *hint = number;
+    }
+}
+
+// As many hints as there are names, or more, but no more than 65,536, where memory isn't refused.
+pub(crate) fn grow_hints(alloc: Global, hints: &mut Vec<u32>, names: u32) {
+    let places = hints.len();
+    if places > names as usize || places >= MOST_HINTS {
+        return;
+    }
+    let more = places.saturating_mul(2).max(FEWEST_HINTS);
+    if let Ok(grown) = vec![in alloc; 0u32; more] {
+        *hints = grown;
+    }
+}
+
+// Where the table leads from this hash: 0 where it has none.
+#[inline(always)]
+fn latest_with(latest: &IndexMap<u64, u32>, hash: u64) -> u32
+    ensures { result ≡ next_at latest.now hash }
+{
+    match latest.get(&hash) {
+        Some(next) => *next,
+        None => 0,
+    }
+}
+
+// The number of the name, whose hash this is, where the list has it.
+pub(crate) fn find(
+    latest: &IndexMap<u64, u32>,
+    before: &[u32],
+    names: &NameList,
+    name: &[u8],
+    hash: u64,
+) -> Option<u32>
+    requires indexed { IsIndexed names.now (length names.now) (next_at latest.now) before.now }
+    requires hashed { hash ≡ hash_in name.now }
+    ensures found { IfSome result (λ number. slice_get names.now number ≡ Some name.now) }
+    ensures missed { IfNone result (list_any (bytes_eq name.now) names.now ≡ false) }
+{
+    let mut next = latest_with(latest, hash);
+    while next > 0 {
+        let number = next - 1;
+        if is_here(names, number, name) {
+            return Some(number);
+        }
+        next = before[number as usize];
+    }
+    None
+}
+
+// Room for one name more in both tables, so that `link` needs no memory.
+pub(crate) fn make_room(
+    latest: &mut IndexMap<u64, u32>,
+    before: &mut Vec<u32>,
+) -> Result<(), AllocError>
+    ensures same { (h : ℕ) → next_at latest.new h ≡ next_at latest.old h }
+    ensures rows { before.new.items ≡ before.old.items }
+    ensures spare { OnOk result (0 < spare latest.new) }
+    ensures room { OnOk result (vec_len before.new < vec_capacity before.new) }
+{
+    before.reserve(1)?;
+    latest.reserve(1)?;
+    Ok(())
+}
+
+// The next name, whose number and hash these are, is found too.
+pub(crate) fn link(latest: &mut IndexMap<u64, u32>, before: &mut Vec<u32>, number: u32, hash: u64)
+    requires fits { number < u32.MAX }
+    requires spare { 0 < spare latest.old }
+    requires room { vec_len before.old < vec_capacity before.old }
+    ensures latest { (h : ℕ) → next_at latest.new h ≡ (if nat_eq hash h then number + 1 else next_at latest.old h) }
+    ensures rows { before.new.items ≡ before.old.items ++ next_at latest.old hash ∷ [] }
+{
+    let next = latest_with(latest, hash);
+    before.push(next).unwrap();
+    let Ok(_) = latest.insert(hash, number + 1) else {
+        unreachable!()
+    };
+}
