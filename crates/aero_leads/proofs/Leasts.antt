@@ -1,11 +1,13 @@
 -- The least place that a row has for a thread, as the row changes.
-use Rattle.std.proofs.Common.{◌≡◌, ◌⊎◌, inl, inr, ⊎_elim, ℕ, zero, suc, ◌+◌, ◌<◌, ◌≤◌, add-one, take, List, [], ◌∷◌, ◌++◌, Option, Some, None, refl, sym, ap, ap₂, subst, ◌∙◌, arith}
-use Rattle.std.specs.Prelude.{◌==◌, ◌||◌, ◌&&◌, min, nat_lt, not, filter, is_some, Bool, true, false, if◌then◌else◌, slice_get}
-use Rattle.std.proofs.lemmas.Bool.{cases_Bool, cases_eq, cases_lt, both_ways, eqb-true, eq-eqb, ne_eqb, lt-ltb, le-ltb, ltb-true, ltb-false, or_cases, or_left, or_right, and_from, and_parts, not_from_true, not_from_false}
+use Rattle.std.proofs.Common.{◌≡◌, ◌≢◌, ◌⊎◌, inl, inr, ⊎_elim, ℕ, zero, suc, ◌+◌, ◌<◌, ◌≤◌, add-one, take, List, [], ◌∷◌, ◌++◌, Option, Some, None, refl, sym, ap, ap₂, subst, ◌∙◌, arith}
+use Rattle.std.specs.Prelude.{◌==◌, ◌||◌, ◌&&◌, min, nat_lt, not, filter, is_some, Bool, true, false, if◌then◌else◌, slice_get, slice_set, length}
+use Rattle.std.proofs.lemmas.Bool.{cases_Bool, cases_eq, cases_lt, both_ways, cond-true, cond-false, eqb-true, eq-eqb, ne_eqb, lt-ltb, le-ltb, ltb-true, ltb-false, or_cases, or_left, or_right, and_from, and_parts, not_from_true, not_from_false}
+use Rattle.std.proofs.lemmas.Option.{same_Some, slice_get_past}
 use Rattle.aero_leads.specs.declared.row.Lead.{Lead}
 use Rattle.aero_leads.specs.Steps.{gains, lesser}
 use Rattle.aero_leads.specs.Kept.{least_in, is_below, absorbed, IsLeastBack}
 use Rattle.aero_leads.specs.Leads.{Rows}
+use Rattle.aero_leads.specs.Indexed.{opener_of, IsFound}
 
 abbrev pub lead : ℕ → ℕ → Lead
 lead t n = record { opener = t; place = n }
@@ -167,6 +169,65 @@ lowered_next old now ls i l n new at so_far next w =
     go true None = refl
     go true (Some p) = twice (least_in old w)
 
+-- a place that stands goes down
+pub least_set : (ls : List Lead) (i : ℕ) (l : Lead) (n w : ℕ) → slice_get ls i ≡ Some l → least_in (slice_set ls i (lead l.opener (min n l.place))) w ≡ (if l.opener == w then lesser (least_in ls w) (Some n) else least_in ls w)
+least_set [] i l n w h = cc
+least_set (k ∷ ks) zero l n w h = go (same_Some k l h)
+  where
+    down : (r : Option ℕ) (p : ℕ) → lesser (Some (min n p)) r ≡ lesser (lesser (Some p) r) (Some n)
+    down None p = ap Some (omega arith)
+    down (Some q) p = ap Some (omega arith)
+
+    pick : (b : Bool) (r : Option ℕ) (p : ℕ) → (if b then lesser (Some (min n p)) r else r) ≡ (if b then lesser (if b then lesser (Some p) r else r) (Some n) else (if b then lesser (Some p) r else r))
+    pick true r p = down r p
+    pick false r p = refl
+
+    go : k ≡ l → least_in (lead l.opener (min n l.place) ∷ ks) w ≡ (if l.opener == w then lesser (least_in (k ∷ ks) w) (Some n) else least_in (k ∷ ks) w)
+    go e = pick (l.opener == w) (least_in ks w) l.place ∙ ap (λ (m : Lead). if l.opener == w then lesser (least_in (m ∷ ks) w) (Some n) else least_in (m ∷ ks) w) (sym e)
+least_set (k ∷ ks) (suc i) l n w h = ap (λ r. if k.opener == w then lesser (Some k.place) r else r) (least_set ks i l n w h) ∙ go (k.opener == w) (l.opener == w) (least_in ks w)
+  where
+    go : (b c : Bool) (r : Option ℕ) → (if b then lesser (Some k.place) (if c then lesser r (Some n) else r) else (if c then lesser r (Some n) else r)) ≡ (if c then lesser (if b then lesser (Some k.place) r else r) (Some n) else (if b then lesser (Some k.place) r else r))
+    go true true r = sym (lesser_assoc (Some k.place) r (Some n))
+    go true false r = refl
+    go false true r = refl
+    go false false r = refl
+
+-- so do the first ones
+pub lowered_first : ℕ → ℕ → List Lead → List Lead
+lowered_first n zero ls = ls
+lowered_first n (suc i) [] = []
+lowered_first n (suc i) (l ∷ ls) = lead l.opener (min l.place n) ∷ lowered_first n i ls
+
+pub lowered_first_none : (n : ℕ) (ls : List Lead) → ls ≡ lowered_first n 0 ls
+unfolding lowered_first
+lowered_first_none n ls = refl
+
+pub lowered_first_next : (n i : ℕ) (ls now : List Lead) (l : Lead) → now ≡ lowered_first n i ls → slice_get now i ≡ Some l → slice_set now i (lead l.opener (min l.place n)) ≡ lowered_first n (i + 1) ls
+unfolding lowered_first
+lowered_first_next n i ls now l e h = ap (λ xs. slice_set xs i (lead l.opener (min l.place n))) e ∙ go i ls (sym (ap (λ xs. slice_get xs i) e) ∙ h) ∙ ap (λ j. lowered_first n j ls) (sym (add-one i))
+  where
+    go : (j : ℕ) (xs : List Lead) → slice_get (lowered_first n j xs) j ≡ Some l → slice_set (lowered_first n j xs) j (lead l.opener (min l.place n)) ≡ lowered_first n (suc j) xs
+    go zero [] g = cc
+    go zero (x ∷ xs) g = ap (λ (m : Lead). lead m.opener (min m.place n) ∷ xs) (sym (same_Some x l g))
+    go (suc j) [] g = cc
+    go (suc j) (x ∷ xs) g = ap (λ ys. lead x.opener (min x.place n) ∷ ys) (go j xs g)
+
+pub lowered_first_all : (n i : ℕ) (ls now : List Lead) (w : ℕ) → now ≡ lowered_first n i ls → length now ≤ i → least_in now w ≡ (if is_some (least_in ls w) then lesser (least_in ls w) (Some n) else least_in ls w)
+unfolding lowered_first
+lowered_first_all n i ls now w e h = ap (λ xs. least_in xs w) e ∙ go i ls (subst (λ xs. length xs ≤ i) e h)
+  where
+    down : (b : Bool) (p : ℕ) (r : Option ℕ) → (if b then lesser (Some (min p n)) (if is_some r then lesser r (Some n) else r) else (if is_some r then lesser r (Some n) else r)) ≡ (if is_some (if b then lesser (Some p) r else r) then lesser (if b then lesser (Some p) r else r) (Some n) else (if b then lesser (Some p) r else r))
+    down true p None = refl
+    down true p (Some q) = ap Some (omega arith)
+    down false p None = refl
+    down false p (Some q) = refl
+
+    go : (j : ℕ) (xs : List Lead) → length (lowered_first n j xs) ≤ j → least_in (lowered_first n j xs) w ≡ (if is_some (least_in xs w) then lesser (least_in xs w) (Some n) else least_in xs w)
+    go zero [] g = refl
+    go zero (x ∷ xs) g = absurd (omega (arith, g))
+    go (suc j) [] g = refl
+    go (suc j) (x ∷ xs) g = ap (λ r. if x.opener == w then lesser (Some (min x.place n)) r else r) (go j xs (omega (arith, g))) ∙ down (x.opener == w) x.place (least_in xs w)
+
 -- an end
 same_test : (t w : ℕ) → (t == w) ≡ (w == t)
 same_test t w = ⊎_elim (λ e. eq-eqb t w e ∙ sym (eq-eqb w t (sym e))) (λ ne. ne_eqb t w ne ∙ sym (ne_eqb w t (λ e. ne (sym e)))) (cases_eq t w)
@@ -198,6 +259,133 @@ some_next ls i l u at = ap is_some (least_next ls i l u at) ∙ go (l.opener == 
     go true None = refl
     go true (Some p) = refl
     go false r = refl
+
+-- none is none among the first ones, and no block of them stands at a place
+pub none_before : (ls : List Lead) (i u : ℕ) → is_some (least_in ls u) ≡ false → is_some (least_in (take i ls) u) ≡ false
+none_before [] zero u h = refl
+none_before [] (suc i) u h = refl
+none_before (l ∷ ls) zero u h = refl
+none_before (l ∷ ls) (suc i) u h = go (l.opener == u) (least_in ls u) h (none_before ls i u)
+  where
+    go : (b : Bool) (r : Option ℕ) → is_some (if b then lesser (Some l.place) r else r) ≡ false → (is_some r ≡ false → is_some (least_in (take i ls) u) ≡ false) → is_some (if b then lesser (Some l.place) (least_in (take i ls) u) else least_in (take i ls) u) ≡ false
+    go true None k rest = let z : true ≡ false = k in cc
+    go true (Some p) k rest = let z : true ≡ false = k in cc
+    go false r k rest = rest k
+
+pub none_next : (ls : List Lead) (i : ℕ) (l : Lead) (u : ℕ) → slice_get ls i ≡ Some l → is_some (least_in (take (i + 1) ls) u) ≡ false → (l.opener == u ≡ false) × (is_some (least_in (take i ls) u) ≡ false)
+none_next ls i l u at h = go (l.opener == u) (is_some (least_in (take i ls) u)) (sym (some_next ls i l u at) ∙ h)
+  where
+    go : (a b : Bool) → (a || b) ≡ false → (a ≡ false) × (b ≡ false)
+    go true b k = let z : true ≡ false = k in cc
+    go false b k = (refl, k)
+
+pub none_still : (ls : List Lead) (i : ℕ) (l : Lead) (u : ℕ) → slice_get ls i ≡ Some l → l.opener == u ≡ false → is_some (least_in (take i ls) u) ≡ false → is_some (least_in (take (i + 1) ls) u) ≡ false
+none_still ls i l u at a b = some_next ls i l u at ∙ ap₂ (λ x y. x || y) a b
+
+-- where a block is found, there is a place for it
+found_there : (ls : List Lead) (i w : ℕ) → opener_of (slice_get ls i) ≡ Some w → is_some (least_in ls w) ≡ true
+found_there [] i w h = cc
+found_there (l ∷ ls) zero w h = go (l.opener == w) (eq-eqb l.opener w (same_Some l.opener w h)) (least_in ls w)
+  where
+    go : (b : Bool) → b ≡ true → (r : Option ℕ) → is_some (if b then lesser (Some l.place) r else r) ≡ true
+    go true e None = refl
+    go true e (Some p) = refl
+    go false e r = cc
+found_there (l ∷ ls) (suc i) w h = go (l.opener == w) (least_in ls w) (found_there ls i w h)
+  where
+    go : (b : Bool) (r : Option ℕ) → is_some r ≡ true → is_some (if b then lesser (Some l.place) r else r) ≡ true
+    go true None k = refl
+    go true (Some p) k = refl
+    go false r k = k
+
+-- a block that has a place stands where an index of the row says
+pub indexed_step : (ls : List Lead) (i : ℕ) (l : Lead) (was now : ℕ → ℕ) → slice_get ls i ≡ Some l
+    → ((v : ℕ) → now v ≡ (if v == l.opener then i else was v))
+    → ((w : ℕ) → is_some (least_in (take i ls) w) ≡ true → opener_of (slice_get ls (was w)) ≡ Some w)
+    → (w : ℕ) → is_some (least_in (take (i + 1) ls) w) ≡ true → opener_of (slice_get ls (now w)) ≡ Some w
+indexed_step ls i l was now at entered so_far w some = go (cases_eq w l.opener)
+  where
+    go : (w ≡ l.opener) ⊎ (w ≢ l.opener) → opener_of (slice_get ls (now w)) ≡ Some w
+    go (inl e) = ap (λ j. opener_of (slice_get ls j)) (entered w ∙ cond-true (w == l.opener) _ _ (eq-eqb w l.opener e)) ∙ ap opener_of at ∙ ap Some (sym e)
+    go (inr ne) =
+        ap (λ j. opener_of (slice_get ls j)) (entered w ∙ cond-false (w == l.opener) _ _ (ne_eqb w l.opener ne))
+        ∙ so_far w (sym (ap (λ b. b || is_some (least_in (take i ls) w)) (ne_eqb l.opener w (λ e. ne (sym e)))) ∙ sym (some_next ls i l w at) ∙ some)
+
+stands_within : (ls : List Lead) (i w : ℕ) (l : Lead) → opener_of (slice_get ls i) ≡ Some w → opener_of (slice_get (ls ++ l ∷ []) i) ≡ Some w
+stands_within [] i w l h = cc
+stands_within (k ∷ ks) zero w l h = h
+stands_within (k ∷ ks) (suc i) w l h = stands_within ks i w l h
+
+stands_last : (ls : List Lead) (l : Lead) → slice_get (ls ++ l ∷ []) (length ls) ≡ Some l
+stands_last [] l = refl
+stands_last (k ∷ ks) l = stands_last ks l
+
+pub indexed_added : (ls new : List Lead) (l : Lead) (n : ℕ) (was now : ℕ → ℕ) → new ≡ ls ++ l ∷ [] → n ≡ length ls
+    → ((v : ℕ) → now v ≡ (if v == l.opener then n else was v))
+    → ((w : ℕ) → is_some (least_in ls w) ≡ true → opener_of (slice_get ls (was w)) ≡ Some w)
+    → (w : ℕ) → is_some (least_in new w) ≡ true → opener_of (slice_get new (now w)) ≡ Some w
+indexed_added ls new l n was now pushed count entered before w some = ap (λ xs. opener_of (slice_get xs (now w))) pushed ∙ go (cases_eq w l.opener)
+  where
+    go : (w ≡ l.opener) ⊎ (w ≢ l.opener) → opener_of (slice_get (ls ++ l ∷ []) (now w)) ≡ Some w
+    go (inl e) =
+        ap (λ j. opener_of (slice_get (ls ++ l ∷ []) j)) (entered w ∙ cond-true (w == l.opener) _ _ (eq-eqb w l.opener e) ∙ count)
+        ∙ ap opener_of (stands_last ls l) ∙ ap Some (sym e)
+    go (inr ne) =
+        ap (λ j. opener_of (slice_get (ls ++ l ∷ []) j)) (entered w ∙ cond-false (w == l.opener) _ _ (ne_eqb w l.opener ne))
+        ∙ stands_within ls (was w) w l (before w (sym (ap is_some (ap (λ xs. least_in xs w) pushed ∙ least_push ls l w ∙ cond-false (l.opener == w) _ _ (ne_eqb l.opener w (λ e. ne (sym e))))) ∙ some))
+
+-- and one that doesn't stand there has none
+pub found_absent : (ls : List Lead) (w n : ℕ) → (is_some (least_in ls w) ≡ true → opener_of (slice_get ls n) ≡ Some w) → ¬ (opener_of (slice_get ls n) ≡ Some w) → is_some (least_in ls w) ≡ false
+found_absent ls w n h no_one = ⊎_elim (λ some. absurd (no_one (h some))) (λ none. none) (cases_Bool (is_some (least_in ls w)))
+
+pub found_other : (ls : List Lead) (w n : ℕ) (l : Lead) → slice_get ls n ≡ Some l → l.opener ≢ w → ¬ (opener_of (slice_get ls n) ≡ Some w)
+found_other ls w n l at ne h = ne (same_Some l.opener w (sym (ap opener_of at) ∙ h))
+
+pub found_past : (ls : List Lead) (w n : ℕ) → length ls ≤ n → ¬ (opener_of (slice_get ls n) ≡ Some w)
+found_past ls w n past h = let z : None ≡ Some w = sym (ap opener_of (slice_get_past ls n past)) ∙ h in cc
+
+-- openers that stay where they stand
+pub opener_set : (ls : List Lead) (i w m j : ℕ) → opener_of (slice_get ls i) ≡ Some w → opener_of (slice_get (slice_set ls i (lead w m)) j) ≡ opener_of (slice_get ls j)
+opener_set [] i w m j h = cc
+opener_set (k ∷ ks) zero w m zero h = sym h
+opener_set (k ∷ ks) zero w m (suc j) h = refl
+opener_set (k ∷ ks) (suc i) w m zero h = refl
+opener_set (k ∷ ks) (suc i) w m (suc j) h = opener_set ks i w m j h
+
+pub indexed_lowered : (ls new : List Lead) (was : ℕ → ℕ) (o p : ℕ) → is_some (least_in ls o) ≡ true
+    → ((v : ℕ) → least_in new v ≡ (if o == v then lesser (least_in ls v) (Some p) else least_in ls v))
+    → ((i : ℕ) → opener_of (slice_get new i) ≡ opener_of (slice_get ls i))
+    → ((w : ℕ) → is_some (least_in ls w) ≡ true → opener_of (slice_get ls (was w)) ≡ Some w)
+    → (w : ℕ) → is_some (least_in new w) ≡ true → opener_of (slice_get new (was w)) ≡ Some w
+indexed_lowered ls new was o p there row openers before w some = openers (was w) ∙ before w (go (cases_eq o w))
+  where
+    go : (o ≡ w) ⊎ (o ≢ w) → is_some (least_in ls w) ≡ true
+    go (inl e) = ap (λ u. is_some (least_in ls u)) (sym e) ∙ there
+    go (inr ne) = ap is_some (sym (row w ∙ cond-false (o == w) _ _ (ne_eqb o w ne))) ∙ some
+
+pub found_some : (ls : List Lead) (w : ℕ) (r : Option ℕ) → IsFound ls w r → is_some r ≡ true → is_some (least_in ls w) ≡ true
+found_some ls w None h k = let z : false ≡ true = k in cc
+found_some ls w (Some i) (less, at) k = found_there ls i w at
+
+pub found_none : (ls : List Lead) (w : ℕ) (r : Option ℕ) → IsFound ls w r → is_some r ≡ false → is_some (least_in ls w) ≡ false
+found_none ls w None h k = h
+found_none ls w (Some i) h k = let z : true ≡ false = k in cc
+
+-- a block that has no place yet gains one
+pub gains_added : (ls now : List Lead) (t n : ℕ) → is_some (least_in ls t) ≡ false → ((w : ℕ) → least_in now w ≡ (if t == w then lesser (least_in ls w) (Some n) else least_in ls w)) → (w : ℕ) → least_in now w ≡ gains (least_in ls w) (t == w) n
+gains_added ls now t n h row w = row w ∙ sym (least_push ls (lead t n) w) ∙ gains_pushed ls t n h w
+
+pub lowered_found : (ls : List Lead) (i w n : ℕ) (l : Lead) → slice_get ls i ≡ Some l → opener_of (slice_get ls i) ≡ Some w → (m : ℕ) → m ≡ min n l.place → (v : ℕ) → least_in (slice_set ls i (lead w m)) v ≡ (if w == v then lesser (least_in ls v) (Some n) else least_in ls v)
+lowered_found ls i w n l at opener m is v =
+    let same : l.opener ≡ w = same_Some l.opener w (sym (ap opener_of at) ∙ opener) in
+    ap₂ (λ u p. least_in (slice_set ls i (lead u p)) v) (sym same) is ∙ least_set ls i l n v at ∙ ap (λ u. if u == v then lesser (least_in ls v) (Some n) else least_in ls v) same
+
+-- the thread's own row
+pub settled : (row now new : List Lead) (t n : ℕ) → Some n ≡ least_in row t
+    → ((w : ℕ) → least_in now w ≡ (if is_some (least_in row w) then lesser (least_in row w) (Some n) else least_in row w))
+    → ((w : ℕ) → least_in new w ≡ (if t == w then None else least_in now w))
+    → (w : ℕ) → least_in new w ≡ absorbed (least_in row) (least_in row) t w
+settled row now new t n = absorbed_some row row now new t n
 
 pub passing_still : (test : ℕ → Bool) (ls : List Lead) (i : ℕ) (l : Lead) (o : Option ℕ) → slice_get ls i ≡ Some l → test l.opener ≡ false → LeastPassing test (take i ls) o → LeastPassing test (take (i + 1) ls) o
 passing_still test ls i l None at fails h = λ u some. ⊎_elim (λ e. ap test (sym (eqb-true l.opener u e)) ∙ fails) (λ k. h u k) (or_cases _ _ (sym (some_next ls i l u at) ∙ some))

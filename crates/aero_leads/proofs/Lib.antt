@@ -5,9 +5,11 @@ pub mod EndRows
 pub mod ByKind
 pub mod Told
 pub mod Leasts
+pub mod Listings
 pub mod Takings
 pub mod StateSteps
 pub mod Lasts
 pub mod Moving
 pub mod Standings
 pub mod ThreadSteps
+pub mod Ends

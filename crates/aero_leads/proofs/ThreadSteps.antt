@@ -1,13 +1,16 @@
 -- One thread of a list is changed.
-use Rattle.std.proofs.Common.{◌≡◌, ◌≢◌, ◌⊎◌, inl, inr, ⊎_elim, ℕ, ◌+◌, ◌<◌, ◌≤◌, le_refl, arith, List, [], ◌∷◌, ◌++◌, length, Option, Some, None, refl, sym, ap, ap₂, ◌∙◌}
-use Rattle.std.specs.Prelude.{◌==◌, ◌&&◌, Bool, true, false, is_some, if◌then◌else◌, slice_get, slice_set}
-use Rattle.std.proofs.lemmas.Bool.{cases_eq, cases_lt, eq-eqb, ne_eqb, cond-true, cond-false, and_left}
-use Rattle.std.proofs.lemmas.Option.{slice_get_within, slice_get_past}
+use Rattle.std.proofs.Common.{◌≡◌, ◌≢◌, ◌⊎◌, inl, inr, ℕ, zero, suc, ◌+◌, add-one, take, List, [], ◌∷◌, ◌++◌, ◌≤◌, length, Option, Some, None, refl, sym, ap, ap₂, ◌∙◌}
+use Rattle.std.specs.Prelude.{◌==◌, ◌&&◌, ◌||◌, Bool, true, false, is_some, if◌then◌else◌, slice_get, slice_set}
+use Rattle.std.specs.List.{list_any}
+use Rattle.std.proofs.lemmas.Bool.{cases_eq, eqb-true, eq-eqb, ne_eqb, cond-true, cond-false, and_left}
+use Rattle.std.proofs.lemmas.Option.{slice_get_within, slice_get_past, same_Some}
 use Rattle.aero_access.proofs.KeptLists.{slice_get-set}
 use Rattle.aero_leads.specs.declared.thread.Thread.{Thread}
+use Rattle.aero_leads.specs.declared.led.Led.{Led}
+use Rattle.aero_leads.specs.Listed.{is_listed, IsListedRow, AreListed, Grows}
 use Rattle.aero_leads.specs.Steps.{lesser, end_rows}
 use Rattle.aero_leads.specs.Kept.{least_in, thread_row, thread_in_block, thread_begins, thread_acted, rows_in, absorbed, HaveSameBlocks, BeginsBlock, EndsBlock}
-use Rattle.aero_leads.proofs.Leasts.{lead, least_push}
+use Rattle.aero_leads.proofs.Leasts.{lead, least_push, lesser_none}
 
 module _ (threads : List Thread) (t : ℕ) (old new : Thread) (at : slice_get threads t ≡ Some old) where
   -- what it has now
@@ -25,6 +28,44 @@ module _ (threads : List Thread) (t : ℕ) (old new : Thread) (at : slice_get th
       go : (t ≡ u) ⊎ (t ≢ u) → (if t == u then f (Some new) else f (slice_get threads u)) ≡ f (slice_get threads u)
       go (inl e) = cond-true (t == u) _ _ (eq-eqb t u e) ∙ h ∙ ap f (sym at) ∙ ap (λ v. f (slice_get threads v)) e
       go (inr e) = cond-false (t == u) _ _ (ne_eqb t u e)
+
+  -- a row that takes over what led to a block
+  pub absorbed_at : (es : ℕ → Option ℕ) (x : ℕ) → ((w : ℕ) → least_in new.row.items w ≡ absorbed es (least_in old.row.items) x w)
+      → (v w : ℕ) → rows_in (slice_set threads t new) v w ≡ (if t == v then absorbed es (rows_in threads v) x w else rows_in threads v w)
+  absorbed_at es x row v w = written (λ p. least_in (thread_row p) w) v ∙ go (cases_eq t v)
+    where
+      go : (t ≡ v) ⊎ (t ≢ v) → (if t == v then least_in new.row.items w else rows_in threads v w) ≡ (if t == v then absorbed es (rows_in threads v) x w else rows_in threads v w)
+      go (inl e) =
+          cond-true (t == v) _ _ (eq-eqb t v e) ∙ row w ∙ ap (λ p. absorbed es (least_in (thread_row p)) x w) (sym at) ∙ ap (λ u. absorbed es (rows_in threads u) x w) e
+          ∙ sym (cond-true (t == v) _ _ (eq-eqb t v e))
+      go (inr e) = cond-false (t == v) _ _ (ne_eqb t v e) ∙ sym (cond-false (t == v) _ _ (ne_eqb t v e))
+
+  pub same_blocks : new.in_block ≡ old.in_block → new.begins ≡ old.begins → new.acted ≡ old.acted → HaveSameBlocks threads (slice_set threads t new)
+  same_blocks inside begins acted = record {
+    in_block = λ u. unwritten thread_in_block u inside;
+    begins = λ u. unwritten thread_begins u begins;
+    acted = λ u. unwritten thread_acted u acted;
+  }
+
+  pub listed_at : (led more : Led) → Grows led more → (IsListedRow old.row.items led t → IsListedRow new.row.items more t) → AreListed threads led → AreListed (slice_set threads t new) more
+  listed_at led more grows row h o w ne some = go (cases_eq t o)
+    where
+      here : IsListedRow old.row.items led t
+      here v other there = h t v other (ap (λ p. is_some (least_in (thread_row p) v)) at ∙ there)
+
+      go : (t ≡ o) ⊎ (t ≢ o) → is_listed more w o ≡ true
+      go (inl e) =
+          ap (is_listed more w) (sym e)
+          ∙ row here w (λ f. ne (f ∙ e)) (ap is_some (sym (written (λ p. least_in (thread_row p) w) o ∙ cond-true (t == o) _ _ (eq-eqb t o e))) ∙ some)
+      go (inr e) = grows w o (h o w ne (ap is_some (sym (written (λ p. least_in (thread_row p) w) o ∙ cond-false (t == o) _ _ (ne_eqb t o e))) ∙ some))
+
+  -- the thread begins a block of its own
+  pub listed_begin : (led : Led) (place : ℕ) → new.row.items ≡ old.row.items ++ lead t place ∷ [] → AreListed threads led → AreListed (slice_set threads t new) led
+  listed_begin led place row = listed_at led led (λ w o h. h) own
+    where
+      own : IsListedRow old.row.items led t → IsListedRow new.row.items led t
+      own h w ne some =
+          h w ne (ap is_some (sym (ap (λ xs. least_in xs w) row ∙ least_push old.row.items (lead t place) w ∙ cond-false (t == w) _ _ (ne_eqb t w (λ e. ne (sym e))))) ∙ some)
 
   pub begins_block : (place : ℕ) → new.row.items ≡ old.row.items ++ lead t place ∷ [] → new.in_block ≡ true → new.begins ≡ old.begins + 1 → new.acted ≡ old.acted → BeginsBlock threads (slice_set threads t new) t place
   begins_block place row inside begins acted = record {
@@ -54,42 +95,75 @@ module _ (threads : List Thread) (t : ℕ) (old new : Thread) (at : slice_get th
     acted = λ u. unwritten thread_acted u acted ∙ same.acted u;
   }
 
--- one thread after the other takes over what led to a block
-pub record IsSpread (start now : List Thread) (ended : ℕ → Option ℕ) (t i : ℕ) : Type 0 where
-  pub done : (o w : ℕ) → o < i → rows_in now o w ≡ absorbed ended (rows_in start o) t w
-  pub others : (o : ℕ) → i ≤ o → slice_get now o ≡ slice_get start o
-  pub same : HaveSameBlocks start now
+-- what led to a block is taken over once
+absorbed_of : (es r q : ℕ → Option ℕ) (t w : ℕ) → r w ≡ q w → r t ≡ q t → absorbed es r t w ≡ absorbed es q t w
+absorbed_of es r q t w = ap₂ (λ x y. if w == t then None else if is_some (es w) then lesser x y else x)
 
-pub spread_next : (start now : List Thread) (ended : ℕ → Option ℕ) (t i : ℕ) (old new : Thread) → slice_get now i ≡ Some old → ((w : ℕ) → least_in new.row.items w ≡ absorbed ended (least_in old.row.items) t w) → new.in_block ≡ old.in_block → new.begins ≡ old.begins → new.acted ≡ old.acted
-    → IsSpread start now ended t i → IsSpread start (slice_set now i new) ended t (i + 1)
-spread_next start now ended t i old new at row in_block begins acted h = record {
-  done = λ o w less. written now i old new at (λ p. least_in (thread_row p) w) o ∙ done o w less (cases_eq i o);
-  others = λ o le. written now i old new at (λ p. p) o ∙ cond-false (i == o) _ _ (ne_eqb i o (λ e. absurd (omega (arith, le, e)))) ∙ h.others o (omega (arith, le));
-  same = record {
-    in_block = λ u. unwritten now i old new at thread_in_block u in_block ∙ h.same.in_block u;
-    begins = λ u. unwritten now i old new at thread_begins u begins ∙ h.same.begins u;
-    acted = λ u. unwritten now i old new at thread_acted u acted ∙ h.same.acted u;
-  };
-}
+absorbed_twice : (es r : ℕ → Option ℕ) (t w : ℕ) → absorbed es (absorbed es r t) t w ≡ absorbed es r t w
+absorbed_twice es r t w = ap (λ y. if w == t then None else if is_some (es w) then lesser (absorbed es r t w) y else absorbed es r t w) own ∙ go (w == t) (is_some (es w))
   where
-    done : (o w : ℕ) → o < i + 1 → (i ≡ o) ⊎ (i ≢ o) → (if i == o then least_in new.row.items w else rows_in now o w) ≡ absorbed ended (rows_in start o) t w
-    done o w less (inl e) =
-        cond-true (i == o) _ _ (eq-eqb i o e) ∙ row w
-        ∙ ap (λ p. absorbed ended (least_in (thread_row p)) t w) (sym at ∙ h.others i (le_refl i) ∙ ap (slice_get start) e)
-    done o w less (inr e) = cond-false (i == o) _ _ (ne_eqb i o e) ∙ h.done o w (omega (arith, less, e))
+    own : absorbed es r t t ≡ None
+    own = cond-true (t == t) _ _ (eq-eqb t t refl)
 
-pub spread_all : (start now : List Thread) (ended : ℕ → Option ℕ) (t i : ℕ) → length now ≤ i → IsSpread start now ended t i → (o w : ℕ) → rows_in now o w ≡ absorbed ended (rows_in start o) t w
-spread_all start now ended t i all h o w = ⊎_elim (λ less. h.done o w less) past (cases_lt o i)
+    go : (b c : Bool) → (if b then None else if c then lesser (if b then None else if c then lesser (r w) (r t) else r w) None else (if b then None else if c then lesser (r w) (r t) else r w)) ≡ (if b then None else if c then lesser (r w) (r t) else r w)
+    go true c = refl
+    go false true = lesser_none (lesser (r w) (r t))
+    go false false = refl
+
+-- and changes nothing where the block didn't lead
+pub absorbed_alone : (es r : ℕ → Option ℕ) (t : ℕ) → r t ≡ None → (w : ℕ) → absorbed es r t w ≡ r w
+absorbed_alone es r t none w = go (w == t) refl (is_some (es w))
   where
-    nothing : ℕ → Option ℕ
-    nothing v = None
+    go : (b : Bool) → w == t ≡ b → (c : Bool) → (if b then None else if c then lesser (r w) (r t) else r w) ≡ r w
+    go true e c = sym (ap r (eqb-true w t e) ∙ none)
+    go false e true = ap (lesser (r w)) none ∙ lesser_none (r w)
+    go false e false = refl
 
-    empty : (b c : Bool) → None ≡ (if b then None else if c then lesser (nothing w) (nothing t) else nothing w)
-    empty true c = refl
-    empty false true = refl
-    empty false false = refl
+any_take_next : (p : ℕ → Bool) (us : List ℕ) (i u : ℕ) → slice_get us i ≡ Some u → list_any p (take (suc i) us) ≡ (list_any p (take i us) || p u)
+any_take_next p [] i u h = cc
+any_take_next p (x ∷ xs) zero u h = ap (λ y. p y || false) (same_Some x u h) ∙ flip (p u)
+  where
+    flip : (b : Bool) → (b || false) ≡ b
+    flip true = refl
+    flip false = refl
+any_take_next p (x ∷ xs) (suc i) u h = go (p x) (any_take_next p xs i u h)
+  where
+    go : (b : Bool) → list_any p (take (suc i) xs) ≡ (list_any p (take i xs) || p u) → (b || list_any p (take (suc i) xs)) ≡ ((b || list_any p (take i xs)) || p u)
+    go true rest = refl
+    go false rest = rest
 
-    past : i ≤ o → rows_in now o w ≡ absorbed ended (rows_in start o) t w
-    past le =
-        let none = slice_get_past now o (omega (arith, all, le)) in
-        ap (λ p. least_in (thread_row p) w) none ∙ empty (w == t) (is_some (ended w)) ∙ ap (λ p. absorbed ended (least_in (thread_row p)) t w) (sym none ∙ h.others o le)
+-- one listed thread after the other takes over what led to a block
+pub visited_next : (start now new : ℕ → ℕ → Option ℕ) (es : ℕ → Option ℕ) (t : ℕ) (us : List ℕ) (i u : ℕ) → slice_get us i ≡ Some u
+    → ((o w : ℕ) → now o w ≡ (if list_any (λ v. v == o) (take i us) then absorbed es (start o) t w else start o w))
+    → ((o w : ℕ) → new o w ≡ (if u == o then absorbed es (now o) t w else now o w))
+    → (o w : ℕ) → new o w ≡ (if list_any (λ v. v == o) (take (i + 1) us) then absorbed es (start o) t w else start o w)
+visited_next start now new es t us i u at so_far next o w =
+    next o w ∙ go (u == o) (list_any (λ v. v == o) (take i us)) (so_far o)
+    ∙ ap (λ b. if b then absorbed es (start o) t w else start o w) (sym (ap (λ j. list_any (λ v. v == o) (take j us)) (add-one i) ∙ any_take_next (λ v. v == o) us i u at))
+  where
+    go : (c b : Bool) → ((v : ℕ) → now o v ≡ (if b then absorbed es (start o) t v else start o v)) → (if c then absorbed es (now o) t w else now o w) ≡ (if b || c then absorbed es (start o) t w else start o w)
+    go true true h = absorbed_of es (now o) (absorbed es (start o) t) t w (h w) (h t) ∙ absorbed_twice es (start o) t w
+    go true false h = absorbed_of es (now o) (start o) t w (h w) (h t)
+    go false true h = h w
+    go false false h = h w
+
+-- a thread that is listed nowhere had nothing to take over
+pub visited_all : (start new : ℕ → ℕ → Option ℕ) (es : ℕ → Option ℕ) (t o : ℕ) (listed : Bool) → (is_some (start o t) ≡ true → listed ≡ true)
+    → ((w : ℕ) → new o w ≡ (if listed then absorbed es (start o) t w else start o w)) → (w : ℕ) → new o w ≡ absorbed es (start o) t w
+visited_all start new es t o true there h w = h w
+visited_all start new es t o false there h w = h w ∙ sym (absorbed_alone es (start o) t (go (start o t) there) w)
+  where
+    go : (r : Option ℕ) → (is_some r ≡ true → false ≡ true) → r ≡ None
+    go None k = refl
+    go (Some p) k = let z : false ≡ true = k refl in cc
+
+-- where there is no such thread
+pub unvisited : (threads : List Thread) (o : ℕ) (es : ℕ → Option ℕ) (t : ℕ) → length threads ≤ o → (v w : ℕ) → rows_in threads v w ≡ (if o == v then absorbed es (rows_in threads v) t w else rows_in threads v w)
+unvisited threads o es t past v w = go (cases_eq o v)
+  where
+    none : (u : ℕ) → o ≡ v → rows_in threads v u ≡ None
+    none u e = ap (λ x. rows_in threads x u) (sym e) ∙ ap (λ p. least_in (thread_row p) u) (slice_get_past threads o past)
+
+    go : (o ≡ v) ⊎ (o ≢ v) → rows_in threads v w ≡ (if o == v then absorbed es (rows_in threads v) t w else rows_in threads v w)
+    go (inl e) = sym (cond-true (o == v) _ _ (eq-eqb o v e) ∙ absorbed_alone es (rows_in threads v) t (none t e) w)
+    go (inr e) = sym (cond-false (o == v) _ _ (ne_eqb o v e))

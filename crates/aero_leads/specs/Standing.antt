@@ -13,14 +13,14 @@ use Rattle.aero_leads.specs.States.{State, IsStateOf, acting}
 abbrev pub state_in : Kept → State
 state_in k =
     record {
-      rows = rows_in k.threads.items;
+      rows = rows_in k.table.threads.items;
       write = λ x. variable_write (slice_get k.variables.items x);
       reads = λ x. variable_reads (slice_get k.variables.items x);
       release = λ l. last_or_none (slice_get k.releases.items l);
       now = k.events;
-      acted = λ t. thread_acted (slice_get k.threads.items t);
-      begins = λ t. thread_begins (slice_get k.threads.items t);
-      in_block = λ t. thread_in_block (slice_get k.threads.items t);
+      acted = λ t. thread_acted (slice_get k.table.threads.items t);
+      begins = λ t. thread_begins (slice_get k.table.threads.items t);
+      in_block = λ t. thread_in_block (slice_get k.table.threads.items t);
     }
 
 -- the tests answer the same
@@ -51,7 +51,7 @@ pub record EndsState (old new : State) (t : ℕ) : Type 0 where
 
 -- there is room for thread t and one event more
 pub record HasRoom (k : Kept) (t : ℕ) : Type 0 where
-  pub thread : t < vec_len k.threads
+  pub thread : t < vec_len k.table.threads
   pub event : k.events < 2 ^ 32 - 1
 
 abbrev pub state_of : Leads → State

@@ -6,8 +6,9 @@ ghost use Rattle.aero_access.specs.StateWords.{event};
 ghost use Rattle.aero_leads.specs.Kept.{last, IsLeastBack};
 
 use crate::last::Last;
-use crate::thread;
-use crate::thread::{Thread, gain, least_back, take, take_all};
+use crate::table;
+use crate::table::{Table, gain, no_thread, take, take_all};
+use crate::thread::least_back;
 use crate::variable::{
     Variable, last_reads, last_release, last_write, note_read, note_release, note_write,
 };
@@ -16,7 +17,7 @@ use std::alloc::{AllocError, Global};
 /// The threads, variables and locks, each by its number, and how many events there are.
 #[derive(Drop)]
 pub struct Kept {
-    pub threads: Vec<Thread>,
+    pub table: Table,
     pub variables: Vec<Variable>,
     pub releases: Vec<Last>,
     pub events: u32,
@@ -31,7 +32,7 @@ impl Kept {
         ensures { IsStateOf (state_in result) [] }
     {
         Kept {
-            threads: Vec::new(alloc),
+            table: no_thread(alloc),
             variables: Vec::new(alloc),
             releases: Vec::new(alloc),
             events: 0,
@@ -42,7 +43,7 @@ impl Kept {
     pub(crate) fn in_block(&self, t: u32) -> bool
         ensures { result ≡ (state_in self.now).in_block t }
     {
-        match self.threads.get(t as usize) {
+        match self.table.threads.get(t as usize) {
             Some(thread) => thread.in_block,
             None => false,
         }
@@ -52,7 +53,7 @@ impl Kept {
     pub(crate) fn begins(&self, t: u32) -> u32
         ensures { result ≡ (state_in self.now).begins t }
     {
-        match self.threads.get(t as usize) {
+        match self.table.threads.get(t as usize) {
             Some(thread) => thread.begins,
             None => 0,
         }
@@ -62,7 +63,7 @@ impl Kept {
     pub(crate) fn acted(&self, t: u32) -> bool
         ensures { result ≡ (state_in self.now).acted t }
     {
-        match self.threads.get(t as usize) {
+        match self.table.threads.get(t as usize) {
             Some(thread) => thread.acted,
             None => false,
         }
@@ -77,7 +78,7 @@ impl Kept {
         if self.events == u32::MAX {
             return Err(AllocError);
         }
-        thread::reach(&mut self.threads, t)
+        table::reach(&mut self.table, t)
     }
 
     /// Thread `t` has made an event.
@@ -85,7 +86,7 @@ impl Kept {
         requires { HasRoom self.old t }
         ensures { AreSame (acting (state_in self.old) t) (state_in self.new) }
     {
-        self.threads[t as usize].acted = true;
+        table::act(&mut self.table, t);
         self.events += 1;
     }
 
@@ -97,7 +98,7 @@ impl Kept {
         ensures room { HasRoom self.new t }
     {
         let write = last_write(&self.variables, x);
-        if take(&mut self.threads, t, write, self.events)? {
+        if take(&mut self.table, t, write, self.events)? {
             return Ok(true);
         }
         let event = self.event(t);
@@ -113,11 +114,11 @@ impl Kept {
         ensures room { HasRoom self.new t }
     {
         let write = last_write(&self.variables, x);
-        if take(&mut self.threads, t, write, self.events)? {
+        if take(&mut self.table, t, write, self.events)? {
             return Ok(true);
         }
         let reads = last_reads(&self.variables, x);
-        if take_all(&mut self.threads, t, reads, self.events)? {
+        if take_all(&mut self.table, t, reads, self.events)? {
             return Ok(true);
         }
         let event = self.event(t);
@@ -133,7 +134,7 @@ impl Kept {
         ensures room { HasRoom self.new t }
     {
         let release = last_release(&self.releases, l);
-        let closes = take(&mut self.threads, t, release, self.events)?;
+        let closes = take(&mut self.table, t, release, self.events)?;
         Ok(closes)
     }
 
@@ -152,13 +153,13 @@ impl Kept {
     /// Thread `t` forks thread `u`.
     pub(crate) fn fork(&mut self, t: u32, u: u32) -> Result<(), AllocError>
         requires room { HasRoom self.old t }
-        requires target { u < vec_len self.old.threads }
+        requires target { u < vec_len self.old.table.threads }
         requires other { u ≢ t }
         ensures moves { OnOk result (Moves (state_in self.old) (state_in self.new) (event t (Fork u)) false) }
         ensures same { HaveSameBlocks (state_in self.old) (state_in self.new) }
         ensures room { HasRoom self.new t }
     {
-        gain(&mut self.threads, u, t, self.events, self.events)?;
+        gain(&mut self.table, u, t, self.events, self.events)?;
         Ok(())
     }
 
@@ -175,7 +176,7 @@ impl Kept {
             thread: u,
             count: self.events,
         };
-        let closes = take(&mut self.threads, t, last, self.events)?;
+        let closes = take(&mut self.table, t, last, self.events)?;
         Ok(closes)
     }
 
@@ -188,7 +189,7 @@ impl Kept {
         ensures err { OnErr result (HaveSameBlocks (state_in self.old) (state_in self.new)) }
         ensures room { HasRoom self.new t }
     {
-        thread::begin(&mut self.threads, t, self.events)?;
+        table::begin(&mut self.table, t, self.events)?;
         Ok(())
     }
 
@@ -196,7 +197,7 @@ impl Kept {
     pub(crate) fn least_back(&self, t: u32) -> Option<u32>
         ensures { IsLeastBack (state_in self.now).rows t result }
     {
-        least_back(&self.threads, t)
+        least_back(&self.table.threads, t)
     }
 
     /// Thread `t` ends its outermost block.
@@ -206,7 +207,7 @@ impl Kept {
         ensures err { OnErr result (HaveSameBlocks (state_in self.old) (state_in self.new)) }
         ensures room { HasRoom self.new t }
     {
-        thread::end(&mut self.threads, t)?;
+        table::end(&mut self.table, t)?;
         Ok(())
     }
 

@@ -28,9 +28,12 @@
 //! ```
 #![tactic(auto)]
 
+mod index;
 mod kept;
 mod last;
 pub mod leads;
+mod led;
 mod row;
+mod table;
 mod thread;
 mod variable;

@@ -1,8 +1,12 @@
 //! Which open blocks lead to a thread, and from which of its events on.
-ghost use Rattle.std.specs.Prelude.{◌≡◌, ◌==◌, ◌&&◌, ℕ, false, nat_lt, None, Some, OnOk, is_some, if◌then◌else◌};
+ghost use Rattle.std.specs.Prelude.{◌≡◌, ◌≢◌, ◌==◌, ◌&&◌, ◌++◌, ◌∷◌, [], ℕ, false, nat_lt, None, Some, OnOk, is_some, slice_get, if◌then◌else◌};
 ghost use Rattle.aero_leads.specs.Kept.{least_in, is_below, absorbed};
+ghost use Rattle.aero_leads.specs.Indexed.{IsIndexed, IsFound, opener_of};
+ghost use Rattle.aero_leads.specs.Listed.{IsListedRow, Grows, followers};
 ghost use Rattle.aero_leads.specs.Steps.{gains, lesser};
 
+use crate::index::{Index, enter, place_at};
+use crate::led::{Led, note};
 use std::alloc::AllocError;
 
 /// The thread whose open block leads to another thread, and the place of the first event of that
@@ -46,60 +50,165 @@ pub(crate) fn is_led(row: &[Lead], w: u32, below: u32) -> bool
     }
 }
 
-// The open block of a thread leads to the row's thread from this place on, unless it did before.
-fn gain(row: &mut Vec<Lead>, opener: u32, place: u32) -> Result<(), AllocError>
-    ensures { OnOk result ((w : ℕ) → least_in row.new.items w ≡ gains (least_in row.old.items w) (opener == w) place) }
+// Enters the places of the row.
+fn enter_all(row: &[Lead], index: &mut Index) -> Result<(), AllocError>
+    ensures { OnOk result (IsIndexed row.now index.new) }
 {
-    if first(row, opener).is_some() {
-        return Ok(());
+    for i in 0..row.len() {
+        enter(index, row[i].opener, i)?;
     }
+    Ok(())
+}
+
+// The place in the row where the open block of thread `w` stands.
+fn find(row: &[Lead], index: &Index, w: u32) -> Option<usize>
+    requires { IsIndexed row.now index.now }
+    ensures { IsFound row.now w result }
+{
+    let at = place_at(index, w);
+    if at < row.len() && row[at].opener == w {
+        return Some(at);
+    }
+    None
+}
+
+// The open block of a thread leads to thread `o`, whose row this is, from this place on. The thread
+// is listed first, so that it is wherever memory is refused.
+fn add(
+    row: &mut Vec<Lead>,
+    o: u32,
+    opener: u32,
+    place: u32,
+    led: &mut Led,
+    index: &mut Index,
+) -> Result<(), AllocError>
+    ensures indexed { OnOk result (IsIndexed row.old.items index.old → IsIndexed row.new.items index.new) }
+    ensures row { OnOk result ((w : ℕ) → least_in row.new.items w ≡ (if opener == w then lesser (least_in row.old.items w) (Some place) else least_in row.old.items w)) }
+    ensures listed { IsListedRow row.old.items led.old o → IsListedRow row.new.items led.new o }
+    ensures grows { Grows led.old led.new }
+    ensures others { (v : ℕ) → v ≢ opener → followers led.new v ≡ followers led.old v }
+{
+    note(led, opener, o)?;
+    enter(index, opener, row.len())?;
     row.push(Lead { opener, place })?;
     Ok(())
+}
+
+// The same, unless it did before.
+fn gain(
+    row: &mut Vec<Lead>,
+    o: u32,
+    opener: u32,
+    place: u32,
+    led: &mut Led,
+    index: &mut Index,
+) -> Result<(), AllocError>
+    requires { IsIndexed row.old.items index.old }
+    ensures indexed { OnOk result (IsIndexed row.new.items index.new) }
+    ensures gains { OnOk result ((w : ℕ) → least_in row.new.items w ≡ gains (least_in row.old.items w) (opener == w) place) }
+    ensures listed { IsListedRow row.old.items led.old o → IsListedRow row.new.items led.new o }
+    ensures grows { Grows led.old led.new }
+{
+    if find(row, index, opener).is_some() {
+        return Ok(());
+    }
+    add(row, o, opener, place, led, index)
 }
 
 // The same where the lead has a place below this one.
-fn gain_below(row: &mut Vec<Lead>, lead: Lead, below: u32, place: u32) -> Result<(), AllocError>
-    ensures { OnOk result ((w : ℕ) → least_in row.new.items w ≡ gains (least_in row.old.items w) (if lead.opener == w then nat_lt lead.place below else false) place) }
+fn gain_below(
+    row: &mut Vec<Lead>,
+    o: u32,
+    lead: Lead,
+    below: u32,
+    place: u32,
+    led: &mut Led,
+    index: &mut Index,
+) -> Result<(), AllocError>
+    requires { IsIndexed row.old.items index.old }
+    ensures indexed { OnOk result (IsIndexed row.new.items index.new) }
+    ensures gains { OnOk result ((w : ℕ) → least_in row.new.items w ≡ gains (least_in row.old.items w) (if lead.opener == w then nat_lt lead.place below else false) place) }
+    ensures listed { IsListedRow row.old.items led.old o → IsListedRow row.new.items led.new o }
+    ensures grows { Grows led.old led.new }
 {
     if lead.place < below {
-        return gain(row, lead.opener, place);
+        return gain(row, o, lead.opener, place, led, index);
     }
     Ok(())
 }
 
-/// What leads to an event of the other row's thread below a place leads to the row's thread from
-/// this place on, unless it did before.
+/// What leads to an event of the other row's thread below a place leads to thread `o`, whose row
+/// this is, from this place on, unless it did before.
 pub(crate) fn gain_all(
     row: &mut Vec<Lead>,
+    o: u32,
     other: &[Lead],
     below: u32,
     place: u32,
+    led: &mut Led,
+    index: &mut Index,
 ) -> Result<(), AllocError>
-    ensures { OnOk result ((w : ℕ) → least_in row.new.items w ≡ gains (least_in row.old.items w) (is_below (least_in other.now w) below) place) }
+    ensures gains { OnOk result ((w : ℕ) → least_in row.new.items w ≡ gains (least_in row.old.items w) (is_below (least_in other.now w) below) place) }
+    ensures listed { IsListedRow row.old.items led.old o → IsListedRow row.new.items led.new o }
+    ensures grows { Grows led.old led.new }
 {
+    enter_all(row, index)?;
     for lead in other.iter() {
-        gain_below(row, *lead, below, place)?;
+        gain_below(row, o, *lead, below, place, led, index)?;
     }
     Ok(())
 }
 
-// The open block of a thread leads to the row's thread from this place on, or from an earlier one.
-fn lower(row: &mut Vec<Lead>, opener: u32, place: u32) -> Result<(), AllocError>
-    ensures { OnOk result ((w : ℕ) → least_in row.new.items w ≡ (if opener == w then lesser (least_in row.old.items w) (Some place) else least_in row.old.items w)) }
+// The open block of this thread, which stands here, leads from this place on, or from an earlier one.
+fn lower_at(row: &mut Vec<Lead>, at: usize, opener: u32, place: u32)
+    requires { IsFound row.old.items opener (Some at) }
+    ensures openers { (i : ℕ) → opener_of (slice_get row.new.items i) ≡ opener_of (slice_get row.old.items i) }
+    ensures lowers { (w : ℕ) → least_in row.new.items w ≡ (if opener == w then lesser (least_in row.old.items w) (Some place) else least_in row.old.items w) }
 {
-    if is_led(row, opener, place) {
-        return Ok(());
-    }
-    drop_opener(row, opener);
-    row.push(Lead { opener, place })?;
+    let place = place.min(row[at].place);
+    row[at] = Lead { opener, place };
+}
+
+// The open block of a thread leads to thread `o`, whose row this is, from this place on, or from an
+// earlier one.
+fn lower(
+    row: &mut Vec<Lead>,
+    o: u32,
+    opener: u32,
+    place: u32,
+    led: &mut Led,
+    index: &mut Index,
+) -> Result<(), AllocError>
+    requires { IsIndexed row.old.items index.old }
+    ensures indexed { OnOk result (IsIndexed row.new.items index.new) }
+    ensures lowers { OnOk result ((w : ℕ) → least_in row.new.items w ≡ (if opener == w then lesser (least_in row.old.items w) (Some place) else least_in row.old.items w)) }
+    ensures listed { IsListedRow row.old.items led.old o → IsListedRow row.new.items led.new o }
+    ensures grows { Grows led.old led.new }
+    ensures others { (v : ℕ) → v ≢ opener → followers led.new v ≡ followers led.old v }
+{
+    let Some(at) = find(row, index, opener) else {
+        return add(row, o, opener, place, led, index);
+    };
+    lower_at(row, at, opener, place);
     Ok(())
 }
 
-fn lower_all(row: &mut Vec<Lead>, other: &[Lead], place: u32) -> Result<(), AllocError>
-    ensures { OnOk result ((w : ℕ) → least_in row.new.items w ≡ (if is_some (least_in other.now w) then lesser (least_in row.old.items w) (Some place) else least_in row.old.items w)) }
+fn lower_all(
+    row: &mut Vec<Lead>,
+    o: u32,
+    other: &[Lead],
+    place: u32,
+    led: &mut Led,
+    index: &mut Index,
+) -> Result<(), AllocError>
+    ensures lowers { OnOk result ((w : ℕ) → least_in row.new.items w ≡ (if is_some (least_in other.now w) then lesser (least_in row.old.items w) (Some place) else least_in row.old.items w)) }
+    ensures listed { IsListedRow row.old.items led.old o → IsListedRow row.new.items led.new o }
+    ensures grows { Grows led.old led.new }
+    ensures others { (v : ℕ) → is_some (least_in other.now v) ≡ false → followers led.new v ≡ followers led.old v }
 {
+    enter_all(row, index)?;
     for lead in other.iter() {
-        lower(row, lead.opener, place)?;
+        lower(row, o, lead.opener, place, led, index)?;
     }
     Ok(())
 }
@@ -111,15 +220,45 @@ fn drop_opener(row: &mut Vec<Lead>, opener: u32)
     row.retain(|lead| lead.opener != opener);
 }
 
-/// The block of thread `t` ends, to which the blocks of this other row lead: where it led to the
-/// row's thread, they lead there too, from the same place on.
-pub(crate) fn absorb(row: &mut Vec<Lead>, ended: &[Lead], t: u32) -> Result<(), AllocError>
-    ensures { OnOk result ((w : ℕ) → least_in row.new.items w ≡ absorbed (least_in ended.now) (least_in row.old.items) t w) }
+/// The block of thread `t` ends, to which the blocks of the row `ended` lead: where it led to thread
+/// `o`, whose row this is, they lead there too, from the same place on.
+pub(crate) fn absorb(
+    row: &mut Vec<Lead>,
+    o: u32,
+    ended: &[Lead],
+    t: u32,
+    led: &mut Led,
+    index: &mut Index,
+) -> Result<(), AllocError>
+    ensures absorbs { OnOk result ((w : ℕ) → least_in row.new.items w ≡ absorbed (least_in ended.now) (least_in row.old.items) t w) }
+    ensures listed { IsListedRow row.old.items led.old o → IsListedRow row.new.items led.new o }
+    ensures grows { Grows led.old led.new }
+    ensures others { (v : ℕ) → is_some (least_in ended.now v) ≡ false → followers led.new v ≡ followers led.old v }
 {
     let Some(place) = first(row, t) else {
         return Ok(());
     };
-    lower_all(row, ended, place)?;
+    lower_all(row, o, ended, place, led, index)?;
     drop_opener(row, t);
     Ok(())
+}
+
+// All of the row's blocks lead from this place on, or from an earlier one.
+fn lower_each(row: &mut [Lead], place: u32)
+    ensures { (w : ℕ) → least_in row.new w ≡ (if is_some (least_in row.old w) then lesser (least_in row.old w) (Some place) else least_in row.old w) }
+{
+    for lead in row.iter_mut() {
+        lead.place = lead.place.min(place);
+    }
+}
+
+/// The block of thread `t`, whose row this is, ends: what led to the block leads to its begin.
+pub(crate) fn settle(row: &mut Vec<Lead>, t: u32)
+    ensures { (w : ℕ) → least_in row.new.items w ≡ absorbed (least_in row.old.items) (least_in row.old.items) t w }
+{
+    let Some(place) = first(row, t) else {
+        return;
+    };
+    lower_each(row, place);
+    drop_opener(row, t);
 }

@@ -1,9 +1,11 @@
 //! What is kept of the threads.
-ghost use Rattle.std.specs.Prelude.{◌≡◌, ◌≢◌, ◌∷◌, ◌<◌, ◌-◌, ◌^◌, ◌==◌, ℕ, true, false, max, None, Some, [], OnOk, OnErr, IfOk, vec_len, slice_get, length, not, is_some, ◌&&◌, if◌then◌else◌};
-ghost use Rattle.aero_leads.specs.Kept.{rows_in, thread_row, is_below, leads_to, leads_to_any, TakesAll, TakesRow, HaveSameBlocks, AreSameThreads, HasRow, BeginsBlock, EndsBlock, IsLeastBack, absorbed, least_in, thread_begins};
+ghost use Rattle.std.specs.Prelude.{◌≡◌, ◌<◌, ◌-◌, ◌^◌, ◌==◌, ℕ, true, false, max, None, Some, [], OnOk, OnErr, IfOk, vec_len, slice_get, length, not, is_some, ◌&&◌, if◌then◌else◌};
+ghost use Rattle.aero_leads.specs.Kept.{rows_in, thread_row, is_below, HaveSameBlocks, AreSameThreads, HasRow, BeginsBlock, IsLeastBack, absorbed, least_in, thread_in_block, thread_begins, thread_acted};
+ghost use Rattle.aero_leads.specs.Listed.{followers, is_listed, AreListed, Grows};
 
-use crate::last::Last;
-use crate::row::{Lead, absorb, first, gain_all, is_led, least_of};
+use crate::index::Index;
+use crate::led::{Led, count, follower};
+use crate::row::{Lead, absorb, first, is_led, least_of};
 use std::alloc::{AllocError, Global};
 use std::mem;
 
@@ -35,8 +37,8 @@ pub(crate) fn reach(threads: &mut Vec<Thread>, t: u32) -> Result<(), AllocError>
     Ok(())
 }
 
-// Takes the row of thread `t` out.
-fn take_row(threads: &mut Vec<Thread>, t: u32) -> Vec<Lead>
+/// Takes the row of thread `t` out.
+pub(crate) fn take_row(threads: &mut Vec<Thread>, t: u32) -> Vec<Lead>
     requires { t < vec_len threads.old }
     ensures row { result.items ≡ thread_row (slice_get threads.old.items t) }
     ensures rest { HasRow threads.old.items threads.new.items t [] }
@@ -46,8 +48,8 @@ fn take_row(threads: &mut Vec<Thread>, t: u32) -> Vec<Lead>
     mem::replace(&mut threads[t as usize].row, Vec::new(alloc))
 }
 
-// Gives thread `t` this row.
-fn put_row(threads: &mut Vec<Thread>, t: u32, row: Vec<Lead>)
+/// Gives thread `t` this row.
+pub(crate) fn put_row(threads: &mut Vec<Thread>, t: u32, row: Vec<Lead>)
     requires { t < vec_len threads.old }
     ensures row { HasRow threads.old.items threads.new.items t row.items }
     ensures room { vec_len threads.new ≡ vec_len threads.old }
@@ -55,8 +57,8 @@ fn put_row(threads: &mut Vec<Thread>, t: u32, row: Vec<Lead>)
     threads[t as usize].row = row;
 }
 
-// The row of thread `o`, of which there may be none.
-fn row_of(threads: &[Thread], o: u32) -> &[Lead]
+/// The row of thread `o`, of which there may be none.
+pub(crate) fn row_of(threads: &[Thread], o: u32) -> &[Lead]
     ensures { result.now ≡ thread_row (slice_get threads.now o) }
 {
     match threads.get(o as usize) {
@@ -72,78 +74,13 @@ pub(crate) fn leads(threads: &[Thread], w: u32, o: u32, below: u32) -> bool
     is_led(row_of(threads, o), w, below)
 }
 
-/// What leads to an event of thread `o` below a place leads to thread `t`, another one, from this
-/// place on, unless it did before.
-pub(crate) fn gain(
-    threads: &mut Vec<Thread>,
-    t: u32,
-    o: u32,
-    below: u32,
-    place: u32,
-) -> Result<(), AllocError>
-    requires actor { t < vec_len threads.old }
-    requires other { o ≢ t }
-    ensures gains { OnOk result (TakesRow (rows_in threads.old.items) (rows_in threads.new.items) place t o below) }
-    ensures same { HaveSameBlocks threads.old.items threads.new.items }
-    ensures room { vec_len threads.new ≡ vec_len threads.old }
-{
-    let mut row = take_row(threads, t);
-    gain_all(&mut row, row_of(threads, o), below, place)?;
-    put_row(threads, t, row);
-    Ok(())
-}
-
-/// Thread `t` takes what leads to the event, from this place on, unless the event is its own, or
-/// its own open block leads there: then the answer is true.
-pub(crate) fn take(
-    threads: &mut Vec<Thread>,
-    t: u32,
-    last: Last,
-    place: u32,
-) -> Result<bool, AllocError>
-    requires { t < vec_len threads.old }
-    ensures closing { IfOk result (λ closes. closes ≡ leads_to (rows_in threads.old.items) t t last) }
-    ensures takes { IfOk result (λ closes. closes ≡ false → TakesAll (rows_in threads.old.items) (rows_in threads.new.items) place t (last ∷ [])) }
-    ensures same { HaveSameBlocks threads.old.items threads.new.items }
-    ensures room { vec_len threads.new ≡ vec_len threads.old }
-{
-    if last.thread == t {
-        return Ok(false);
-    }
-    if leads(threads, t, last.thread, last.count) {
-        return Ok(true);
-    }
-    gain(threads, t, last.thread, last.count, place)?;
-    Ok(false)
-}
-
-/// The same of each of these events in turn.
-pub(crate) fn take_all(
-    threads: &mut Vec<Thread>,
-    t: u32,
-    lasts: &[Last],
-    place: u32,
-) -> Result<bool, AllocError>
-    requires { t < vec_len threads.old }
-    ensures closing { IfOk result (λ closes. closes ≡ leads_to_any (rows_in threads.old.items) t t lasts.now) }
-    ensures takes { IfOk result (λ closes. closes ≡ false → TakesAll (rows_in threads.old.items) (rows_in threads.new.items) place t lasts.now) }
-    ensures same { HaveSameBlocks threads.old.items threads.new.items }
-    ensures room { vec_len threads.new ≡ vec_len threads.old }
-{
-    for last in lasts.iter() {
-        if take(threads, t, *last, place)? {
-            return Ok(true);
-        }
-    }
-    Ok(false)
-}
-
 /// Thread `t` begins a block at this place.
 pub(crate) fn begin(threads: &mut Vec<Thread>, t: u32, place: u32) -> Result<(), AllocError>
     requires actor { t < vec_len threads.old }
     requires count { thread_begins (slice_get threads.old.items t) < 2 ^ 32 - 1 }
     ensures begins { OnOk result (BeginsBlock threads.old.items threads.new.items t place) }
     ensures err { OnErr result (HaveSameBlocks threads.old.items threads.new.items) }
+    ensures listed { (led : Led) → AreListed threads.old.items led → AreListed threads.new.items led }
     ensures room { vec_len threads.new ≡ vec_len threads.old }
 {
     let thread = &mut threads[t as usize];
@@ -175,32 +112,70 @@ fn leads_back(threads: &[Thread], t: u32, u: u32) -> bool
     u != t && first(row_of(threads, u), t).is_some()
 }
 
-/// Thread `t` ends its block: what leads to the block leads to all that the block led to.
-pub(crate) fn end(threads: &mut Vec<Thread>, t: u32) -> Result<(), AllocError>
+/// Thread `t` has made an event.
+pub(crate) fn act(threads: &mut Vec<Thread>, t: u32)
     requires { t < vec_len threads.old }
-    ensures ends { OnOk result (EndsBlock threads.old.items threads.new.items t) }
-    ensures err { OnErr result (HaveSameBlocks threads.old.items threads.new.items) }
+    ensures rows { (o w : ℕ) → rows_in threads.new.items o w ≡ rows_in threads.old.items o w }
+    ensures in_block { (u : ℕ) → thread_in_block (slice_get threads.new.items u) ≡ thread_in_block (slice_get threads.old.items u) }
+    ensures begins { (u : ℕ) → thread_begins (slice_get threads.new.items u) ≡ thread_begins (slice_get threads.old.items u) }
+    ensures acted { (u : ℕ) → thread_acted (slice_get threads.new.items u) ≡ (if t == u then true else thread_acted (slice_get threads.old.items u)) }
+{
+    threads[t as usize].acted = true;
+}
+
+/// Thread `t` is in no block any more.
+pub(crate) fn leave(threads: &mut Vec<Thread>, t: u32)
+    requires { t < vec_len threads.old }
+    ensures rows { (o w : ℕ) → rows_in threads.new.items o w ≡ rows_in threads.old.items o w }
+    ensures in_block { (u : ℕ) → thread_in_block (slice_get threads.new.items u) ≡ (if t == u then false else thread_in_block (slice_get threads.old.items u)) }
+    ensures begins { (u : ℕ) → thread_begins (slice_get threads.new.items u) ≡ thread_begins (slice_get threads.old.items u) }
+    ensures acted { (u : ℕ) → thread_acted (slice_get threads.new.items u) ≡ thread_acted (slice_get threads.old.items u) }
     ensures room { vec_len threads.new ≡ vec_len threads.old }
 {
-    let ended = copy_row(threads, t)?;
-    spread(threads, &ended, t)?;
     threads[t as usize].in_block = false;
+}
+
+// Thread `o` takes over what led to the block of thread `t`, the row `ended`, if that block led to it.
+fn visit(
+    threads: &mut Vec<Thread>,
+    o: u32,
+    ended: &[Lead],
+    t: u32,
+    led: &mut Led,
+    index: &mut Index,
+) -> Result<(), AllocError>
+    ensures rows { OnOk result ((v w : ℕ) → rows_in threads.new.items v w ≡ (if o == v then absorbed (least_in ended.now) (rows_in threads.old.items v) t w else rows_in threads.old.items v w)) }
+    ensures same { HaveSameBlocks threads.old.items threads.new.items }
+    ensures listed { AreListed threads.old.items led.old → AreListed threads.new.items led.new }
+    ensures grows { Grows led.old led.new }
+    ensures others { (v : ℕ) → is_some (least_in ended.now v) ≡ false → followers led.new v ≡ followers led.old v }
+    ensures room { vec_len threads.new ≡ vec_len threads.old }
+{
+    if (o as usize) < threads.len() {
+        return absorb(&mut threads[o as usize].row, o, ended, t, led, index);
+    }
     Ok(())
 }
 
-fn copy_row(threads: &[Thread], t: u32) -> Result<Vec<Lead>, AllocError>
-    requires { t < length threads.now }
-    ensures { IfOk result (λ row. row.items ≡ thread_row (slice_get threads.now t)) }
+/// The block of thread `t` ends, to which the blocks of this row led: they lead to each thread that
+/// is listed with it, if the block did.
+pub(crate) fn spread(
+    threads: &mut Vec<Thread>,
+    ended: &[Lead],
+    t: u32,
+    led: &mut Led,
+    index: &mut Index,
+) -> Result<(), AllocError>
+    requires { is_some (least_in ended.now t) ≡ false }
+    ensures rows { OnOk result ((o w : ℕ) → rows_in threads.new.items o w ≡ (if is_listed led.old t o then absorbed (least_in ended.now) (rows_in threads.old.items o) t w else rows_in threads.old.items o w)) }
+    ensures same { HaveSameBlocks threads.old.items threads.new.items }
+    ensures listed { AreListed threads.old.items led.old → AreListed threads.new.items led.new }
+    ensures grows { Grows led.old led.new }
+    ensures room { vec_len threads.new ≡ vec_len threads.old }
 {
-    threads[t as usize].row.clone()
-}
-
-fn spread(threads: &mut [Thread], ended: &[Lead], t: u32) -> Result<(), AllocError>
-    ensures rows { OnOk result ((o w : ℕ) → rows_in threads.new o w ≡ absorbed (least_in ended.now) (rows_in threads.old o) t w) }
-    ensures same { HaveSameBlocks threads.old threads.new }
-{
-    for thread in threads.iter_mut() {
-        absorb(&mut thread.row, ended, t)?;
+    let listed = count(led, t);
+    for i in 0..listed {
+        visit(threads, follower(led, t, i), ended, t, led, index)?;
     }
     Ok(())
 }

@@ -7,5 +7,8 @@ pub loop-lead-preserved : goal.loop-lead-preserved
 loop-lead-preserved c =
     record {
       gained = gained_next c.args.row.now.items c.loop-lead.row.items c.args.other.now c.loop-lead.lead-index (get_or c.args.other.now c.loop-lead.lead-index (lead 0 0)) c.args.below c.args.place c.gain_below.new.row.items
-          (slice_get-get_or c.args.other.now c.loop-lead.lead-index (lead 0 0) c.loop-lead-test.true) c.loop-lead.invariant.gained c.in_ok-gain_below.ensures;
+          (slice_get-get_or c.args.other.now c.loop-lead.lead-index (lead 0 0) c.loop-lead-test.true) c.loop-lead.invariant.gained c.in_ok-gain_below.ensures.gains;
+      listed = λ h. c.gain_below.ensures.listed (c.loop-lead.invariant.listed h);
+      indexed = c.in_ok-gain_below.ensures.indexed;
+      grows = λ w o h. c.gain_below.ensures.grows w o (c.loop-lead.invariant.grows w o h);
     }

@@ -1,10 +1,17 @@
-use Rattle.std.proofs.Common.{ap, sym, ◌∙◌}
-use Rattle.aero_leads.specs.Kept.{least_in, is_below}
-use Rattle.aero_leads.proofs.Leasts.{lowered_moves}
+use Rattle.std.proofs.Common.{◌∙◌, ap, sym}
+use Rattle.std.specs.Prelude.{is_some}
+use Rattle.aero_leads.specs.Indexed.{place_of}
+use Rattle.aero_leads.specs.Kept.{least_in}
+use Rattle.aero_leads.proofs.Leasts.{found_some, indexed_lowered}
+use Rattle.aero_leads.proofs.Listings.{listed_lowered}
 use Rattle.aero_leads.proofs.row.lower.Goals as goal
 
-pub returns : goal.returns
-returns c = λ w.
-    ap (λ xs. least_in xs w) c.in_ok-push.ensures.items
-    ∙ lowered_moves c.args.row.now.items c.drop_opener.new.row.items c.args.opener c.args.place
-    (ap (λ xs. is_below (least_in xs c.args.opener) c.args.place) (sym c.deref.ensures.value) ∙ sym c.is_led.ensures ∙ c.if-is_led.false) c.drop_opener.ensures w
+pub returns-clause-listed : goal.returns-clause-listed
+returns-clause-listed c =
+    listed_lowered c.args.row.now.items c.lower_at.new.row.items c.args.led.now c.args.o c.args.opener c.args.place
+    (ap (λ xs. is_some (least_in xs c.args.opener)) (sym c.deref.ensures.value) ∙ found_some c.deref.result.now c.args.opener c.find.result c.find.ensures (ap is_some c.in-Some.is)) c.lower_at.ensures.lowers
+
+pub returns-clause-indexed : goal.returns-clause-indexed
+returns-clause-indexed c =
+    indexed_lowered c.args.row.now.items c.lower_at.new.row.items (place_of c.args.index.now) c.args.opener c.args.place
+    (ap (λ xs. is_some (least_in xs c.args.opener)) (sym c.deref.ensures.value) ∙ found_some c.deref.result.now c.args.opener c.find.result c.find.ensures (ap is_some c.in-Some.is)) c.lower_at.ensures.lowers c.lower_at.ensures.openers c.requires

@@ -1,15 +1,22 @@
-use Rattle.std.proofs.Common.{refl, arith}
-use Rattle.std.proofs.lemmas.Option.{slice_get-get_or}
-use Rattle.aero_leads.specs.Kept.{least_in}
-use Rattle.aero_leads.proofs.ThreadSteps.{spread_next, spread_all}
+use Rattle.std.proofs.Common.{◌∙◌, ap, sym}
+use Rattle.std.specs.Prelude.{slice_get}
+use Rattle.aero_leads.specs.Kept.{least_in, rows_in}
+use Rattle.aero_leads.specs.Listed.{followers}
+use Rattle.aero_leads.proofs.ThreadSteps.{visited_next}
 use Rattle.aero_leads.proofs.thread.spread.Goals as goal
 
-pub loop-thread-preserved : goal.loop-thread-preserved
-loop-thread-preserved c =
+pub loop-i-preserved : goal.loop-i-preserved
+loop-i-preserved c =
     record {
-      spread = spread_next c.args.threads.now c.loop-thread.threads (least_in c.args.ended.now) c.args.t c.loop-thread.thread-index _ _
-          (slice_get-get_or c.loop-thread.threads c.loop-thread.thread-index c.thread-item.result (omega (arith, c.loop-thread-test.true, c.loop-thread.auto.threads))) c.in_ok-absorb.ensures refl refl refl c.loop-thread.invariant.spread;
+      rows = visited_next (rows_in c.args.threads.now.items) (rows_in c.loop-i.threads.items) (rows_in c.visit.new.threads.items) (least_in c.args.ended.now) c.args.t (followers c.args.led.now c.args.t) c.loop-i.i c.follower.result
+          (sym (ap (λ us. slice_get us c.loop-i.i) c.loop-i.invariant.list) ∙ c.follower.ensures) c.loop-i.invariant.rows c.in_ok-visit.ensures.rows;
+      list = c.visit.ensures.others c.args.t c.requires ∙ c.loop-i.invariant.list;
+      same = record {
+        in_block = λ u. c.visit.ensures.same.in_block u ∙ c.loop-i.invariant.same.in_block u;
+        begins = λ u. c.visit.ensures.same.begins u ∙ c.loop-i.invariant.same.begins u;
+        acted = λ u. c.visit.ensures.same.acted u ∙ c.loop-i.invariant.same.acted u;
+      };
+      listed = λ h. c.visit.ensures.listed (c.loop-i.invariant.listed h);
+      grows = λ w o h. c.visit.ensures.grows w o (c.loop-i.invariant.grows w o h);
+      room = c.visit.ensures.room ∙ c.loop-i.invariant.room;
     }
-
-pub returns-clause-rows : goal.returns-clause-rows
-returns-clause-rows c = spread_all c.args.threads.now c.loop-thread.threads (least_in c.args.ended.now) c.args.t c.loop-thread.thread-index (omega (arith, c.loop-thread-test.false, c.loop-thread.auto.threads)) c.loop-thread.invariant.spread

@@ -26,8 +26,8 @@ returns-then-branch-2-clause-moves c =
     moves_closing old _ (event c.args.t (Write c.args.x)) (l ∷ old.reads c.args.x)
     (λ h stands ok. subst (λ m. IsTaken old h (event c.args.t (Write c.args.x)) (m ∷ old.reads c.args.x)) (sym write) (taken_write old c.args.t c.args.x h stands))
     (or_right (leads_to old.rows c.args.t c.args.t l) _
-    (sym (any_still old.rows (rows_in c.take.new.threads.items) old.now c.args.t (l ∷ []) (c.in_ok-take.ensures.takes c.if-branch.false) c.args.t (old.reads c.args.x))
-    ∙ ap (leads_to_any (rows_in c.take.new.threads.items) c.args.t c.args.t) (sym reads)
+    (sym (any_still old.rows (rows_in c.take.new.table.threads.items) old.now c.args.t (l ∷ []) (c.in_ok-take.ensures.takes c.if-branch.false) c.args.t (old.reads c.args.x))
+    ∙ ap (leads_to_any (rows_in c.take.new.table.threads.items) c.args.t c.args.t) (sym reads)
     ∙ sym c.in_ok-take_all.ensures.closing ∙ c.if-branch-2.true))
 
 pub returns-clause-moves : goal.returns-clause-moves
@@ -37,17 +37,17 @@ returns-clause-moves c =
     let e = event c.args.t (Write c.args.x) in
     let write : l ≡ old.write c.args.x = c.last_write-write.ensures ∙ ap (λ xs. variable_write (slice_get xs c.args.x)) c.deref.ensures.value in
     let reads : c.last_reads-reads.result.now ≡ old.reads c.args.x = c.last_reads-reads.ensures ∙ ap (λ xs. variable_reads (slice_get xs c.args.x)) c.deref-2.ensures.value in
-    let taken : TakesAll old.rows (rows_in c.take.new.threads.items) old.now c.args.t (l ∷ []) = c.in_ok-take.ensures.takes c.if-branch.false in
+    let taken : TakesAll old.rows (rows_in c.take.new.table.threads.items) old.now c.args.t (l ∷ []) = c.in_ok-take.ensures.takes c.if-branch.false in
     let more = c.in_ok-take_all.ensures.takes c.if-branch-2.false in
     moves_passing old _ e (l ∷ old.reads c.args.x)
     (λ h stands ok. subst (λ m. IsTaken old h e (m ∷ old.reads c.args.x)) (sym write) (taken_write old c.args.t c.args.x h stands))
     (λ u. refl)
     (ap₂ (λ a b. a || b) (sym c.in_ok-take.ensures.closing ∙ c.if-branch.false)
-    (sym (any_still old.rows (rows_in c.take.new.threads.items) old.now c.args.t (l ∷ []) taken c.args.t (old.reads c.args.x))
-    ∙ ap (leads_to_any (rows_in c.take.new.threads.items) c.args.t c.args.t) (sym reads)
+    (sym (any_still old.rows (rows_in c.take.new.table.threads.items) old.now c.args.t (l ∷ []) taken c.args.t (old.reads c.args.x))
+    ∙ ap (leads_to_any (rows_in c.take.new.table.threads.items) c.args.t c.args.t) (sym reads)
     ∙ sym c.in_ok-take_all.ensures.closing ∙ c.if-branch-2.false))
-    (takes_then old.rows (rows_in c.take.new.threads.items) (rows_in c.take_all.new.threads.items) old.now c.args.t (l ∷ []) (old.reads c.args.x) (l ∷ old.reads c.args.x) taken
-    (subst (TakesAll (rows_in c.take.new.threads.items) (rows_in c.take_all.new.threads.items) old.now c.args.t) reads more)
+    (takes_then old.rows (rows_in c.take.new.table.threads.items) (rows_in c.take_all.new.table.threads.items) old.now c.args.t (l ∷ []) (old.reads c.args.x) (l ∷ old.reads c.args.x) taken
+    (subst (TakesAll (rows_in c.take.new.table.threads.items) (rows_in c.take_all.new.table.threads.items) old.now c.args.t) reads more)
     (λ w. ap (λ b. b || leads_to_any old.rows c.args.t w (old.reads c.args.x)) (or_false (leads_to old.rows c.args.t w l))))
     (after_quiet old _ e
     (λ y. c.in_ok-note_write.ensures.writes y ∙ ap (λ m. if y == c.args.x then m else old.write y) c.event-event.ensures)

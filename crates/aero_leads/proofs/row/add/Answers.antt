@@ -1,0 +1,21 @@
+use Rattle.std.proofs.Common.{◌∙◌, ap, arith}
+use Rattle.aero_leads.specs.Indexed.{place_of}
+use Rattle.aero_leads.specs.Kept.{least_in}
+use Rattle.aero_leads.proofs.Leasts.{lead, least_push, indexed_added}
+use Rattle.aero_leads.proofs.Listings.{grows_noted, noted_there, listed_added}
+use Rattle.aero_leads.proofs.row.add.Goals as goal
+
+pub returns-clause-row : goal.returns-clause-row
+returns-clause-row c = λ w. ap (λ xs. least_in xs w) c.in_ok-push.ensures.items ∙ least_push c.args.row.now.items (lead c.args.opener c.args.place) w
+
+pub returns-clause-listed : goal.returns-clause-listed
+returns-clause-listed c =
+    listed_added c.args.row.now.items c.push.new.self.items c.args.led.now c.note.new.led c.args.o c.args.opener c.args.place
+    (grows_noted c.args.led.now c.note.new.led c.args.opener c.args.o c.in_ok-note.ensures.noted)
+    (noted_there c.args.led.now c.note.new.led c.args.opener c.args.o c.in_ok-note.ensures.noted)
+    (λ w. ap (λ xs. least_in xs w) c.in_ok-push.ensures.items ∙ least_push c.args.row.now.items (lead c.args.opener c.args.place) w)
+
+pub returns-clause-indexed : goal.returns-clause-indexed
+returns-clause-indexed c =
+    indexed_added c.args.row.now.items c.push.new.self.items (lead c.args.opener c.args.place) c.len.result (place_of c.args.index.now) (place_of c.enter.new.index)
+    c.in_ok-push.ensures.items (omega (arith, c.len.ensures, c.args.row.now.ok.0)) c.in_ok-enter.ensures

@@ -1,0 +1,77 @@
+//! To which threads the open blocks lead, so that an end visits these alone.
+ghost use Rattle.std.specs.Prelude.{◌≡◌, ◌==◌, ◌<◌, ◌++◌, ◌∷◌, [], ℕ, Some, OnOk, OnErr, vec_len, length, slice_get, if◌then◌else◌};
+ghost use Rattle.aero_leads.specs.Listed.{followers, followers_in};
+
+use std::alloc::{AllocError, Global};
+
+/// Threads to which a block leads.
+#[derive(Drop)]
+pub struct Followers {
+    pub threads: Vec<u32>,
+}
+
+/// Those of the open block of each thread, by the thread's number.
+#[derive(Drop)]
+pub struct Led {
+    pub lists: Vec<Followers>,
+}
+
+/// No block.
+pub(crate) fn no_block(alloc: Global) -> Led
+    ensures { (v : ℕ) → followers result v ≡ [] }
+{
+    Led {
+        lists: Vec::new(alloc),
+    }
+}
+
+/// How many threads are listed with thread `t`.
+pub(crate) fn count(led: &Led, t: u32) -> usize
+    ensures { result ≡ length (followers led.now t) }
+{
+    match led.lists.get(t as usize) {
+        Some(list) => list.threads.len(),
+        None => 0,
+    }
+}
+
+/// One of these.
+pub(crate) fn follower(led: &Led, t: u32, i: usize) -> u32
+    requires { i < length (followers led.now t) }
+    ensures { slice_get (followers led.now t) i ≡ Some result }
+{
+    led.lists[t as usize].threads[i]
+}
+
+/// The open block of thread `w` leads to thread `o`.
+pub(crate) fn note(led: &mut Led, w: u32, o: u32) -> Result<(), AllocError>
+    ensures noted { OnOk result ((v : ℕ) → followers led.new v ≡ (if v == w then followers led.old v ++ o ∷ [] else followers led.old v)) }
+    ensures err { OnErr result ((v : ℕ) → followers led.new v ≡ followers led.old v) }
+{
+    reach(&mut led.lists, w)?;
+    led.lists[w as usize].threads.push(o)?;
+    Ok(())
+}
+
+/// Thread `t` has no open block any more.
+pub(crate) fn forget(led: &mut Led, t: u32)
+    ensures { (v : ℕ) → followers led.new v ≡ (if v == t then [] else followers led.old v) }
+{
+    if (t as usize) < led.lists.len() {
+        led.lists[t as usize].threads.clear();
+    }
+}
+
+fn reach(lists: &mut Vec<Followers>, w: u32) -> Result<(), AllocError>
+    ensures room { OnOk result (w < vec_len lists.new) }
+    ensures same { (v : ℕ) → followers_in (slice_get lists.new.items v) ≡ followers_in (slice_get lists.old.items v) }
+{
+    let at = w as usize;
+    while lists.len() <= at {
+        let alloc = *lists.allocator();
+        lists.push(Followers {
+            threads: Vec::new(alloc),
+        })?;
+    }
+    Ok(())
+}

@@ -1,0 +1,154 @@
+//! What is kept of the threads, and to which of them each open block leads.
+ghost use Rattle.std.specs.Prelude.{◌≡◌, ◌≢◌, ◌∷◌, ◌<◌, ◌-◌, ◌^◌, ◌==◌, ℕ, true, false, [], OnOk, OnErr, IfOk, vec_len, slice_get, if◌then◌else◌};
+ghost use Rattle.aero_leads.specs.Kept.{rows_in, thread_in_block, thread_begins, thread_acted, leads_to, leads_to_any, TakesAll, TakesRow, HaveSameBlocks, AreSameThreads, BeginsBlock, EndsBlock};
+ghost use Rattle.aero_leads.specs.Listed.{AreListed};
+
+use crate::index::{Index, no_row};
+use crate::last::Last;
+use crate::led::{Led, forget, no_block};
+use crate::row::{gain_all, settle};
+use crate::thread;
+use crate::thread::{Thread, leads, leave, put_row, row_of, spread, take_row};
+use std::alloc::{AllocError, Global};
+
+/// The threads, by their numbers. With each open block the other threads are listed to whose events
+/// it leads. The index is room to work in.
+#[derive(Drop)]
+pub struct Table {
+    pub threads: Vec<Thread>,
+    pub led: Led,
+    pub index: Index,
+    ghost listed: { AreListed threads.items led },
+}
+
+/// No thread.
+pub(crate) fn no_thread(alloc: Global) -> Table
+    ensures { result.threads.items ≡ [] }
+{
+    Table {
+        threads: Vec::new(alloc),
+        led: no_block(alloc),
+        index: no_row(alloc),
+    }
+}
+
+/// Makes room for thread `t`.
+pub(crate) fn reach(table: &mut Table, t: u32) -> Result<(), AllocError>
+    ensures room { OnOk result (t < vec_len table.new.threads) }
+    ensures same { AreSameThreads table.old.threads.items table.new.threads.items }
+{
+    thread::reach(&mut table.threads, t)
+}
+
+/// What leads to an event of thread `o` below a place leads to thread `t`, another one, from this
+/// place on, unless it did before.
+pub(crate) fn gain(
+    table: &mut Table,
+    t: u32,
+    o: u32,
+    below: u32,
+    place: u32,
+) -> Result<(), AllocError>
+    requires actor { t < vec_len table.old.threads }
+    requires other { o ≢ t }
+    ensures gains { OnOk result (TakesRow (rows_in table.old.threads.items) (rows_in table.new.threads.items) place t o below) }
+    ensures same { HaveSameBlocks table.old.threads.items table.new.threads.items }
+    ensures room { vec_len table.new.threads ≡ vec_len table.old.threads }
+{
+    let mut row = take_row(&mut table.threads, t);
+    gain_all(
+        &mut row,
+        t,
+        row_of(&table.threads, o),
+        below,
+        place,
+        &mut table.led,
+        &mut table.index,
+    )?;
+    put_row(&mut table.threads, t, row);
+    Ok(())
+}
+
+/// Thread `t` takes what leads to the event, from this place on, unless the event is its own, or
+/// its own open block leads there: then the answer is true.
+pub(crate) fn take(table: &mut Table, t: u32, last: Last, place: u32) -> Result<bool, AllocError>
+    requires { t < vec_len table.old.threads }
+    ensures closing { IfOk result (λ closes. closes ≡ leads_to (rows_in table.old.threads.items) t t last) }
+    ensures takes { IfOk result (λ closes. closes ≡ false → TakesAll (rows_in table.old.threads.items) (rows_in table.new.threads.items) place t (last ∷ [])) }
+    ensures same { HaveSameBlocks table.old.threads.items table.new.threads.items }
+    ensures room { vec_len table.new.threads ≡ vec_len table.old.threads }
+{
+    if last.thread == t {
+        return Ok(false);
+    }
+    if leads(&table.threads, t, last.thread, last.count) {
+        return Ok(true);
+    }
+    gain(table, t, last.thread, last.count, place)?;
+    Ok(false)
+}
+
+/// The same of each of these events in turn.
+pub(crate) fn take_all(
+    table: &mut Table,
+    t: u32,
+    lasts: &[Last],
+    place: u32,
+) -> Result<bool, AllocError>
+    requires { t < vec_len table.old.threads }
+    ensures closing { IfOk result (λ closes. closes ≡ leads_to_any (rows_in table.old.threads.items) t t lasts.now) }
+    ensures takes { IfOk result (λ closes. closes ≡ false → TakesAll (rows_in table.old.threads.items) (rows_in table.new.threads.items) place t lasts.now) }
+    ensures same { HaveSameBlocks table.old.threads.items table.new.threads.items }
+    ensures room { vec_len table.new.threads ≡ vec_len table.old.threads }
+{
+    for last in lasts.iter() {
+        if take(table, t, *last, place)? {
+            return Ok(true);
+        }
+    }
+    Ok(false)
+}
+
+/// Thread `t` begins a block at this place.
+pub(crate) fn begin(table: &mut Table, t: u32, place: u32) -> Result<(), AllocError>
+    requires actor { t < vec_len table.old.threads }
+    requires count { thread_begins (slice_get table.old.threads.items t) < 2 ^ 32 - 1 }
+    ensures begins { OnOk result (BeginsBlock table.old.threads.items table.new.threads.items t place) }
+    ensures err { OnErr result (HaveSameBlocks table.old.threads.items table.new.threads.items) }
+    ensures room { vec_len table.new.threads ≡ vec_len table.old.threads }
+{
+    thread::begin(&mut table.threads, t, place)
+}
+
+/// Thread `t` ends its block: what leads to the block leads to all that the block led to.
+pub(crate) fn end(table: &mut Table, t: u32) -> Result<(), AllocError>
+    requires { t < vec_len table.old.threads }
+    ensures ends { OnOk result (EndsBlock table.old.threads.items table.new.threads.items t) }
+    ensures err { OnErr result (HaveSameBlocks table.old.threads.items table.new.threads.items) }
+    ensures room { vec_len table.new.threads ≡ vec_len table.old.threads }
+{
+    let mut row = take_row(&mut table.threads, t);
+    settle(&mut row, t);
+    spread(
+        &mut table.threads,
+        &row,
+        t,
+        &mut table.led,
+        &mut table.index,
+    )?;
+    put_row(&mut table.threads, t, row);
+    leave(&mut table.threads, t);
+    forget(&mut table.led, t);
+    Ok(())
+}
+
+/// Thread `t` has made an event.
+pub(crate) fn act(table: &mut Table, t: u32)
+    requires { t < vec_len table.old.threads }
+    ensures rows { (o w : ℕ) → rows_in table.new.threads.items o w ≡ rows_in table.old.threads.items o w }
+    ensures in_block { (u : ℕ) → thread_in_block (slice_get table.new.threads.items u) ≡ thread_in_block (slice_get table.old.threads.items u) }
+    ensures begins { (u : ℕ) → thread_begins (slice_get table.new.threads.items u) ≡ thread_begins (slice_get table.old.threads.items u) }
+    ensures acted { (u : ℕ) → thread_acted (slice_get table.new.threads.items u) ≡ (if t == u then true else thread_acted (slice_get table.old.threads.items u)) }
+{
+    thread::act(&mut table.threads, t);
+}
