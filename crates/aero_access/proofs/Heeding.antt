@@ -209,7 +209,7 @@ module _ (threads : List Thread) (table : Table) (h : AreHeeded (state_in thread
   kept_test slot k at_k = slot_test threads table t th h at (number_at k.clock) (one_heeds threads table h slot k at_k)
 
   pub reader_heeds : (x i : ℕ) (k : Kept) → slice_get (readers_of table x) i ≡ Some k → Heeds (state_in threads table) (number_at k.clock)
-  reader_heeds x i k at_k = one_heeds threads table h (LastRead x k.thread) k (find_kept (readers_of table x) i k.thread k (apart (slice_get table.reads.items x)) at_k refl)
+  reader_heeds x i k at_k = one_heeds threads table h (LastRead x k.thread) k (find_kept (readers_of table x) i k.thread k (apart (slice_get table.entries.reads.items x)) at_k refl)
     where
       apart : (o : Option Readers) → AreApart (readers_in o)
       apart None = λ i j t a b. cc

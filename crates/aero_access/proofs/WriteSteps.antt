@@ -112,7 +112,7 @@ module _ (threads : List Thread) (table : Table) (t : ℕ) (th : Thread) (at : s
 
   -- what is kept of a reader has its clock
   clock_of_reader : (i : ℕ) (k : Kept) → slice_get ks i ≡ Some k → (u : ℕ) → w.clock (LastRead x k.thread) u ≡ number_at k.clock u
-  clock_of_reader i k at_k u = ap (λ o. kept_clock o u) (find_kept ks i k.thread k (readers_apart (slice_get table.reads.items x)) at_k refl)
+  clock_of_reader i k at_k u = ap (λ o. kept_clock o u) (find_kept ks i k.thread k (readers_apart (slice_get table.entries.reads.items x)) at_k refl)
 
   abbrev slots : List Slot
   slots = foreign_slot t (LastWrite x) (w.actor (LastWrite x)) ++ map (LastRead x) (threads_but t ks)

@@ -7,14 +7,14 @@ use Rattle.aero_access.specs.Kept.{same_slot, kept_clock, kept_thread}
 use Rattle.aero_access.specs.Table.{readers_in, kept_in}
 
 abbrev pub kept_of : Table → Slot → Option Kept
-kept_of table = kept_in table.writes.items table.reads.items table.releases.items
+kept_of table = kept_in table.entries
 
 -- the last reads of the variable that are kept
 abbrev pub readers_of : Table → ℕ → List Kept
-readers_of table x = readers_in (slice_get table.reads.items x)
+readers_of table x = readers_in (slice_get table.entries.reads.items x)
 
 abbrev pub labels_of : Table → List Slot
-labels_of table = table.labels.items
+labels_of table = table.entries.labels.items
 
 abbrev pub label_or : ℕ → Option Kept → ℕ
 label_or n None = n

@@ -31,6 +31,7 @@
 mod changes;
 mod clock_rules;
 pub mod clocks;
+mod entries;
 mod index;
 mod kept;
 pub mod laws;

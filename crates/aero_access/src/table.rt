@@ -2,29 +2,25 @@
 //! no index is touched here.
 ghost use Rattle.std.specs.Prelude.{◌≡◌, ◌++◌, ◌∷◌, [], ℕ, true, Some, OnOk, OnErr, if◌then◌else◌};
 ghost use Rattle.aero_access.specs.declared.slot.Slot.{Slot};
-ghost use Rattle.aero_access.specs.Kept.{is_kept, same_slot};
+ghost use Rattle.aero_access.specs.Kept.{is_kept};
 ghost use Rattle.aero_access.specs.Table.{AreLabelled, ArePlaced, kept_in};
 
+use crate::entries::Entries;
 use crate::kept::Kept;
-use crate::places::{kept_at, put, put_read};
 use crate::readers::Readers;
 use crate::slot::Slot;
 use aero_clock::clock::Clock;
 use std::alloc::{AllocError, Global};
 use std::mem;
 
-/// What is kept of the last events that are no thread's own. Variables and locks are numbered, so
-/// that each is found by its place. The clock that was replaced last is spare: the next one to be
-/// kept has its room.
+/// What is kept of the last events that are no thread's own. The clock that was replaced last is
+/// spare: the next one to be kept has its room.
 #[derive(Drop)]
 pub struct Table {
-    writes: Vec<Option<Kept>>,
-    reads: Vec<Readers>,
-    releases: Vec<Option<Kept>>,
-    labels: Vec<Slot>,
+    entries: Entries,
     spare: Clock,
-    ghost labelled: { AreLabelled (kept_in writes.items reads.items releases.items) labels.items },
-    ghost placed: { ArePlaced (kept_in writes.items reads.items releases.items) labels.items },
+    ghost labelled: { AreLabelled (kept_in entries) entries.labels.items },
+    ghost placed: { ArePlaced (kept_in entries) entries.labels.items },
 }
 
 impl Table {
@@ -40,10 +36,7 @@ impl Table {
         ensures { (s : Slot) → kept_of result s ≡ None }
     {
         Table {
-            writes: Vec::new(alloc),
-            reads: Vec::new(alloc),
-            releases: Vec::new(alloc),
-            labels: Vec::new(alloc),
+            entries: Entries::new(alloc),
             spare: Clock::new(alloc),
         }
     }
@@ -52,19 +45,14 @@ impl Table {
     pub(crate) fn get(&self, slot: Slot) -> Option<&Kept>
         ensures { option_copied result ≡ kept_of self.now slot }
     {
-        match slot {
-            Slot::OfThread(_) => None,
-            Slot::LastWrite(x) => kept_at(&self.writes, x),
-            Slot::LastRead(x, t) => self.readers(x)?.get(t),
-            Slot::LastRelease(l) => kept_at(&self.releases, l),
-        }
+        self.entries.get(slot)
     }
 
     /// What is kept of the last reads of the variable.
     pub(crate) fn readers(&self, x: u32) -> Option<&Readers>
-        ensures { option_copied result ≡ slice_get self.now.reads.items x }
+        ensures { option_copied result ≡ slice_get self.now.entries.reads.items x }
     {
-        self.reads.get(x as usize)
+        self.entries.readers(x)
     }
 
     /// The place of the slot's label, or that of the next label. One that doesn't fit 32 bits is
@@ -74,7 +62,7 @@ impl Table {
     {
         match self.get(slot) {
             Some(kept) => Ok(kept.label),
-            None => u32::try_from(self.labels.len()).map_err(|_| AllocError),
+            None => u32::try_from(self.entries.labels.len()).map_err(|_| AllocError),
         }
     }
 
@@ -93,7 +81,7 @@ impl Table {
         ensures err { OnErr result ((s : Slot) → kept_of self.new s ≡ kept_of self.old s) }
         ensures labels { OnOk result (labels_of self.new ≡ (if is_some (kept_of self.old slot) then labels_of self.old else labels_of self.old ++ slot ∷ [])) }
     {
-        let none = Clock::new(*self.labels.allocator());
+        let none = Clock::new(*self.entries.labels.allocator());
         let mut copied = mem::replace(&mut self.spare, none);
         copied.copy_from(clock)?;
         self.set(
@@ -116,15 +104,7 @@ impl Table {
         ensures labels { OnOk result (labels_of self.new ≡ (if is_some (kept_of self.old slot) then labels_of self.old else labels_of self.old ++ slot ∷ [])) }
     {
         let is_new = self.get(slot).is_none();
-        let replaced = keep_labelled(
-            &mut self.writes,
-            &mut self.reads,
-            &mut self.releases,
-            &mut self.labels,
-            slot,
-            is_new,
-            kept,
-        )?;
+        let replaced = self.entries.keep_labelled(slot, is_new, kept)?;
         if let Some(replaced) = replaced {
             self.spare = replaced.clock;
         }
@@ -137,7 +117,7 @@ impl Table {
         ensures joins { OnOk result (JoinsSlot self.old self.new slot (number_at clock.now)) }
         ensures err { OnErr result ((s : Slot) → kept_of self.new s ≡ kept_of self.old s) }
     {
-        let none = Clock::new(*self.labels.allocator());
+        let none = Clock::new(*self.entries.labels.allocator());
         let mut joined = mem::replace(&mut self.spare, none);
         let Some(kept) = self.get(slot) else {
             return Ok(());
@@ -171,7 +151,7 @@ impl Table {
     pub(crate) fn len(&self) -> usize
         ensures { result ≡ length (labels_of self.now) }
     {
-        self.labels.len()
+        self.entries.labels.len()
     }
 
     /// The slot with this number.
@@ -179,51 +159,6 @@ impl Table {
         requires { i < length (labels_of self.now) }
         ensures { slice_get (labels_of self.now) i ≡ Some result }
     {
-        self.labels[i]
+        self.entries.labels[i]
     }
-}
-
-fn keep(
-    writes: &mut Vec<Option<Kept>>,
-    reads: &mut Vec<Readers>,
-    releases: &mut Vec<Option<Kept>>,
-    slot: Slot,
-    kept: Kept,
-) -> Result<Option<Kept>, AllocError>
-    requires kept { is_kept slot ≡ true }
-    requires reader { (x t : ℕ) → slot ≡ Slot.LastRead x t → kept.thread ≡ t }
-    ensures ok { OnOk result ((s : Slot) → kept_in writes.new.items reads.new.items releases.new.items s ≡ (if same_slot s slot then Some kept else kept_in writes.old.items reads.old.items releases.old.items s)) }
-    ensures err { OnErr result ((s : Slot) → kept_in writes.new.items reads.new.items releases.new.items s ≡ kept_in writes.old.items reads.old.items releases.old.items s) }
-{
-    match slot {
-        Slot::OfThread(_) => Ok(None),
-        Slot::LastWrite(x) => put(writes, x, kept),
-        Slot::LastRead(x, _) => put_read(reads, x, kept),
-        Slot::LastRelease(l) => put(releases, l, kept),
-    }
-}
-
-// A slot that is new gets a label.
-fn keep_labelled(
-    writes: &mut Vec<Option<Kept>>,
-    reads: &mut Vec<Readers>,
-    releases: &mut Vec<Option<Kept>>,
-    labels: &mut Vec<Slot>,
-    slot: Slot,
-    is_new: bool,
-    kept: Kept,
-) -> Result<Option<Kept>, AllocError>
-    requires kept { is_kept slot ≡ true }
-    requires reader { (x t : ℕ) → slot ≡ Slot.LastRead x t → kept.thread ≡ t }
-    ensures ok { OnOk result ((s : Slot) → kept_in writes.new.items reads.new.items releases.new.items s ≡ (if same_slot s slot then Some kept else kept_in writes.old.items reads.old.items releases.old.items s)) }
-    ensures err { OnErr result ((s : Slot) → kept_in writes.new.items reads.new.items releases.new.items s ≡ kept_in writes.old.items reads.old.items releases.old.items s) }
-    ensures labels_ok { OnOk result (labels.new.items ≡ (if is_new then labels.old.items ++ slot ∷ [] else labels.old.items)) }
-    ensures labels_err { OnErr result (labels.new.items ≡ labels.old.items) }
-{
-    labels.reserve(1)?;
-    let replaced = keep(writes, reads, releases, slot, kept)?;
-    if is_new {
-        labels.push_reserved(slot);
-    }
-    Ok(replaced)
 }

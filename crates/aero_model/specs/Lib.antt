@@ -11,3 +11,4 @@ pub mod Names
 pub mod Numbering
 pub mod Serial
 pub mod Shape
+pub mod Verdicts

@@ -4,10 +4,11 @@ ghost use Rattle.std.specs.Borrow.{ftrue};
 
 use std::marker::Model;
 
-// A number that contracts alone see. It takes no bytes, and its calls do nothing when they run.
+/// A natural number that contracts alone see. It takes no bytes, and its calls do nothing when they
+/// run. Whoever counts by it keeps it in a private field, and sets that to `after` it at each step.
 #[derive(Drop)]
-pub(crate) struct GhostCount {
-    pub(crate) ghost number: { ℕ },
+pub struct GhostCount {
+    pub ghost number: { ℕ },
 }
 
 impl Model for GhostCount {
@@ -15,16 +16,17 @@ impl Model for GhostCount {
 }
 
 impl GhostCount {
+    /// The number 0.
     #[inline(always)]
-    pub(crate) fn zero() -> GhostCount
+    pub fn zero() -> GhostCount
         ensures { result.number ≡ 0 }
     {
         GhostCount {}
     }
 
-    // One more than the number before.
+    /// One more than the number before.
     #[inline(always)]
-    pub(crate) fn after(_before: &GhostCount) -> GhostCount
+    pub fn after(_before: &GhostCount) -> GhostCount
         ensures { result.number ≡ _before.now.number + 1 }
     {
         GhostCount {}

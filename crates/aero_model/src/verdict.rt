@@ -53,7 +53,8 @@ pub enum ShapeFault {
 }
 
 /// What is said of a trace. Line numbers count from 1. `events` counts the events, and `blocks` the
-/// outermost begins.
+/// outermost begins. A fault is the trace's own: `check_trace`, which makes verdicts, promises that
+/// none is `Memory`.
 #[derive(Drop)]
 pub enum Verdict {
     /// Every line and every event is in order, every block has ended, and no violation is found.
@@ -74,14 +75,12 @@ pub enum Verdict {
         thread: Name,
         begun: u32,
     },
-    /// The first malformed line stands before anything else that is wrong. Its fault is not
-    /// `Memory`.
+    /// The first malformed line stands before anything else that is wrong.
     Malformed {
         line: u32,
         fault: LineFault,
     },
-    /// The first ill-formed event stands on this line, before anything else that is wrong. Its
-    /// fault is not `Memory`.
+    /// The first ill-formed event stands on this line, before anything else that is wrong.
     IllFormed {
         line: u32,
         fault: ShapeFault,

@@ -1,8 +1,10 @@
+use aero_access::clocks::Clocks;
 use aero_grammar::block::parse_block;
 use aero_grammar::parsed::Parsed;
 use aero_model::limits::Limits;
 use aero_model::verdict::Verdict;
-use aero_verdict::check_trace;
+use aero_verdict::engine::Engine;
+use aero_verdict::{check_trace, check_trace_by};
 use std::alloc::Global;
 use std::process::Abort;
 use std::test::Fail;
@@ -55,7 +57,13 @@ fn words_of(alloc: Global, verdict: &Verdict) -> Result<String, Fail> {
     })
 }
 
-// Checks that the row has the verdict under the limits.
+// The verdict that this engine leads to, in words.
+fn judged_by<E: Engine>(alloc: Global, parts: &[Parsed], limits: &Limits) -> Result<String, Fail> {
+    let verdict = check_trace_by::<E>(alloc, parts, limits)?;
+    words_of(alloc, &verdict)
+}
+
+// Checks that the row has the verdict under the limits, and has it by clocks too.
 fn expect(
     rt: &impl Abort,
     alloc: Global,
@@ -67,6 +75,8 @@ fn expect(
     let verdict = check_trace(alloc, &parts, limits)?;
     let words = words_of(alloc, &verdict)?;
     assert!(rt; words.as_str() == wanted, "{words}");
+    let by_clocks = judged_by::<Clocks>(alloc, &parts, limits)?;
+    assert!(rt; by_clocks.as_str() == wanted, "by clocks {by_clocks}");
     Ok(())
 }
 

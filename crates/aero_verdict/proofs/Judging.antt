@@ -10,9 +10,6 @@ use Rattle.aero_model.specs.Blocks.{depth, blocks, is_begin, is_end, by_thread, 
 use Rattle.aero_model.specs.Shape.{has_acted, was_forked, was_joined, has_started, deed_fault, shape_fault, IsWellFormed}
 use Rattle.aero_model.proofs.Begins.{blocks_at_most}
 use Rattle.aero_model.proofs.Stability.{agree_front, depth_same}
-use Rattle.aero_leads.specs.declared.leads.Leads.{Leads}
-use Rattle.aero_access.specs.declared.clocks.Spent.{Spent}
-use Rattle.aero_leads.specs.Standing as leads
 use Rattle.aero_access.specs.StateWords.{event, IsIdle, inner_begin, inner_end, idle_join}
 use Rattle.aero_shape.specs.declared.admission.Admitted.{Admitted}
 use Rattle.aero_shape.specs.declared.admission.Admitted.TheVariants.{Plain, OuterBegin, OuterEnd, IdleJoin}
@@ -187,26 +184,22 @@ closes_last h t one =
     (eq-eqb _ 1 same)
 
 -- what the calls for the event say of the longer list
-module _ (c : Leads) (h : List Numbered) (e : Numbered) (admitted : Admitted) (after : ComesAfter c h e admitted) where
-  deep : ℕ
-  deep = depth h e.thread (length h)
-
-  pub begins_few : length h < 2 ^ 32 - 1 → leads.begins_at c e.thread < 2 ^ 32 - 1
-  begins_few short =
-      let same : leads.begins_at c e.thread ≡ blocks h e.thread (length h) = after.stands.state.begins e.thread in
+module _ (stands : List Numbered → Type 0) (h : List Numbered) (e : Numbered) (admitted : Admitted) (after : ComesAfter stands h e admitted) where
+  pub begins_few : length h < 2 ^ 32 - 1 → (begins : ℕ) → begins ≡ blocks h e.thread (length h) → begins < 2 ^ 32 - 1
+  begins_few short begins same =
       let few : blocks h e.thread (length h) ≤ length h = blocks_at_most h e.thread (length h) in
       omega (arith, short, same, few)
 
   pub end_follows :
-      (new : Leads) (result : Result (Option ℕ) Spent)
+      (Is : List Numbered → Type 0)
       → admitted ≡ OuterEnd
-      → ((h : List Numbered) → leads.StandsFor c h → IsWellFormed (h ++ event e.thread End ∷ []) → closes (h ++ event e.thread End ∷ []) e.thread (length h) ≡ true → IfOk result (leads.Tells new (h ++ event e.thread End ∷ []) (length h)))
-      → IfOk result (leads.Tells new (h ++ e ∷ []) (length h))
-  end_follows new result is follows =
+      → (stands h → IsWellFormed (h ++ event e.thread End ∷ []) → closes (h ++ event e.thread End ∷ []) e.thread (length h) ≡ true → Is (h ++ event e.thread End ∷ []))
+      → Is (h ++ e ∷ [])
+  end_follows Is is follows =
       let ends = outer_end h (depth h e.thread (length h)) e.what (sym is ∙ after.kind) in
       let same : e ≡ event e.thread End = ap (event e.thread) ends.0 in
-      subst (λ f. IfOk result (leads.Tells new (h ++ f ∷ []) (length h))) (sym same)
-      (follows h after.stands (subst (λ f. IsWellFormed (h ++ f ∷ [])) same after.well_formed) (closes_last h e.thread ends.1))
+      subst (λ f. Is (h ++ f ∷ [])) (sym same)
+      (follows after.standing (subst (λ f. IsWellFormed (h ++ f ∷ [])) same after.well_formed) (closes_last h e.thread ends.1))
 
   pub idle_here : admitted ≡ IdleJoin → IsIdle h e.thread e.what
   idle_here is =
@@ -214,10 +207,10 @@ module _ (c : Leads) (h : List Numbered) (e : Numbered) (admitted : Admitted) (a
       subst (IsIdle h e.thread) (sym joins.what) (idle_join joins.thread joins.idle)
 
 -- a begin or an end within a block
-pub idle_inside : (c : Leads) (h : List Numbered) (t : ℕ) (what : What) (b : Bool) → ComesAfter c h (event t what) (Plain b) → (what ≡ Begin) ⊎ (what ≡ End) → IsIdle h t what
-idle_inside c h t what b after (inl is) =
+pub idle_inside : (stands : List Numbered → Type 0) (h : List Numbered) (t : ℕ) (what : What) (b : Bool) → ComesAfter stands h (event t what) (Plain b) → (what ≡ Begin) ⊎ (what ≡ End) → IsIdle h t what
+idle_inside stands h t what b after (inl is) =
     subst (IsIdle h t) (sym is) (inner_begin (plain_begin h (depth h t (length h)) b (after.kind ∙ ap (deed_as h (depth h t (length h))) is)))
-idle_inside c h t what b after (inr is) =
+idle_inside stands h t what b after (inr is) =
     let other = plain_end h (depth h t (length h)) b (after.kind ∙ ap (deed_as h (depth h t (length h))) is) in
     let inside = end_inside h t (ap (λ w. shape_fault h (event t w)) (sym is) ∙ after.in_shape) in
     subst (IsIdle h t) (sym is) (inner_end (omega (arith, other, inside)))

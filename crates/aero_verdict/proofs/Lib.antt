@@ -7,6 +7,7 @@ pub mod Lines
 pub mod Openers
 pub mod Readings
 pub mod Stops
+pub mod ThreadNames
 pub mod Parts
 pub mod OneVerdict
 pub mod Vectors

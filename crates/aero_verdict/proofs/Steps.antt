@@ -11,7 +11,7 @@ use Rattle.aero_model.specs.declared.limits.Limits.{Limits}
 use Rattle.aero_model.specs.declared.verdict.ShapeFault.{ShapeFault}
 use Rattle.aero_model.specs.declared.verdict.ShapeFault.TheVariants.{Memory, TooManyThreads, TooManyNames, ThreadJoined, LockHeldByOther, LockNotHeld, ForkSelf, ForkStarted, JoinSelf, EndWithoutBegin}
 use Rattle.aero_model.specs.Blocks.{depth, is_begin, is_end, by_thread, opens, closes, blocks, Block, transaction}
-use Rattle.aero_model.specs.Cycle.{IsOpener}
+use Rattle.aero_model.specs.Cycle.{HasTellingCycle, IsOpener}
 use Rattle.aero_model.specs.Named.{Named, HasItsTarget}
 use Rattle.aero_model.specs.Numbering.{Tables, tables_of, numbered}
 use Rattle.aero_model.specs.Shape.{shape_fault, limit_fault, fault_at, IsLawful}
@@ -20,13 +20,11 @@ use Rattle.aero_model.proofs.Ends.{begin_in}
 use Rattle.aero_model.proofs.Depths.{opening_at}
 use Rattle.aero_model.proofs.Places.{block_from}
 use Rattle.aero_model.proofs.Stability.{depth_same, agree_front, blocks_same}
-use Rattle.aero_model.proofs.Telling.{closing_front, opener_front}
+use Rattle.aero_model.proofs.Telling.{closing_front, opener_front, telling_back}
 use Rattle.aero_model.proofs.WellFormed.{slice_get-take}
 use Rattle.aero_shape.specs.declared.admission.Admitted.{Admitted}
 use Rattle.aero_shape.specs.Admission.{admitted_as, TellsEvent}
 use Rattle.aero_access.specs.Judgement.{IsTold}
-use Rattle.aero_leads.specs.Standing.{Tells}
-use Rattle.aero_leads.specs.Standing as leads
 use Rattle.aero_access.specs.StateWords.{event}
 use Rattle.aero_shape.specs.Standing as shapes
 use Rattle.aero_shape.specs.States as states
@@ -34,7 +32,7 @@ use Rattle.aero_verdict.specs.declared.checker.Checker.{Checker}
 use Rattle.aero_verdict.specs.declared.numbering.Numbering.{Numbering}
 use Rattle.aero_verdict.specs.declared.blocks.Blocks.{Blocks}
 use Rattle.aero_verdict.specs.Begun.{begin_line, begins_block, ends_block, CountsBlock}
-use Rattle.aero_verdict.specs.Judging.{ComesAfter, IsAdmitted}
+use Rattle.aero_verdict.specs.Judging.{ComesAfter, IsAdmitted, Tells}
 use Rattle.aero_verdict.specs.Kept.{names_of, trace_in, LastBegins, Counts, StandsFor, IsNext, Refuses, Judged}
 use Rattle.aero_verdict.specs.Limited.{names_in, IsLimited, NumbersEvent, RefusesEvent}
 use Rattle.aero_names.specs.Numbers.{with_event, numbered_after}
@@ -74,7 +72,7 @@ opens_here w t d = ap (λ b. (b && is_begin w) && (d == 0)) (eq-eqb t t refl)
 closes_here : (w : What) (t d : ℕ) → (by_thread t is_end (Some (event t w)) && (d == 1)) ≡ (is_end w && (d == 1))
 closes_here w t d = ap (λ b. (b && is_end w) && (d == 1)) (eq-eqb t t refl)
 
-module _ (limits : Limits) (events : List (ℕ × Named)) (checker : Checker) (line : ℕ) (e : Named) (has : HasItsTarget e.op e.target) (next : IsNext limits checker events (line, e)) where
+module _ {E : Type 0} (stands_for : E → List Numbered → Type 0) (limits : Limits) (events : List (ℕ × Named)) (checker : Checker E) (line : ℕ) (e : Named) (has : HasItsTarget e.op e.target) (next : IsNext stands_for limits checker events (line, e)) where
   abbrev n : ℕ
   n = checker.shape.admitted
 
@@ -205,7 +203,7 @@ module _ (limits : Limits) (events : List (ℕ × Named)) (checker : Checker) (l
                   line_of = old.line_of ∙ ap Some (sym told);
                 }
 
-        pub counts_next : (new : Checker) → new.numbering ≡ numbering → new.shape ≡ shape → new.blocks ≡ counted → Counts limits new events
+        pub counts_next : (new : Checker E) → new.numbering ≡ numbering → new.shape ≡ shape → new.blocks ≡ counted → Counts limits new events
         counts_next new same_numbering same_shape same_blocks =
             let count : new.shape.admitted ≡ suc n = ap (λ (s : states.Tables). s.admitted) same_shape ∙ count_next ∙ add-one n in
             record {
@@ -228,11 +226,11 @@ module _ (limits : Limits) (events : List (ℕ × Named)) (checker : Checker) (l
               lawful = subst (IsLawful limits trace) (sym (count ∙ sym (add-one n))) (below_more (λ i. fault_at limits trace i ≡ None) n kept.lawful (fault_by_shape ∙ tells.0));
             }
 
-      -- the event comes after those that the leads stand for
-      pub comes_after : ComesAfter checker.leads (take n trace) m admitted
-      comes_after = record { stands = next.0.leads_stand; well_formed = stands.well_formed; in_shape = tells.0; kind = tells.1 }
+      -- the event comes after those for which the engine stands
+      pub comes_after : ComesAfter (stands_for checker.engine) (take n trace) m admitted
+      comes_after = record { standing = next.0.engine_stands; well_formed = stands.well_formed; in_shape = tells.0; kind = tells.1 }
 
-      pub short_enough : length events < 2 ^ 32 → IsAdmitted checker.leads m admitted
+      pub short_enough : length events < 2 ^ 32 → IsAdmitted (stands_for checker.engine) m admitted
       short_enough short =
           let within = slice_get_within events n (line, e) next.1 in
           let many = kept.shape_stands.admitted in
@@ -244,7 +242,7 @@ module _ (limits : Limits) (events : List (ℕ × Named)) (checker : Checker) (l
       whole : (take n trace ++ m ∷ []) ++ drop (suc n) trace ≡ trace
       whole = ap (λ es. es ++ drop (suc n) trace) (sym taken) ∙ front_and_rest trace (suc n)
 
-      -- what the leads tell of the first events is so of the whole
+      -- what is told of the first events is so of the whole
       pub told_whole : (t : ℕ) → IsTold (take n trace ++ m ∷ []) (length (take n trace)) (Some t) → IsTold trace n (Some t)
       told_whole t told =
           let many : length (take n trace) ≡ n = sym kept.shape_stands.admitted in
@@ -259,16 +257,24 @@ module _ (limits : Limits) (events : List (ℕ × Named)) (checker : Checker) (l
                 (opener_front (take n trace ++ m ∷ []) (drop (suc n) trace) (suc n) t (blocks (take n trace ++ m ∷ []) t n) (omega (arith, many, longer)) there.1),
           )
 
-      pub judged : (counted : Blocks) → CountsBlock checker.blocks counted admitted m.thread line → (told : Option ℕ) → (new : Checker) → new.numbering ≡ numbering → new.shape ≡ shape → new.blocks ≡ counted →
-          Tells new.leads (take n trace ++ m ∷ []) (length (take n trace)) told → Judged limits new events n told
+      untold_whole : ¬ HasTellingCycle (take n trace ++ m ∷ []) (suc (length (take n trace))) → ¬ HasTellingCycle trace (suc n)
+      untold_whole none = λ cycle.
+          let many : length (take n trace) ≡ n = sym kept.shape_stands.admitted in
+          let longer = length-append (take n trace) (m ∷ []) in
+          let front : HasTellingCycle ((take n trace ++ m ∷ []) ++ drop (suc n) trace) (suc n) = subst (λ es. HasTellingCycle es (suc n)) (sym whole) cycle in
+          none (subst (λ k. HasTellingCycle (take n trace ++ m ∷ []) (suc k)) (sym many) (telling_back (take n trace ++ m ∷ []) (drop (suc n) trace) (suc n) (omega (arith, many, longer)) front))
+
+      pub judged : (counted : Blocks) → CountsBlock checker.blocks counted admitted m.thread line → (told : Option ℕ) → (new : Checker E) → new.numbering ≡ numbering → new.shape ≡ shape → new.blocks ≡ counted →
+          Tells (stands_for new.engine) (take n trace ++ m ∷ []) (length (take n trace)) told → Judged stands_for limits new events n told
       judged counted counts None new same_numbering same_shape same_blocks tells_new =
           let count : new.shape.admitted ≡ suc n = ap (λ (s : states.Tables). s.admitted) same_shape ∙ count_next ∙ add-one n in
           record {
             counts = counts_next counted counts new same_numbering same_shape same_blocks;
-            leads_stand = subst (leads.StandsFor new.leads) (sym taken ∙ ap (λ k. take k trace) (sym count)) (tells_new.stands refl);
+            untold = subst (λ k. ¬ HasTellingCycle trace k) (sym count) (untold_whole tells_new.is_told);
+            engine_stands = subst (stands_for new.engine) (sym taken ∙ ap (λ k. take k trace) (sym count)) (tells_new.standing refl);
           }
       judged counted counts (Some t) new same_numbering same_shape same_blocks tells_new =
-          (counts_next counted counts new same_numbering same_shape same_blocks, told_whole t tells_new.told)
+          (counts_next counted counts new same_numbering same_shape same_blocks, told_whole t tells_new.is_told)
 
 count_below_most : (test : ℕ → Bool) (n : ℕ) → count_below test n ≤ n
 count_below_most test zero = omega arith
@@ -277,14 +283,14 @@ count_below_most test (suc n) =
     cond_both (test n) (count_below test n + 1) (count_below test n) (λ k. k ≤ suc n) (λ e. omega arith) (λ e. omega arith)
 
 -- numbers that fit, where the list is short
-pub few_events : (limits : Limits) (events : List (ℕ × Named)) (checker : Checker) (e : ℕ × Named) → IsNext limits checker events e → length events < 2 ^ 32 → checker.shape.admitted + 1 < 2 ^ 32
-few_events limits events checker e next short = let within = slice_get_within events checker.shape.admitted e next.1 in omega arith
+pub few_events : {E : Type 0} (stands_for : E → List Numbered → Type 0) (limits : Limits) (events : List (ℕ × Named)) (checker : Checker E) (e : ℕ × Named) → IsNext stands_for limits checker events e → length events < 2 ^ 32 → checker.shape.admitted + 1 < 2 ^ 32
+few_events stands_for limits events checker e next short = let within = slice_get_within events checker.shape.admitted e next.1 in omega arith
 
-pub few_begun : (limits : Limits) (events : List (ℕ × Named)) (checker : Checker) → StandsFor limits checker events → checker.blocks.begun ≤ checker.shape.admitted
-few_begun limits events checker stands = let most = count_below_most (is_outer_begin (trace_in events)) checker.shape.admitted in omega (arith, stands.counts.begun_are, most)
+pub few_begun : {E : Type 0} (stands_for : E → List Numbered → Type 0) (limits : Limits) (events : List (ℕ × Named)) (checker : Checker E) → StandsFor stands_for limits checker events → checker.blocks.begun ≤ checker.shape.admitted
+few_begun stands_for limits events checker stands = let most = count_below_most (is_outer_begin (trace_in events)) checker.shape.admitted in omega (arith, stands.counts.begun_are, most)
 
-pub few_ended : (limits : Limits) (events : List (ℕ × Named)) (checker : Checker) → StandsFor limits checker events → checker.blocks.ended ≤ checker.shape.admitted
-few_ended limits events checker stands = let most = count_below_most (is_outer_end (trace_in events)) checker.shape.admitted in omega (arith, stands.counts.ended_are, most)
+pub few_ended : {E : Type 0} (stands_for : E → List Numbered → Type 0) (limits : Limits) (events : List (ℕ × Named)) (checker : Checker E) → StandsFor stands_for limits checker events → checker.blocks.ended ≤ checker.shape.admitted
+few_ended stands_for limits events checker stands = let most = count_below_most (is_outer_end (trace_in events)) checker.shape.admitted in omega (arith, stands.counts.ended_are, most)
 
 -- what holds where there is a value
 pub on_ok_here : {T E : Type 0} (r : Result T E) (P : Type 0) → is_err r ≡ false → OnOk r P → P

@@ -37,13 +37,13 @@ still_at : (xs more : List (List ℕ)) (t : ℕ) (y : List ℕ) → slice_get xs
 still_at xs [] t y at = at
 still_at xs (name ∷ more) t y at = still_at (with_name xs name) more t y (still_with xs name t y at)
 
-named_still : (events : List Named) (n t : ℕ) (y : List ℕ) → slice_get (tables_of (take n events)).threads t ≡ Some y → slice_get (tables_of events).threads t ≡ Some y
+pub named_still : (events : List Named) (n t : ℕ) (y : List ℕ) → slice_get (tables_of (take n events)).threads t ≡ Some y → slice_get (tables_of events).threads t ≡ Some y
 named_still events n t y at =
     let extends = tables_extended (take n events) (drop n events) in
     subst (λ es. slice_get (tables_of es).threads t ≡ Some y) (front_and_rest events n)
     (ap (λ ns. slice_get ns t) extends.threads.1 ∙ still_at (tables_of (take n events)).threads extends.threads.0 t y at)
 
-module _ (limits : Limits) (parts : List Reading) (new : Checker) (n before : ℕ) (more : List (ℕ × Named)) (line : ℕ) where
+module _ {E : Type 0} (limits : Limits) (parts : List Reading) (new : Checker E) (n before : ℕ) (more : List (ℕ × Named)) (line : ℕ) where
   abbrev events : List (ℕ × Named)
   events = counted_events parts limits
 

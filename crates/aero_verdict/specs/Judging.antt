@@ -1,29 +1,33 @@
--- The event that comes after those that leads stand for.
-use Rattle.std.specs.Prelude.{◌≡◌, ℕ, ◌<◌, ◌-◌, ◌^◌, Bool, List, [], ◌∷◌, ◌++◌, length, None}
+-- The event that comes after those for which an engine stands, and what the engine tells of it. `stands` says for which events it stands.
+use Rattle.std.specs.Prelude.{◌≡◌, ◌<◌, ◌-◌, ◌^◌, ℕ, Bool, List, [], ◌∷◌, ◌++◌, length, Option, None}
 use Rattle.aero_model.specs.declared.numbered.Numbered.{Numbered}
 use Rattle.aero_model.specs.declared.numbered.What.{What}
 use Rattle.aero_model.specs.Shape.{shape_fault, IsWellFormed}
-use Rattle.aero_leads.specs.declared.leads.Leads.{Leads}
-use Rattle.aero_leads.specs.Standing as leads
 use Rattle.aero_access.specs.StateWords.{event}
+use Rattle.aero_access.specs.Judgement.{IsTold}
 use Rattle.aero_shape.specs.declared.admission.Admitted.{Admitted}
 use Rattle.aero_shape.specs.declared.admission.Admitted.TheVariants.{Plain}
 use Rattle.aero_shape.specs.Admission.{admitted_as}
 
--- the leads stand for these events, and the next one is well-formed after them and is this
-pub record ComesAfter (c : Leads) (h : List Numbered) (e : Numbered) (admitted : Admitted) : Type 0 where
-  pub stands : leads.StandsFor c h
+-- it stands for these events, and the next one is well-formed after them and is this
+pub record ComesAfter (stands : List Numbered → Type 0) (h : List Numbered) (e : Numbered) (admitted : Admitted) : Type 0 where
+  pub standing : stands h
   pub well_formed : IsWellFormed (h ++ e ∷ [])
   pub in_shape : shape_fault h e ≡ None
   pub kind : admitted ≡ admitted_as h e
 
 -- the next one begins and ends no outermost block, and joins no thread that has not acted
-abbrev pub ActsAfter : Leads → List Numbered → ℕ → What → Type 0
-ActsAfter c h t what = (in_block : Bool) × ComesAfter c h (event t what) (Plain in_block)
+abbrev pub ActsAfter : (List Numbered → Type 0) → List Numbered → ℕ → What → Type 0
+ActsAfter stands h t what = (in_block : Bool) × ComesAfter stands h (event t what) (Plain in_block)
 
 -- this is so for some list of fewer events than there are numbers
-abbrev pub IsAdmitted : Leads → Numbered → Admitted → Type 0
-IsAdmitted c e admitted = (h : List Numbered) × (length h < 2 ^ 32 - 1) × ComesAfter c h e admitted
+abbrev pub IsAdmitted : (List Numbered → Type 0) → Numbered → Admitted → Type 0
+IsAdmitted stands e admitted = (h : List Numbered) × (length h < 2 ^ 32 - 1) × ComesAfter stands h e admitted
 
-abbrev pub IsToAct : Leads → ℕ → What → Type 0
-IsToAct c t what = (h : List Numbered) × ActsAfter c h t what
+abbrev pub IsToAct : (List Numbered → Type 0) → ℕ → What → Type 0
+IsToAct stands t what = (h : List Numbered) × ActsAfter stands h t what
+
+-- The answer after the event at place n is what is to be told, so it is None exactly where there is no telling cycle. Then the engine stands for the longer trace.
+pub record Tells (stands : List Numbered → Type 0) (trace : List Numbered) (n : ℕ) (told : Option ℕ) : Type 0 where
+  pub is_told : IsTold trace n told
+  pub standing : told ≡ None → stands trace

@@ -1,4 +1,4 @@
--- For which events of a list a `Checker` stands: the first of them, as many as its shape has admitted.
+-- For which events of a list a `Checker` stands: the first of them, as many as its shape has admitted. `stands` is its engine's own word for the events for which that stands.
 use Rattle.std.specs.Prelude.{◌≡◌, ◌≢◌, ℕ, suc, ◌+◌, ◌^◌, ◌<◌, nat_le, true, List, length, filter, map, take, slice_get, option_map, Option, Some, None}
 use Rattle.aero_model.specs.declared.numbered.Numbered.{Numbered}
 use Rattle.aero_model.specs.declared.limits.Limits.{Limits}
@@ -13,14 +13,14 @@ use Rattle.aero_model.specs.Numbering.{tables_of, trace_of}
 use Rattle.aero_model.specs.Shape.{IsLawful, fault_at}
 use Rattle.aero_model.specs.BlockCounts.{count_below, is_outer_begin, is_outer_end}
 use Rattle.aero_grammar.specs.Reading.{after_lines}
+use Rattle.aero_grammar.specs.Words.{IsName}
 use Rattle.aero_access.specs.Judgement.{IsTold}
-use Rattle.aero_leads.specs.Standing as leads
 use Rattle.aero_shape.specs.Standing as shapes
 use Rattle.aero_verdict.specs.declared.checker.Checker.{Checker}
 use Rattle.aero_verdict.specs.declared.checker.Stop.{Stop}
 use Rattle.aero_verdict.specs.declared.checker.Stop.TheVariants.{Refused, Closed}
 use Rattle.aero_verdict.specs.Begun.{begin_line}
-use Rattle.aero_verdict.specs.Limited.{names_in, IsLimited}
+use Rattle.aero_verdict.specs.Limited.{names_in, IsLimited, IsNamedThread}
 
 abbrev pub names_of : List (ℕ × Named) → List Named
 names_of events = map (λ e. e.1) events
@@ -37,7 +37,7 @@ pub record LastBegins (events : List (ℕ × Named)) (n t line : ℕ) : Type 0 w
   pub line_of : option_map (λ e. e.0) (slice_get events place) ≡ Some line
 
 -- The names, the shape and the blocks are those of the events that were admitted, and none of these is ill-formed.
-pub record Counts (limits : Limits) (checker : Checker) (events : List (ℕ × Named)) : Type 0 where
+pub record Counts {E : Type 0} (limits : Limits) (checker : Checker E) (events : List (ℕ × Named)) : Type 0 where
   pub limited : IsLimited limits checker.numbering
   pub names_are : names_in checker.numbering ≡ tables_of (take checker.shape.admitted (names_of events))
   pub shape_stands : shapes.StandsFor checker.shape (take checker.shape.admitted (trace_in events))
@@ -46,27 +46,28 @@ pub record Counts (limits : Limits) (checker : Checker) (events : List (ℕ × N
   pub lines_are : (t : ℕ) → 0 < blocks (trace_in events) t checker.shape.admitted → LastBegins events checker.shape.admitted t (begin_line checker.blocks t)
   pub lawful : IsLawful limits (trace_in events) checker.shape.admitted
 
--- So are the leads, and there is no telling cycle.
-pub record StandsFor (limits : Limits) (checker : Checker) (events : List (ℕ × Named)) : Type 0 where
+-- They have no telling cycle, and the engine stands for them.
+pub record StandsFor {E : Type 0} (stands : E → List Numbered → Type 0) (limits : Limits) (checker : Checker E) (events : List (ℕ × Named)) : Type 0 where
   pub counts : Counts limits checker events
-  pub leads_stand : leads.StandsFor checker.leads (take checker.shape.admitted (trace_in events))
+  pub untold : ¬ HasTellingCycle (trace_in events) checker.shape.admitted
+  pub engine_stands : stands checker.engine (take checker.shape.admitted (trace_in events))
 
 -- it stands for events of the list, and this is the event after them
-abbrev pub IsNext : Limits → Checker → List (ℕ × Named) → ℕ × Named → Type 0
-IsNext limits checker events e = StandsFor limits checker events × (slice_get events checker.shape.admitted ≡ Some e)
+abbrev pub IsNext : {E : Type 0} → (E → List Numbered → Type 0) → Limits → Checker E → List (ℕ × Named) → ℕ × Named → Type 0
+IsNext stands limits checker events e = StandsFor stands limits checker events × (slice_get events checker.shape.admitted ≡ Some e)
 
 -- this is the event after them, for some list of fewer than 2^32 events
-abbrev pub IsExpected : Checker → ℕ × Named → Type 0
-IsExpected checker e = (limits : Limits) × (events : List (ℕ × Named)) × (length events < 2 ^ 32) × IsNext limits checker events e
+abbrev pub IsExpected : {E : Type 0} → (E → List Numbered → Type 0) → Checker E → ℕ × Named → Type 0
+IsExpected stands checker e = (limits : Limits) × (events : List (ℕ × Named)) × (length events < 2 ^ 32) × IsNext stands limits checker events e
 
 -- why the event after them is ill-formed
-abbrev pub Refuses : Limits → Checker → List (ℕ × Named) → ShapeFault → Type 0
+abbrev pub Refuses : {E : Type 0} → Limits → Checker E → List (ℕ × Named) → ShapeFault → Type 0
 Refuses limits checker events fault = fault ≢ Memory → fault_at limits (trace_in events) checker.shape.admitted ≡ Some fault
 
 -- after the event at place n: nothing is told, or thread t is, with whose open block a cycle closes
-abbrev pub Judged : Limits → Checker → List (ℕ × Named) → ℕ → Option ℕ → Type 0
-Judged limits checker events n None = StandsFor limits checker events
-Judged limits checker events n (Some t) = Counts limits checker events × IsTold (trace_in events) n (Some t)
+abbrev pub Judged : {E : Type 0} → (E → List Numbered → Type 0) → Limits → Checker E → List (ℕ × Named) → ℕ → Option ℕ → Type 0
+Judged stands limits checker events n None = StandsFor stands limits checker events
+Judged stands limits checker events n (Some t) = Counts limits checker events × IsTold (trace_in events) n (Some t)
 
 -- the events on lines up to this one
 abbrev pub up_to : ℕ → List (ℕ × Named) → List (ℕ × Named)
@@ -77,28 +78,37 @@ abbrev pub GoesOn : List (ℕ × Named) → ℕ → ℕ → List (ℕ × Named) 
 GoesOn events n before more = (i : ℕ) → i < length more → slice_get events (n + i) ≡ option_map (after_lines before) (slice_get more i)
 
 -- it stands for events of the list, and these are the events after them
-abbrev pub AreNext : Limits → Checker → List (ℕ × Named) → ℕ → List (ℕ × Named) → Type 0
-AreNext limits checker events before more = StandsFor limits checker events × GoesOn events checker.shape.admitted before more
+abbrev pub AreNext : {E : Type 0} → (E → List Numbered → Type 0) → Limits → Checker E → List (ℕ × Named) → ℕ → List (ℕ × Named) → Type 0
+AreNext stands limits checker events before more = StandsFor stands limits checker events × GoesOn events checker.shape.admitted before more
 
 -- these are the events after them, for some list of fewer than 2^32 events
-abbrev pub AreExpected : Checker → ℕ → List (ℕ × Named) → Type 0
-AreExpected checker before more = (limits : Limits) × (events : List (ℕ × Named)) × (length events < 2 ^ 32) × AreNext limits checker events before more
+abbrev pub AreExpected : {E : Type 0} → (E → List Numbered → Type 0) → Checker E → ℕ → List (ℕ × Named) → Type 0
+AreExpected stands checker before more = (limits : Limits) × (events : List (ℕ × Named)) × (length events < 2 ^ 32) × AreNext stands limits checker events before more
 
 -- the event at the place stands on the line, and is ill-formed or closes a cycle
-abbrev pub StopsAt : Limits → Checker → List (ℕ × Named) → ℕ → Stop → Type 0
+abbrev pub StopsAt : {E : Type 0} → Limits → Checker E → List (ℕ × Named) → ℕ → Stop → Type 0
 StopsAt limits checker events n (Refused fault) =
     IsLawful limits (trace_in events) n × (¬ HasTellingCycle (trace_in events) n) × (fault ≢ Memory → fault_at limits (trace_in events) n ≡ Some fault)
 StopsAt limits checker events n (Closed t) = (checker.shape.admitted ≡ suc n) × Counts limits checker events × IsTold (trace_in events) n (Some t)
 
 -- one of these events, which the list has from place n on, stands on the line and stops
-pub record StopsIn (limits : Limits) (checker : Checker) (events : List (ℕ × Named)) (n before : ℕ) (more : List (ℕ × Named)) (line : ℕ) (stop : Stop) : Type 0 where
+pub record StopsIn {E : Type 0} (limits : Limits) (checker : Checker E) (events : List (ℕ × Named)) (n before : ℕ) (more : List (ℕ × Named)) (line : ℕ) (stop : Stop) : Type 0 where
   pub index : ℕ
   pub within : index < length more
   pub stops : StopsAt limits checker events (n + index) stop
   pub line_of : option_map (λ e. e.0) (slice_get events (n + index)) ≡ Some line
 
+-- the name of the event's thread is one
+abbrev pub HasNamedActor : ℕ × Named → Type 0
+HasNamedActor e = IsName e.1.thread
+
+-- the thread that is to be told, if one is, has a name
+abbrev pub CanBeTold : {E : Type 0} → Checker E → Stop → Type 0
+CanBeTold checker (Refused fault) = Unit {0}
+CanBeTold checker (Closed t) = IsNamedThread checker.numbering t
+
 -- what is told of it
-abbrev pub TellsStop : Checker → ℕ → Stop → Verdict → Type 0
+abbrev pub TellsStop : {E : Type 0} → Checker E → ℕ → Stop → Verdict → Type 0
 TellsStop checker line (Refused fault) verdict = (fault ≢ Memory) × (verdict ≡ IllFormed line fault)
 TellsStop checker line (Closed t) verdict =
     (name : List ℕ) × (slice_get (names_in checker.numbering).threads t ≡ Some name) × (verdict ≡ Violation line name (begin_line checker.blocks t))

@@ -9,7 +9,7 @@ use Rattle.aero_verdict.specs.declared.known.Known.{Known}
 
 -- the block's tables
 abbrev pub tables_in : BlockNames → Tables
-tables_in b = record { threads = b.threads.now.names; variables = b.variables.now.names; locks = b.locks.now.names }
+tables_in b = record { threads = b.threads.now; variables = b.variables.now; locks = b.locks.now }
 
 -- the name at place n of the block's table is among the trace's, and this is its number there
 pub record IsKnown (trace block : List (List ℕ)) (n number : ℕ) : Type 0 where

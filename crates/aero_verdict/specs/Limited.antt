@@ -1,5 +1,5 @@
 -- What a `Numbering` stands for, and what its calls do.
-use Rattle.std.specs.Prelude.{◌≡◌, ◌≢◌, ℕ, List, Option, Some, None}
+use Rattle.std.specs.Prelude.{◌≡◌, ◌≢◌, ◌<◌, ℕ, List, length, slice_get, Option, Some, None}
 use Rattle.aero_model.specs.declared.numbered.Numbered.{Numbered}
 use Rattle.aero_model.specs.declared.numbered.What.{What}
 use Rattle.aero_model.specs.declared.limits.Limits.{Limits}
@@ -7,14 +7,24 @@ use Rattle.aero_model.specs.declared.event.Op.{Op}
 use Rattle.aero_model.specs.declared.verdict.ShapeFault.{ShapeFault}
 use Rattle.aero_model.specs.declared.verdict.ShapeFault.TheVariants.{Memory}
 use Rattle.aero_model.specs.Named.{Named}
+use Rattle.aero_model.specs.Names.{most_inline_bytes}
 use Rattle.aero_model.specs.Numbering.{Tables}
 use Rattle.aero_model.specs.Shape.{target_limit_fault, limit_fault}
+use Rattle.aero_grammar.specs.Words.{IsName}
 use Rattle.aero_verdict.specs.declared.numbering.Numbering.{Numbering}
 use Rattle.aero_names.specs.Numbers.{with_target, with_event, what_after, numbered_after}
 use Rattle.aero_verdict.specs.Numbers.{IsWithin}
 
 abbrev pub names_in : Numbering → Tables
 names_in n = record { threads = n.threads.names; variables = n.variables.names; locks = n.locks.names }
+
+-- there is a thread with this number, and what it is called is a name
+abbrev pub IsNamedThread : Numbering → ℕ → Type 0
+IsNamedThread n t = (name : List ℕ) × (slice_get (names_in n).threads t ≡ Some name) × IsName name
+
+-- and one that is too long to be copied without memory
+abbrev pub HasLongName : Numbering → ℕ → Type 0
+HasLongName n t = (name : List ℕ) × (slice_get (names_in n).threads t ≡ Some name) × IsName name × (most_inline_bytes < length name)
 
 -- each list has its limit, and keeps to it
 pub record IsLimited (limits : Limits) (n : Numbering) : Type 0 where

@@ -1,14 +1,17 @@
 //! The verdict on what the parts of a trace say.
-ghost use Rattle.std.specs.Prelude.{◌≡◌, ◌≢◌, ◌-◌, ℕ, List, Some, IfOk, OnOk, OnErr};
+ghost use Rattle.std.specs.Prelude.{◌≡◌, ◌≢◌, ◌-◌, ℕ, List, Some, IsTrue, IfOk, IfSome, OnOk, OnErr};
 ghost use Rattle.aero_model.specs.declared.limits.Limits.{Limits};
-ghost use Rattle.aero_grammar.specs.Reading.{Reading, fault_within};
+ghost use Rattle.aero_model.specs.Verdicts.{HasOwnFault};
+ghost use Rattle.aero_grammar.specs.Reading.{Reading, fault_within, is_own_fault};
 ghost use Rattle.aero_verdict.specs.Verdict.{IsVerdict, IsFaultless};
-ghost use Rattle.aero_verdict.specs.Kept.{TellsStop};
+ghost use Rattle.aero_verdict.specs.Kept.{CanBeTold, TellsStop};
 ghost use Rattle.aero_verdict.specs.Parts.{Stands, IsPartExpected, ComesNext, TellsPart};
 
 use crate::checker::{Checker, Stop};
+use crate::engine::Engine;
 use crate::known::BlockNames;
 use aero_grammar::parsed::Parsed;
+use aero_leads::leads::Leads;
 use aero_model::limits::Limits;
 use aero_model::verdict::{LineFault, ShapeFault, Verdict};
 use std::alloc::{AllocError, Global};
@@ -31,24 +34,38 @@ use std::alloc::{AllocError, Global};
 ///   blocks there are.
 /// - `Serializable`: nothing is wrong, and no block is open.
 ///
-/// An `AllocError` says that memory was refused: to the names, the states, the first places or the answer.
+/// No fault of a verdict is `Memory`. An `AllocError` says that memory was refused: to the names, the states, the first places or the answer.
 pub fn check_trace(alloc: Global, parts: &[Parsed], limits: &Limits) -> Result<Verdict, AllocError>
-    ensures { IfOk result (λ verdict. IsVerdict parts.now limits.now verdict) }
+    ensures verdict { IfOk result (λ verdict. IsVerdict parts.now limits.now verdict) }
+    ensures own_fault { IfOk result HasOwnFault }
 {
-    let mut checker = Checker::new(alloc, limits);
+    check_trace_by::<Leads>(alloc, parts, limits)
+}
+
+/// The same, judged by an engine of the caller's choice.
+pub fn check_trace_by<E: Engine>(
+    alloc: Global,
+    parts: &[Parsed],
+    limits: &Limits,
+) -> Result<Verdict, AllocError>
+    ensures verdict { IfOk result (λ verdict. IsVerdict parts.now limits.now verdict) }
+    ensures own_fault { IfOk result HasOwnFault }
+{
+    let mut checker = Checker::<E>::new(alloc, limits);
 
     check_parts(alloc, &mut checker, parts, limits)
 }
 
 // The same where no event was admitted yet.
-fn check_parts(
+fn check_parts<E: Engine>(
     alloc: Global,
-    checker: &mut Checker,
+    checker: &mut Checker<E>,
     parts: &[Parsed],
     limits: &Limits,
 ) -> Result<Verdict, AllocError>
-    requires { Stands limits.now parts.now 0 0 checker.old }
-    ensures { IfOk result (λ verdict. IsVerdict parts.now limits.now verdict) }
+    requires { Stands E.stands_for limits.now parts.now 0 0 checker.old }
+    ensures verdict { IfOk result (λ verdict. IsVerdict parts.now limits.now verdict) }
+    ensures own_fault { IfOk result HasOwnFault }
 {
     // The lines of the parts so far. A number that a `u32` can't tell is past every limit.
     let mut lines = 0u32;
@@ -68,16 +85,17 @@ fn check_parts(
 }
 
 // The verdict on all parts where something is wrong with this one. So many lines stand before it.
-fn check_part(
+fn check_part<E: Engine>(
     alloc: Global,
-    checker: &mut Checker,
+    checker: &mut Checker<E>,
     part: &Parsed,
     lines: u32,
     limits: &Limits,
 ) -> Result<Option<Verdict>, AllocError>
-    requires { IsPartExpected limits.now lines checker.old part.now }
-    ensures { IfOk result (λ told. (parts : List Reading) (k : ℕ) →
-        ComesNext limits.now parts k lines checker.old part.now → TellsPart limits.now parts k lines checker.new part.now told) }
+    requires { IsPartExpected E.stands_for limits.now lines checker.old part.now }
+    ensures told { IfOk result (λ told. (parts : List Reading) (k : ℕ) →
+        ComesNext E.stands_for limits.now parts k lines checker.old part.now → TellsPart E.stands_for limits.now parts k lines checker.new part.now told) }
+    ensures own_fault { IfOk result (λ told. IfSome told HasOwnFault) }
 {
     let most = limits.lines.saturating_sub(lines);
     let block = BlockNames {
@@ -97,13 +115,15 @@ fn check_part(
 }
 
 // The verdict where no further event is admitted after the one on this line.
-fn stopped_at(
+fn stopped_at<E: Engine>(
     alloc: Global,
-    checker: &Checker,
+    checker: &Checker<E>,
     line: u32,
     stop: Stop,
 ) -> Result<Verdict, AllocError>
-    ensures { IfOk result (λ verdict. TellsStop checker.now line stop verdict) }
+    requires { CanBeTold checker.now stop }
+    ensures told { IfOk result (λ verdict. TellsStop checker.now line stop verdict) }
+    ensures own_fault { IfOk result HasOwnFault }
 {
     match stop {
         Stop::Refused(fault) => Ok(Verdict::IllFormed {
@@ -119,9 +139,10 @@ fn stopped_at(
 }
 
 // The verdict where nothing is wrong.
-fn faultless(checker: &Checker) -> Verdict
-    ensures { (parts : List Reading) (limits : Limits) →
+fn faultless<E: Engine>(checker: &Checker<E>) -> Verdict
+    ensures verdict { (parts : List Reading) (limits : Limits) →
         IsFaultless parts limits checker.now.shape.admitted checker.now.blocks.begun (checker.now.blocks.begun - checker.now.blocks.ended) → IsVerdict parts limits result }
+    ensures own_fault { HasOwnFault result }
 {
     let events = checker.events();
     let blocks = checker.blocks();
@@ -139,7 +160,8 @@ fn faultless(checker: &Checker) -> Verdict
 
 // The malformed line, where this one has a fault by itself: it, unless one before it is one too many.
 fn malformed_line(line: u32, fault: LineFault, limits: &Limits) -> (u32, LineFault)
-    ensures { (lines : ℕ) → fault_within limits.now.lines lines (Some (line, fault)) ≡ Some result }
+    ensures told { (lines : ℕ) → fault_within limits.now.lines lines (Some (line, fault)) ≡ Some result }
+    ensures own_fault { IsTrue (is_own_fault fault) → result.1 ≢ LineFault.Memory }
 {
     let first_too_many = limits.lines + 1;
     if line > first_too_many {

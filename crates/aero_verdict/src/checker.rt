@@ -3,10 +3,9 @@ ghost use Rattle.std.specs.Prelude.{◌≡◌, List};
 ghost use Rattle.aero_verdict.specs.declared.checker.Stop.{Stop};
 
 use crate::blocks::Blocks;
-use crate::judge::judge;
+use crate::engine::Engine;
 use crate::known::{BlockNames, Known};
 use crate::numbering::Numbering;
-use aero_leads::leads::Leads;
 use aero_model::limits::Limits;
 use aero_model::name::Name;
 use aero_model::numbered::Numbered;
@@ -24,17 +23,17 @@ pub(crate) enum Stop {
 }
 
 // What is kept of the events that were admitted: their names, what they make of each thread and
-// lock, to which of them open blocks lead, and their outermost blocks.
+// lock, the engine that judges them, and their outermost blocks.
 #[derive(Drop)]
-pub(crate) struct Checker {
+pub(crate) struct Checker<E: Engine> {
     numbering: Numbering,
     shape: Shape,
-    leads: Leads,
+    engine: E,
     blocks: Blocks,
 }
 
-impl Checker {
-    ghost use Rattle.std.specs.Prelude.{◌≡◌, ◌≢◌, ◌+◌, ◌-◌, ◌≤◌, ◌<◌, ◌^◌, ℕ, List, length, slice_get, Some, IsOk, OnOk, IfOk, IfErr};
+impl<E: Engine> Checker<E> {
+    ghost use Rattle.std.specs.Prelude.{◌≡◌, ◌≢◌, ◌+◌, ◌-◌, ◌≤◌, ◌<◌, ◌^◌, ℕ, List, length, slice_get, Some, IsOk, OnOk, OnErr, IfOk, IfErr};
     ghost use Rattle.aero_model.specs.declared.limits.Limits.{Limits};
     ghost use Rattle.aero_model.specs.Named.{Named};
     ghost use Rattle.aero_model.specs.Names.{most_inline_bytes};
@@ -43,17 +42,17 @@ impl Checker {
     ghost use Rattle.aero_verdict.specs.Kept.{StandsFor, IsNext, IsExpected, Refuses, Judged, up_to, AreNext, AreExpected, StopsIn};
     ghost use Rattle.aero_grammar.specs.Tabled.{named_in, lines_in};
     ghost use Rattle.aero_verdict.specs.Known.{tables_in, Knows};
-    ghost use Rattle.aero_verdict.specs.Limited.{names_in};
+    ghost use Rattle.aero_verdict.specs.Limited.{names_in, IsNamedThread, HasLongName};
 
     // No event was admitted yet.
-    pub(crate) fn new(alloc: Global, limits: &Limits) -> Checker
+    pub(crate) fn new(alloc: Global, limits: &Limits) -> Checker<E>
         ensures none { result.shape.admitted ≡ 0 }
-        ensures kept { (events : List (ℕ × Named)) → StandsFor limits.now result events }
+        ensures kept { (events : List (ℕ × Named)) → StandsFor E.stands_for limits.now result events }
     {
         Checker {
             numbering: Numbering::new(alloc, limits),
             shape: Shape::new(alloc),
-            leads: Leads::new(alloc),
+            engine: E::new(alloc),
             blocks: Blocks::new(alloc),
         }
     }
@@ -80,9 +79,11 @@ impl Checker {
     }
 
     // The name of the thread with this number, which an event has named. It takes no memory up to 16
-    // bytes.
+    // bytes. An error says that memory was refused to a longer name.
     pub(crate) fn thread_name(&self, alloc: Global, t: u32) -> Result<Name, AllocError>
+        requires { IsNamedThread self.now.numbering t }
         ensures name { IfOk result (λ name. slice_get (names_in self.now.numbering).threads t ≡ Some name) }
+        ensures long { OnErr result (HasLongName self.now.numbering t) }
         ensures short { (name : List ℕ) → slice_get (names_in self.now.numbering).threads t ≡ Some name → IsName name → length name ≤ most_inline_bytes → IsOk result }
     {
         self.numbering.thread_name(alloc, t)
@@ -106,13 +107,13 @@ impl Checker {
         line: u32,
         event: Numbered,
     ) -> Result<Option<u32>, ShapeFault>
-        requires next { IsExpected self.old (line, named_in (tables_in block) event) }
+        requires next { IsExpected E.stands_for self.old (line, named_in (tables_in block) event) }
         requires known { Knows self.old.numbering (tables_in block) known.old }
         ensures counted { OnOk result (self.new.shape.admitted ≡ self.old.shape.admitted + 1) }
-        ensures judged { IfOk result (λ told. (limits : Limits) (events : List (ℕ × Named)) → IsNext limits self.old events (line, named_in (tables_in block.entry) event) →
-            Judged limits self.new events self.old.shape.admitted told) }
+        ensures judged { IfOk result (λ told. (limits : Limits) (events : List (ℕ × Named)) → IsNext E.stands_for limits self.old events (line, named_in (tables_in block.entry) event) →
+            Judged E.stands_for limits self.new events self.old.shape.admitted told) }
         ensures refused { IfErr result (λ fault. (limits : Limits) (events : List (ℕ × Named)) →
-            IsNext limits self.old events (line, named_in (tables_in block.entry) event) → Refuses limits self.old events fault) }
+            IsNext E.stands_for limits self.old events (line, named_in (tables_in block.entry) event) → Refuses limits self.old events fault) }
         ensures known { OnOk result (Knows self.new.numbering (tables_in block.entry) known.new) }
     {
         let numbered = self.numbering.number(known, block, event)?;
@@ -120,7 +121,7 @@ impl Checker {
         if self.blocks.count(admitted, numbered.thread, line).is_err() {
             return Err(ShapeFault::Memory);
         }
-        match judge(&mut self.leads, &numbered, admitted) {
+        match self.engine.judge(&numbered, admitted) {
             Ok(told) => Ok(told),
             Err(_) => Err(ShapeFault::Memory),
         }
@@ -137,13 +138,13 @@ impl Checker {
         before: u32,
         most: u32,
     ) -> Result<(), (u32, Stop)>
-        requires next { AreExpected self.old before (up_to most (lines_in (tables_in block) events.now)) }
+        requires next { AreExpected E.stands_for self.old before (up_to most (lines_in (tables_in block) events.now)) }
         requires lines { before + most < 2 ^ 32 }
         ensures counted { OnOk result (self.new.shape.admitted ≡ self.old.shape.admitted + length (up_to most (lines_in (tables_in block.entry) events.now))) }
         ensures kept { OnOk result ((limits : Limits) (all : List (ℕ × Named)) →
-            AreNext limits self.old all before (up_to most (lines_in (tables_in block.entry) events.now)) → StandsFor limits self.new all) }
+            AreNext E.stands_for limits self.old all before (up_to most (lines_in (tables_in block.entry) events.now)) → StandsFor E.stands_for limits self.new all) }
         ensures stopped { IfErr result (λ stopped. (limits : Limits) (all : List (ℕ × Named)) →
-            AreNext limits self.old all before (up_to most (lines_in (tables_in block.entry) events.now)) →
+            AreNext E.stands_for limits self.old all before (up_to most (lines_in (tables_in block.entry) events.now)) →
             StopsIn limits self.new all self.old.shape.admitted before (up_to most (lines_in (tables_in block.entry) events.now)) stopped.0 stopped.1) }
     {
         let mut known = Known::new(alloc);

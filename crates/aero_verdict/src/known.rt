@@ -5,15 +5,16 @@ ghost use Rattle.aero_verdict.specs.Known.{AreKnown};
 ghost use Rattle.aero_verdict.specs.Numbers.{NumbersName, RefusesName};
 
 use aero_model::verdict::ShapeFault;
+use aero_names::list::NameList;
 use aero_names::names::{Names, NamesFault};
 use std::alloc::{AllocError, Global};
 
 // The tables of a block.
 #[derive(Clone, Copy)]
 pub(crate) struct BlockNames<'a> {
-    pub threads: &'a Names,
-    pub variables: &'a Names,
-    pub locks: &'a Names,
+    pub threads: &'a NameList,
+    pub variables: &'a NameList,
+    pub locks: &'a NameList,
 }
 
 // The numbers in the trace of the first names of each of the block's tables.
@@ -47,14 +48,14 @@ impl Known {
 pub(crate) fn number_known(
     names: &mut Names,
     known: &mut Vec<u32>,
-    block: &Names,
+    block: &NameList,
     n: u32,
     full: ShapeFault,
 ) -> Result<u32, ShapeFault>
-    requires { AreKnown names.old.names block.now.names known.old.items }
-    ensures ok { IfOk result (λ number. NumbersName names.old names.new (name_at block.now.names n) number) }
-    ensures err { IfErr result (λ fault. RefusesName names.old (name_at block.now.names n) full fault) }
-    ensures known { OnOk result (AreKnown names.new.names block.now.names known.new.items) }
+    requires { AreKnown names.old.names block.now known.old.items }
+    ensures ok { IfOk result (λ number. NumbersName names.old names.new (name_at block.now n) number) }
+    ensures err { IfErr result (λ fault. RefusesName names.old (name_at block.now n) full fault) }
+    ensures known { OnOk result (AreKnown names.new.names block.now known.new.items) }
 {
     match known.get(n as usize) {
         Some(number) => Ok(*number),
@@ -66,14 +67,14 @@ pub(crate) fn number_known(
 fn number_first(
     names: &mut Names,
     known: &mut Vec<u32>,
-    block: &Names,
+    block: &NameList,
     n: u32,
     full: ShapeFault,
 ) -> Result<u32, ShapeFault>
-    requires { AreKnown names.old.names block.now.names known.old.items }
-    ensures ok { IfOk result (λ number. NumbersName names.old names.new (name_at block.now.names n) number) }
-    ensures err { IfErr result (λ fault. RefusesName names.old (name_at block.now.names n) full fault) }
-    ensures known { OnOk result (AreKnown names.new.names block.now.names known.new.items) }
+    requires { AreKnown names.old.names block.now known.old.items }
+    ensures ok { IfOk result (λ number. NumbersName names.old names.new (name_at block.now n) number) }
+    ensures err { IfErr result (λ fault. RefusesName names.old (name_at block.now n) full fault) }
+    ensures known { OnOk result (AreKnown names.new.names block.now known.new.items) }
 {
     let Some(name) = block.name(n) else {
         // No event has a place that its table lacks.

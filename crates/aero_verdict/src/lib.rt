@@ -14,11 +14,13 @@
 #![tactic(auto)]
 
 mod blocks;
+mod by_clocks;
+mod by_leads;
 mod check;
 mod checker;
-mod judge;
+pub mod engine;
 mod known;
 pub mod laws;
 mod numbering;
 
-pub use check::check_trace;
+pub use check::{check_trace, check_trace_by};

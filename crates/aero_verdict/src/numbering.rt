@@ -17,12 +17,12 @@ pub(crate) struct Numbering {
 }
 
 impl Numbering {
-    ghost use Rattle.std.specs.Prelude.{◌≡◌, ◌≤◌, ℕ, List, [], length, slice_get, Some, IfOk, IfErr, IsOk, OnOk};
+    ghost use Rattle.std.specs.Prelude.{◌≡◌, ◌≤◌, ℕ, List, [], length, slice_get, Some, IfOk, IfErr, IsOk, OnOk, OnErr};
     ghost use Rattle.aero_model.specs.Names.{most_inline_bytes};
     ghost use Rattle.aero_grammar.specs.Words.{IsName};
     ghost use Rattle.aero_grammar.specs.Tabled.{op_of, target_in, named_in};
     ghost use Rattle.aero_verdict.specs.Known.{tables_in, Knows};
-    ghost use Rattle.aero_verdict.specs.Limited.{names_in, IsLimited, NumbersTarget, RefusesTarget, NumbersEvent, RefusesEvent};
+    ghost use Rattle.aero_verdict.specs.Limited.{names_in, IsNamedThread, HasLongName, IsLimited, NumbersTarget, RefusesTarget, NumbersEvent, RefusesEvent};
 
     // No names yet.
     pub(crate) fn new(alloc: Global, limits: &Limits) -> Numbering
@@ -36,21 +36,21 @@ impl Numbering {
         }
     }
 
-    // The name of the thread with this number, which takes no memory up to 16 bytes.
-    //
-    // An error says that memory was refused to a longer name. Numbers that no thread has, and bytes
-    // that are no name, which no event has, have it too.
+    // The name of the thread with this number, which takes no memory up to 16 bytes. An error says
+    // that memory was refused to a longer name.
     pub(crate) fn thread_name(&self, alloc: Global, t: u32) -> Result<Name, AllocError>
+        requires { IsNamedThread self.now t }
         ensures name { IfOk result (λ name. slice_get (names_in self.now).threads t ≡ Some name) }
+        ensures long { OnErr result (HasLongName self.now t) }
         ensures short { (name : List ℕ) → slice_get (names_in self.now).threads t ≡ Some name → IsName name → length name ≤ most_inline_bytes → IsOk result }
     {
         let Some(bytes) = self.threads.name(t) else {
-            return Err(AllocError);
+            unreachable!();
         };
         match Name::read(alloc, bytes) {
             Ok(name) => Ok(name),
             Err(NameFault::Memory) => Err(AllocError),
-            Err(NameFault::Empty | NameFault::TooLong | NameFault::BadByte) => Err(AllocError),
+            Err(NameFault::Empty | NameFault::TooLong | NameFault::BadByte) => unreachable!(),
         }
     }
 

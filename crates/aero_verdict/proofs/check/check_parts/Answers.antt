@@ -6,38 +6,38 @@ use Rattle.aero_verdict.proofs.Parts.{too_many, faultless}
 use Rattle.aero_verdict.proofs.check.check_parts.Goals as goal
 
 pub check_part-requires : goal.check_part-requires
-check_part-requires c = (
+check_part-requires g c = (
   c.args.parts.now,
   c.loop-part.part-index,
-  record { stands = c.loop-part.invariant; part_is = slice_get_read c.args.parts.now (length c.args.parts.now) c.loop-part.part-index c.part-item.result refl c.loop-part-test.true c.part-item.is },
+  record { so_far = c.loop-part.invariant; part_is = slice_get_read c.args.parts.now (length c.args.parts.now) c.loop-part.part-index c.part-item.result refl c.loop-part-test.true c.part-item.is },
 )
 
-pub returns-in-Some : goal.returns-in-Some
-returns-in-Some c =
+pub returns-in-Some-clause-verdict : goal.returns-in-Some-clause-verdict
+returns-in-Some-clause-verdict g c =
     let limits = c.args.limits.now in
     let parts = c.args.parts.now in
     let k = c.loop-part.part-index in
-    let next : ComesNext limits parts k c.loop-part.lines c.loop-part.checker c.part-item.result =
-    record { stands = c.loop-part.invariant; part_is = slice_get_read parts (length parts) k c.part-item.result refl c.loop-part-test.true c.part-item.is } in
-    subst (TellsPart limits parts k c.loop-part.lines c.check_part.new.checker c.part-item.result) c.in-Some.is (c.in_ok-verdict.ensures parts k next)
+    let next : ComesNext g.E.Engine.stands_for limits parts k c.loop-part.lines c.loop-part.checker c.part-item.result =
+    record { so_far = c.loop-part.invariant; part_is = slice_get_read parts (length parts) k c.part-item.result refl c.loop-part-test.true c.part-item.is } in
+    subst (TellsPart g.E.Engine.stands_for limits parts k c.loop-part.lines c.check_part.new.checker c.part-item.result) c.in-Some.is (c.in_ok-verdict.ensures.told parts k next)
 
 pub loop-part-preserved : goal.loop-part-preserved
-loop-part-preserved c =
+loop-part-preserved g c =
     let limits = c.args.limits.now in
     let parts = c.args.parts.now in
     let k = c.loop-part.part-index in
-    let next : ComesNext limits parts k c.loop-part.lines c.loop-part.checker c.part-item.result =
-    record { stands = c.loop-part.invariant; part_is = slice_get_read parts (length parts) k c.part-item.result refl c.loop-part-test.true c.part-item.is } in
-    let told = subst (TellsPart limits parts k c.loop-part.lines c.check_part.new.checker c.part-item.result) c.in_default.is (c.in_ok-verdict.ensures parts k next) in
+    let next : ComesNext g.E.Engine.stands_for limits parts k c.loop-part.lines c.loop-part.checker c.part-item.result =
+    record { so_far = c.loop-part.invariant; part_is = slice_get_read parts (length parts) k c.part-item.result refl c.loop-part-test.true c.part-item.is } in
+    let told = subst (TellsPart g.E.Engine.stands_for limits parts k c.loop-part.lines c.check_part.new.checker c.part-item.result) c.in_default.is (c.in_ok-verdict.ensures.told parts k next) in
     let lines = ap (λ (r : Reading). min (c.loop-part.lines + r.lines) greatest_number) (sym c.part.view_is) ∙ sym c.saturating_add-lines.ensures in
-    subst (λ n. Stands limits parts (k + 1) n c.check_part.new.checker) lines told
+    subst (λ n. Stands g.E.Engine.stands_for limits parts (k + 1) n c.check_part.new.checker) lines told
 
-pub returns-then-lines-limits : goal.returns-then-lines-limits
-returns-then-lines-limits c =
-    too_many c.args.limits.now c.args.parts.now c.loop-part.part-index c.loop-part.lines c.loop-part.checker c.loop-part.invariant c.loop-part-test.false c.if-lines-limits.true
+pub returns-then-lines-limits-clause-verdict : goal.returns-then-lines-limits-clause-verdict
+returns-then-lines-limits-clause-verdict g c =
+    too_many g.E.Engine.stands_for c.args.limits.now c.args.parts.now c.loop-part.part-index c.loop-part.lines c.loop-part.checker c.loop-part.invariant c.loop-part-test.false c.if-lines-limits.true
 
-pub returns : goal.returns
-returns c =
+pub returns-clause-verdict : goal.returns-clause-verdict
+returns-clause-verdict g c =
     let parts = c.args.parts.now in
     let limits = c.args.limits.now in
-    c.faultless.ensures parts limits (faultless limits parts c.loop-part.part-index c.loop-part.lines c.loop-part.checker c.loop-part.invariant c.loop-part-test.false c.if-lines-limits.false)
+    c.faultless.ensures.verdict parts limits (faultless g.E.Engine.stands_for limits parts c.loop-part.part-index c.loop-part.lines c.loop-part.checker c.loop-part.invariant c.loop-part-test.false c.if-lines-limits.false)

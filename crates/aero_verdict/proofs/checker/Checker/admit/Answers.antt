@@ -7,42 +7,42 @@ use Rattle.aero_verdict.proofs.Steps.{refused_by_limit, refused_by_shape, short_
 use Rattle.aero_verdict.proofs.checker.Checker.admit.Goals as goal
 
 pub returns-in_err-numbered-clause-refused : goal.returns-in_err-numbered-clause-refused
-returns-in_err-numbered-clause-refused c =
+returns-in_err-numbered-clause-refused g c =
     let p = err_from_is_err_and c.from_residual.result c.from_residual.ensures.1 in
-    rw (p.1, p.2) (λ limits events next. refused_by_limit limits events c.args.self.now c.args.line (named_in (tables_in c.args.block) c.args.event) (has_here (tables_in c.args.block) c.args.event.what) next c.in_err-numbered.field-0.0 c.in_err-numbered.ensures.err)
+    rw (p.1, p.2) (λ limits events next. refused_by_limit g.E.Engine.stands_for limits events c.args.self.now c.args.line (named_in (tables_in c.args.block) c.args.event) (has_here (tables_in c.args.block) c.args.event.what) next c.in_err-numbered.field-0.0 c.in_err-numbered.ensures.err)
 
 pub admit-requires : goal.admit-requires
-admit-requires c = let few = few_events c.requires.next.0 c.requires.next.1 c.args.self.now (c.args.line, (named_in (tables_in c.args.block) c.args.event)) c.requires.next.3 c.requires.next.2 in omega arith
+admit-requires g c = let few = few_events g.E.Engine.stands_for c.requires.next.0 c.requires.next.1 c.args.self.now (c.args.line, (named_in (tables_in c.args.block) c.args.event)) c.requires.next.3 c.requires.next.2 in omega arith
 
 pub returns-in_err-admitted-clause-refused : goal.returns-in_err-admitted-clause-refused
-returns-in_err-admitted-clause-refused c =
+returns-in_err-admitted-clause-refused g c =
     let p = err_from_is_err_and c.from_residual-in_err-admitted.result c.from_residual-in_err-admitted.ensures.1 in
-    rw (p.1, p.2) (λ limits events next. refused_by_shape limits events c.args.self.now c.args.line (named_in (tables_in c.args.block) c.args.event) (has_here (tables_in c.args.block) c.args.event.what) next c.number.new.self c.in_ok-numbered.numbered c.in_ok-numbered.ensures.ok c.in_err-admitted.field-0.0 (c.in_err-admitted.ensures.told _ next.0.counts.shape_stands))
+    rw (p.1, p.2) (λ limits events next. refused_by_shape g.E.Engine.stands_for limits events c.args.self.now c.args.line (named_in (tables_in c.args.block) c.args.event) (has_here (tables_in c.args.block) c.args.event.what) next c.number.new.self c.in_ok-numbered.numbered c.in_ok-numbered.ensures.ok c.in_err-admitted.field-0.0 (c.in_err-admitted.ensures.told _ next.0.counts.shape_stands))
 
 pub count-requires-clause-begun : goal.count-requires-clause-begun
-count-requires-clause-begun c =
-    let few = few_events c.requires.next.0 c.requires.next.1 c.args.self.now (c.args.line, (named_in (tables_in c.args.block) c.args.event)) c.requires.next.3 c.requires.next.2 in
-    let fewer = few_begun c.requires.next.0 c.requires.next.1 c.args.self.now c.requires.next.3.0 in
+count-requires-clause-begun g c =
+    let few = few_events g.E.Engine.stands_for c.requires.next.0 c.requires.next.1 c.args.self.now (c.args.line, (named_in (tables_in c.args.block) c.args.event)) c.requires.next.3 c.requires.next.2 in
+    let fewer = few_begun g.E.Engine.stands_for c.requires.next.0 c.requires.next.1 c.args.self.now c.requires.next.3.0 in
     omega arith
 
 pub count-requires-clause-ended : goal.count-requires-clause-ended
-count-requires-clause-ended c =
-    let few = few_events c.requires.next.0 c.requires.next.1 c.args.self.now (c.args.line, (named_in (tables_in c.args.block) c.args.event)) c.requires.next.3 c.requires.next.2 in
-    let fewer = few_ended c.requires.next.0 c.requires.next.1 c.args.self.now c.requires.next.3.0 in
+count-requires-clause-ended g c =
+    let few = few_events g.E.Engine.stands_for c.requires.next.0 c.requires.next.1 c.args.self.now (c.args.line, (named_in (tables_in c.args.block) c.args.event)) c.requires.next.3 c.requires.next.2 in
+    let fewer = few_ended g.E.Engine.stands_for c.requires.next.0 c.requires.next.1 c.args.self.now c.requires.next.3.0 in
     omega arith
 
 pub judge-requires : goal.judge-requires
-judge-requires c =
+judge-requires g c =
     let next = c.requires.next.3 in
-    short_enough c.requires.next.0 c.requires.next.1 c.args.self.now c.args.line (named_in (tables_in c.args.block) c.args.event) (has_here (tables_in c.args.block) c.args.event.what) next c.number.new.self c.in_ok-numbered.numbered c.in_ok-numbered.ensures.ok
+    short_enough g.E.Engine.stands_for c.requires.next.0 c.requires.next.1 c.args.self.now c.args.line (named_in (tables_in c.args.block) c.args.event) (has_here (tables_in c.args.block) c.args.event.what) next c.number.new.self c.in_ok-numbered.numbered c.in_ok-numbered.ensures.ok
     c.in_ok-admitted.admitted (c.in_ok-admitted.ensures.told _ next.0.counts.shape_stands) c.admit.new.self (c.in_ok-admitted.ensures.ok _ next.0.counts.shape_stands) c.requires.next.2
 
 pub returns-in-Ok-clause-judged : goal.returns-in-Ok-clause-judged
-returns-in-Ok-clause-judged c = λ limits events next.
+returns-in-Ok-clause-judged g c = λ limits events next.
     let tells = c.in_ok-admitted.ensures.told _ next.0.counts.shape_stands in
     let stands = c.in_ok-admitted.ensures.ok _ next.0.counts.shape_stands in
-    judged limits events c.args.self.now c.args.line (named_in (tables_in c.args.block) c.args.event) (has_here (tables_in c.args.block) c.args.event.what) next c.number.new.self c.in_ok-numbered.numbered c.in_ok-numbered.ensures.ok
+    judged g.E.Engine.stands_for limits events c.args.self.now c.args.line (named_in (tables_in c.args.block) c.args.event) (has_here (tables_in c.args.block) c.args.event.what) next c.number.new.self c.in_ok-numbered.numbered c.in_ok-numbered.ensures.ok
     c.in_ok-admitted.admitted tells c.admit.new.self stands
     c.count.new.self (on_ok_here c.count.result _ (sym c.if-is_err.ensures.value) c.count.ensures) c.in-Ok.told _ refl refl refl
-    (c.in-Ok.ensures _ (comes_after limits events c.args.self.now c.args.line (named_in (tables_in c.args.block) c.args.event) (has_here (tables_in c.args.block) c.args.event.what) next c.number.new.self c.in_ok-numbered.numbered c.in_ok-numbered.ensures.ok
+    (c.in-Ok.ensures _ (comes_after g.E.Engine.stands_for limits events c.args.self.now c.args.line (named_in (tables_in c.args.block) c.args.event) (has_here (tables_in c.args.block) c.args.event.what) next c.number.new.self c.in_ok-numbered.numbered c.in_ok-numbered.ensures.ok
     c.in_ok-admitted.admitted tells c.admit.new.self stands))

@@ -13,48 +13,48 @@ abbrev no_line : ℕ × Numbered
 no_line = (0, record { thread = 0; what = Read 0 })
 
 pub admit-requires-clause-next : goal.admit-requires-clause-next
-admit-requires-clause-next c =
+admit-requires-clause-next g c =
     let t = tables_in c.args.block in
     let less = c.loop-line-test.true in
-    expected c.args.self.now c.loop-line.self (lines_in t c.args.events.now) c.args.before c.args.most c.loop-line.line-index c.loop-line.invariant.admits (line_less t c.args.events.now c.loop-line.line-index less)
+    expected g.E.Engine.stands_for c.args.self.now c.loop-line.self (lines_in t c.args.events.now) c.args.before c.args.most c.loop-line.line-index c.loop-line.invariant.admits (line_less t c.args.events.now c.loop-line.line-index less)
     (line_in t (slice_index_or c.args.events.now c.loop-line.line-index no_line)) (line_at t c.args.events.now c.loop-line.line-index no_line less)
     c.if-line-most.false c.requires.next
 
 pub returns-in-Ok-Some-clause-stopped : goal.returns-in-Ok-Some-clause-stopped
-returns-in-Ok-Some-clause-stopped c =
+returns-in-Ok-Some-clause-stopped g c =
     let t = tables_in c.args.block in
     let less = c.loop-line-test.true in
-    closed_in c.args.self.now c.loop-line.self (lines_in t c.args.events.now) c.args.before c.args.most c.loop-line.line-index c.loop-line.invariant.admits (line_less t c.args.events.now c.loop-line.line-index less)
+    closed_in g.E.Engine.stands_for c.args.self.now c.loop-line.self (lines_in t c.args.events.now) c.args.before c.args.most c.loop-line.line-index c.loop-line.invariant.admits (line_less t c.args.events.now c.loop-line.line-index less)
     (line_in t (slice_index_or c.args.events.now c.loop-line.line-index no_line)) (line_at t c.args.events.now c.loop-line.line-index no_line less)
     c.if-line-most.false c.admit.new.self c.in-Ok-Some.t c.in-Ok-Some.field-0 c.in-Ok-Some.field-0-is c.in-Ok-Some.ensures.counted c.in-Ok-Some.ensures.judged
 
 pub returns-in-Err-clause-stopped : goal.returns-in-Err-clause-stopped
-returns-in-Err-clause-stopped c =
+returns-in-Err-clause-stopped g c =
     let t = tables_in c.args.block in
     let less = c.loop-line-test.true in
-    refused_in c.args.self.now c.loop-line.self (lines_in t c.args.events.now) c.args.before c.args.most c.loop-line.line-index c.loop-line.invariant.admits (line_less t c.args.events.now c.loop-line.line-index less)
+    refused_in g.E.Engine.stands_for c.args.self.now c.loop-line.self (lines_in t c.args.events.now) c.args.before c.args.most c.loop-line.line-index c.loop-line.invariant.admits (line_less t c.args.events.now c.loop-line.line-index less)
     (line_in t (slice_index_or c.args.events.now c.loop-line.line-index no_line)) (line_at t c.args.events.now c.loop-line.line-index no_line less)
     c.if-line-most.false c.admit.new.self c.in-Err.fault c.in-Err.ensures.refused
 
 pub loop-line-preserved-then-line-most : goal.loop-line-preserved-then-line-most
-loop-line-preserved-then-line-most c =
+loop-line-preserved-then-line-most g c =
     let t = tables_in c.args.block in
     let less = c.loop-line-test.true in
     record {
       admits =
-          passed_over c.args.self.now c.loop-line.self (lines_in t c.args.events.now) c.args.before c.args.most c.loop-line.line-index c.loop-line.invariant.admits (line_less t c.args.events.now c.loop-line.line-index less)
+          passed_over g.E.Engine.stands_for c.args.self.now c.loop-line.self (lines_in t c.args.events.now) c.args.before c.args.most c.loop-line.line-index c.loop-line.invariant.admits (line_less t c.args.events.now c.loop-line.line-index less)
           (line_in t (slice_index_or c.args.events.now c.loop-line.line-index no_line)) (line_at t c.args.events.now c.loop-line.line-index no_line less)
           c.if-line-most.true;
       known = c.loop-line.invariant.known;
     }
 
 pub loop-line-preserved : goal.loop-line-preserved
-loop-line-preserved c =
+loop-line-preserved g c =
     let t = tables_in c.args.block in
     let less = c.loop-line-test.true in
     record {
       admits =
-          one_more c.args.self.now c.loop-line.self (lines_in t c.args.events.now) c.args.before c.args.most c.loop-line.line-index c.loop-line.invariant.admits (line_less t c.args.events.now c.loop-line.line-index less)
+          one_more g.E.Engine.stands_for c.args.self.now c.loop-line.self (lines_in t c.args.events.now) c.args.before c.args.most c.loop-line.line-index c.loop-line.invariant.admits (line_less t c.args.events.now c.loop-line.line-index less)
           (line_in t (slice_index_or c.args.events.now c.loop-line.line-index no_line)) (line_at t c.args.events.now c.loop-line.line-index no_line less)
           c.if-line-most.false c.admit.new.self c.in-Ok-None.field-0 c.in-Ok-None.field-0-is c.in-Ok-None.ensures.counted c.in-Ok-None.ensures.judged;
       known = c.in-Ok-None.ensures.known;

@@ -1,4 +1,4 @@
-//! An admitted event after those before it.
+//! First places as an engine.
 ghost use Rattle.std.specs.Prelude.{◌≡◌, ◌++◌, ◌∷◌, [], List, length, None, IfOk};
 ghost use Rattle.aero_model.specs.declared.numbered.Numbered.{Numbered};
 ghost use Rattle.aero_model.specs.declared.numbered.What.{What};
@@ -19,8 +19,8 @@ pub(crate) fn judge(
     event: &Numbered,
     admitted: Admitted,
 ) -> Result<Option<u32>, Spent>
-    requires { IsAdmitted leads.old event.now admitted }
-    ensures { (h : List Numbered) → ComesAfter leads.old h event.now admitted → IfOk result (Tells leads.new (h ++ event.now ∷ []) (length h)) }
+    requires { IsAdmitted (StandsFor leads.old) event.now admitted }
+    ensures { (h : List Numbered) → ComesAfter (StandsFor leads.old) h event.now admitted → IfOk result (Tells leads.new (h ++ event.now ∷ []) (length h)) }
 {
     let t = event.thread;
     match admitted {
@@ -33,8 +33,8 @@ pub(crate) fn judge(
 
 // The same of an event that is no outermost begin or end, and no join of a thread that has not acted.
 fn act(leads: &mut Leads, t: u32, what: What) -> Result<Option<u32>, Spent>
-    requires { IsToAct leads.old t what }
-    ensures { (h : List Numbered) → ActsAfter leads.old h t what → IfOk result (Tells leads.new (h ++ event t what ∷ []) (length h)) }
+    requires { IsToAct (StandsFor leads.old) t what }
+    ensures { (h : List Numbered) → ActsAfter (StandsFor leads.old) h t what → IfOk result (Tells leads.new (h ++ event t what ∷ []) (length h)) }
 {
     match what {
         What::Read(x) => leads.read(t, x),
@@ -49,8 +49,8 @@ fn act(leads: &mut Leads, t: u32, what: What) -> Result<Option<u32>, Spent>
 
 // The same of a join of a thread that has not acted.
 fn join_idle(leads: &mut Leads, event: &Numbered) -> Result<Option<u32>, Spent>
-    requires { IsAdmitted leads.old event.now IdleJoin }
-    ensures { (h : List Numbered) → ComesAfter leads.old h event.now IdleJoin → IfOk result (Tells leads.new (h ++ event.now ∷ []) (length h)) }
+    requires { IsAdmitted (StandsFor leads.old) event.now IdleJoin }
+    ensures { (h : List Numbered) → ComesAfter (StandsFor leads.old) h event.now IdleJoin → IfOk result (Tells leads.new (h ++ event.now ∷ []) (length h)) }
 {
     pass(leads, event.thread)
 }

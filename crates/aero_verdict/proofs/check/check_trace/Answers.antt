@@ -1,5 +1,0 @@
-use Rattle.aero_verdict.proofs.Parts.{nothing_yet}
-use Rattle.aero_verdict.proofs.check.check_trace.Goals as goal
-
-pub check_parts-requires : goal.check_parts-requires
-check_parts-requires c = nothing_yet c.args.limits.now c.args.parts.now c.new-checker.result c.new-checker.ensures.none c.new-checker.ensures.kept
