@@ -2,7 +2,6 @@
 use Rattle.std.proofs.Common.{◌≡◌, ℕ, zero, suc, ◌-◌, Bool, true, false, List, [], ◌∷◌, map, slice_get, slice_set, Option, Some, None, refl, sym, subst, ◌∙◌, ap, ap₂, arith}
 use Rattle.std.specs.Prelude.{is_none, nat_le, if◌then◌else◌, length}
 use Rattle.std.proofs.lemmas.List.{length-map}
-use Rattle.std.proofs.lemmas.List.Elements.{All-head}
 use Rattle.aero_pieces.specs.declared.question.Question.{Question}
 use Rattle.aero_pieces.specs.declared.answer.Value.{Value}
 use Rattle.aero_pieces.specs.Schedule.{Entry, noted, with_note}
@@ -11,10 +10,8 @@ use Rattle.aero_gather.specs.declared.gather.Accepted.{Accepted}
 use Rattle.aero_gather.specs.declared.gather.Accepted.TheVariants.{Kept, Repeated, Stranger}
 use Rattle.std.proofs.lemmas.Bool.{le-leb}
 use Rattle.aero_gather.specs.declared.gather.Oldest.TheVariants.{Awaited, Missed, Kept as Kept_oldest}
-use Rattle.std.specs.Prelude.{IfSome, All, option_map}
-use Rattle.aero_pieces.specs.Values.{IsValueOf}
-use Rattle.aero_pieces.specs.Schedule.{IsWorkedOut, settled_value}
-use Rattle.aero_gather.specs.Gathered.{Settles}
+use Rattle.std.specs.Prelude.{IfOk, Result, Ok, Err, option_map}
+use Rattle.aero_gather.specs.Gathered.{Settles, GivesKnown}
 use Rattle.aero_batch.specs.Inquiries.{Gives, SettlesKnown, questions_of}
 use Rattle.aero_intake.specs.Stories.{trace_of}
 
@@ -82,23 +79,16 @@ missed_ends old ticket is awaits =
     ap (λ b. if b then noted old.entries (gone - gone) (slice_get old.entries (gone - gone)) else old.entries) (le-leb gone gone (omega (arith))) ∙ ap (λ n. noted old.entries n (slice_get old.entries n)) none in
     first_noted old.entries (subst (λ es. oldest_of es ≡ Awaited) there (subst (λ k. oldest_of (with_note gone k old.entries) ≡ Awaited) is awaits))
 
-known_value : (q : Question) (value : Option Value) (missed : Bool) (v : Value) → IfSome value (IsValueOf q) → IsWorkedOut (record { question = q; value = value; missed = missed }) v →
-    IsValueOf q (settled_value (record { question = q; value = value; missed = missed }) v)
-known_value q None missed v kept out = out
-known_value q (Some k) missed v kept out = kept
+-- what is given is one of the question's values
+given_known : (old new : Gathered) (entries : List Entry) (given : Option Value) → Settles old entries new given → GivesKnown entries given → SettlesKnown old entries new given
+given_known old new [] given is known = is
+given_known old new (e ∷ more) given is known =
+    (known.0, known.1, known.2, ap (λ g. g.entries) is.3, ap (λ g. g.tally.asked) is.3, ap (λ g. g.window) is.3)
 
--- the value that is given is one of the question
-pub settles_known : (old new : Gathered) (entries : List Entry) (given : Option Value) → All (λ e. IfSome e.value (IsValueOf e.question)) entries →
-    Settles old entries new given → SettlesKnown old entries new given
-settles_known old new [] given all is = is
-settles_known old new (e ∷ more) given all is = (
-  settled_value e is.0,
-  known_value e.question e.value e.missed is.0 (All-head (λ d. IfSome d.value (IsValueOf d.question)) e more all) is.1,
-  is.2,
-  ap (λ g. g.entries) is.3,
-  ap (λ g. g.tally.asked) is.3,
-  ap (λ g. g.window) is.3,
-)
+pub settles_known : {E : Type 0} (old new : Gathered) (r : Result (Option Value) E) → IfOk r (λ given. Settles old old.entries new given) → IfOk r (λ given. GivesKnown old.entries given) →
+    IfOk r (λ given. SettlesKnown old old.entries new given)
+settles_known old new (Ok given) is known = given_known old new old.entries given is known
+settles_known old new (Err e) is known = tt
 
 pub gives_front : (old new : Gathered) (entries : List Entry) (q : Question) (v : Value) → Some q ≡ option_map (λ e. e.question) (slice_get entries 0) →
     SettlesKnown old entries new (Some v) → (asked : ℕ) → old.tally.asked ≡ asked →

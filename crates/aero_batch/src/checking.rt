@@ -1,5 +1,6 @@
 //! Asking for the verdicts of whole sources, and settling what was asked.
-ghost use Rattle.std.specs.Prelude.{◌≡◌, ◌<◌, ◌-◌, ◌^◌, length, vec_len, slice_get, OnOk};
+ghost use Rattle.std.specs.Prelude.{◌≡◌, ◌<◌, ◌-◌, ◌^◌, length, vec_len, slice_get, IfOk, OnOk};
+ghost use Rattle.std.specs.Arc.{arc_value};
 ghost use Rattle.aero_batch.specs.Steps.{MayAsk, ChecksNext, SettlesNext, with_check};
 ghost use Rattle.aero_intake.specs.Tracks.{IsReady, with_value};
 ghost use Rattle.aero_intake.specs.Stories.{changed};
@@ -12,7 +13,7 @@ use aero_model::limits::Limits;
 use aero_pieces::answer::Value;
 use aero_pieces::question::Question;
 use std::alloc::{AllocError, Global};
-use std::sync::Wait;
+use std::sync::{Arc, Wait};
 
 /// Asks for the verdict on the next source, where it needs one.
 pub fn check_next<H: Helpers, T: Wait>(
@@ -58,13 +59,24 @@ fn ask_check<H: Helpers, T: Wait>(
     let Some(readings) = readings else {
         return Ok(());
     };
-    let question = Question::Check {
+    let question = check_question(alloc, limits, trace, readings)?;
+    inquiry.ask(rt, helpers, question)
+}
+
+fn check_question(
+    alloc: Global,
+    limits: &Limits,
+    trace: u64,
+    readings: Readings,
+) -> Result<Arc<Question, Global>, AllocError>
+    ensures { IfOk result (λ question. arc_value question ≡ Question.Check trace readings limits.now) }
+{
+    Question::Check {
         trace,
         parsed: readings.into_parts(),
         limits: *limits,
     }
-    .share(alloc)?;
-    inquiry.ask(rt, helpers, question)
+    .share(alloc)
 }
 
 /// Settles the oldest open question, if there is one: its value goes to the track of its source.

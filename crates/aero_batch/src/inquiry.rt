@@ -6,7 +6,7 @@ ghost use Rattle.aero_batch.specs.Inquiries.{nothing_asked, with_question, Gives
 ghost use Rattle.aero_intake.specs.Stories.{trace_of};
 
 use crate::helpers::Helpers;
-use crate::replies::{Listening, await_oldest, hear, is_answered};
+use crate::replies::{Listening, await_oldest, hear, is_answered, miss};
 use aero_gather::gather::{Gather, Tally, Ticket};
 use aero_pieces::answer::Value;
 use aero_pieces::question::Question;
@@ -153,7 +153,7 @@ fn post<H: Helpers, R: Wait>(
     if !is_alone && is_posted(rt, helpers, ticket, question) {
         return true;
     }
-    gather.note_missed(ticket);
+    miss(gather, ticket);
     false
 }
 
@@ -186,8 +186,6 @@ fn settle_known(gather: &mut Gather) -> Result<Option<Value>, AllocError>
     ensures known { IfOk result (λ given. SettlesKnown gather.old gather.old.entries gather.new given) }
     ensures unchanged { OnErr result (gather.new ≡ gather.old) }
 {
-    // The kept values are those of their questions.
-    let _ = gather.tally();
     gather.settle()
 }
 

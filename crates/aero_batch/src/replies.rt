@@ -1,6 +1,6 @@
 //! Taking the replies of helpers, who may say what they like.
 ghost use Rattle.std.specs.Prelude.{◌≡◌, ◌<◌, ◌-◌, ◌+◌, ◌↔◌, ◌⊎◌, true, false, length, IsTrue, if◌then◌else◌};
-ghost use Rattle.aero_gather.specs.Gathered.{oldest_of};
+ghost use Rattle.aero_gather.specs.Gathered.{IsAwaited, oldest_of, with_missed};
 ghost use Rattle.aero_batch.specs.Inquiries.{Heeds, questions_of};
 
 use crate::helpers::Helpers;
@@ -139,7 +139,7 @@ fn give_up(gather: &mut Gather, oldest: Ticket)
     ensures asked { gather.new.tally.asked ≡ gather.old.tally.asked }
     ensures window { gather.new.window ≡ gather.old.window }
 {
-    gather.note_missed(oldest);
+    miss(gather, oldest);
 }
 
 // Takes a reply: an answer is accepted, and where none comes the question is noted as missed. The
@@ -152,6 +152,16 @@ fn take_reply(gather: &mut Gather, reply: Reply) -> bool
 {
     match reply {
         Reply::Done(answer) => gather.accept(answer) == Accepted::Kept,
-        Reply::Missed(number) => gather.note_missed(Ticket { number }),
+        Reply::Missed(number) => miss(gather, Ticket { number }),
     }
+}
+
+/// Notes the question with this ticket as missed, unless it has an answer or isn't open, and says
+/// whether that is news.
+pub fn miss(gather: &mut Gather, ticket: Ticket) -> bool
+    ensures news { IsTrue result ↔ IsAwaited gather.old ticket.number }
+    ensures noted { gather.new ≡ with_missed gather.old ticket.number }
+    ensures questions { questions_of gather.new ≡ questions_of gather.old }
+{
+    gather.note_missed(ticket)
 }

@@ -202,8 +202,15 @@ fn advance<R: Read, W: Write, H: Helpers, T: Wait>(
     }
     match step(rt, alloc, limits, sources, helpers, progress) {
         Ok(()) => Ok(false),
-        Err(_) => Err(Cause::Memory),
+        Err(refused) => Err(cause_of(refused)),
     }
+}
+
+// Why a run stops whose step was refused.
+fn cause_of(_refused: AllocError) -> Cause
+    ensures { result ≡ Cause.Memory }
+{
+    Cause::Memory
 }
 
 // Writes the next line, where it is found what it is to say. The answer says whether it is.

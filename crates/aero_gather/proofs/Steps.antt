@@ -1,16 +1,17 @@
 -- Each call keeps what a gatherer keeps.
 use Rattle.std.proofs.Common.{◌≡◌, ℕ, zero, suc, ◌+◌, ◌-◌, ◌<◌, ◌≤◌, Bool, true, cond, List, [], ◌∷◌, length, get_or, slice_get, slice_set, Option, Some, None, is_none, is_some, IfSome, drop, refl, sym, ◌∙◌, ap, subst, arith}
-use Rattle.std.specs.Prelude.{count_by}
+use Rattle.std.specs.Prelude.{count_by, All}
 use Rattle.std.proofs.lemmas.Bool.{le-leb}
 use Rattle.std.proofs.lemmas.List.{length-set}
-use Rattle.std.proofs.lemmas.List.Elements.{All-set}
+use Rattle.std.proofs.lemmas.List.Elements.{All-head, All-set}
 use Rattle.std.proofs.lemmas.List.Sums.{sum_by-cons}
 use Rattle.std.proofs.lemmas.Option.{get_or_from_slice_get}
 use Rattle.aero_pieces.specs.declared.question.Question.{Question}
 use Rattle.aero_pieces.specs.declared.answer.Value.{Value}
 use Rattle.aero_pieces.specs.Values.{IsValueOf}
 use Rattle.aero_pieces.specs.Schedule.{Entry, IsWaiting, NoneWaits, Keeps, noted, with_note}
-use Rattle.aero_gather.specs.Gathered.{Gathered, IsGathered, IsOldestWaiting, IsOpenQuestion, Settles}
+use Rattle.aero_gather.specs.declared.gather.Tally.{Tally}
+use Rattle.aero_gather.specs.Gathered.{Gathered, IsGathered, IsOldestWaiting, IsOpenQuestion, Settles, GivesKnown}
 
 abbrev pub waiting : Entry → ℕ
 waiting e = cond (is_none e.value) 1 0
@@ -65,21 +66,25 @@ module _ (g : Gathered) (is : IsGathered g) where
   pub kept_below_asked : (q : Question) (place : ℕ) → IsOldestWaiting q g.entries place → g.tally.kept < g.tally.asked
   kept_below_asked q place w = omega (arith, is.counts, some_wait g.entries place w.entry w.at_place w.waits.1)
 
-  pub kept_gathered : (q : Question) (v : Value) (place : ℕ) (s : Entry) → IsOldestWaiting q g.entries place → s ≡ get_or g.entries place s → IsValueOf q v →
+  pub kept_gathered : (q : Question) (v : Value) (place : ℕ) (s : Entry) (t : Tally) → t ≡ record g.tally { kept = g.tally.kept + 1 } →
+      IsOldestWaiting q g.entries place → s ≡ get_or g.entries place s → IsValueOf q v →
       IsGathered (record {
         window = g.window;
         entries = slice_set g.entries place (record { question = s.question; value = Some v; missed = s.missed });
-        tally = record { asked = g.tally.asked; kept = g.tally.kept + 1; done_here = g.tally.done_here };
+        tally = t;
       })
   unfolding keeps_at
-  kept_gathered q v place s w at known =
+  kept_gathered q v place s t one_more w at known =
       let k = keeps_at q v g.entries place s w at in
       let new : Entry = record { question = s.question; value = Some v; missed = s.missed } in
       let waited : waiting s ≡ 1 = ap (λ o. cond (is_none o) 1 0) k.waits.1 in
+      let asked : t.asked ≡ g.tally.asked = ap (λ (x : Tally). x.asked) one_more in
+      let kept : t.kept ≡ g.tally.kept + 1 = ap (λ (x : Tally). x.kept) one_more in
+      let done : t.done_here ≡ g.tally.done_here = ap (λ (x : Tally). x.done_here) one_more in
       record {
         room = omega (arith, is.room, length-set g.entries place new);
-        open_were_asked = omega (arith, is.open_were_asked, length-set g.entries place new);
-        counts = omega (arith, is.counts, count_set g.entries place s new k.at_place, waited);
+        open_were_asked = omega (arith, is.open_were_asked, length-set g.entries place new, asked);
+        counts = omega (arith, is.counts, count_set g.entries place s new k.at_place, waited, asked, kept, done);
         values = All-set (λ e. IfSome e.value (IsValueOf e.question)) g.entries place new (subst (λ p. IsValueOf p v) (sym k.waits.0) known) is.values;
       }
 
@@ -125,3 +130,21 @@ same_open q p xs ys same are is_open = subst (λ r. IsOpenQuestion r ys) same (s
 
 pub same_waits : (q p : Question) (xs ys : List Entry) → q ≡ p → xs ≡ ys → NoneWaits q xs (length xs) → NoneWaits p ys (length ys)
 same_waits q p xs ys same are none = subst (λ r. NoneWaits r ys (length ys)) same (subst (λ zs. NoneWaits q zs (length zs)) are none)
+
+abbrev with_tally : ℕ → List Entry → Tally → Gathered
+with_tally window entries t = record { window = window; entries = entries; tally = t }
+
+pub same_tally : (window : ℕ) (entries : List Entry) (t u : Tally) → t ≡ u → with_tally window entries t ≡ with_tally window entries u
+same_tally window entries t u same = ap (with_tally window entries) same
+
+some_known : (q : Question) (value : Option Value) → is_some value ≡ true → IfSome value (IsValueOf q) → (v : Value) × IsValueOf q v × (value ≡ Some v)
+some_known q None has_value known = cc
+some_known q (Some v) has_value known = (v, known, refl)
+
+-- the value that was kept for the oldest is one of it
+pub kept_known : (entries : List Entry) (f s : Entry) → 0 < length entries → f ≡ get_or entries 0 f → s ≡ get_or entries 0 s → is_some f.value ≡ true →
+    All (λ e. IfSome e.value (IsValueOf e.question)) entries → GivesKnown entries s.value
+kept_known [] f s some first same has_value known = absurd (omega (arith, some))
+kept_known (e ∷ tail) f s some first same has_value known =
+    subst (λ (x : Entry). GivesKnown (e ∷ tail) x.value) (sym same)
+    (some_known e.question e.value (subst (λ (x : Entry). is_some x.value ≡ true) first has_value) (All-head (λ d. IfSome d.value (IsValueOf d.question)) e tail known))

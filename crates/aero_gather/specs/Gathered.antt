@@ -76,3 +76,8 @@ Settles old [] new given = (given ≡ None) × (new ≡ old)
 Settles old (e ∷ more) new given =
     (v : Value) × IsWorkedOut e v × (given ≡ Some (settled_value e v))
     × (new ≡ record { window = old.window; entries = more; tally = record old.tally { done_here = if is_some e.value then old.tally.done_here else old.tally.done_here + 1 } })
+
+-- what is given is a value of the oldest open question, where one is open
+abbrev pub GivesKnown : List Entry → Option Value → Type 0
+GivesKnown [] given = given ≡ None
+GivesKnown (e ∷ more) given = (v : Value) × IsValueOf e.question v × (given ≡ Some v)

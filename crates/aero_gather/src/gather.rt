@@ -1,9 +1,9 @@
 //! Open questions in their order, and the answers that are kept for them.
-ghost use Rattle.std.specs.Prelude.{◌≡◌, ◌<◌, ◌≤◌, ◌^◌, ◌-◌, ◌↔◌, length, slice_get, option_map, IsTrue, IfOk, IfErr, OnOk, OnErr};
+ghost use Rattle.std.specs.Prelude.{◌≡◌, ◌<◌, ◌≤◌, ◌^◌, ◌+◌, ◌-◌, ◌↔◌, length, slice_get, option_map, IsTrue, IfOk, IfErr, OnOk, OnErr};
 ghost use Rattle.std.specs.Arc.{arc_value};
-ghost use Rattle.aero_gather.specs.Gathered.{IsGathered, Accepts, Settles, IsAwaited, nothing_gathered, with_asked, with_missed, oldest_of};
+ghost use Rattle.aero_gather.specs.Gathered.{IsGathered, Accepts, Settles, GivesKnown, IsAwaited, nothing_gathered, with_asked, with_missed, oldest_of};
 
-use crate::slot::{Slot, has_question, miss, oldest_waiting};
+use crate::slot::{Slot, has_question, miss, oldest_waiting, state};
 use aero_pieces::answer::{Answer, Value};
 use aero_pieces::question::Question;
 use std::alloc::{AllocError, Global};
@@ -132,7 +132,7 @@ impl Gather {
             Some(place) => {
                 let slot = &mut self.slots[place];
                 slot.value = Some(answer.into_value());
-                self.tally.kept += 1;
+                self.tally = with_kept(self.tally);
                 Accepted::Kept
             }
             None if has_question(&self.slots, answer.question()) => Accepted::Repeated,
@@ -160,9 +160,7 @@ impl Gather {
     {
         match self.slots.first() {
             None => Oldest::Nothing,
-            Some(slot) if slot.value.is_some() => Oldest::Kept,
-            Some(slot) if slot.missed => Oldest::Missed,
-            Some(_) => Oldest::Awaited,
+            Some(slot) => state(slot),
         }
     }
 
@@ -191,6 +189,7 @@ impl Gather {
     /// says that memory for working it out was refused.
     pub fn settle(&mut self) -> Result<Option<Value>, AllocError>
         ensures settled { IfOk result (λ given. Settles self.old self.old.entries self.new given) }
+        ensures known { IfOk result (λ given. GivesKnown self.old.entries given) }
         ensures unchanged { OnErr result (self.new ≡ self.old) }
     {
         if self.slots.is_empty() {
@@ -200,10 +199,44 @@ impl Gather {
         if front.value.is_none() {
             let value = front.question.value(self.alloc)?;
             self.slots.remove(0);
-            self.tally.done_here += 1;
+            self.tally = with_done_here(self.tally);
             return Ok(Some(value));
         }
         let Slot { value, .. } = self.slots.remove(0);
         Ok(value)
+    }
+}
+
+// With one more answer that was kept.
+fn with_kept(tally: Tally) -> Tally
+    requires { tally.kept < tally.asked }
+    ensures { result ≡ record tally { kept = tally.kept + 1 } }
+{
+    let Tally {
+        asked,
+        kept,
+        done_here,
+    } = tally;
+    Tally {
+        asked,
+        kept: kept + 1,
+        done_here,
+    }
+}
+
+// With one more value that was worked out where its question was settled.
+fn with_done_here(tally: Tally) -> Tally
+    requires { tally.done_here < tally.asked }
+    ensures { result ≡ record tally { done_here = tally.done_here + 1 } }
+{
+    let Tally {
+        asked,
+        kept,
+        done_here,
+    } = tally;
+    Tally {
+        asked,
+        kept,
+        done_here: done_here + 1,
     }
 }

@@ -1,8 +1,9 @@
 //! An open question, and the search for the one that an answer is for.
 ghost use Rattle.std.specs.Prelude.{◌≡◌, ◌↔◌, length, IsTrue, IfSome, IfNone, None, true, false, is_none, if◌then◌else◌};
 ghost use Rattle.aero_pieces.specs.Schedule.{NoneWaits};
-ghost use Rattle.aero_gather.specs.Gathered.{IsOldestWaiting, IsOpenQuestion};
+ghost use Rattle.aero_gather.specs.Gathered.{IsOldestWaiting, IsOpenQuestion, state_of};
 
+use crate::gather::Oldest;
 use aero_pieces::answer::Value;
 use aero_pieces::question::Question;
 use aero_pieces::same;
@@ -64,4 +65,17 @@ pub fn miss(slot: &mut Slot) -> bool
         return false;
     }
     !mem::replace(&mut slot.missed, true)
+}
+
+// What is known of an open question.
+pub fn state(slot: &Slot) -> Oldest
+    ensures { result ≡ state_of slot.now.value slot.now.missed }
+{
+    if slot.value.is_some() {
+        return Oldest::Kept;
+    }
+    if slot.missed {
+        return Oldest::Missed;
+    }
+    Oldest::Awaited
 }

@@ -1,4 +1,5 @@
-//! Tests of the crates that a run over many sources is made of: questions, the gatherer and reports.
+//! Tests of the crates that a run over many sources is made of: questions, the gatherer, the queue, the
+//! crew, and reports.
 //!
 //! A crate with tests is proved twice, with them and without, so they stand here, above all of the
 //! crates, and each is proved once. A module has the tests of the crate that it is named for. It has
@@ -13,3 +14,7 @@ mod intake;
 mod pieces;
 #[cfg(test)]
 mod report;
+#[cfg(test)]
+mod stage;
+#[cfg(test)]
+mod worker;

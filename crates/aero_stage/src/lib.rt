@@ -28,8 +28,6 @@ mod ends;
 mod job;
 pub mod laws;
 mod rule;
-#[cfg(test)]
-mod tests;
 
 pub use ends::{Full, Poster, Taker, stage};
 pub use job::Job;

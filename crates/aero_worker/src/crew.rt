@@ -147,8 +147,13 @@ impl Crew {
         Crew::start_with(rt, alloc, n, gate, STACK)
     }
 
-    // The same, with so many bytes for the stack of each worker. Where they are too many no thread is made.
-    pub(crate) fn start_with<G: Gate + Drop + 'static, R: Threads + Wait + Copy + Send + 'static>(
+    /// The same, with so many bytes for the stack of each worker, in the place of 8 MiB. Where the system
+    /// gives no stack of so many no worker is started.
+    ///
+    /// # Errors
+    ///
+    /// An `AllocError` says that memory was refused. No worker was started then.
+    pub fn start_with<G: Gate + Drop + 'static, R: Threads + Wait + Copy + Send + 'static>(
         rt: R,
         alloc: Global,
         n: u32,

@@ -36,10 +36,8 @@ pub mod laws;
 mod reply;
 mod seed;
 mod shift;
-#[cfg(test)]
-mod tests;
 
 pub use crew::{Crew, CrewReport};
 pub use gate::{Gate, NoGate};
 pub use helpers::Helpers;
-pub use reply::Reply;
+pub use reply::{Reply, reply_with};

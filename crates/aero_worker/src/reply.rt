@@ -17,12 +17,9 @@ pub enum Reply {
     Missed(u64),
 }
 
-// The reply to the job with this number, whose answer was worked out or refused.
-pub(crate) fn reply_with<G: Gate>(
-    gate: &G,
-    number: u64,
-    answer: Result<Answer, AllocError>,
-) -> Reply
+/// The reply to the job with this number, whose answer was worked out, or to which memory was refused, by
+/// a worker or by a helper of the caller's own. The gate is lent the answer, if there is one.
+pub fn reply_with<G: Gate>(gate: &G, number: u64, answer: Result<Answer, AllocError>) -> Reply
     ensures done { IfOk answer (λ answer. result ≡ Reply.Done answer) }
     ensures missed { IfErr answer (λ _. result ≡ Reply.Missed number) }
 {

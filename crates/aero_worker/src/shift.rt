@@ -28,7 +28,7 @@ impl Promise<Shift> for Honest {
 }
 
 // Sends a reply, which takes no memory. It waits for room, and where the receiver is gone the reply is dropped.
-pub(crate) fn tell<R: Wait>(rt: &R, replies: &Sender<Reply>, reply: Reply) {
+fn tell<R: Wait>(rt: &R, replies: &Sender<Reply>, reply: Reply) {
     let _ = replies.send(rt, reply);
 }
 

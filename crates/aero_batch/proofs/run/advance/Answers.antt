@@ -1,6 +1,7 @@
 use Rattle.std.proofs.Common.{map, refl, sym, subst, arith}
 use Rattle.std.proofs.KnownBytes.{Appends-nil}
 use Rattle.aero_model.specs.CallCounts.{Seen, seen_by}
+use Rattle.aero_batch.specs.declared.outcome.Cause.{Cause}
 use Rattle.aero_batch.specs.declared.outcome.Cause.TheVariants.{Memory}
 use Rattle.aero_batch.specs.declared.told.Told.{Told}
 use Rattle.std.specs.Prelude.{Some}
@@ -29,5 +30,7 @@ returns-in-Err-clause-stopped g c = λ old before st.
     let same = c.in_ok-tell_ready.ensures.unchanged c.if-branch.false in
     let stops = memory_stops limits old now after before mid mid c.args.progress.now c.args.told.now st (λ s less. c.step.ensures.others s (λ e. omega (arith, less, e))) c.step.ensures.names
     (record { went = Appends-nil mid.bytes; faults = refl }) in
-    subst (λ (s : Seen). WasRun limits old after before s c.tell_ready.new.told.endings.items c.tell_ready.new.told.counts (Some Memory)) (sym same.0)
-    (subst (λ (t : Told). WasRun limits old after before mid t.endings.items t.counts (Some Memory)) (sym same.1) stops)
+    let told = c.tell_ready.new.told in
+    subst (λ (x : Cause). WasRun limits old after before (seen_by g.W.Write.contents c.tell_ready.new.writer) told.endings.items told.counts (Some x)) (sym c.cause_of.ensures)
+    (subst (λ (s : Seen). WasRun limits old after before s told.endings.items told.counts (Some Memory)) (sym same.0)
+    (subst (λ (t : Told). WasRun limits old after before mid t.endings.items t.counts (Some Memory)) (sym same.1) stops))

@@ -1,7 +1,7 @@
 ghost use Rattle.std.specs.Prelude.{◌≡◌};
 
-use crate::{Job, Poster, Taker, stage};
 use aero_pieces::question::{Bytes, Question};
+use aero_stage::{Job, Poster, Taker, stage};
 use std::alloc::Global;
 use std::sync::Wait;
 use std::test::Fail;

@@ -1,0 +1,479 @@
+// What no clause says: that workers answer, that they work at once, and that a crew ends where nobody receives,
+// where no thread can be made and where memory is refused.
+use aero_model::limits::Limits;
+use aero_model::numbered::What;
+use aero_model::verdict::Verdict;
+use aero_pieces::answer::{Answer, Value};
+use aero_pieces::question::{Bytes, Parts, Question};
+use aero_pieces::same;
+use aero_stage::Job;
+use aero_worker::{Crew, CrewReport, Gate, NoGate, Reply, reply_with};
+use std::alloc::{AllocError, Global};
+use std::sync::atomic::{AtomicBool, AtomicU64, Ordering};
+use std::sync::{Arc, Wait};
+use std::test::*;
+use std::thread;
+use std::thread::Threads;
+
+const TURNS: u32 = 1_000_000;
+
+const REFUSED: &str = "memory was refused";
+
+// A trace in which the block of T1 closes a cycle with its last event.
+const CYCLE: &[u8] = b"T1|begin\nT2|begin\nT1|w(x)\nT2|r(x)\nT2|w(y)\nT1|r(y)";
+
+// The helpers below give `None` where memory is refused.
+
+fn block_question(alloc: Global) -> Option<Arc<Question>> {
+    text_question(alloc, b"T1|r(x)")
+}
+
+fn text_question(alloc: Global, text: &[u8]) -> Option<Arc<Question>> {
+    let bytes = Bytes::new(text.to_vec(alloc).ok()?)?;
+    let question = Question::Parse {
+        trace: 0,
+        number: 0,
+        bytes,
+    };
+    question.share(alloc).ok()
+}
+
+fn value_of(alloc: Global, question: &Arc<Question>) -> Result<Value, AllocError> {
+    Ok(Question::answer(question, alloc)?.into_value())
+}
+
+fn parts_of(alloc: Global, value: Value) -> Result<Parts, AllocError> {
+    let mut parts = Vec::with_capacity(alloc, 1)?;
+    if let Value::Parsed(parsed) = value {
+        parts.push(parsed)?;
+    }
+    Ok(Parts::new(parts))
+}
+
+fn trace_question(alloc: Global) -> Option<Arc<Question>> {
+    let value = value_of(alloc, &text_question(alloc, CYCLE)?).ok()?;
+    let question = Question::Check {
+        trace: 0,
+        parsed: parts_of(alloc, value).ok()?,
+        limits: Limits::greatest(),
+    };
+    question.share(alloc).ok()
+}
+
+fn job(number: u64, question: &Arc<Question>) -> Option<Job> {
+    let question = Arc::try_clone(question).ok()?;
+    Some(Job { number, question })
+}
+
+// The value is the one event, a read of `x` by `T1` on the first line.
+fn is_read(value: &Value) -> bool {
+    let Value::Parsed(parsed) = value else {
+        return false;
+    };
+    let Some((line, event)) = parsed.events.first() else {
+        return false;
+    };
+    parsed.lines == 1
+        && parsed.fault == None
+        && parsed.events.len() == 1
+        && *line == 1
+        && event.what == What::Read(0)
+        && parsed.threads.name(event.thread) == Some(b"T1".as_slice())
+        && parsed.variables.name(0) == Some(b"x".as_slice())
+}
+
+fn is_cycle(value: &Value) -> bool {
+    match value {
+        Value::Judged(
+            Verdict::Violation {
+                line,
+                thread,
+                begun,
+            },
+        ) => *line == 6 && *begun == 1 && thread.bytes() == b"T1".as_slice(),
+        _ => false,
+    }
+}
+
+// Which of the two questions the reply answers, as is right: 'b' the block, 't' the trace, and else '-'.
+fn letter(reply: Option<Reply>, block: &Question, trace: &Question) -> char {
+    match reply {
+        Some(Reply::Done(answer)) => letter_of(&answer, block, trace),
+        _ => '-',
+    }
+}
+
+fn letter_of(answer: &Answer, block: &Question, trace: &Question) -> char {
+    if same(answer.question(), block) && is_read(answer.value()) {
+        return 'b';
+    }
+    if same(answer.question(), trace) && is_cycle(answer.value()) {
+        return 't';
+    }
+    '-'
+}
+
+// How often the number stands in the list.
+fn times(list: &[u64], number: u64) -> usize {
+    let mut count = 0usize;
+    for one in list {
+        if *one == number {
+            count = count.saturating_add(1);
+        }
+    }
+    count
+}
+
+// How often the number stands in all of the lists.
+fn times_in_all(report: &CrewReport, number: u64) -> usize {
+    let mut count = times(&report.left, number);
+    for list in report.by_worker.iter() {
+        count = count.saturating_add(times(list, number));
+    }
+    count
+}
+
+// Each of the numbers from 0 on, so many, stands once, no other does, and each list rises.
+fn are_accounted_for(report: &CrewReport, count: u64) -> bool {
+    let mut all = report.left.len();
+    let mut rise = report.left.is_sorted();
+    for list in report.by_worker.iter() {
+        all = all.saturating_add(list.len());
+        rise &= list.is_sorted();
+    }
+    rise && all as u64 == count && stand_once(report, count)
+}
+
+fn stand_once(report: &CrewReport, count: u64) -> bool {
+    for number in 0..count {
+        if times_in_all(report, number) != 1 {
+            return false;
+        }
+    }
+    true
+}
+
+// Posts three jobs, of a block, a trace and the block, to two workers: how many are posted, which replies come, in
+// the order of their letters, and where the jobs went.
+fn three_jobs<R: Threads + Wait + Copy + Send + 'static>(
+    rt: R,
+    alloc: Global,
+    gate: Arc<NoGate>,
+    jobs: [Job; 3],
+    (block, trace): (&Question, &Question),
+) -> Option<(usize, [char; 3], CrewReport)> {
+    let mut crew = Crew::start(rt, alloc, 2, gate).ok()?;
+    let posted = post_three(&rt, &mut crew, jobs);
+    let mut letters = ['?'; 3];
+    for place in 0..3 {
+        letters[place] = letter(crew.next_answer(&rt), block, trace);
+    }
+    letters.sort_unstable();
+    Some((posted, letters, crew.close(&rt)))
+}
+
+fn post_three<R: Wait>(rt: &R, crew: &mut Crew, jobs: [Job; 3]) -> usize {
+    let mut posted = 0usize;
+    let [first, second, third] = jobs;
+    posted += crew.post(rt, first).is_ok() as usize;
+    posted += crew.post(rt, second).is_ok() as usize;
+    posted += crew.post(rt, third).is_ok() as usize;
+    posted
+}
+
+// The same, with what it needs.
+fn ask_three<R: Threads + Wait + Copy + Send + 'static>(
+    rt: R,
+    alloc: Global,
+) -> Option<(usize, [char; 3], CrewReport)> {
+    let block = block_question(alloc)?;
+    let trace = trace_question(alloc)?;
+    let jobs = [job(0, &block)?, job(1, &trace)?, job(2, &block)?];
+    let gate = Arc::new(alloc, NoGate).ok()?;
+    three_jobs(rt, alloc, gate, jobs, (&block, &trace))
+}
+
+#[test]
+fn each_job_is_taken_once_and_answered(rt: HostRuntime) -> Result<(), Fail> {
+    let (posted, letters, report) = ask_three(rt, rt.alloc()).ok_or(REFUSED)?;
+    assert_eq!(rt; posted, 3);
+    assert_eq!(rt; letters, ['b', 'b', 't']);
+    assert!(rt; report.left.is_empty());
+    assert_eq!(rt; report.by_worker.len(), 2);
+    assert!(rt; are_accounted_for(&report, 3));
+    Ok(())
+}
+
+// Holds whatever memory is refused, which `rt try --test --fail-alloc 1..` does: a worker to which it is refused gives
+// up, or misses a job, and the lists have each job that was posted all the same.
+#[test]
+fn each_job_is_accounted_for_where_memory_is_refused(rt: HostRuntime) {
+    if let Some((posted, _, report)) = ask_three(rt, rt.alloc()) {
+        assert!(rt; posted == 3 && are_accounted_for(&report, 3));
+    }
+}
+
+// A gate in which each of the first two waits until the other has entered, before a job or after its answer.
+#[derive(Drop)]
+struct Meet {
+    is_after: bool,
+    entered: AtomicU64,
+    late: AtomicBool,
+}
+
+fn nobody_yet(is_after: bool) -> Meet {
+    Meet {
+        is_after,
+        entered: AtomicU64::new(0),
+        late: AtomicBool::new(false),
+    }
+}
+
+impl Meet {
+    // Whether two have entered, and neither waited in vain.
+    fn has_met(&self) -> bool {
+        self.entered.load(Ordering::SeqCst) == 2 && !self.late.load(Ordering::SeqCst)
+    }
+
+    fn enter(&self) {
+        self.entered.fetch_add(1, Ordering::SeqCst);
+        if !is_raised(&self.entered, 2) {
+            self.late.store(true, Ordering::SeqCst);
+        }
+    }
+}
+
+impl Gate for Meet {
+    fn before(&self, _question: &Question) {
+        if !self.is_after {
+            self.enter();
+        }
+    }
+
+    fn after(&self, _answer: &Answer) {
+        if self.is_after {
+            self.enter();
+        }
+    }
+}
+
+// Whether the count comes to so many within some turns.
+fn is_raised(count: &AtomicU64, most: u64) -> bool {
+    for _ in 0..TURNS {
+        if count.load(Ordering::SeqCst) >= most {
+            return true;
+        }
+        thread::yield_now();
+    }
+    false
+}
+
+// Whether both jobs are posted to two workers, whether both are done, and how many workers there were.
+fn two_work<R: Threads + Wait + Copy + Send + 'static>(
+    rt: R,
+    gate: Arc<Meet>,
+    alloc: Global,
+    (one, other): (Job, Job),
+) -> Option<(bool, bool, usize)> {
+    let mut crew = Crew::start(rt, alloc, 2, gate).ok()?;
+    let are_posted = crew.post(&rt, one).is_ok() & crew.post(&rt, other).is_ok();
+    let are_done = is_done(crew.next_answer(&rt)) & is_done(crew.next_answer(&rt));
+    Some((are_posted, are_done, crew.close(&rt).by_worker.len()))
+}
+
+fn is_done(reply: Option<Reply>) -> bool {
+    match reply {
+        Some(Reply::Done(_)) => true,
+        _ => false,
+    }
+}
+
+// Whether two workers are at once in the gate, before or after, and nobody has it afterwards.
+fn do_two_meet<R: Threads + Wait + Copy + Send + 'static>(
+    rt: R,
+    alloc: Global,
+    is_after: bool,
+) -> Option<bool> {
+    let block = block_question(alloc)?;
+    let jobs = (job(0, &block)?, job(1, &block)?);
+    let gate = Arc::new(alloc, nobody_yet(is_after)).ok()?;
+    let shared = Arc::try_clone(&gate).ok()?;
+    let told = two_work(rt, shared, alloc, jobs)?;
+    Some(told == (true, true, 2) && gate.has_met() && Arc::strong_count(&gate) == 1)
+}
+
+#[test]
+fn two_workers_are_in_the_gate_at_once(rt: HostRuntime) {
+    assert_eq!(rt; do_two_meet(rt, rt.alloc(), false), Some(true));
+    assert_eq!(rt; do_two_meet(rt, rt.alloc(), true), Some(true));
+}
+
+// Counts its calls.
+#[derive(Drop)]
+struct Tally {
+    before: AtomicU64,
+    after: AtomicU64,
+}
+
+fn no_calls() -> Tally {
+    Tally {
+        before: AtomicU64::new(0),
+        after: AtomicU64::new(0),
+    }
+}
+
+impl Gate for Tally {
+    fn before(&self, _question: &Question) {
+        self.before.fetch_add(1, Ordering::SeqCst);
+    }
+
+    fn after(&self, _answer: &Answer) {
+        self.after.fetch_add(1, Ordering::SeqCst);
+    }
+}
+
+// Whether the job is posted within some turns.
+fn is_posted<R: Wait>(rt: &R, crew: &mut Crew, job: Job) -> bool {
+    let mut job = job;
+    for _ in 0..TURNS {
+        match crew.post(rt, job) {
+            Ok(()) => return true,
+            Err(full) => job = full.job,
+        }
+        thread::yield_now();
+    }
+    false
+}
+
+// Posts jobs with the numbers from the first to before the last, and says how many were posted.
+fn post_from<R: Wait>(
+    rt: &R,
+    crew: &mut Crew,
+    question: &Arc<Question>,
+    first: u64,
+    last: u64,
+) -> u32 {
+    let mut count = 0u32;
+    for number in first..last {
+        let Some(job) = job(number, question) else {
+            return count;
+        };
+        count = count.saturating_add(is_posted(rt, crew, job) as u32);
+    }
+    count
+}
+
+fn are_from(list: &[u64], first: u64) -> bool {
+    for i in 0..list.len() {
+        if list[i] != first.saturating_add(i as u64) {
+            return false;
+        }
+    }
+    true
+}
+
+// One worker and the jobs 0 to 129: how many of the first 66 are posted, whether 66 answers come before the gate lets
+// go, how many of the next 64 are posted, which number is given back of the job that comes then, and where all went.
+fn post_where_nobody_receives<R: Threads + Wait + Copy + Send + 'static>(
+    rt: R,
+    alloc: Global,
+    (gate, shared): (&Tally, Arc<Tally>),
+    block: &Arc<Question>,
+    more: Job,
+) -> Option<((u32, bool, u32, Option<u64>), CrewReport)> {
+    let mut crew = Crew::start(rt, alloc, 1, shared).ok()?;
+    let first = post_from(&rt, &mut crew, block, 0, 66);
+    let are_answered = is_raised(&gate.after, 66);
+    let second = post_from(&rt, &mut crew, block, 66, 130);
+    let given_back = crew.post(&rt, more).err().map(|full| full.job.number);
+    Some(((first, are_answered, second, given_back), crew.close(&rt)))
+}
+
+// The same, with what it needs.
+fn let_nobody_receive<R: Threads + Wait + Copy + Send + 'static>(
+    rt: R,
+    alloc: Global,
+) -> Option<((u32, bool, u32, Option<u64>), CrewReport)> {
+    let block = block_question(alloc)?;
+    let gate = Arc::new(alloc, no_calls()).ok()?;
+    let shared = Arc::try_clone(&gate).ok()?;
+    let more = job(130, &block)?;
+    post_where_nobody_receives(rt, alloc, (&gate, shared), &block, more)
+}
+
+// Nobody receives. The one worker gives 65 replies and waits with its next, and 64 jobs fill the queue. What comes
+// then is given back, the 64 are left, and the worker ends.
+#[test]
+fn a_crew_is_closed_though_nobody_receives(rt: HostRuntime) -> Result<(), Fail> {
+    let (told, report) = let_nobody_receive(rt, rt.alloc()).ok_or(REFUSED)?;
+    assert_eq!(rt; told, (66, true, 64, Some(130)));
+    assert_eq!(rt; report.by_worker.len(), 1);
+    assert!(rt; is_first_list(&report, 66));
+    assert!(rt; report.left.len() == 64 && are_from(&report.left, 66));
+    Ok(())
+}
+
+// The first worker took so many jobs, from 0 on.
+fn is_first_list(report: &CrewReport, count: usize) -> bool {
+    match report.by_worker.first() {
+        Some(list) => list.len() == count && are_from(list, 0),
+        None => false,
+    }
+}
+
+// What a crew of no worker makes of one job: how many workers it has, whether the job is posted, whether a
+// reply comes, and where the job went.
+fn ask_nobody<R: Threads + Wait + Copy + Send + 'static>(
+    rt: R,
+    alloc: Global,
+    gate: Arc<Tally>,
+    only: Job,
+) -> Option<((u32, bool, bool), CrewReport)> {
+    // No stack has so many bytes.
+    let mut crew = Crew::start_with(rt, alloc, 16, gate, usize::MAX).ok()?;
+    let workers = crew.workers();
+    let is_posted = crew.post(&rt, only).is_ok();
+    let is_answered = crew.next_answer(&rt).is_some();
+    Some(((workers, is_posted, is_answered), crew.close(&rt)))
+}
+
+fn is_missed_with(reply: &Reply, number: u64) -> bool {
+    match reply {
+        Reply::Missed(missed) => *missed == number,
+        Reply::Done(_) => false,
+    }
+}
+
+// Whether a refused answer is missed, and an answer done.
+fn is_missed(alloc: Global) -> Option<bool> {
+    let gate = &no_calls();
+    let answer = Question::answer(&block_question(alloc)?, alloc).ok()?;
+    let is_missed = is_missed_with(&reply_with(gate, 7, Err(AllocError)), 7);
+    let calls = gate.after.load(Ordering::SeqCst);
+    let is_done = is_done(Some(reply_with(gate, 7, Ok(answer))));
+    Some(is_missed && calls == 0 && is_done && gate.after.load(Ordering::SeqCst) == 1)
+}
+
+// What a crew makes of one job where no thread can be made, and how often the gate was entered.
+fn post_to_nobody<R: Threads + Wait + Copy + Send + 'static>(
+    rt: R,
+    alloc: Global,
+) -> Option<((u32, bool, bool), u64, CrewReport)> {
+    let block = block_question(alloc)?;
+    let only = job(7, &block)?;
+    let gate = Arc::new(alloc, no_calls()).ok()?;
+    let shared = Arc::try_clone(&gate).ok()?;
+    let (told, report) = ask_nobody(rt, alloc, shared, only)?;
+    Some((told, gate.before.load(Ordering::SeqCst), report))
+}
+
+#[test]
+fn what_has_no_worker_or_no_memory(rt: HostRuntime) -> Result<(), Fail> {
+    let (told, entered, report) = post_to_nobody(rt, rt.alloc()).ok_or(REFUSED)?;
+    assert_eq!(rt; told, (0, true, false));
+    assert_eq!(rt; entered, 0);
+    assert!(rt; report.by_worker.is_empty());
+    assert_eq!(rt; report.left.as_slice(), [7].as_slice());
+    assert_eq!(rt; is_missed(rt.alloc()), Some(true));
+    Ok(())
+}
