@@ -1,4 +1,5 @@
 mod Fronts
+mod Interruptions
 mod Judged
 mod Parts
 mod Tells

@@ -1,15 +1,15 @@
 -- The names of the sources, how far an input has come, and what one read does to that.
 use Rattle.std.specs.Prelude.{◌≡◌, ◌<◌, ◌+◌, ℕ, List, [], ◌∷◌, map, length, Option, None, Result, Ok, Err, ⊤, IsErr, is_err, if◌then◌else◌, codes, string_bytes}
 use Rattle.std.specs.Io.KnownBytes.{ReadConsumes}
-use Rattle.aero_model.specs.CallCounts.{Seen, seen_by, moves_nothing}
+use Rattle.aero_model.specs.CallCounts.{Seen, moves_nothing}
 use Rattle.aero_program.specs.declared.input.Input.{Input}
 use Rattle.aero_program.specs.declared.input.Stage.{Stage}
 use Rattle.aero_program.specs.declared.input.Stage.TheVariants as stage
 use Rattle.aero_program.specs.declared.reason.Reason.{Reason}
-use Rattle.aero_program.specs.Retries.{tried_by}
+use Rattle.aero_program.specs.Retries.{seen_within}
 use Rattle.aero_program.specs.Starts.{start_bytes}
 
--- standard input, whose reader is seen so; a file that wasn't opened yet; a file that is open; a file whose end was found; a file that couldn't be opened or read
+-- standard input, whose stream is seen so; a file that wasn't opened yet; a file that is open; a file whose end was found; a file that couldn't be opened or read
 pub data Standing : Type 0 where
   Standard : (reader : Seen) → Standing
   Unopened : (path : List ℕ) → Standing
@@ -19,7 +19,7 @@ pub data Standing : Type 0 where
 
 -- `known` is the word of standard input's reader for the bytes that it has left
 abbrev pub stage_standing : {S R F D : Type 0} → (S → Option (List ℕ)) → Stage S R F D → Standing
-stage_standing known (stage.Standard stdin) = Standard (seen_by (λ r. known (tried_by r)) stdin)
+stage_standing known (stage.Standard stdin) = Standard (seen_within known stdin)
 stage_standing known (stage.Unopened files path) = Unopened (string_bytes path)
 stage_standing known (stage.Reading file) = Reading
 stage_standing known stage.Ended = Ended

@@ -1,4 +1,5 @@
 pub mod Answers
+pub mod Calls
 pub mod Command
 pub mod Failure
 pub mod Inputs

@@ -7,7 +7,6 @@ ghost use Rattle.std.specs.declared.io.ErrorKind.TheVariants.{Interrupted};
 use crate::reason::Reason;
 use crate::retrying::Retrying;
 use crate::start::Start;
-use aero_model::counting::Counting;
 use std::alloc::{AllocError, Global};
 use std::fs::File;
 use std::io::{ErrorKind, Read};
@@ -31,7 +30,7 @@ pub struct Input<S, R: Files> {
 // How far an input has come.
 #[derive(Drop)]
 enum Stage<S, R: Files> {
-    Standard(Counting<Retrying<S>>),
+    Standard(Retrying<S>),
     Unopened(R, String),
     Reading(Retrying<R::File>),
     Ended,
@@ -50,7 +49,7 @@ impl<S: Read + Drop, R: Files + Drop> Input<S, R> {
         ensures start { start_of result ≡ [] }
         ensures reason { reason_of result ≡ None }
     {
-        Input::at(Stage::Standard(Counting::new(Retrying::new(stdin))))
+        Input::at(Stage::Standard(Retrying::new(stdin)))
     }
 
     /// The file at the path, which isn't touched yet. `-` is a path like any other.

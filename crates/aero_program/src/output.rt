@@ -5,9 +5,9 @@ ghost use Rattle.aero_model.specs.CallCounts.{inner_of, faults_of, ends_of};
 ghost use Rattle.aero_program.specs.Retries.{tried_by};
 ghost use Rattle.aero_program.specs.Streams.{writer_of, unflushed_of};
 
-use crate::ghost_count::GhostCount;
 use crate::retrying::Retrying;
 use aero_model::counting::Counting;
+use aero_model::ghost_count::GhostCount;
 use std::io;
 use std::io::Write;
 

@@ -48,10 +48,23 @@ fn files_of<'a, S: Read + Drop, R: Files + Drop>(
 {
     let mut sources = Vec::new(alloc);
     for word in words {
-        sources.push(Source {
-            name: Vec::from_slice(alloc, word.as_bytes())?,
-            reader: Counting::new(Input::path(alloc, files, word.as_str())?),
-        })?;
+        sources.push(file_of(alloc, files, word)?)?;
     }
     Ok(sources)
+}
+
+// The file of a word, named as it.
+fn file_of<'a, S: Read + Drop, R: Files + Drop>(
+    alloc: Global,
+    files: &'a R,
+    word: &String,
+) -> Result<Source<Input<S, &'a R>>, AllocError>
+    ensures name { IfOk result (λ s. s.name.items ≡ string_bytes word.now) }
+    ensures reader { IfOk result (λ s. standing_of S.remaining (inner_of s.reader) ≡ Unopened (string_bytes word.now)) }
+    ensures sighted { IfOk result (λ s. sighted (λ input. bytes_left (standing_of S.remaining input)) s ≡ file_sighting (string_bytes word.now)) }
+{
+    Ok(Source {
+        name: Vec::from_slice(alloc, word.as_bytes())?,
+        reader: Counting::new(Input::path(alloc, files, word.as_str())?),
+    })
 }

@@ -8,7 +8,7 @@ mod streams;
 
 use crate::batch::habits::Habit;
 use crate::batch::runs::{Who, run_by};
-use crate::batch::streams::{BreaksOnce, CutsOnce, Endless, Later, Tells};
+use crate::batch::streams::{BreaksOnce, CutsOnce, Either, Endless, Later, Tells};
 use aero_batch::outcome::{Cause, Outcome};
 use aero_intake::source::Source;
 use aero_model::counting::Counting;
@@ -461,22 +461,23 @@ fn the_report_is_the_same_whoever_helps(rt: HostRuntime) -> Result<(), Fail> {
     Ok(())
 }
 
-// What is written of two sources of which the second fails where the first isn't told before it is read.
+// What is written of two sources of which the second gives its text once the first is told: until then it gives so many
+// spaces, and then it fails.
 fn told_before_the_next<T: AllocGlobal + Threads + Wait + Copy + Send + 'static>(
     rt: &T,
     text: &[u8],
-    who: Who,
+    (who, spaces): (Who, u32),
 ) -> Result<Vec<u8>, Fail> {
     let is_told = AtomicBool::new(false);
-    let mut sources = Vec::new(rt.alloc());
-    for (name, is_first) in [("a", true), ("b", false)] {
-        let reader = Later {
-            text,
-            is_first,
-            is_told: &is_told,
-        };
-        sources.push(source_of(rt.alloc(), name, reader)?)?;
-    }
+    let later = Later {
+        text,
+        spaces,
+        is_told: &is_told,
+    };
+    let mut sources = [
+        source_of(rt.alloc(), "a", Either::AtOnce(text))?,
+        source_of(rt.alloc(), "b", Either::Later(later))?,
+    ];
     let mut writer = Counting::new(Tells {
         taken: Vec::new(rt.alloc()),
         is_told: &is_told,
@@ -496,8 +497,16 @@ fn told_before_the_next<T: AllocGlobal + Threads + Wait + Copy + Send + 'static>
 fn a_verdict_that_has_come_is_told_before_the_next_read(rt: HostRuntime) -> Result<(), Fail> {
     let text = lines_of(rt.alloc(), ONE_BLOCK)?;
     let written = lines_of(rt.alloc(), REPORT_OF_TWO)?;
-    for who in [Who::Alone, Who::Helped(Habit::Twice)] {
-        assert_eq!(rt; told_before_the_next(&rt, &text, who)?, written);
+    // Where a crew answers, the second source may be read before it has: the line is told between two of its reads.
+    let rows = [
+        (Who::Alone, 0),
+        (Who::Helped(Habit::Twice), 0),
+        (Who::Crew(1), 4_000),
+        (Who::Crew(2), 4_000),
+        (Who::Crew(16), 4_000),
+    ];
+    for row in rows {
+        assert_eq!(rt; told_before_the_next(&rt, &text, row)?, written);
     }
     Ok(())
 }

@@ -1,3 +1,6 @@
+mod streams;
+
+use crate::program::streams::{EVER, Interrupted, Narrow, Shelf, Text};
 use aero_batch::outcome::{Cause, Outcome};
 use aero_gather::gather::Tally;
 use aero_model::counting::Counting;
@@ -14,8 +17,7 @@ use aero_program::status::{status, status_after};
 use std::alloc::Global;
 use std::env::{Env, FillError};
 use std::io;
-use std::io::{ErrorKind, Read, Write};
-use std::process::Abort;
+use std::io::{ErrorKind, Read};
 use std::rt::Files;
 use std::sync::Wait;
 use std::test::Fail;
@@ -160,73 +162,84 @@ fn inputs_fail_at_each_read_or_are_read_to_their_ends(rt: HostRuntime) -> Result
     Ok(())
 }
 
-// A text, and then its end or a failure.
-#[derive(Drop)]
-struct Text {
-    left: &'static [u8],
-    fails: bool,
-}
-
-impl Read for Text {
-    fn read(&mut self, buf: &mut [u8]) -> io::Result<usize> {
-        if self.fails && self.left.is_empty() {
-            return Err(io::Error::from_raw_os_error(5));
-        }
-        self.left.read(buf)
-    }
-}
-
-// A writer with room for so many bytes, whose flush may fail.
-#[derive(Drop)]
-struct Narrow {
-    taken: Vec<u8>,
+// How often calls fail, and how often each call of a stream or a file is interrupted before it is heeded:
+// reads of standard input once its text has come, writes to standard output and standard error once they
+// have taken so many bytes, and flushes of standard output.
+#[derive(Clone, Copy)]
+struct Damage {
+    reads: u32,
     room: usize,
-    flush_fails: bool,
+    writes: u32,
+    flushes: u32,
+    error_room: usize,
+    error_writes: u32,
+    times: u32,
 }
 
-impl Write for Narrow {
-    fn write(&mut self, buf: &[u8]) -> io::Result<usize> {
-        let count = buf.len().min(self.room);
-        if count == 0 {
-            return Err(io::Error::from(ErrorKind::BrokenPipe));
-        }
-        self.taken.extend_from_slice(&buf[..count])?;
-        self.room -= count;
-        Ok(count)
-    }
-
-    fn flush(&mut self) -> io::Result<()> {
-        if self.flush_fails {
-            return Err(io::Error::from(ErrorKind::BrokenPipe));
-        }
-        Ok(())
-    }
-}
-
-fn room_for(alloc: Global, room: usize, flush_fails: bool) -> Narrow {
-    Narrow {
-        taken: Vec::new(alloc),
-        room,
-        flush_fails,
-    }
-}
+const SOUND: Damage = Damage {
+    reads: 0,
+    room: 200,
+    writes: 0,
+    flushes: 0,
+    error_room: 200,
+    error_writes: 0,
+    times: 0,
+};
 
 // What one call is to answer: what goes out on standard output and standard error, and the status.
 type Wanted = (&'static [u8], &'static [u8], u8);
 
-fn expect<R: Abort + AllocGlobal + Files + Threads + Wait + Copy + Drop + Send + 'static>(
+fn output_of(alloc: Global, damage: &Damage) -> Interrupted<Narrow> {
+    let narrow = Narrow {
+        taken: Vec::new(alloc),
+        room: damage.room,
+        failures: damage.writes,
+        flush_failures: damage.flushes,
+    };
+    Interrupted::new(narrow, damage.times)
+}
+
+fn errors_of(alloc: Global, damage: &Damage) -> Interrupted<Narrow> {
+    let narrow = Narrow {
+        taken: Vec::new(alloc),
+        room: damage.error_room,
+        failures: damage.error_writes,
+        flush_failures: 0,
+    };
+    Interrupted::new(narrow, damage.times)
+}
+
+// Whether a call answers so, where standard input has this text.
+fn is_answered<
+    R: AllocGlobal + Threads + Wait + Copy + Drop + Send + 'static,
+    F: Files + Drop,
+>(
     rt: R,
+    files: &F,
     asked: Result<Config, Stop>,
-    stdin: Text,
-    streams: (Narrow, Narrow),
+    text: &'static [u8],
+    damage: &Damage,
     wanted: Wanted,
-) {
-    let mut output = Output::new(streams.0);
-    let mut errors = Counting::new(Retrying::new(streams.1));
-    let status = answer(rt, rt.alloc(), asked, &rt, stdin, &mut output, &mut errors);
-    assert_eq!(rt; output.into_inner().taken.as_slice(), wanted.0);
-    assert_eq!(rt; errors.into_inner().into_inner().taken.as_slice(), wanted.1);
-    assert_eq!(rt; status, wanted.2);
+) -> bool {
+    let stdin = Text {
+        left: text,
+        failures: damage.reads,
+    };
+    let stdin = Interrupted::new(stdin, damage.times);
+    let mut output = Output::new(output_of(rt.alloc(), damage));
+    let mut errors = Counting::new(Retrying::new(errors_of(rt.alloc(), damage)));
+    let status = answer(
+        rt,
+        rt.alloc(),
+        asked,
+        files,
+        stdin,
+        &mut output,
+        &mut errors,
+    );
+    let out = output.into_inner().inner.taken;
+    let err = errors.into_inner().into_inner().inner.taken;
+    out.as_slice() == wanted.0 && err.as_slice() == wanted.1 && status == wanted.2
 }
 
 fn config_of(alloc: Global, file: Option<&str>) -> Result<Config, Fail> {
@@ -241,26 +254,46 @@ fn config_of(alloc: Global, file: Option<&str>) -> Result<Config, Fail> {
     })
 }
 
-const SERIALIZABLE: Wanted = (
-    b"-: serializable (1 events, 0 blocks)\n\
-        traces 1: serializable 1, open 0, violations 0, faults 0\n",
-    b"",
+const REPORT: &[u8] = b"-: serializable (1 events, 0 blocks)\n\
+    traces 1: serializable 1, open 0, violations 0, faults 0\n";
+
+const SERIALIZABLE: Wanted = (REPORT, b"", 0);
+
+const MARKED: Wanted = (
+    REPORT,
+    b"aerodrome: -: starts with a byte order mark, which counts as part of the first thread's name\n",
     0,
 );
 
-// Reads give one byte each: standard input, one that fails or begins with a byte order mark, files that
-// can't be opened or read, and a standard output that is full or fails when flushed.
+const BROKEN: Wanted = (
+    b"-: broken after 8 bytes\n\
+        traces 1: serializable 0, open 0, violations 0, faults 1\n",
+    b"aerodrome: -: Input/output error\n",
+    2,
+);
+
+const UNFLUSHED: Wanted = (REPORT, b"aerodrome: write failed\n", 4);
+
+const CUT: Wanted = (b"-: seriali", b"aerodrome: write failed\n", 4);
+
+// Standard output fails, and then standard error does, in the first of its two lines.
+const BOTH_CUT: Wanted = (b"-: seriali", b"aerodrome:", 4);
+
+const WRITE: &[u8] = b"T1|w(x)\n";
+
+const MARKED_WRITE: &[u8] = b"\xEF\xBB\xBFT1|w(x)\n";
+
+// Reads give one byte each: standard input, one that fails, once or for ever, or begins with a byte order
+// mark, files that can't be opened or read, a standard output that fails, once or for ever, or fails when
+// flushed, and a standard error that fails.
 #[test]
 fn what_is_asked_for_is_judged(rt: HostRuntime) -> Result<(), Fail> {
-    let (report, _, _) = SERIALIZABLE;
-    let rows: [(Option<&str>, &'static [u8], bool, usize, bool, Wanted); 9] = [
-        (None, b"T1|w(x)\n", false, 200, false, SERIALIZABLE),
+    let rows: [(Option<&str>, &'static [u8], Damage, Wanted); 15] = [
+        (None, WRITE, SOUND, SERIALIZABLE),
         (
             None,
             b"T1|begin\nT2|begin\nT1|w(x)\nT2|r(x)\nT2|w(y)\nT1|r(y)\n",
-            false,
-            200,
-            false,
+            SOUND,
             (
                 b"-: violation at line 6: block of T1 from line 1\n\
                     traces 1: serializable 0, open 0, violations 1, faults 0\n",
@@ -268,37 +301,13 @@ fn what_is_asked_for_is_judged(rt: HostRuntime) -> Result<(), Fail> {
                 1,
             ),
         ),
-        (
-            None,
-            b"\xEF\xBB\xBFT1|w(x)\n",
-            false,
-            200,
-            false,
-            (
-                report,
-                b"aerodrome: -: starts with a byte order mark, which counts as part of the first thread's name\n",
-                0,
-            ),
-        ),
-        (
-            None,
-            b"T1|w(x)\n",
-            true,
-            200,
-            false,
-            (
-                b"-: broken after 8 bytes\n\
-                    traces 1: serializable 0, open 0, violations 0, faults 1\n",
-                b"aerodrome: -: Input/output error\n",
-                2,
-            ),
-        ),
+        (None, MARKED_WRITE, SOUND, MARKED),
+        (None, WRITE, Damage { reads: EVER, ..SOUND }, BROKEN),
+        (None, WRITE, Damage { reads: 1, ..SOUND }, BROKEN),
         (
             None,
             b"\xEF\xBB\xBF",
-            true,
-            200,
-            false,
+            Damage { reads: EVER, ..SOUND },
             (
                 b"-: broken after 3 bytes\n\
                     traces 1: serializable 0, open 0, violations 0, faults 1\n",
@@ -310,9 +319,7 @@ fn what_is_asked_for_is_judged(rt: HostRuntime) -> Result<(), Fail> {
         (
             Some("none"),
             b"",
-            false,
-            200,
-            false,
+            SOUND,
             (
                 b"none: broken after 0 bytes\n\
                     traces 1: serializable 0, open 0, violations 0, faults 1\n",
@@ -323,9 +330,7 @@ fn what_is_asked_for_is_judged(rt: HostRuntime) -> Result<(), Fail> {
         (
             Some("/"),
             b"",
-            false,
-            200,
-            false,
+            SOUND,
             (
                 b"/: broken after 0 bytes\n\
                     traces 1: serializable 0, open 0, violations 0, faults 1\n",
@@ -333,30 +338,48 @@ fn what_is_asked_for_is_judged(rt: HostRuntime) -> Result<(), Fail> {
                 2,
             ),
         ),
+        (None, WRITE, Damage { room: 10, writes: EVER, ..SOUND }, CUT),
+        (None, WRITE, Damage { room: 10, writes: 1, ..SOUND }, CUT),
+        (None, WRITE, Damage { flushes: EVER, ..SOUND }, UNFLUSHED),
+        (None, WRITE, Damage { flushes: 1, ..SOUND }, UNFLUSHED),
         (
             None,
-            b"T1|w(x)\n",
-            false,
-            10,
-            false,
-            (b"-: seriali", b"aerodrome: write failed\n", 4),
+            MARKED_WRITE,
+            Damage {
+                room: 10,
+                writes: 1,
+                error_room: 10,
+                error_writes: EVER,
+                ..SOUND
+            },
+            BOTH_CUT,
         ),
         (
             None,
-            b"T1|w(x)\n",
-            false,
-            200,
-            true,
-            (report, b"aerodrome: write failed\n", 4),
+            MARKED_WRITE,
+            Damage {
+                room: 10,
+                writes: 1,
+                error_room: 10,
+                error_writes: 1,
+                ..SOUND
+            },
+            BOTH_CUT,
+        ),
+        (
+            None,
+            MARKED_WRITE,
+            Damage {
+                error_room: 0,
+                error_writes: 1,
+                ..SOUND
+            },
+            (REPORT, b"", 0),
         ),
     ];
-    for (file, left, fails, room, flush_fails, wanted) in rows {
+    for (file, text, damage, wanted) in rows {
         let config = config_of(rt.alloc(), file)?;
-        let streams = (
-            room_for(rt.alloc(), room, flush_fails),
-            room_for(rt.alloc(), 200, false),
-        );
-        expect(rt, Ok(config), Text { left, fails }, streams, wanted);
+        assert!(rt; is_answered(rt, &rt, Ok(config), text, &damage, wanted));
     }
     Ok(())
 }
@@ -376,179 +399,117 @@ fn what_is_not_judged_is_told(rt: HostRuntime) -> Result<(), Fail> {
     let alloc = rt.alloc();
     let failed: &'static [u8] = b"aerodrome: write failed\n";
     let memory: Wanted = (b"", b"aerodrome: out of memory\n", 4);
-    let rows: [(Stop, usize, bool, usize, Wanted); 10] = [
+    let cut = Damage {
+        room: 2,
+        writes: 1,
+        error_room: 2,
+        error_writes: 1,
+        ..SOUND
+    };
+    let rows: [(Stop, Damage, Wanted); 12] = [
+        (refused(alloc, "help\n", true)?, SOUND, (b"help\n", b"", 0)),
         (
             refused(alloc, "help\n", true)?,
-            200,
-            false,
-            200,
-            (b"help\n", b"", 0),
-        ),
-        (
-            refused(alloc, "help\n", true)?,
-            2,
-            false,
-            200,
+            Damage { room: 2, writes: EVER, ..SOUND },
             (b"he", failed, 4),
         ),
         (
             refused(alloc, "help\n", true)?,
-            200,
-            true,
-            200,
+            cut,
+            (b"he", b"ae", 4),
+        ),
+        (
+            refused(alloc, "help\n", true)?,
+            Damage { flushes: EVER, ..SOUND },
             (b"help\n", failed, 4),
         ),
         (
-            refused(alloc, "why\n", false)?,
-            200,
-            false,
-            200,
-            (b"", b"why\n", 3),
+            refused(alloc, "help\n", true)?,
+            Damage { flushes: 1, ..SOUND },
+            (b"help\n", failed, 4),
         ),
-        (
-            refused(alloc, "why\n", false)?,
-            200,
-            false,
-            2,
-            (b"", b"wh", 3),
-        ),
+        (refused(alloc, "why\n", false)?, SOUND, (b"", b"why\n", 3)),
+        (refused(alloc, "why\n", false)?, cut, (b"", b"wh", 3)),
         (
             Stop::Refused(Refused::TooManyFiles),
-            200,
-            false,
-            200,
+            SOUND,
             (b"", b"aerodrome: more than 65536 files\n", 3),
         ),
         (
             Stop::Refused(Refused::TooManyFiles),
-            200,
-            false,
-            0,
+            Damage { error_room: 0, error_writes: EVER, ..SOUND },
             (b"", b"", 3),
         ),
-        (Stop::Refused(Refused::Memory), 200, false, 200, memory),
+        (Stop::Refused(Refused::Memory), SOUND, memory),
         (
             Stop::Unread(Unread::NotUtf8),
-            200,
-            false,
-            200,
+            SOUND,
             (b"", b"aerodrome: a word is not UTF-8\n", 3),
         ),
-        (Stop::Unread(Unread::Memory), 200, false, 200, memory),
+        (Stop::Unread(Unread::Memory), SOUND, memory),
     ];
-    for (stop, room, flush_fails, error_room, wanted) in rows {
-        let stdin = Text {
-            left: b"",
-            fails: true,
-        };
-        let streams = (
-            room_for(alloc, room, flush_fails),
-            room_for(alloc, error_room, false),
-        );
-        expect(rt, Err(stop), stdin, streams, wanted);
+    for (stop, damage, wanted) in rows {
+        assert!(rt; is_answered(rt, &rt, Err(stop), b"", &damage, wanted));
     }
     Ok(())
-}
-
-// A reader or a writer of which each call is interrupted so many times before it is heeded.
-#[derive(Drop)]
-struct Interrupted<T> {
-    inner: T,
-    times: u32,
-    left: u32,
-}
-
-impl<T> Interrupted<T> {
-    fn new(inner: T, times: u32) -> Interrupted<T> {
-        Interrupted {
-            inner,
-            times,
-            left: times,
-        }
-    }
-
-    fn interrupt(&mut self) -> io::Result<()> {
-        if self.left == 0 {
-            self.left = self.times;
-            return Ok(());
-        }
-        self.left -= 1;
-        Err(io::Error::from(ErrorKind::Interrupted))
-    }
-}
-
-impl<R: Read> Read for Interrupted<R> {
-    fn read(&mut self, buf: &mut [u8]) -> io::Result<usize> {
-        self.interrupt()?;
-        self.inner.read(buf)
-    }
-}
-
-impl<W: Write> Write for Interrupted<W> {
-    fn write(&mut self, buf: &[u8]) -> io::Result<usize> {
-        self.interrupt()?;
-        self.inner.write(buf)
-    }
-
-    fn flush(&mut self) -> io::Result<()> {
-        self.interrupt()?;
-        self.inner.flush()
-    }
-}
-
-// Whether a call answers as without interruptions, where each call of the three streams is interrupted
-// so many times.
-fn is_answered<R: AllocGlobal + Files + Threads + Wait + Copy + Drop + Send + 'static>(
-    rt: R,
-    asked: Result<Config, Stop>,
-    stdin: Text,
-    times: u32,
-    wanted: Wanted,
-) -> bool {
-    let (taken, told) = (
-        room_for(rt.alloc(), 200, false),
-        room_for(rt.alloc(), 200, false),
-    );
-    let mut output = Output::new(Interrupted::new(taken, times));
-    let mut errors = Counting::new(Retrying::new(Interrupted::new(told, times)));
-    let status = answer(
-        rt,
-        rt.alloc(),
-        asked,
-        &rt,
-        Interrupted::new(stdin, times),
-        &mut output,
-        &mut errors,
-    );
-    let out = output.into_inner().inner.taken;
-    let err = errors.into_inner().into_inner().inner.taken;
-    out.as_slice() == wanted.0 && err.as_slice() == wanted.1 && status == wanted.2
 }
 
 // Reads, writes and flushes that are interrupted are made again: no note tells of it, and no source is
 // broken by it. A failure of another kind stays one.
 #[test]
 fn interrupted_calls_are_made_again(rt: HostRuntime) -> Result<(), Fail> {
-    let (report, _, _) = SERIALIZABLE;
-    let marked: Wanted = (
-        report,
-        b"aerodrome: -: starts with a byte order mark, which counts as part of the first thread's name\n",
+    let interrupted = Damage { times: 3, ..SOUND };
+    let rows: [(&'static [u8], Damage, Wanted); 6] = [
+        (WRITE, interrupted, SERIALIZABLE),
+        (MARKED_WRITE, interrupted, MARKED),
+        (WRITE, Damage { reads: EVER, ..interrupted }, BROKEN),
+        (WRITE, Damage { reads: 1, ..interrupted }, BROKEN),
+        (WRITE, Damage { room: 10, writes: 1, ..interrupted }, CUT),
+        (WRITE, Damage { flushes: 1, ..interrupted }, UNFLUSHED),
+    ];
+    for (text, damage, wanted) in rows {
+        let config = config_of(rt.alloc(), None)?;
+        assert!(rt; is_answered(rt, &rt, Ok(config), text, &damage, wanted));
+    }
+    Ok(())
+}
+
+// A file of which opens and reads fail, once or for ever, or are interrupted, which the report doesn't tell.
+#[test]
+fn a_file_is_opened_and_read_as_standard_input_is(rt: HostRuntime) -> Result<(), Fail> {
+    let whole: Wanted = (
+        b"f: serializable (1 events, 0 blocks)\n\
+            traces 1: serializable 1, open 0, violations 0, faults 0\n",
+        b"",
         0,
     );
-    let broken: Wanted = (
-        b"-: broken after 8 bytes\n\
+    let unopened: Wanted = (
+        b"f: broken after 0 bytes\n\
             traces 1: serializable 0, open 0, violations 0, faults 1\n",
-        b"aerodrome: -: Input/output error\n",
+        b"aerodrome: f: Permission denied\n",
         2,
     );
-    let rows: [(&'static [u8], bool, Wanted); 3] = [
-        (b"T1|w(x)\n", false, SERIALIZABLE),
-        (b"\xEF\xBB\xBFT1|w(x)\n", false, marked),
-        (b"T1|w(x)\n", true, broken),
+    let broken: Wanted = (
+        b"f: broken after 8 bytes\n\
+            traces 1: serializable 0, open 0, violations 0, faults 1\n",
+        b"aerodrome: f: Input/output error\n",
+        2,
+    );
+    // How often an open and a read are interrupted, and how many opens and reads fail.
+    let rows: [(u32, u32, u32, Wanted); 8] = [
+        (0, 0, 0, whole),
+        (0, 1, 0, unopened),
+        (0, EVER, 0, unopened),
+        (0, 0, 1, broken),
+        (0, 0, EVER, broken),
+        (3, 0, 0, whole),
+        (3, 1, 0, unopened),
+        (3, 0, 1, broken),
     ];
-    for (left, fails, wanted) in rows {
-        let config = config_of(rt.alloc(), None)?;
-        assert!(rt; is_answered(rt, Ok(config), Text { left, fails }, 3, wanted));
+    for (times, open_failures, read_failures, wanted) in rows {
+        let config = config_of(rt.alloc(), Some("f"))?;
+        let shelf = Shelf::new(WRITE, times, open_failures, read_failures);
+        assert!(rt; is_answered(rt, &shelf, Ok(config), b"", &SOUND, wanted));
     }
     Ok(())
 }

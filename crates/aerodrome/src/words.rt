@@ -6,6 +6,7 @@ ghost use Rattle.aerodrome.specs.Words.{IsCommandLine, ReadsWithin};
 
 use crate::help;
 pub use aero_program::command::{Config, Refused};
+use clap::builder::ValueParser;
 use clap::error::ErrorKind;
 use clap::{Arg, ArgAction, ArgMatches, Command, Error, value_parser};
 use std::alloc::{AllocError, Global};
@@ -74,7 +75,14 @@ fn number_option<'a>(alloc: Global, name: &'a str, most: u32) -> Arg<'a>
         .long(name)
         .value_name("N")
         .action(ArgAction::Set)
-        .value_parser(value_parser!(u32).range(1..=i64::from(most)))
+        .value_parser(numbers_to(most))
+}
+
+// What reads a number from 1 to `most`.
+fn numbers_to<'a>(most: u32) -> ValueParser<'a>
+    ensures { result ≡ vp.Signed (pos 1) (pos most) }
+{
+    value_parser!(u32).range(1..=i64::from(most))
 }
 
 // Why the words were refused, with the text for it.

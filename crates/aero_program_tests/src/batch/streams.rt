@@ -1,7 +1,10 @@
 // Readers and writers that fail, or never end.
-use std::io;
 use std::io::{Read, Write};
 use std::sync::atomic::{AtomicBool, Ordering};
+use std::{io, thread};
+
+// How often a reader lets other threads go on before it gives a space.
+const TURNS: u32 = 250;
 
 // A reader that fails at one call, once it has given so many bytes, and works again afterwards.
 #[derive(Drop)]
@@ -70,20 +73,44 @@ impl Write for CutsOnce {
     }
 }
 
-// A reader that fails where nothing is told before it is read, if something is to be.
+// A reader that gives its text once something is told. Until then it gives so many spaces, one at a read and after
+// some turns, and then it fails.
 #[derive(Drop)]
 pub(crate) struct Later<'a> {
     pub(crate) text: &'a [u8],
-    pub(crate) is_first: bool,
+    pub(crate) spaces: u32,
     pub(crate) is_told: &'a AtomicBool,
 }
 
 impl Read for Later<'_> {
     fn read(&mut self, buf: &mut [u8]) -> io::Result<usize> {
-        if !self.is_first && !self.is_told.load(Ordering::SeqCst) {
+        if self.is_told.load(Ordering::SeqCst) {
+            return self.text.read(buf);
+        }
+        if self.spaces == 0 {
             return Err(io::Error::from(io::ErrorKind::Interrupted));
         }
-        self.text.read(buf)
+        self.spaces -= 1;
+        for _ in 0..TURNS {
+            thread::yield_now();
+        }
+        b" ".as_slice().read(buf)
+    }
+}
+
+// A reader that gives its text at once, or later.
+#[derive(Drop)]
+pub(crate) enum Either<'a> {
+    AtOnce(&'a [u8]),
+    Later(Later<'a>),
+}
+
+impl Read for Either<'_> {
+    fn read(&mut self, buf: &mut [u8]) -> io::Result<usize> {
+        match self {
+            Either::AtOnce(text) => text.read(buf),
+            Either::Later(later) => later.read(buf),
+        }
     }
 }
 

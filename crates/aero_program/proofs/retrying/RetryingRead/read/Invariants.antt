@@ -1,7 +1,9 @@
 -- Interrupted reads took nothing.
 use Rattle.std.specs.Io.KnownBytes.{Keeps}
 use Rattle.aero_program.specs.Retries.{tried_by}
+use Rattle.aero_program.proofs.Interruptions.{WasInterrupted}
 use Rattle.aero_program.proofs.retrying.RetryingRead.read.Given as goal
 
 abbrev pub invariant-loop : goal.invariant-loop
-invariant-loop g l = Keeps (g.R.Read.remaining (tried_by l.fn.self)) (g.R.Read.remaining (tried_by l.self))
+invariant-loop g l =
+    Keeps (g.R.Read.remaining (tried_by l.fn.self)) (g.R.Read.remaining (tried_by l.self)) × WasInterrupted l.fn.self l.self l.counter

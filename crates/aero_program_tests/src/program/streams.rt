@@ -1,0 +1,251 @@
+// Streams and files of which calls fail, once or for ever, or are interrupted.
+use std::alloc::Allocator;
+use std::fs::{Metadata, OpenFile, OpenOptions};
+use std::io;
+use std::io::{ErrorKind, Read, Seek, SeekFrom, Write};
+use std::rt::Files;
+use std::sync::atomic::{AtomicU64, Ordering};
+
+// More calls than any run makes.
+pub(crate) const EVER: u32 = u32::MAX;
+
+// A text, after which so many reads fail, before its end is found.
+#[derive(Drop)]
+pub(crate) struct Text {
+    pub(crate) left: &'static [u8],
+    pub(crate) failures: u32,
+}
+
+impl Read for Text {
+    fn read(&mut self, buf: &mut [u8]) -> io::Result<usize> {
+        if self.left.is_empty() && self.failures > 0 {
+            self.failures -= 1;
+            return Err(io::Error::from_raw_os_error(5));
+        }
+        self.left.read(buf)
+    }
+}
+
+// A writer that takes so many bytes, after which so many writes fail, and then takes all. So many flushes
+// fail.
+#[derive(Drop)]
+pub(crate) struct Narrow {
+    pub(crate) taken: Vec<u8>,
+    pub(crate) room: usize,
+    pub(crate) failures: u32,
+    pub(crate) flush_failures: u32,
+}
+
+impl Write for Narrow {
+    fn write(&mut self, buf: &[u8]) -> io::Result<usize> {
+        if self.room == 0 && self.failures > 0 {
+            self.failures -= 1;
+            return Err(io::Error::from(ErrorKind::BrokenPipe));
+        }
+        let count = if self.room == 0 {
+            buf.len()
+        } else {
+            buf.len().min(self.room)
+        };
+        self.taken.extend_from_slice(&buf[..count])?;
+        self.room = self.room.saturating_sub(count);
+        Ok(count)
+    }
+
+    fn flush(&mut self) -> io::Result<()> {
+        if self.flush_failures > 0 {
+            self.flush_failures -= 1;
+            return Err(io::Error::from(ErrorKind::BrokenPipe));
+        }
+        Ok(())
+    }
+}
+
+// A reader or a writer of which each call is interrupted so many times before it is heeded.
+#[derive(Drop)]
+pub(crate) struct Interrupted<T> {
+    pub(crate) inner: T,
+    times: u32,
+    left: u32,
+}
+
+impl<T> Interrupted<T> {
+    pub(crate) fn new(inner: T, times: u32) -> Interrupted<T> {
+        Interrupted {
+            inner,
+            times,
+            left: times,
+        }
+    }
+
+    fn interrupt(&mut self) -> io::Result<()> {
+        if self.left == 0 {
+            self.left = self.times;
+            return Ok(());
+        }
+        self.left -= 1;
+        Err(io::Error::from(ErrorKind::Interrupted))
+    }
+}
+
+impl<R: Read> Read for Interrupted<R> {
+    fn read(&mut self, buf: &mut [u8]) -> io::Result<usize> {
+        self.interrupt()?;
+        self.inner.read(buf)
+    }
+}
+
+impl<W: Write> Write for Interrupted<W> {
+    fn write(&mut self, buf: &[u8]) -> io::Result<usize> {
+        self.interrupt()?;
+        self.inner.write(buf)
+    }
+
+    fn flush(&mut self) -> io::Result<()> {
+        self.interrupt()?;
+        self.inner.flush()
+    }
+}
+
+// Files that all have one text, of which so many opens are interrupted and then so many fail. Reads go as
+// those of a `Text`, each interrupted as often as the opens were to be.
+#[derive(Drop)]
+pub(crate) struct Shelf {
+    text: &'static [u8],
+    times: u32,
+    interruptions: AtomicU64,
+    open_failures: AtomicU64,
+    read_failures: u32,
+}
+
+impl Shelf {
+    pub(crate) fn new(
+        text: &'static [u8],
+        times: u32,
+        open_failures: u32,
+        read_failures: u32,
+    ) -> Shelf {
+        Shelf {
+            text,
+            times,
+            interruptions: AtomicU64::new(u64::from(times)),
+            open_failures: AtomicU64::new(u64::from(open_failures)),
+            read_failures,
+        }
+    }
+}
+
+// One less, unless there is none left; whether there was one.
+fn spend(count: &AtomicU64) -> bool {
+    let left = count.load(Ordering::SeqCst);
+    count.store(left.saturating_sub(1), Ordering::SeqCst);
+    left > 0
+}
+
+fn unsupported() -> io::Error {
+    io::Error::from(ErrorKind::Unsupported)
+}
+
+impl Files for Shelf {
+    type File = Page;
+
+    type Dir = Text;
+
+    fn open_file(&self, _how: &OpenOptions, _path: &str) -> io::Result<Page> {
+        if spend(&self.interruptions) {
+            return Err(io::Error::from(ErrorKind::Interrupted));
+        }
+        if spend(&self.open_failures) {
+            return Err(io::Error::from_raw_os_error(13));
+        }
+        let text = Text {
+            left: self.text,
+            failures: self.read_failures,
+        };
+        Ok(Page {
+            text: Interrupted::new(text, self.times),
+        })
+    }
+
+    fn open_dir(&self, _path: &str) -> io::Result<Text> {
+        Err(unsupported())
+    }
+
+    fn metadata(&self, _path: &str) -> io::Result<Metadata> {
+        Err(unsupported())
+    }
+
+    fn symlink_metadata(&self, _path: &str) -> io::Result<Metadata> {
+        Err(unsupported())
+    }
+
+    fn copy(&self, _from: &str, _to: &str) -> io::Result<u64> {
+        Err(unsupported())
+    }
+
+    fn rename(&self, _from: &str, _to: &str) -> io::Result<()> {
+        Err(unsupported())
+    }
+
+    fn remove_file(&self, _path: &str) -> io::Result<()> {
+        Err(unsupported())
+    }
+
+    fn create_dir(&self, _path: &str) -> io::Result<()> {
+        Err(unsupported())
+    }
+
+    fn remove_dir(&self, _path: &str) -> io::Result<()> {
+        Err(unsupported())
+    }
+
+    fn remove_dir_all<B: Allocator>(&self, _alloc: B, _path: &str) -> io::Result<()> {
+        Err(unsupported())
+    }
+}
+
+// An open file of a `Shelf`.
+#[derive(Drop)]
+pub(crate) struct Page {
+    text: Interrupted<Text>,
+}
+
+impl Read for Page {
+    fn read(&mut self, buf: &mut [u8]) -> io::Result<usize> {
+        self.text.read(buf)
+    }
+}
+
+impl Write for Page {
+    fn write(&mut self, _buf: &[u8]) -> io::Result<usize> {
+        Err(unsupported())
+    }
+
+    fn flush(&mut self) -> io::Result<()> {
+        Err(unsupported())
+    }
+}
+
+impl Seek for Page {
+    fn seek(&mut self, _to: SeekFrom) -> io::Result<u64> {
+        Err(unsupported())
+    }
+}
+
+impl OpenFile for Page {
+    fn metadata(&self) -> io::Result<Metadata> {
+        Err(unsupported())
+    }
+
+    fn set_len(&self, _size: u64) -> io::Result<()> {
+        Err(unsupported())
+    }
+
+    fn sync_all(&self) -> io::Result<()> {
+        Err(unsupported())
+    }
+
+    fn sync_data(&self) -> io::Result<()> {
+        Err(unsupported())
+    }
+}
