@@ -3,8 +3,8 @@ ghost use Rattle.std.specs.Prelude.{◌≡◌, ◌≢◌, IfSome, IfNone, IfErr,
 ghost use Rattle.std.specs.IoError.{error_kind};
 ghost use Rattle.std.specs.declared.io.ErrorKind.TheVariants.{Interrupted};
 
-use aero_model::ghost_count::GhostCount;
 use crate::watched::Watched;
+use aero_model::ghost_count::GhostCount;
 use std::io;
 use std::io::{ErrorKind, Read, Write};
 

@@ -210,10 +210,7 @@ fn errors_of(alloc: Global, damage: &Damage) -> Interrupted<Narrow> {
 }
 
 // Whether a call answers so, where standard input has this text.
-fn is_answered<
-    R: AllocGlobal + Threads + Wait + Copy + Drop + Send + 'static,
-    F: Files + Drop,
->(
+fn is_answered<R: AllocGlobal + Threads + Wait + Copy + Drop + Send + 'static, F: Files + Drop>(
     rt: R,
     files: &F,
     asked: Result<Config, Stop>,
@@ -302,12 +299,23 @@ fn what_is_asked_for_is_judged(rt: HostRuntime) -> Result<(), Fail> {
             ),
         ),
         (None, MARKED_WRITE, SOUND, MARKED),
-        (None, WRITE, Damage { reads: EVER, ..SOUND }, BROKEN),
+        (
+            None,
+            WRITE,
+            Damage {
+                reads: EVER,
+                ..SOUND
+            },
+            BROKEN,
+        ),
         (None, WRITE, Damage { reads: 1, ..SOUND }, BROKEN),
         (
             None,
             b"\xEF\xBB\xBF",
-            Damage { reads: EVER, ..SOUND },
+            Damage {
+                reads: EVER,
+                ..SOUND
+            },
             (
                 b"-: broken after 3 bytes\n\
                     traces 1: serializable 0, open 0, violations 0, faults 1\n",
@@ -338,10 +346,44 @@ fn what_is_asked_for_is_judged(rt: HostRuntime) -> Result<(), Fail> {
                 2,
             ),
         ),
-        (None, WRITE, Damage { room: 10, writes: EVER, ..SOUND }, CUT),
-        (None, WRITE, Damage { room: 10, writes: 1, ..SOUND }, CUT),
-        (None, WRITE, Damage { flushes: EVER, ..SOUND }, UNFLUSHED),
-        (None, WRITE, Damage { flushes: 1, ..SOUND }, UNFLUSHED),
+        (
+            None,
+            WRITE,
+            Damage {
+                room: 10,
+                writes: EVER,
+                ..SOUND
+            },
+            CUT,
+        ),
+        (
+            None,
+            WRITE,
+            Damage {
+                room: 10,
+                writes: 1,
+                ..SOUND
+            },
+            CUT,
+        ),
+        (
+            None,
+            WRITE,
+            Damage {
+                flushes: EVER,
+                ..SOUND
+            },
+            UNFLUSHED,
+        ),
+        (
+            None,
+            WRITE,
+            Damage {
+                flushes: 1,
+                ..SOUND
+            },
+            UNFLUSHED,
+        ),
         (
             None,
             MARKED_WRITE,
@@ -410,22 +452,28 @@ fn what_is_not_judged_is_told(rt: HostRuntime) -> Result<(), Fail> {
         (refused(alloc, "help\n", true)?, SOUND, (b"help\n", b"", 0)),
         (
             refused(alloc, "help\n", true)?,
-            Damage { room: 2, writes: EVER, ..SOUND },
+            Damage {
+                room: 2,
+                writes: EVER,
+                ..SOUND
+            },
             (b"he", failed, 4),
         ),
+        (refused(alloc, "help\n", true)?, cut, (b"he", b"ae", 4)),
         (
             refused(alloc, "help\n", true)?,
-            cut,
-            (b"he", b"ae", 4),
-        ),
-        (
-            refused(alloc, "help\n", true)?,
-            Damage { flushes: EVER, ..SOUND },
+            Damage {
+                flushes: EVER,
+                ..SOUND
+            },
             (b"help\n", failed, 4),
         ),
         (
             refused(alloc, "help\n", true)?,
-            Damage { flushes: 1, ..SOUND },
+            Damage {
+                flushes: 1,
+                ..SOUND
+            },
             (b"help\n", failed, 4),
         ),
         (refused(alloc, "why\n", false)?, SOUND, (b"", b"why\n", 3)),
@@ -437,7 +485,11 @@ fn what_is_not_judged_is_told(rt: HostRuntime) -> Result<(), Fail> {
         ),
         (
             Stop::Refused(Refused::TooManyFiles),
-            Damage { error_room: 0, error_writes: EVER, ..SOUND },
+            Damage {
+                error_room: 0,
+                error_writes: EVER,
+                ..SOUND
+            },
             (b"", b"", 3),
         ),
         (Stop::Refused(Refused::Memory), SOUND, memory),
@@ -462,10 +514,39 @@ fn interrupted_calls_are_made_again(rt: HostRuntime) -> Result<(), Fail> {
     let rows: [(&'static [u8], Damage, Wanted); 6] = [
         (WRITE, interrupted, SERIALIZABLE),
         (MARKED_WRITE, interrupted, MARKED),
-        (WRITE, Damage { reads: EVER, ..interrupted }, BROKEN),
-        (WRITE, Damage { reads: 1, ..interrupted }, BROKEN),
-        (WRITE, Damage { room: 10, writes: 1, ..interrupted }, CUT),
-        (WRITE, Damage { flushes: 1, ..interrupted }, UNFLUSHED),
+        (
+            WRITE,
+            Damage {
+                reads: EVER,
+                ..interrupted
+            },
+            BROKEN,
+        ),
+        (
+            WRITE,
+            Damage {
+                reads: 1,
+                ..interrupted
+            },
+            BROKEN,
+        ),
+        (
+            WRITE,
+            Damage {
+                room: 10,
+                writes: 1,
+                ..interrupted
+            },
+            CUT,
+        ),
+        (
+            WRITE,
+            Damage {
+                flushes: 1,
+                ..interrupted
+            },
+            UNFLUSHED,
+        ),
     ];
     for (text, damage, wanted) in rows {
         let config = config_of(rt.alloc(), None)?;
