@@ -2,6 +2,8 @@ pub mod BlockCounts
 pub mod Blocks
 pub mod CallCounts
 pub mod Cycle
+pub mod Excepts
+pub mod Exempt
 pub mod Graph
 pub mod Laws
 pub mod LimitNumbers

@@ -1,5 +1,7 @@
 //! What an event by numbers is.
-/// What an event does, with its target's number.
+/// What an event does, with its target's number. A begin has the number of its label, if it has a
+/// label. `Exempt` is what a begin or an end is judged as that is no transaction's: an event of its
+/// thread, and nothing more. No line says it.
 #[derive(Clone, Copy, Debug, PartialEq, Eq)]
 pub enum What {
     Read(u32),
@@ -8,8 +10,9 @@ pub enum What {
     Release(u32),
     Fork(u32),
     Join(u32),
-    Begin,
+    Begin(Option<u32>),
     End,
+    Exempt,
 }
 
 /// An event: the number of its thread, and what it does.

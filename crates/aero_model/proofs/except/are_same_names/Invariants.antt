@@ -1,0 +1,5 @@
+use Rattle.aero_model.proofs.SameLists.{SameUpTo}
+use Rattle.aero_model.proofs.except.are_same_names.Given as goal
+
+abbrev pub invariant-loop-i : goal.invariant-loop-i
+invariant-loop-i l = SameUpTo l.a l.b l.i

@@ -1,0 +1,129 @@
+//! The blocks that are no transactions, by their labels.
+ghost use Rattle.std.specs.Prelude.{◌≡◌, ◌↔◌, IsTrue};
+
+use crate::name::Name;
+use std::alloc::{AllocError, Global};
+use std::marker::Model;
+use std::sync::Arc;
+
+/// How many labels are listed at most.
+pub const MOST_LABELS: usize = 64;
+
+/// A list of labels, at most 64. A block that begins with one of them is no transaction.
+#[derive(Drop)]
+pub struct Except {
+    labels: Vec<Name>,
+}
+
+impl Model for Except {
+    ghost use Rattle.std.specs.Prelude.{◌≤◌, ℕ, List, length};
+    ghost use Rattle.aero_model.specs.Excepts.{most_labels};
+
+    ghost Value = { List (List ℕ) };
+
+    ghost view = { λ except. except.labels.items };
+
+    ghost invariant = { λ except. length except.labels.items ≤ most_labels };
+}
+
+impl Except {
+    ghost use Rattle.std.specs.Prelude.{◌≡◌, ◌≤◌, ◌↔◌, length, bytes_eq, vec_len, IsSome, IsTrue, IfSome};
+    ghost use Rattle.std.specs.List.{list_any};
+    ghost use Rattle.aero_model.specs.Excepts.{most_labels};
+
+    /// These labels, or `None` where there are more than 64.
+    pub fn new(labels: Vec<Name>) -> Option<Except>
+        ensures few { IsSome result ↔ (vec_len labels ≤ most_labels) }
+        ensures labels { IfSome result (λ except. except ≡ labels.items) }
+    {
+        if labels.len() > MOST_LABELS {
+            return None;
+        }
+        Some(Except { labels })
+    }
+
+    /// Whether the label is listed.
+    pub fn has(&self, label: &Name) -> bool
+        ensures { result ≡ list_any (bytes_eq label.now) self.now }
+    {
+        self.has_bytes(label.bytes())
+    }
+
+    /// Whether a label of these bytes is listed.
+    pub fn has_bytes(&self, label: &[u8]) -> bool
+        ensures { result ≡ list_any (bytes_eq label.now) self.now }
+    {
+        self.labels.iter().any(|listed| listed.bytes() == label)
+    }
+
+    /// Whether both list the same labels, in the same order.
+    pub fn has_same_labels(&self, other: &Except) -> bool
+        ensures { IsTrue result ↔ (self.now ≡ other.now) }
+    {
+        are_same_names(&self.labels, &other.labels)
+    }
+}
+
+fn are_same_names(a: &[Name], b: &[Name]) -> bool
+    ensures { IsTrue result ↔ (a.now ≡ b.now) }
+{
+    if a.len() != b.len() {
+        return false;
+    }
+    for i in 0..a.len() {
+        if !is_same_name(&a[i], &b[i]) {
+            return false;
+        }
+    }
+    true
+}
+
+fn is_same_name(a: &Name, b: &Name) -> bool
+    ensures { IsTrue result ↔ (a.now ≡ b.now) }
+{
+    a.bytes() == b.bytes()
+}
+
+/// A list of labels that several hold.
+#[derive(Drop)]
+pub struct SharedExcept {
+    except: Arc<Except, Global>,
+}
+
+impl Model for SharedExcept {
+    ghost use Rattle.std.specs.Prelude.{ℕ, List};
+    ghost use Rattle.std.specs.Arc.{arc_value};
+
+    ghost Value = { List (List ℕ) };
+
+    ghost view = { λ shared. arc_value shared.except };
+}
+
+impl SharedExcept {
+    ghost use Rattle.std.specs.Prelude.{◌≡◌, IfOk};
+
+    /// The list, so that several can hold it. Where memory is refused it is given up.
+    pub fn new(alloc: Global, except: Except) -> Result<SharedExcept, AllocError>
+        ensures { IfOk result (λ shared. shared ≡ except) }
+    {
+        Ok(SharedExcept {
+            except: Arc::new(alloc, except)?,
+        })
+    }
+
+    /// The same list for one holder more. An `AllocError` says that it has too many.
+    pub fn share(&self) -> Result<SharedExcept, AllocError>
+        ensures { IfOk result (λ shared. shared ≡ self.now) }
+    {
+        Ok(SharedExcept {
+            except: Arc::try_clone(&self.except)?,
+        })
+    }
+
+    /// The list.
+    pub fn get(&self) -> &Except
+        ensures { result.now ≡ self.now }
+    {
+        &self.except
+    }
+}
