@@ -1,6 +1,6 @@
 -- What the event of a line has.
-use Rattle.std.proofs.Common.{◌≡◌, ◌||◌, ◌&&◌, ◌==◌, ℕ, Bool, true, false, not, cond, List, length, Option, Some, None, refl, sym, subst}
-use Rattle.std.specs.Prelude.{⊤}
+use Rattle.std.proofs.Common.{◌≡◌, ◌||◌, ◌&&◌, ◌==◌, ℕ, Bool, true, false, not, cond, List, length, Option, Some, None, refl, subst}
+use Rattle.std.specs.Prelude.{⊤, IfSome}
 use Rattle.std.specs.List.{list_any, list_all}
 use Rattle.std.specs.Str.Lines.{strip_carriage_return}
 use Rattle.std.proofs.lemmas.Bool.{or_parts}
@@ -9,8 +9,8 @@ use Rattle.aero_model.specs.declared.event.Op.TheVariants as op
 use Rattle.aero_model.specs.declared.verdict.LineFault.TheVariants as fault
 use Rattle.aero_model.specs.Lines.{is_too_long}
 use Rattle.aero_model.specs.Names.{is_bad_byte, is_barred}
-use Rattle.aero_model.specs.Named.{Named, stands_alone}
-use Rattle.aero_grammar.specs.Meaning.{Meaning, Blank, Means, Faulty, meaning, is_bar, is_blank, thread_field, operation_field, operation_word, operation_of, word_meaning, operation_meaning, is_unclosed, target_bytes, target_of, is_long_name}
+use Rattle.aero_model.specs.Named.{Named, HasItsTarget, stands_alone}
+use Rattle.aero_grammar.specs.Meaning.{Meaning, Blank, Means, Faulty, meaning, is_bar, is_blank, thread_field, operation_field, operation_word, operation_of, word_meaning, operation_meaning, is_unclosed, target_bytes, target_of, is_long_name, label_in}
 use Rattle.aero_grammar.specs.Words.{IsName, IsEvent}
 use Rattle.aero_grammar.proofs.Fields.{list_any-target_bytes, thread_bytes, operation_bytes}
 
@@ -26,13 +26,20 @@ event_if false x y here other = other refl
 is_name : (bytes : List ℕ) → (length bytes == 0) ≡ false → is_long_name bytes ≡ false → list_any is_barred bytes ≡ false → IsName bytes
 is_name bytes some short clean = rw (some, short, clean) refl
 
-targeted : (thread target : List ℕ) (o : Op) → stands_alone o ≡ false → IsName thread → IsName target → IsEvent (record { thread = thread; op = o; target = Some target })
-targeted thread target o alone is is_target = record { thread = is; target = is_target; has_target = sym alone }
+targeted : (thread target : List ℕ) (o : Op) → HasItsTarget o (Some target) → IsName thread → IsName target → IsEvent (record { thread = thread; op = o; target = Some target })
+targeted thread target o has is is_target = record { thread = is; target = is_target; has_target = has }
+
+label_name : (bytes : List ℕ) → list_any is_barred bytes ≡ false → IfSome (label_in bytes) IsName
+label_name bytes clean = go ((length bytes == 0) || is_long_name bytes) refl
+  where
+    go : (b : Bool) → ((length bytes == 0) || is_long_name bytes) ≡ b → IfSome (cond b None (Some bytes)) IsName
+    go true none = tt
+    go false some = let parts = or_parts (length bytes == 0) (is_long_name bytes) some in is_name bytes parts.0 parts.1 clean
 
 module _ (thread field : List ℕ) (some : (length thread == 0) ≡ false) (clean : list_any is_barred thread ≡ false) (clean_field : list_any is_barred field ≡ false) where
   event_here : (o : Op) → (not (stands_alone o) && (length (target_bytes field) == 0)) ≡ false → (is_long_name thread || (not (stands_alone o) && is_long_name (target_bytes field))) ≡ false →
       IsEvent (record { thread = thread; op = o; target = target_of o field })
-  event_here op.Begin missing long = record { thread = is_name thread some (or_parts (is_long_name thread) false long).0 clean; target = tt; has_target = refl }
+  event_here op.Begin missing long = record { thread = is_name thread some (or_parts (is_long_name thread) false long).0 clean; target = label_name (target_bytes field) (list_any-target_bytes field clean_field); has_target = tt }
   event_here op.End missing long = record { thread = is_name thread some (or_parts (is_long_name thread) false long).0 clean; target = tt; has_target = refl }
   event_here op.Read missing long = let parts = or_parts (is_long_name thread) _ long in targeted thread (target_bytes field) op.Read refl (is_name thread some parts.0 clean) (is_name (target_bytes field) missing parts.1 (list_any-target_bytes field clean_field))
   event_here op.Write missing long = let parts = or_parts (is_long_name thread) _ long in targeted thread (target_bytes field) op.Write refl (is_name thread some parts.0 clean) (is_name (target_bytes field) missing parts.1 (list_any-target_bytes field clean_field))

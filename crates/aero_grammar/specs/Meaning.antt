@@ -6,6 +6,7 @@ use Rattle.aero_model.specs.declared.event.Op.{Op}
 use Rattle.aero_model.specs.declared.event.Op.TheVariants.{Read, Write, Acquire, Release, Fork, Join, Begin, End}
 use Rattle.aero_model.specs.declared.verdict.LineFault.{LineFault}
 use Rattle.aero_model.specs.declared.verdict.LineFault.TheVariants.{TooLong, BadByte, NoOperation, EmptyThread, UnknownOperation, BadParenthesis, MissingTarget, NameTooLong, Memory}
+use Rattle.aero_model.specs.Exempt.{label_of}
 use Rattle.aero_model.specs.Lines.{is_too_long}
 use Rattle.aero_model.specs.Named.{Named, stands_alone}
 use Rattle.aero_model.specs.Names.{is_bad_byte, most_name_bytes, most_inline_bytes}
@@ -68,9 +69,13 @@ target_bytes field =
 abbrev pub is_long_name : List ℕ → Bool
 is_long_name name = nat_lt most_name_bytes (length name)
 
--- a begin and an end have no target: what stands in their parentheses says nothing
+-- a label has 1 to 255 bytes: what is longer, or nothing, is none
+abbrev pub label_in : List ℕ → Option (List ℕ)
+label_in bytes = if (length bytes == 0) || is_long_name bytes then None else Some bytes
+
+-- The target of a begin is its label, if it has one. An end has no target: what stands in its parentheses says nothing.
 abbrev pub target_of : Op → List ℕ → Option (List ℕ)
-target_of op field = if stands_alone op then None else Some (target_bytes field)
+target_of op field = if stands_alone op then label_of op (label_in (target_bytes field)) else Some (target_bytes field)
 
 -- what a known operation says
 abbrev pub operation_meaning : List ℕ → List ℕ → Op → Meaning

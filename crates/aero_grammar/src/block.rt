@@ -1,7 +1,7 @@
 //! What a block of lines says.
 ghost use Rattle.std.specs.Prelude.{◌≡◌, ◌<◌, ◌≤◌, ◌^◌, ◌∷◌, length, IfOk, OnErr};
 ghost use Rattle.aero_model.specs.Lines.{lines_of};
-ghost use Rattle.aero_grammar.specs.Lists.{lists_in};
+ghost use Rattle.aero_grammar.specs.Lists.{lists_in, labels_in};
 ghost use Rattle.aero_grammar.specs.Reading.{reading_of};
 ghost use Rattle.aero_grammar.specs.Tabled.{lines_in, IsBlock};
 
@@ -15,9 +15,10 @@ use std::alloc::{AllocError, Global};
 
 /// What a block of lines says, up to its first fault: each line ends at a byte 10 or at the
 /// block's end, and no line follows a byte 10 at the end. The block has at most 2^30 bytes, and
-/// the lines are no more than its bytes.
+/// the lines are no more than its bytes. The labels of its begins are numbered like its names, in a
+/// table of their own, as many as there are.
 ///
-/// An `AllocError` says that memory was refused, to the list of events or to a name. So the block
+/// An `AllocError` says that memory was refused, to the list of events, a name or a label. So the block
 /// has an event: one without, or with none before its first fault, takes no memory.
 pub fn parse_block(alloc: Global, bytes: &[u8]) -> Result<Parsed, AllocError>
     requires { length bytes.now ≤ 2 ^ 30 }
@@ -49,19 +50,21 @@ fn parsed(
     lines: u32,
     fault: Option<(u32, LineFault)>,
 ) -> Parsed
-    requires { IsBlock (lists_in tables) events.items lines fault }
-    ensures { result ≡ record { events = lines_in (lists_in tables) events.items; lines = lines; fault = fault } }
+    requires { IsBlock (lists_in tables) (labels_in tables) events.items lines fault }
+    ensures { result ≡ record { events = lines_in (lists_in tables) (labels_in tables) events.items; lines = lines; fault = fault } }
 {
     let Tables {
         threads,
         variables,
         locks,
+        labels,
     } = tables;
     events.shrink_to_fit();
     Parsed {
         threads: threads.into_list(),
         variables: variables.into_list(),
         locks: locks.into_list(),
+        labels: labels.into_list(),
         events,
         lines,
         fault,

@@ -3,16 +3,20 @@
 //! A line holds one event: the thread, the operation with its target, and a location, each behind
 //! the other with a `|` between them. `parse_line` reads one line, and `parse_block` a block of
 //! lines, up to the first that is malformed. Spaces and tabs round the thread and the operation
-//! don't count, nor does anything from the second `|` on.
+//! don't count, nor does anything from the second `|` on. What a begin has in its parentheses is its
+//! label, if that is 1 to 255 bytes: it is the event's target. A begin without one is no fault, and
+//! what an end has in its parentheses says nothing.
 //!
 //! `specs/Meaning.antt` says what a line means and `specs/Reading.antt` what a text means, and the
 //! contracts say that just that is answered. Blocks of whole lines mean, one after the other, what
 //! the text means that they make up.
 //!
 //! ```text
-//! let parsed = parse_block(rt.alloc(), b"\nT1|r(x)|12\nT1\nT2|w(y)")?;
+//! let parsed = parse_block(rt.alloc(), b"\nT1|begin(f)|12\nT1\nT2|w(y)")?;
 //! let (line, event) = parsed.events[0];
 //! assert_eq!(rt; line, 2);
+//! assert_eq!(rt; event.what, What::Begin(Some(0)));
+//! assert!(rt; parsed.labels.name(0) == Some(b"f"));
 //! assert!(rt; parsed.threads.name(event.thread) == Some(b"T1"));
 //! assert_eq!(rt; parsed.fault, Some((3, LineFault::NoOperation)));
 //! ```

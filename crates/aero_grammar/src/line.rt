@@ -13,6 +13,9 @@ use std::alloc::Global;
 /// The event of one line, which comes without the byte 10 that ends it, or `None` for a blank
 /// line. One byte 13 at the end is dropped, and the line's length is counted before that.
 ///
+/// The target of a begin is its label: what stands between the field's first `(` and its last byte,
+/// if that is 1 to 255 bytes. A begin without a label, or with a longer one, has no target.
+///
 /// The error is the first fault that the line has, in the order of `LineFault`'s variants:
 ///
 /// - `TooLong`: it has over 4,096 bytes.
@@ -23,8 +26,10 @@ use std::alloc::Global;
 ///   `r`, `w`, `acq`, `rel`, `fork`, `join`, `begin` and `end`.
 /// - `BadParenthesis`: the field has a `(`, and its last byte is no `)`.
 /// - `MissingTarget`: an operation other than a begin or an end has nothing in its parentheses.
-/// - `NameTooLong`: the thread's name or the target has over 255 bytes.
-/// - `Memory`: the line has an event, one of its names has over 16 bytes, and memory is refused.
+/// - `NameTooLong`: the thread's name has over 255 bytes, or the target of an operation other than a
+///   begin or an end.
+/// - `Memory`: the line has an event, one of its names, or its label, has over 16 bytes, and memory
+///   is refused.
 pub fn parse_line(alloc: Global, line: &[u8]) -> Result<Option<Event>, LineFault>
     ensures { TellsMeaning result (meaning line.now) }
 {

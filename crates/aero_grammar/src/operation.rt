@@ -1,8 +1,9 @@
 // What an event does: the second field of its line.
-ghost use Rattle.std.specs.Prelude.{◌≡◌, ◌==◌, ◌<◌, ◌≤◌, ◌||◌, true, false, length, is_none, IfSome, None, Some, if◌then◌else◌};
+ghost use Rattle.std.specs.Prelude.{◌≡◌, ◌==◌, ◌<◌, ◌≤◌, ◌||◌, true, false, length, is_none, option_copied, IfSome, Some, if◌then◌else◌};
 ghost use Rattle.std.specs.List.{list_any, position_or_len};
+ghost use Rattle.aero_model.specs.Exempt.{label_of as label_of_op};
 ghost use Rattle.aero_model.specs.Named.{stands_alone as is_alone};
-ghost use Rattle.aero_grammar.specs.Meaning.{Means, Faulty, is_parenthesis, operation_word, operation_of as operation_of_word, is_unclosed, target_bytes, is_long_name as is_long, word_meaning};
+ghost use Rattle.aero_grammar.specs.Meaning.{Means, Faulty, is_parenthesis, operation_word, operation_of as operation_of_word, is_unclosed, target_bytes, is_long_name as is_long, label_in, word_meaning};
 ghost use Rattle.aero_grammar.specs.Words.{ReadsEvent};
 
 use crate::bytes::place_of;
@@ -24,7 +25,7 @@ pub fn parse_operation<'a>(thread: &'a [u8], field: &'a [u8]) -> Result<Words<'a
         return Err(LineFault::BadParenthesis);
     };
     if stands_alone(op) {
-        event_alone(thread, op)
+        event_alone(thread, op, target)
     } else {
         event_with_target(thread, op, target)
     }
@@ -75,16 +76,28 @@ fn enclosed(field: &[u8], place: usize) -> Option<&[u8]>
 }
 
 #[inline(always)]
-fn event_alone(thread: &[u8], op: Op) -> Result<Words<'_>, LineFault>
+fn event_alone<'a>(thread: &'a [u8], op: Op, enclosed: &'a [u8]) -> Result<Words<'a>, LineFault>
     requires { is_alone op ≡ true }
     ensures { ReadsEvent result (if is_long thread.now then Faulty LineFault.NameTooLong else
-        Means (record { thread = thread.now; op = op; target = None })) }
+        Means (record { thread = thread.now; op = op; target = label_of_op op (label_in enclosed.now) })) }
 {
     if is_long_name(thread) {
         return Err(LineFault::NameTooLong);
     }
-    let target = None;
+    let target = label_of(op, enclosed);
     Ok(Words { thread, op, target })
+}
+
+// The label of a begin, by what stands in its parentheses.
+#[inline(always)]
+fn label_of(op: Op, enclosed: &[u8]) -> Option<&[u8]>
+    ensures { option_copied result ≡ label_of_op op (label_in enclosed.now) }
+{
+    if op == Op::Begin && !enclosed.is_empty() && !is_long_name(enclosed) {
+        Some(enclosed)
+    } else {
+        None
+    }
 }
 
 #[inline(always)]

@@ -6,14 +6,17 @@ use std::marker::Model;
 
 /// What a block of lines says, up to its first fault.
 ///
-/// The block has tables of its own for the names of its threads, variables and locks, each in order
-/// of first appearance, the actor before the target. No name stands in a table twice, nor one that
-/// no event has. Contracts see the events by their names.
+/// The block has tables of its own for the names of its threads, variables and locks and for the
+/// labels of its begins, each in order of first appearance, the actor before the target. No name
+/// stands in a table twice, nor one that no event has. Contracts see the events by their names.
 #[derive(Drop)]
 pub struct Parsed {
     pub threads: NameList,
     pub variables: NameList,
     pub locks: NameList,
+    /// The labels of the block's begins: `What::Begin(Some(n))` has the one at place n, and a begin
+    /// without a label is `What::Begin(None)`.
+    pub labels: NameList,
     /// The events, in the order of their lines, each with its line's number, and by its names'
     /// places in the tables. Lines count from 1 within the block, and the numbers rise, since blank
     /// lines count and have no event.
@@ -33,10 +36,10 @@ impl Model for Parsed {
     ghost Value = { Reading };
 
     ghost view = { λ p. record {
-      events = lines_in (record { threads = p.threads; variables = p.variables; locks = p.locks }) p.events.items;
+      events = lines_in (record { threads = p.threads; variables = p.variables; locks = p.locks }) p.labels p.events.items;
       lines = p.lines;
       fault = p.fault;
     } };
 
-    ghost invariant = { λ p. IsBlock (record { threads = p.threads; variables = p.variables; locks = p.locks }) p.events.items p.lines p.fault };
+    ghost invariant = { λ p. IsBlock (record { threads = p.threads; variables = p.variables; locks = p.locks }) p.labels p.events.items p.lines p.fault };
 }

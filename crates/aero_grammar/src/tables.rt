@@ -1,4 +1,4 @@
-// The names of a block's events, each numbered in order of first appearance.
+// The names and labels of a block's events, each numbered in order of first appearance.
 ghost use Rattle.std.specs.Prelude.{◌≡◌, ◌+◌, ◌<◌, ◌≤◌, ℕ, List, length, true, IfOk, OnOk};
 ghost use Rattle.aero_model.specs.Named.{stands_alone};
 ghost use Rattle.aero_model.specs.Numbering.{Tables as Lists, with_name, what_of};
@@ -15,24 +15,27 @@ pub struct Tables {
     pub threads: Names,
     pub variables: Names,
     pub locks: Names,
+    pub labels: Names,
 }
 
 impl Tables {
     ghost use Rattle.std.specs.Prelude.{◌≡◌, [], true, is_none, option_copied, Some, IfOk, OnOk};
     ghost use Rattle.aero_model.specs.Named.{stands_alone};
-    ghost use Rattle.aero_names.specs.Numbers.{with_event, with_target, what_after};
+    ghost use Rattle.aero_names.specs.Numbers.{with_event, with_target};
     ghost use Rattle.aero_grammar.specs.Words.{named_of, IsEvent};
-    ghost use Rattle.aero_grammar.specs.Lists.{lists_in, numbered_in_turn, HasRoom, HasGrown};
+    ghost use Rattle.aero_grammar.specs.Lists.{lists_in, labels_in, labels_after, what_in_turn, numbered_in_turn, HasRoom, HasGrown};
 
     // No names yet.
     pub fn new(alloc: Global) -> Tables
         ensures none { lists_in result ≡ record { threads = []; variables = []; locks = [] } }
+        ensures unlabelled { labels_in result ≡ [] }
         ensures room { HasRoom result u32.MAX }
     {
         Tables {
             threads: Names::new(alloc, u32::MAX),
             variables: Names::new(alloc, u32::MAX),
             locks: Names::new(alloc, u32::MAX),
+            labels: Names::new(alloc, u32::MAX),
         }
     }
 
@@ -41,8 +44,9 @@ impl Tables {
     pub fn number(&mut self, words: Words<'_>) -> Result<Numbered, AllocError>
         requires event { IsEvent (named_of words) }
         requires room { HasRoom self.old 2 }
-        ensures numbered { IfOk result (λ numbered. numbered ≡ numbered_in_turn (lists_in self.old) (named_of words.entry)) }
+        ensures numbered { IfOk result (λ numbered. numbered ≡ numbered_in_turn (lists_in self.old) (labels_in self.old) (named_of words.entry)) }
         ensures names { OnOk result (lists_in self.new ≡ with_event (lists_in self.old) (named_of words.entry)) }
+        ensures labels { OnOk result (labels_in self.new ≡ labels_after (labels_in self.old) words.entry.op (option_copied words.entry.target)) }
         ensures grown { OnOk result (HasGrown self.old self.new 2) }
     {
         let thread = number_in(&mut self.threads, words.thread)?;
@@ -55,8 +59,9 @@ impl Tables {
     fn number_target(&mut self, op: Op, target: Option<&[u8]>) -> Result<What, AllocError>
         requires alone { is_none target ≡ true → stands_alone op ≡ true }
         requires room { HasRoom self.old 1 }
-        ensures what { IfOk result (λ what. what ≡ what_after (lists_in self.old) op (option_copied target.entry)) }
+        ensures what { IfOk result (λ what. what ≡ what_in_turn (lists_in self.old) (labels_in self.old) op (option_copied target.entry)) }
         ensures names { OnOk result (lists_in self.new ≡ with_target (lists_in self.old) op (option_copied target.entry)) }
+        ensures labels { OnOk result (labels_in self.new ≡ labels_after (labels_in self.old) op (option_copied target.entry)) }
         ensures grown { OnOk result (HasGrown self.old self.new 1) }
     {
         match target {
@@ -69,8 +74,9 @@ impl Tables {
     #[inline(always)]
     fn number_name(&mut self, op: Op, target: &[u8]) -> Result<What, AllocError>
         requires { HasRoom self.old 1 }
-        ensures what { IfOk result (λ what. what ≡ what_after (lists_in self.old) op (Some target.now)) }
+        ensures what { IfOk result (λ what. what ≡ what_in_turn (lists_in self.old) (labels_in self.old) op (Some target.now)) }
         ensures names { OnOk result (lists_in self.new ≡ with_target (lists_in self.old) op (Some target.now)) }
+        ensures labels { OnOk result (labels_in self.new ≡ labels_after (labels_in self.old) op (Some target.now)) }
         ensures grown { OnOk result (HasGrown self.old self.new 1) }
     {
         match op {
@@ -80,7 +86,7 @@ impl Tables {
             Op::Release => Ok(What::Release(number_in(&mut self.locks, target)?)),
             Op::Fork => Ok(What::Fork(number_in(&mut self.threads, target)?)),
             Op::Join => Ok(What::Join(number_in(&mut self.threads, target)?)),
-            Op::Begin => Ok(What::Begin),
+            Op::Begin => Ok(What::Begin(Some(number_in(&mut self.labels, target)?))),
             Op::End => Ok(What::End),
         }
     }
@@ -93,7 +99,7 @@ fn what_alone(op: Op) -> What
     ensures { (lists : Lists) (target : List ℕ) → result ≡ what_of lists op target }
 {
     if op == Op::Begin {
-        What::Begin
+        What::Begin(None)
     } else {
         What::End
     }

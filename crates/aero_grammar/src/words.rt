@@ -8,7 +8,8 @@ use aero_model::event::{Event, Op};
 use aero_model::verdict::LineFault;
 use std::alloc::Global;
 
-/// The words of an event's line: it has no target exactly where it is a begin or an end.
+/// The words of an event's line. The target of a begin is its label, if it has one, an end has no
+/// target, and every other event has one.
 #[derive(Clone, Copy)]
 pub struct Words<'a> {
     pub thread: &'a [u8],

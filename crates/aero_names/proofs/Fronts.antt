@@ -13,10 +13,10 @@ use Rattle.aero_model.specs.Numbering.{with_name, different_names, number_of, th
 use Rattle.aero_names.specs.Numbers.{with_target, with_event, what_after, numbered_after}
 use Rattle.aero_names.proofs.NewNames.{has_name, still_has_name, number_stays}
 
-names_joined : (named : Named → List (List ℕ)) (xs ys : List Named) → different_names (flat_map named (xs ++ ys)) ≡ fold with_name (different_names (flat_map named xs)) (flat_map named ys)
+pub names_joined : (named : Named → List (List ℕ)) (xs ys : List Named) → different_names (flat_map named (xs ++ ys)) ≡ fold with_name (different_names (flat_map named xs)) (flat_map named ys)
 names_joined named xs ys = ap different_names (flat_map-append named xs ys) ∙ fold-append with_name [] (flat_map named xs) (flat_map named ys)
 
-names_pushed : (named : Named → List (List ℕ)) (xs : List Named) (e : Named) → different_names (flat_map named (xs ++ e ∷ [])) ≡ fold with_name (different_names (flat_map named xs)) (named e)
+pub names_pushed : (named : Named → List (List ℕ)) (xs : List Named) (e : Named) → different_names (flat_map named (xs ++ e ∷ [])) ≡ fold with_name (different_names (flat_map named xs)) (named e)
 names_pushed named xs e = names_joined named xs (e ∷ []) ∙ ap (fold with_name (different_names (flat_map named xs))) (append-nil (named e))
 
 -- the names with one more event
@@ -41,7 +41,7 @@ tables_extended events more =
       locks = (flat_map locks_named more, names_joined locks_named events more);
     }
 
-number_kept : (before after : List (List ℕ)) (name : List ℕ) → (more : List (List ℕ)) × (after ≡ fold with_name before more) → list_any (bytes_eq name) before ≡ true → number_of after name ≡ number_of before name
+pub number_kept : (before after : List (List ℕ)) (name : List ℕ) → (more : List (List ℕ)) × (after ≡ fold with_name before more) → list_any (bytes_eq name) before ≡ true → number_of after name ≡ number_of before name
 number_kept before after name extends some = ap (λ ns. number_of ns name) extends.1 ∙ number_stays before extends.0 name some
 
 what_kept : (tables after : Tables) (o : Op) (target : Option (List ℕ)) → HasItsTarget o target → Extends (with_target tables o target) after → what_of after o (unwrap_or target []) ≡ what_after tables o target

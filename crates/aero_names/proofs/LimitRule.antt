@@ -8,7 +8,7 @@ use Rattle.std.proofs.lemmas.List.{take-append-drop}
 use Rattle.std.proofs.lemmas.Option.{same_Some, slice_get_within, slice_get-map}
 use Rattle.aero_model.specs.declared.numbered.Numbered.{Numbered}
 use Rattle.aero_model.specs.declared.numbered.What.{What}
-use Rattle.aero_model.specs.declared.numbered.What.TheVariants.{Read, Write, Acquire, Release, Fork, Join, Begin, End}
+use Rattle.aero_model.specs.declared.numbered.What.TheVariants.{Read, Write, Acquire, Release, Fork, Join, Begin, End, Exempt}
 use Rattle.aero_model.specs.declared.limits.Limits.{Limits}
 use Rattle.aero_model.specs.declared.event.Op.{Op}
 use Rattle.aero_model.specs.declared.event.Op.TheVariants as op
@@ -190,7 +190,8 @@ deed_is_rule before t (Release l) = either (held before t l == 0) (Some LockNotH
 deed_is_rule before t (Fork u) = either (u == t) (Some ForkSelf) _ refl (either (has_started before u) (Some ForkStarted) None refl refl)
 deed_is_rule before t (Join u) = either (u == t) (Some JoinSelf) None refl refl
 deed_is_rule before t End = either (depth before t (length before) == 0) (Some EndWithoutBegin) None refl refl
-deed_is_rule before t Begin = refl
+deed_is_rule before t (Begin label) = refl
+deed_is_rule before t Exempt = refl
 deed_is_rule before t (Read x) = refl
 deed_is_rule before t (Write x) = refl
 

@@ -1,31 +1,31 @@
-use Rattle.std.proofs.Common.{◌≡◌, ◌+◌, ◌*◌, ◌-◌, ◌^◌, ◌++◌, ◌∷◌, [], ◌==◌, true, length, None, Ok, sym, ◌∙◌, ap, ap₂, subst, arith}
-use Rattle.aero_names.specs.Numbers.{with_event, numbered_after}
-use Rattle.aero_grammar.specs.Lists.{lists_in}
+use Rattle.std.proofs.Common.{◌≡◌, ◌+◌, ◌*◌, ◌-◌, ◌^◌, ◌++◌, ◌∷◌, [], ◌==◌, true, length, None, Ok, sym, ◌∙◌, ap, subst, arith}
+use Rattle.aero_names.specs.Numbers.{with_event}
+use Rattle.aero_grammar.specs.Lists.{lists_in, labels_in, labels_after}
 use Rattle.aero_grammar.specs.Meaning.{Means, meaning}
 use Rattle.aero_grammar.specs.Reading.{IsReading, followed_by, reading_of}
-use Rattle.aero_grammar.specs.Tabled.{lines_in, IsTabled, AreNames}
+use Rattle.aero_grammar.specs.Tabled.{lines_in}
 use Rattle.aero_grammar.specs.Words.{named_of, ReadsMeaning}
 use Rattle.aero_grammar.proofs.Events.{event_of_line}
 use Rattle.aero_grammar.proofs.Joined.{reading, nothing_followed_by}
 use Rattle.aero_grammar.proofs.LinesRead.{has_event, one_more_line, after_blank, after_event, read_to_end, read_to_fault}
 use Rattle.aero_grammar.proofs.Readings.{IsReading-of}
-use Rattle.aero_grammar.proofs.TablesGrown.{room_within, room_left, nothing_tabled, no_names, lines_pushed, tabled_pushed, names_added, numbered_by_turns}
+use Rattle.aero_grammar.proofs.TablesGrown.{numbered_next, room_within, room_left, nothing_tabled, tabled_as, no_names, names_as, lines_pushed, tabled_pushed, names_added, numbered_by_turns}
 use Rattle.aero_grammar.proofs.block.parse_block.Goals as goal
 
 pub lines-init : goal.lines-init
 lines-init c = record {
   read =
-      sym (ap₂ (λ t es. followed_by (reading (lines_in t es) 0 None) (reading_of c.args.bytes.now)) c.new-tables.ensures.none c.new-events.ensures.items
+      sym ((λ i. followed_by (reading (lines_in (c.new-tables.ensures.none i) (c.new-tables.ensures.unlabelled i) (c.new-events.ensures.items i)) 0 None) (reading_of c.args.bytes.now))
       ∙ nothing_followed_by (reading_of c.args.bytes.now));
-  tabled = subst (λ t. IsTabled t c.new-events.result.items) (sym c.new-tables.ensures.none) (subst (IsTabled _) (sym c.new-events.ensures.items) nothing_tabled);
-  names = subst AreNames (sym c.new-tables.ensures.none) no_names;
+  tabled = tabled_as _ _ _ _ _ _ c.new-tables.ensures.none c.new-tables.ensures.unlabelled c.new-events.ensures.items nothing_tabled;
+  names = names_as _ _ _ _ c.new-tables.ensures.none c.new-tables.ensures.unlabelled no_names;
   counted = omega arith;
   room = room_within (c.new-tables.result) (2 ^ 32 - 1) (2 * length c.args.bytes.now) (omega (arith, c.requires)) c.new-tables.ensures.room;
 }
 
 pub lines-preserved-in-Ok-None : goal.lines-preserved-in-Ok-None
 lines-preserved-in-Ok-None c =
-    let so_far = lines_in (lists_in c.lines.tables) c.lines.events.items in
+    let so_far = lines_in (lists_in c.lines.tables) (labels_in c.lines.tables) c.lines.events.items in
     record {
       read =
           one_more_line so_far c.lines.lines (reading_of c.args.bytes.now) c.lines.rest.now c.first_line.result.0.now c.first_line.result.1.now c.lines.invariant.read c.first_line.ensures.lines
@@ -48,22 +48,24 @@ pub lines-preserved : goal.lines-preserved
 lines-preserved c =
     let tables = lists_in c.lines.tables in
     let events = c.lines.events.items in
-    let so_far = lines_in tables events in
+    let labels = labels_in c.lines.tables in
+    let so_far = lines_in tables labels events in
     let n = c.lines.lines + 1 in
     let e = named_of c.in-Ok-Some.words in
     let means : meaning c.first_line.result.0.now ≡ Means e = subst (λ o. ReadsMeaning (Ok o) (meaning c.first_line.result.0.now)) c.in-Ok-Some.field-0-is c.in-Ok-Some.ensures in
     let event = event_of_line c.first_line.result.0.now e means in
     let tables_are : lists_in c.number.new.self ≡ with_event tables e = c.in_ok-number-in-Ok-Some.ensures.names in
-    let events_are : c.push.new.self.items ≡ events ++ (n, numbered_after tables e) ∷ [] =
-    c.in_ok-push-in-Ok-Some.ensures.items ∙ ap (λ x. events ++ (n, x) ∷ []) (c.in_ok-number-in-Ok-Some.ensures.numbered ∙ numbered_by_turns tables e) in
+    let labels_are : labels_in c.number.new.self ≡ labels_after labels e.op e.target = c.in_ok-number-in-Ok-Some.ensures.labels in
+    let events_are : c.push.new.self.items ≡ events ++ (n, numbered_next tables labels e) ∷ [] =
+    c.in_ok-push-in-Ok-Some.ensures.items ∙ ap (λ x. events ++ (n, x) ∷ []) (c.in_ok-number-in-Ok-Some.ensures.numbered ∙ numbered_by_turns tables labels e) in
     record {
       read =
           one_more_line so_far c.lines.lines (reading_of c.args.bytes.now) c.lines.rest.now c.first_line.result.0.now c.first_line.result.1.now c.lines.invariant.read c.first_line.ensures.lines
           ∙ ap (λ r. followed_by r (reading_of c.first_line.result.1.now)) (after_event so_far c.lines.lines c.first_line.result.0.now e means)
           ∙ ap (λ es. followed_by (reading es n None) (reading_of c.first_line.result.1.now))
-          (sym (ap₂ lines_in tables_are events_are ∙ lines_pushed tables events c.lines.invariant.tabled n e event.has_target));
-      tabled = subst (λ t. IsTabled t c.push.new.self.items) (sym tables_are) (subst (IsTabled (with_event tables e)) (sym events_are) (tabled_pushed tables events c.lines.invariant.tabled n e event.has_target));
-      names = subst AreNames (sym tables_are) (names_added tables e event c.lines.invariant.names);
+          (sym ((λ i. lines_in (tables_are i) (labels_are i) (events_are i)) ∙ lines_pushed tables labels events c.lines.invariant.tabled n e event.has_target));
+      tabled = tabled_as _ _ _ _ _ _ tables_are labels_are events_are (tabled_pushed tables labels events c.lines.invariant.tabled n e event.has_target);
+      names = names_as _ _ _ _ tables_are labels_are (names_added tables labels e event c.lines.invariant.names);
       room = room_left c.lines.tables c.number.new.self (2 * length c.lines.rest.now) (2 * length c.first_line.result.1.now) 2 (omega (arith, c.first_line.ensures.shorter)) c.lines.invariant.room c.in_ok-number-in-Ok-Some.ensures.grown;
       counted = omega (arith, c.lines.invariant.counted, c.first_line.ensures.shorter);
     }
@@ -73,7 +75,7 @@ parsed-requires c =
     record {
       reading =
           subst IsReading
-          (read_to_fault (lines_in (lists_in c.lines.tables) c.lines.events.items) c.lines.lines (reading_of c.args.bytes.now) c.lines.rest.now c.first_line.result.0.now c.first_line.result.1.now c.in-Err.fault c.lines.invariant.read
+          (read_to_fault (lines_in (lists_in c.lines.tables) (labels_in c.lines.tables) c.lines.events.items) c.lines.lines (reading_of c.args.bytes.now) c.lines.rest.now c.first_line.result.0.now c.first_line.result.1.now c.in-Err.fault c.lines.invariant.read
           c.first_line.ensures.lines c.in-Err.ensures)
           (IsReading-of c.args.bytes.now);
       tabled = c.lines.invariant.tabled;
@@ -85,7 +87,7 @@ parsed-requires-2 c =
     let end : (length c.lines.rest.now == 0) ≡ true = cc in
     record {
       reading =
-          subst IsReading (read_to_end (lines_in (lists_in c.lines.tables) c.lines.events.items) c.lines.lines (reading_of c.args.bytes.now) c.lines.rest.now c.lines.invariant.read end) (IsReading-of c.args.bytes.now);
+          subst IsReading (read_to_end (lines_in (lists_in c.lines.tables) (labels_in c.lines.tables) c.lines.events.items) c.lines.lines (reading_of c.args.bytes.now) c.lines.rest.now c.lines.invariant.read end) (IsReading-of c.args.bytes.now);
       tabled = c.lines.invariant.tabled;
       names = c.lines.invariant.names;
     }
@@ -94,7 +96,7 @@ pub returns-clause-reading : goal.returns-clause-reading
 returns-clause-reading c =
     let end : (length c.lines.rest.now == 0) ≡ true = cc in
     c.parsed-2.ensures
-    ∙ sym (read_to_end (lines_in (lists_in c.lines.tables) c.lines.events.items) c.lines.lines (reading_of c.args.bytes.now) c.lines.rest.now c.lines.invariant.read end)
+    ∙ sym (read_to_end (lines_in (lists_in c.lines.tables) (labels_in c.lines.tables) c.lines.events.items) c.lines.lines (reading_of c.args.bytes.now) c.lines.rest.now c.lines.invariant.read end)
 
 pub returns-in_err-number-in-Ok-Some-clause-refused : goal.returns-in_err-number-in-Ok-Some-clause-refused
 returns-in_err-number-in-Ok-Some-clause-refused c =

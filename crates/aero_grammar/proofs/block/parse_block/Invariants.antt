@@ -1,14 +1,14 @@
 use Rattle.std.proofs.Common.{◌≡◌, ◌≤◌, ◌+◌, ◌*◌, None, length}
-use Rattle.aero_grammar.specs.Lists.{lists_in, HasRoom}
+use Rattle.aero_grammar.specs.Lists.{lists_in, labels_in, HasRoom}
 use Rattle.aero_grammar.specs.Reading.{followed_by, reading_of}
 use Rattle.aero_grammar.specs.Tabled.{lines_in, IsTabled, AreNames}
 use Rattle.aero_grammar.proofs.block.parse_block.Given as goal
 
 abbrev pub invariant-lines : goal.invariant-lines
 invariant-lines l = record {
-  read : reading_of l.bytes ≡ followed_by (record { events = lines_in (lists_in l.tables) l.events.items; lines = l.lines; fault = None }) (reading_of l.rest);
-  tabled : IsTabled (lists_in l.tables) l.events.items;
-  names : AreNames (lists_in l.tables);
+  read : reading_of l.bytes ≡ followed_by (record { events = lines_in (lists_in l.tables) (labels_in l.tables) l.events.items; lines = l.lines; fault = None }) (reading_of l.rest);
+  tabled : IsTabled (lists_in l.tables) (labels_in l.tables) l.events.items;
+  names : AreNames (lists_in l.tables) (labels_in l.tables);
   room : HasRoom l.tables (2 * length l.rest);
   counted : l.lines + length l.rest ≤ length l.bytes;
 }

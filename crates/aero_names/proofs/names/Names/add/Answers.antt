@@ -1,6 +1,6 @@
 use Rattle.std.proofs.Common.{◌≡◌, ◌+◌, ◌<◌, ◌==◌, ℕ, false, length, sym, ◌∙◌, ap, subst, if◌then◌else◌}
 use Rattle.aero_names.specs.Hash.{hash_of}
-use Rattle.aero_names.specs.Indexed.{name_in, next_at, IsIndexed}
+use Rattle.aero_names.specs.Indexed.{name_in, next_at}
 use Rattle.aero_names.specs.Listing.{Listing, is_listed}
 use Rattle.aero_names.proofs.Links.{linked, indexed_same}
 use Rattle.aero_names.proofs.Listings.{found_pushed, indexed_pushed, last_name}

@@ -1,5 +1,4 @@
 use Rattle.std.proofs.Common.{◌≡◌, true, false, sym, subst, ◌∙◌}
-use Rattle.aero_model.specs.Numbering.{number_of}
 use Rattle.aero_names.specs.Listing.{Listing, is_listed}
 use Rattle.aero_names.proofs.Listings.{number_found, listed_found, known_stays, new_number, new_place}
 use Rattle.aero_names.proofs.names.Names.number_without_hint.Goals as goal
