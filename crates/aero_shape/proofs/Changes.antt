@@ -52,25 +52,25 @@ affected_joined t (Join u) s = set_joined (t == u) s
 affected_joined t _ s = sym (or_false s.joined)
 
 acting_depth : (b : Bool) (w : What) (s : ThreadState) → (if b then acting w s else s).depth ≡ (if b && is_begin w then s.depth + 1 else if b && is_end w then s.depth - 1 else s.depth)
-acting_depth true Begin s = refl
+acting_depth true (Begin label) s = refl
 acting_depth true End s = refl
 acting_depth true _ s = refl
 acting_depth false w s = refl
 
 acting_acted : (b : Bool) (w : What) (s : ThreadState) → (if b then acting w s else s).acted ≡ (s.acted || b)
-acting_acted true Begin s = sym (or_right s.acted true refl)
+acting_acted true (Begin label) s = sym (or_right s.acted true refl)
 acting_acted true End s = sym (or_right s.acted true refl)
 acting_acted true _ s = sym (or_right s.acted true refl)
 acting_acted false w s = sym (or_false s.acted)
 
 acting_forked : (b : Bool) (w : What) (s : ThreadState) → (if b then acting w s else s).forked ≡ s.forked
-acting_forked true Begin s = refl
+acting_forked true (Begin label) s = refl
 acting_forked true End s = refl
 acting_forked true _ s = refl
 acting_forked false w s = refl
 
 acting_joined : (b : Bool) (w : What) (s : ThreadState) → (if b then acting w s else s).joined ≡ s.joined
-acting_joined true Begin s = refl
+acting_joined true (Begin label) s = refl
 acting_joined true End s = refl
 acting_joined true _ s = refl
 acting_joined false w s = refl
@@ -137,7 +137,7 @@ place_stays xs ys _ same place = tt
 
 -- the tables after an event, from what was said beyond their ends and what was noted
 pub noted :
-    (old : Tables) (e : Numbered) (threads threads' : List ThreadState) (locks locks' : List LockState)
+    (old : Tables) (e : Numbered) (threads threads' : List ThreadState) (locks locks' : List LockState) (exempt' : List (List ℕ))
     → ((t : ℕ) → thread_at threads t ≡ thread_at old.threads t)
     → ((l : ℕ) → lock_at locks l ≡ lock_at old.locks l)
     → ((t : ℕ) → thread_at threads' t ≡ thread_after t e (thread_at threads t))
@@ -145,8 +145,8 @@ pub noted :
     → length old.locks ≤ length locks
     → HasLockPlace locks e.what
     → length locks' ≡ length locks
-    → IsAfter old (record { threads = threads'; locks = locks'; admitted = old.admitted + 1 }) e
-noted old e threads threads' locks locks' same_threads same_locks threads_noted locks_noted grow place same_length =
+    → IsAfter old (record { threads = threads'; locks = locks'; exempt = exempt'; admitted = old.admitted + 1 }) e
+noted old e threads threads' locks locks' exempt' same_threads same_locks threads_noted locks_noted grow place same_length =
     record {
       threads = λ t. threads_noted t ∙ ap (thread_after t e) (same_threads t);
       locks = λ l. locks_noted l ∙ ap (lock_after l e.thread e.what) (same_locks l);

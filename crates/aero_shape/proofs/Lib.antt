@@ -1,4 +1,6 @@
 pub mod Pushed
+pub mod Traces
+pub mod Rounds
 pub mod Told
 pub mod Changes
 pub mod Stands

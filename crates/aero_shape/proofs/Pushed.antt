@@ -14,16 +14,16 @@ use Rattle.aero_model.proofs.Stability.{agree_front, depth_same}
 use Rattle.aero_model.proofs.WellFormed.{count_by_more, take_past, released_held}
 use Rattle.aero_model.proofs.Locks.{release_is}
 
-slice_get_last : {X : Type 0} (xs : List X) (x : X) → slice_get (xs ++ x ∷ []) (length xs) ≡ Some x
+pub slice_get_last : {X : Type 0} (xs : List X) (x : X) → slice_get (xs ++ x ∷ []) (length xs) ≡ Some x
 slice_get_last [] x = refl
 slice_get_last (y ∷ ys) x = slice_get_last ys x
 
-slice_get_front : {X : Type 0} (xs ys : List X) (n : ℕ) → n < length xs → slice_get (xs ++ ys) n ≡ slice_get xs n
+pub slice_get_front : {X : Type 0} (xs ys : List X) (n : ℕ) → n < length xs → slice_get (xs ++ ys) n ≡ slice_get xs n
 slice_get_front [] ys n l = absurd (omega arith)
 slice_get_front (x ∷ xs) ys zero l = refl
 slice_get_front (x ∷ xs) ys (suc n) l = slice_get_front xs ys n (omega arith)
 
-take_front : {X : Type 0} (xs ys : List X) (n : ℕ) → n ≤ length xs → take n (xs ++ ys) ≡ take n xs
+pub take_front : {X : Type 0} (xs ys : List X) (n : ℕ) → n ≤ length xs → take n (xs ++ ys) ≡ take n xs
 take_front xs ys zero l = refl
 take_front [] ys (suc n) l = absurd (omega arith)
 take_front (x ∷ xs) ys (suc n) l = ap (λ zs. x ∷ zs) (take_front xs ys n (omega arith))

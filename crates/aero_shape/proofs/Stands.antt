@@ -1,21 +1,26 @@
 -- Tables that stand for a list of events stand, after one more, for the list with that event at its end.
-use Rattle.std.proofs.Common.{◌≡◌, ◌≢◌, ◌⊎◌, ℕ, ◌+◌, ◌-◌, ◌<◌, ◌≤◌, ◌==◌, ◌&&◌, ◌||◌, nat_lt, not, Bool, true, false, cond, if◌then◌else◌, List, [], ◌∷◌, ◌++◌, length, Option, Some, None, inl, inr, refl, sym, ◌∙◌, ap, arith}
+use Rattle.std.proofs.Common.{◌≡◌, ◌≢◌, ◌⊎◌, ℕ, ◌+◌, ◌-◌, ◌<◌, ◌≤◌, ◌==◌, ◌&&◌, ◌||◌, nat_lt, not, Bool, true, false, cond, if◌then◌else◌, List, [], ◌∷◌, ◌++◌, length, take, Option, Some, None, inl, inr, refl, sym, ◌∙◌, ap, ap₂, subst, arith}
 use Rattle.std.proofs.lemmas.Bool.{cases_Bool, cases_eq, cases_lt, and_from, and_left, and_right, eq-eqb, ne_eqb, eqb-true, not_from_false, lt-ltb, both_ways, or_from, or_cases, cond-true, cond-false}
 use Rattle.std.proofs.lemmas.List.{get_or_past}
 use Rattle.aero_model.specs.declared.numbered.Numbered.{Numbered}
 use Rattle.aero_model.specs.declared.numbered.What.{What}
-use Rattle.aero_model.specs.declared.numbered.What.TheVariants.{Acquire, Release, Fork, Join}
+use Rattle.aero_model.specs.declared.numbered.What.TheVariants.{Acquire, Release, Fork, Join, Begin, End}
 use Rattle.aero_model.specs.declared.verdict.ShapeFault.{ShapeFault}
 use Rattle.aero_model.specs.declared.verdict.ShapeFault.TheVariants.{ThreadJoined, LockHeldByOther, LockNotHeld}
 use Rattle.aero_model.specs.Blocks.{is_begin, is_end, by_thread, depth}
 use Rattle.aero_model.specs.Shape.{is_acquire_of, is_release_of, is_fork_of, is_join_of, held, is_held_by_other, has_acted, was_forked, was_joined, has_started, deed_fault, shape_fault}
 use Rattle.aero_model.proofs.Locks.{acquire_is, release_is}
 use Rattle.aero_shape.specs.declared.states.LockState.{LockState}
-use Rattle.aero_shape.specs.States.{Tables, idle, thread_at, lock_at, lock_after, HasThreadPlace, HasLockPlace, HavePlaces}
-use Rattle.aero_shape.specs.Told.{is_kept_from, fault_told}
-use Rattle.aero_shape.specs.Standing.{StandsFor, was_locked, ReachesThread, ReachesLock, ReachesTarget, Reaches}
+use Rattle.aero_shape.specs.States.{Tables, idle, thread_at, lock_at, around_at, around_after, lock_after, HasThreadPlace, HasLockPlace, HavePlaces}
+use Rattle.aero_shape.specs.Told.{is_kept_from, fault_told, kind_told, is_last, exempt_told, judged_told}
+use Rattle.aero_shape.proofs.Traces.{StandsForTrace, of_judged, of_read, read_well_formed}
+use Rattle.aero_shape.proofs.Rounds.{judged_is_told, end_told, exempt_is, rounds_pushed}
+use Rattle.aero_model.specs.Exempt.{Marked, read_events, judged, judged_trace}
+use Rattle.aero_model.proofs.Exempt.{judged_pushed, judged_fault}
+use Rattle.aero_shape.specs.Admission.{admitted_as}
+use Rattle.aero_shape.specs.Standing.{StandsFor, begins_exempt, rounds, was_locked, ReachesThread, ReachesLock, ReachesTarget, Reaches}
 use Rattle.aero_shape.proofs.Pushed.{or_false, length_pushed, depth_pushed, any_pushed, count_pushed, well_formed_pushed, paired}
-use Rattle.aero_shape.proofs.Told.{kept_told, fault_is_told}
+use Rattle.aero_shape.proofs.Told.{kept_told, fault_is_told, kind_is_told}
 use Rattle.aero_shape.proofs.Changes.{IsAfter, depth_after, acted_after, forked_after, joined_after, lock_stays}
 
 -- how often the thread holds the lock
@@ -26,7 +31,7 @@ fault_free : (b : Bool) (f : ShapeFault) (o : Option ShapeFault) → (if b then 
 fault_free true f o e = absurd (cc)
 fault_free false f o e = (refl, e)
 
-module _ (tables : Tables) (h : List Numbered) (s : StandsFor tables h) (e : Numbered) (fits : shape_fault h e ≡ None) (t l : ℕ) where
+module _ (tables : Tables) (h : List Numbered) (s : StandsForTrace tables h) (e : Numbered) (fits : shape_fault h e ≡ None) (t l : ℕ) where
   abbrev lock : LockState
   lock = lock_at tables.locks l
 
@@ -159,7 +164,7 @@ placed locks l (Release m) place now = let same = eqb-true l m now in omega arit
 placed locks l _ place now = absurd (cc)
 
 -- what the tables tell of an event without a fault, they stand for once it is noted
-pub stands_after : (old new : Tables) (e : Numbered) → IsAfter old new e → fault_told old.threads old.locks e ≡ None → (h : List Numbered) → StandsFor old h → StandsFor new (h ++ e ∷ [])
+pub stands_after : (old new : Tables) (e : Numbered) → IsAfter old new e → fault_told old.threads old.locks e ≡ None → (h : List Numbered) → StandsForTrace old h → StandsForTrace new (h ++ e ∷ [])
 stands_after old new e a none h s =
     record {
       well_formed = well_formed_pushed h e s.well_formed fits;
@@ -189,35 +194,115 @@ stands_after old new e a none h s =
         ∙ ap (λ d. if by_thread t is_begin (Some e) then d + 1 else if by_thread t is_end (Some e) then d - 1 else d) (s.depth t)
         ∙ sym (depth_pushed h e t)
 
+-- the same where blocks are exempt, of an event and of what it is judged as
+module _ (old new : Tables) (m : Marked) (e : Numbered) where
+  abbrev is_exempt_told : Bool
+  is_exempt_told = exempt_told old.threads old.exempt m.event.thread m.exempt m.event.what
+
+  pub stands_pushed :
+      IsAfter old new e
+      → fault_told old.threads old.locks e ≡ None
+      → e.thread ≡ m.event.thread
+      → e.what ≡ judged_told is_exempt_told m.event.what
+      → ((t : ℕ) → around_at new.exempt t ≡ around_after t m.event.thread m.event.what is_exempt_told (thread_at old.threads m.event.thread).depth (around_at old.exempt t))
+      → (h : List Marked)
+      → StandsFor old h
+      → StandsFor new (h ++ m ∷ [])
+  stands_pushed a none thread what change h s = of_read new (h ++ m ∷ []) (read_well_formed h m s.well_formed fits) around (subst (StandsForTrace new) (ap (λ x. judged_trace h ++ x ∷ []) is ∙ sym (judged_pushed h m)) after)
+    where
+      is : e ≡ judged h m
+      is = judged_is_told old h s m e thread what
+
+      fits : shape_fault (read_events h) m.event ≡ None
+      fits = sym (judged_fault h m) ∙ ap (shape_fault (judged_trace h)) (sym is) ∙ sym (fault_is_told old (judged_trace h) (of_judged old h s) e) ∙ none
+
+      after : StandsForTrace new (judged_trace h ++ e ∷ [])
+      after = stands_after old new e a none (judged_trace h) (of_judged old h s)
+
+      same_exempt : (t : ℕ) (w : What) → exempt_told old.threads old.exempt m.event.thread m.exempt w ≡ exempt_is h m t w
+      same_exempt t (Begin label) = refl
+      same_exempt t End = end_told old h s m.event.thread
+      same_exempt t _ = refl
+
+      around : (t : ℕ) → around_at new.exempt t ≡ rounds (h ++ m ∷ []) t
+      around t =
+          change t
+          ∙ ap (λ b. around_after t m.event.thread m.event.what b (thread_at old.threads m.event.thread).depth (around_at old.exempt t)) (same_exempt t m.event.what)
+          ∙ ap₂ (λ d xs. around_after t m.event.thread m.event.what (exempt_is h m t m.event.what) d xs) (s.depth m.event.thread) (s.exempt t)
+          ∙ sym (rounds_pushed h m t)
+
+-- what was opened and closed is what becomes of the open exempt blocks
+pub changed_around :
+    (tables : Tables) (t thread : ℕ) (exempt : Bool) (w : What) (xs : List ℕ)
+    → (let depth = (thread_at tables.threads thread).depth in
+    let room = if begins_exempt w exempt && (thread == t) then xs ++ depth ∷ [] else xs in
+    (if (is_end w && is_last depth (around_at tables.exempt thread)) && (thread == t) then take (length room - 1) room else room)
+    ≡ around_after t thread w (exempt_told tables.threads tables.exempt thread exempt w) depth xs)
+changed_around tables t thread exempt (Begin label) xs = refl
+changed_around tables t thread exempt End xs = refl
+changed_around tables t thread exempt _ xs = refl
+
+-- what the tables tell of an event is what the rules say of it, and what it is as it is judged
+module _ (tables : Tables) (m : Marked) (e : Numbered) (thread : e.thread ≡ m.event.thread) (what : e.what ≡ judged_told (exempt_told tables.threads tables.exempt m.event.thread m.exempt m.event.what) m.event.what) (h : List Marked) (s : StandsFor tables h) where
+  is_judged : e ≡ judged h m
+  is_judged = judged_is_told tables h s m e thread what
+
+  pub read_fault_told : shape_fault (read_events h) m.event ≡ fault_told tables.threads tables.locks e
+  read_fault_told =
+      sym (judged_fault h m) ∙ ap (shape_fault (judged_trace h)) (sym is_judged) ∙ sym (fault_is_told tables (judged_trace h) (of_judged tables h s) e)
+
+  pub judged_kind_told : kind_told tables.threads (thread_at tables.threads e.thread).depth e.what ≡ admitted_as (judged_trace h) (judged h m)
+  judged_kind_told = kind_is_told tables (judged_trace h) (of_judged tables h s) e ∙ ap (admitted_as (judged_trace h)) is_judged
+
 -- a thread or a lock that an event of the list has reached has a place in the table that stands for it
-module _ (tables : Tables) (h : List Numbered) (s : StandsFor tables h) where
-  started_within : (u : ℕ) → has_started h u ≡ true → u < length tables.threads
+module _ (tables : Tables) (h : List Marked) (s : StandsFor tables h) where
+  started_within : (u : ℕ) → has_started (read_events h) u ≡ true → u < length tables.threads
   started_within u started = go (cases_lt u (length tables.threads))
     where
       go : (u < length tables.threads) ⊎ (length tables.threads ≤ u) → u < length tables.threads
       go (inl within) = within
       go (inr past) =
           let idle_then : thread_at tables.threads u ≡ idle = get_or_past tables.threads u idle past in
-          let acted : has_acted h u ≡ false = sym (s.acted u) ∙ ap (λ x. x.acted) idle_then in
-          let forked : was_forked h u ≡ false = sym (s.forked u) ∙ ap (λ x. x.forked) idle_then in
-          let joined : was_joined h u ≡ false = sym (s.joined u) ∙ ap (λ x. x.joined) idle_then in
-          absurd (both_ways (has_started h u) (or_from (has_acted h u || was_forked h u) (was_joined h u) (or_from (has_acted h u) (was_forked h u) acted forked) joined) started)
+          let acted : has_acted (read_events h) u ≡ false = sym (s.acted u) ∙ ap (λ x. x.acted) idle_then in
+          let forked : was_forked (read_events h) u ≡ false = sym (s.forked u) ∙ ap (λ x. x.forked) idle_then in
+          let joined : was_joined (read_events h) u ≡ false = sym (s.joined u) ∙ ap (λ x. x.joined) idle_then in
+          absurd (both_ways (has_started (read_events h) u) (or_from (has_acted (read_events h) u || was_forked (read_events h) u) (was_joined (read_events h) u) (or_from (has_acted (read_events h) u) (was_forked (read_events h) u) acted forked) joined) started)
 
-  reached_thread : (t : ℕ) → ReachesThread h t → t < length tables.threads
+  reached_thread : (t : ℕ) → ReachesThread (read_events h) t → t < length tables.threads
   reached_thread t r = let within = started_within r.0 r.2 in let le = r.1 in omega arith
 
-  reached_lock : (l : ℕ) → ReachesLock h l → l < length tables.locks
+  reached_lock : (l : ℕ) → ReachesLock (read_events h) l → l < length tables.locks
   reached_lock l r = let within = s.locked r.0 r.2 in let le = r.1 in omega arith
 
-  thread_place : (w : What) → ReachesTarget h w → HasThreadPlace tables.threads w
+  thread_place : (w : What) → ReachesTarget (read_events h) w → HasThreadPlace tables.threads w
   thread_place (Fork u) r = reached_thread u r
   thread_place (Join u) r = reached_thread u r
   thread_place _ r = tt
 
-  lock_place : (w : What) → ReachesTarget h w → HasLockPlace tables.locks w
+  lock_place : (w : What) → ReachesTarget (read_events h) w → HasLockPlace tables.locks w
   lock_place (Acquire l) r = reached_lock l r
   lock_place (Release l) r = reached_lock l r
   lock_place _ r = tt
 
-  pub reached_places : (e : Numbered) → Reaches h e → HavePlaces tables.threads tables.locks e
-  reached_places e r = record { actor = reached_thread e.thread r.actor; target = thread_place e.what r.target; lock = lock_place e.what r.target }
+  -- an exempt event names no target
+  plain_thread_place : (b : Bool) (w : What) → HasThreadPlace tables.threads w → HasThreadPlace tables.threads (judged_told b w)
+  plain_thread_place true (Begin label) place = tt
+  plain_thread_place false (Begin label) place = tt
+  plain_thread_place true End place = tt
+  plain_thread_place false End place = tt
+  plain_thread_place b _ place = place
+
+  plain_lock_place : (b : Bool) (w : What) → HasLockPlace tables.locks w → HasLockPlace tables.locks (judged_told b w)
+  plain_lock_place true (Begin label) place = tt
+  plain_lock_place false (Begin label) place = tt
+  plain_lock_place true End place = tt
+  plain_lock_place false End place = tt
+  plain_lock_place b _ place = place
+
+  pub reached_places : (e judged : Numbered) (b : Bool) → judged.thread ≡ e.thread → judged.what ≡ judged_told b e.what → Reaches (read_events h) e → HavePlaces tables.threads tables.locks judged
+  reached_places e judged b thread what r =
+      record {
+        actor = subst (λ t. t < length tables.threads) (sym thread) (reached_thread e.thread r.actor);
+        target = subst (HasThreadPlace tables.threads) (sym what) (plain_thread_place b e.what (thread_place e.what r.target));
+        lock = subst (HasLockPlace tables.locks) (sym what) (plain_lock_place b e.what (lock_place e.what r.target));
+      }

@@ -11,12 +11,13 @@ use Rattle.aero_model.specs.declared.numbered.What.TheVariants.{Acquire, Release
 use Rattle.aero_model.specs.declared.verdict.ShapeFault.{ShapeFault}
 use Rattle.aero_model.specs.declared.verdict.ShapeFault.TheVariants.{ThreadJoined, LockHeldByOther, LockNotHeld, ForkSelf, ForkStarted, JoinSelf, EndWithoutBegin, Memory}
 use Rattle.aero_model.specs.Blocks.{depth}
+use Rattle.aero_model.specs.Exempt.{Marked, read_events}
 use Rattle.aero_model.specs.Shape.{is_acquire_of, held, is_held_by_other, was_joined, has_started, deed_fault, shape_fault}
 use Rattle.aero_shape.specs.declared.admission.Admitted.TheVariants.{Plain, IdleJoin}
 use Rattle.aero_shape.specs.States.{Tables, thread_at, lock_at}
 use Rattle.aero_shape.specs.Told.{is_kept_from, is_started, deed_fault_told, fault_told, kind_told}
 use Rattle.aero_shape.specs.Admission.{deed_as, admitted_as, TellsEvent}
-use Rattle.aero_shape.specs.Standing.{StandsFor}
+use Rattle.aero_shape.proofs.Traces.{StandsForTrace}
 
 -- what is counted passes a test that follows
 some_counted : {X : Type 0} (p q : X → Bool) (xs : List X) → ((x : X) → p x ≡ true → q x ≡ true) → 0 < count_by p xs → list_any q xs ≡ true
@@ -50,7 +51,7 @@ release_told true n =
       | inr none ↦ cond-false (nat_lt 0 n) None (Some LockNotHeld) (le-ltb 0 n none) ∙ sym (cond-true (n == 0) (Some LockNotHeld) None (eq-eqb n 0 (omega arith)))
     ]
 
-module _ (tables : Tables) (h : List Numbered) (s : StandsFor tables h) where
+module _ (tables : Tables) (h : List Numbered) (s : StandsForTrace tables h) where
   -- who holds a lock has acquired it
   holder_acts : (t l : ℕ) → is_kept_from t (lock_at tables.locks l) ≡ true → is_held_by_other h t l ≡ true
   holder_acts t l kept = some_counted acquires holds h passes acquired
@@ -108,7 +109,7 @@ module _ (tables : Tables) (h : List Numbered) (s : StandsFor tables h) where
 
   kind_told_at : (deep : ℕ) (w : What) → kind_told tables.threads deep w ≡ deed_as h deep w
   kind_told_at deep (Join u) = ap (λ b. if b then Plain (nat_lt 0 deep) else IdleJoin) (s.acted u)
-  kind_told_at deep Begin = refl
+  kind_told_at deep (Begin label) = refl
   kind_told_at deep End = refl
   kind_told_at deep _ = refl
 
@@ -131,6 +132,7 @@ deed_no_memory h t (Join u) = other_fault (u == t) JoinSelf None (λ e. cc) no_m
 deed_no_memory h t End = other_fault (depth h t (length h) == 0) EndWithoutBegin None (λ e. cc) no_memory
 deed_no_memory h t _ = no_memory
 
-pub tells_fault : (h : List Numbered) (e : Numbered) (fault : ShapeFault) → shape_fault h e ≡ Some fault → TellsEvent h e (Err fault)
-tells_fault h e Memory told = absurd (other_fault (was_joined h e.thread) ThreadJoined (deed_fault h e.thread e.what) (λ x. cc) (deed_no_memory h e.thread e.what) told)
-tells_fault h e _ told = told
+pub tells_fault : (h : List Marked) (m : Marked) (fault : ShapeFault) → shape_fault (read_events h) m.event ≡ Some fault → TellsEvent h m (Err fault)
+tells_fault h m Memory told =
+    absurd (other_fault (was_joined (read_events h) m.event.thread) ThreadJoined (deed_fault (read_events h) m.event.thread m.event.what) (λ x. cc) (deed_no_memory (read_events h) m.event.thread m.event.what) told)
+tells_fault h m _ told = told

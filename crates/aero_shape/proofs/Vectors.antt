@@ -13,10 +13,10 @@ event t what = record { thread = t; what = what }
 
 -- the events that are admitted, up to each of them
 abbrev one : List Numbered
-one = event 0 Begin ∷ []
+one = event 0 (Begin None) ∷ []
 
 abbrev two : List Numbered
-two = one ++ event 0 Begin ∷ []
+two = one ++ event 0 (Begin None) ∷ []
 
 abbrev three : List Numbered
 three = two ++ event 0 (Acquire 0) ∷ []
@@ -33,10 +33,10 @@ six = five ++ event 0 End ∷ []
 abbrev seven : List Numbered
 seven = six ++ event 0 End ∷ []
 
-first_begin : (shape_fault [] (event 0 Begin) ≡ None) × (admitted_as [] (event 0 Begin) ≡ OuterBegin)
+first_begin : (shape_fault [] (event 0 (Begin None)) ≡ None) × (admitted_as [] (event 0 (Begin None)) ≡ OuterBegin)
 first_begin = (refl, refl)
 
-inner_begin : (shape_fault one (event 0 Begin) ≡ None) × (admitted_as one (event 0 Begin) ≡ Plain true)
+inner_begin : (shape_fault one (event 0 (Begin None)) ≡ None) × (admitted_as one (event 0 (Begin None)) ≡ Plain true)
 inner_begin = (refl, refl)
 
 first_acquire : (shape_fault two (event 0 (Acquire 0)) ≡ None) × (admitted_as two (event 0 (Acquire 0)) ≡ Plain true)

@@ -1,5 +1,5 @@
 -- What the tables of a `Shape` say of each thread and each lock, and what an event changes in it.
-use Rattle.std.specs.Prelude.{ℕ, ◌+◌, ◌-◌, ◌<◌, ◌≤◌, ◌==◌, true, false, if◌then◌else◌, List, length, slice_index_or}
+use Rattle.std.specs.Prelude.{ℕ, ◌+◌, ◌-◌, ◌<◌, ◌≤◌, ◌==◌, ◌&&◌, Bool, true, false, if◌then◌else◌, List, [], ◌∷◌, ◌++◌, length, take, slice_index_or}
 use Rattle.aero_model.specs.declared.numbered.Numbered.{Numbered}
 use Rattle.aero_model.specs.declared.numbered.What.{What}
 use Rattle.aero_model.specs.declared.numbered.What.TheVariants.{Acquire, Release, Fork, Join, Begin, End}
@@ -12,10 +12,11 @@ idle = record { depth = 0; acted = false; forked = false; joined = false }
 abbrev pub free : LockState
 free = record { holder = 0; count = 0 }
 
--- the states by number, and how many events were admitted
+-- the states by number, the open exempt blocks of each thread, and how many events were admitted
 pub record Tables : Type 0 where
   pub threads : List ThreadState
   pub locks : List LockState
+  pub exempt : List (List ℕ)
   pub admitted : ℕ
 
 -- a thread beyond the table is idle
@@ -25,6 +26,10 @@ thread_at threads t = slice_index_or threads t idle
 -- a lock beyond the table is free
 abbrev pub lock_at : List LockState → ℕ → LockState
 lock_at locks l = slice_index_or locks l free
+
+-- a thread beyond the table has no exempt block open
+abbrev pub around_at : List (List ℕ) → ℕ → List ℕ
+around_at exempt t = slice_index_or exempt t []
 
 -- no number in the tables is above the number of events
 pub record AreBounded (threads : List ThreadState) (locks : List LockState) (admitted : ℕ) : Type 0 where
@@ -51,7 +56,7 @@ pub record HavePlaces (threads : List ThreadState) (locks : List LockState) (e :
 
 -- what becomes of a thread that does this
 abbrev pub acting : What → ThreadState → ThreadState
-acting Begin s = record s { depth = s.depth + 1; acted = true }
+acting (Begin label) s = record s { depth = s.depth + 1; acted = true }
 acting End s = record s { depth = s.depth - 1; acted = true }
 acting _ s = record s { acted = true }
 
@@ -70,3 +75,9 @@ abbrev pub lock_after : ℕ → ℕ → What → LockState → LockState
 lock_after l thread (Acquire m) s = if l == m then record { holder = thread; count = s.count + 1 } else s
 lock_after l thread (Release m) s = if l == m then record s { count = s.count - 1 } else s
 lock_after l thread _ s = s
+
+-- What becomes of the open exempt blocks of thread t, where a thread does this: exempt or not, and so deep in blocks that aren't exempt.
+abbrev pub around_after : ℕ → ℕ → What → Bool → ℕ → List ℕ → List ℕ
+around_after t thread (Begin label) exempt depth around = if exempt && (thread == t) then around ++ depth ∷ [] else around
+around_after t thread End exempt depth around = if exempt && (thread == t) then take (length around - 1) around else around
+around_after t thread _ exempt depth around = around

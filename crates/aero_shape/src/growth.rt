@@ -1,7 +1,9 @@
 //! Tables that grow to have a place for each number that an event names.
-ghost use Rattle.std.specs.Prelude.{◌≡◌, ℕ, ◌<◌, ◌≤◌, slice_index_or, take, vec_len, IsOk, OnOk, OnErr};
-ghost use Rattle.aero_shape.specs.States.{thread_at, lock_at, HasThreadPlace, HasLockPlace, HavePlaces};
+ghost use Rattle.std.specs.Prelude.{◌≡◌, ℕ, ◌<◌, ◌≤◌, ◌==◌, ◌&&◌, ◌++◌, ◌∷◌, [], true, false, if◌then◌else◌, slice_index_or, take, vec_len, IsOk, OnOk, OnErr};
+ghost use Rattle.aero_shape.specs.States.{thread_at, lock_at, around_at, HasThreadPlace, HasLockPlace, HavePlaces};
 
+use crate::exempt::{Around, open_exempt};
+use crate::judge::Judged;
 use crate::states::{FREE, IDLE, LockState, ThreadState};
 use aero_model::numbered::{Numbered, What};
 use std::alloc::AllocError;
@@ -28,7 +30,7 @@ fn grow<T: Copy>(table: &mut Vec<T>, number: u32, beyond: T) -> Result<(), Alloc
 // Places for the event's thread, and for its target if that is a thread or a lock. Where memory is
 // refused, the tables stay as they were.
 #[inline(always)]
-pub(crate) fn make_room(
+fn make_places(
     threads: &mut Vec<ThreadState>,
     locks: &mut Vec<LockState>,
     event: &Numbered,
@@ -41,6 +43,8 @@ pub(crate) fn make_room(
     ensures locks_grow { vec_len locks.old ≤ vec_len locks.new }
     ensures room { HavePlaces threads.old.items locks.old.items event.now → IsOk result }
     ensures threads_on_err { OnErr result (threads.new.items ≡ threads.old.items) }
+    ensures front { take (vec_len threads.old) threads.new.items ≡ threads.old.items }
+    ensures other_locks { event.now.what ≡ What.Exempt → locks.new.items ≡ locks.old.items }
     ensures locks_on_err { OnErr result (locks.new.items ≡ locks.old.items) }
 {
     let most = match event.what {
@@ -53,6 +57,39 @@ pub(crate) fn make_room(
         && let Err(refused) = grow(locks, lock, FREE)
     {
         threads.truncate(had);
+        return Err(refused);
+    }
+    Ok(())
+}
+
+// Places as above, and the exempt block that opens at this depth, if one does. Where memory is
+// refused, everything stays as it was.
+#[inline(always)]
+pub(crate) fn make_room(
+    threads: &mut Vec<ThreadState>,
+    locks: &mut Vec<LockState>,
+    exempt: &mut Vec<Around>,
+    judged: &Judged,
+) -> Result<(), AllocError>
+    requires { judged.now.opens ≡ true → judged.now.event.what ≡ What.Exempt }
+    ensures threads { (t : ℕ) → thread_at threads.new.items t ≡ thread_at threads.old.items t }
+    ensures locks { (l : ℕ) → lock_at locks.new.items l ≡ lock_at locks.old.items l }
+    ensures exempt { OnOk result ((t : ℕ) → around_at exempt.new.items t ≡ (if judged.now.opens && (judged.now.event.thread == t) then around_at exempt.old.items t ++ judged.now.depth ∷ [] else around_at exempt.old.items t)) }
+    ensures actor { OnOk result (judged.now.event.thread < vec_len threads.new) }
+    ensures target { OnOk result (HasThreadPlace threads.new.items judged.now.event.what) }
+    ensures lock { OnOk result (HasLockPlace locks.new.items judged.now.event.what) }
+    ensures locks_grow { vec_len locks.old ≤ vec_len locks.new }
+    ensures room { judged.now.opens ≡ false → HavePlaces threads.old.items locks.old.items judged.now.event → IsOk result }
+    ensures threads_on_err { OnErr result (threads.new.items ≡ threads.old.items) }
+    ensures locks_on_err { OnErr result (locks.new.items ≡ locks.old.items) }
+    ensures exempt_on_err { OnErr result (exempt.new.items ≡ exempt.old.items) }
+{
+    let threads_before = threads.len();
+    make_places(threads, locks, &judged.event)?;
+    if judged.opens
+        && let Err(refused) = open_exempt(exempt, judged.event.thread, judged.depth)
+    {
+        threads.truncate(threads_before);
         return Err(refused);
     }
     Ok(())

@@ -3,19 +3,24 @@
 //! A `Shape` stands for the list of the events that it has admitted. The next event is admitted
 //! and told for what it is (an outermost begin or end, a join of a thread that made no event, or
 //! any other), or it is refused with the first cause that holds, and then counts for nothing. The
-//! rules are `aero_model`'s `shape_fault`. The list itself is kept nowhere: a few bytes for each
-//! thread and each lock say all that the rules ask of it.
+//! rules are `aero_model`'s `shape_fault`. A begin can be exempt: it and its end are admitted by the
+//! same rules, and told as plain events that open and close no block. The list itself is kept
+//! nowhere: a few bytes for each thread, each lock and each open exempt block say all that the rules
+//! ask of it.
 //!
 //! ```text
 //! let mut shape = Shape::new(alloc);
-//! let begin = Numbered { thread: 0, what: What::Begin };
-//! assert_eq!(rt; shape.admit(&begin), Ok(Admitted::OuterBegin));
-//! assert_eq!(rt; shape.admitted(), 1);
+//! let begin = Numbered { thread: 0, what: What::Begin(None) };
+//! assert_eq!(rt; shape.admit(&begin, true), Ok(Admitted::Plain { in_block: false }));
+//! assert_eq!(rt; shape.admit(&begin, false), Ok(Admitted::OuterBegin));
+//! assert_eq!(rt; shape.admitted(), 2);
 //! ```
 #![tactic(auto)]
 
 pub mod admission;
+mod exempt;
 mod growth;
+mod judge;
 mod notes;
 mod rules;
 pub mod shape;

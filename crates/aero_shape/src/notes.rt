@@ -16,7 +16,7 @@ fn note_deed(threads: &mut [ThreadState], thread: u32, what: What)
     let actor = &mut threads[thread as usize];
     actor.acted = true;
     match what {
-        What::Begin => actor.depth += 1,
+        What::Begin(_) => actor.depth += 1,
         What::End => actor.depth -= 1,
         _ => {}
     }

@@ -71,8 +71,8 @@ pub(crate) fn kind_of(threads: &[ThreadState], event: &Numbered) -> Admitted
 {
     let depth = state_at(threads, event.thread, IDLE).depth;
     match event.what {
-        What::Begin if depth == 0 => Admitted::OuterBegin,
-        What::Begin => Admitted::Plain { in_block: true },
+        What::Begin(_) if depth == 0 => Admitted::OuterBegin,
+        What::Begin(_) => Admitted::Plain { in_block: true },
         What::End if depth == 1 => Admitted::OuterEnd,
         What::Join(target) if !state_at(threads, target, IDLE).acted => Admitted::IdleJoin,
         _ => Admitted::Plain {
