@@ -5,7 +5,7 @@ use Rattle.std.proofs.lemmas.Bool.{cases_eq, cases_Bool, eqb-true, eq-eqb, both_
 use Rattle.std.proofs.lemmas.Option.{same_Some}
 use Rattle.aero_model.specs.declared.numbered.Numbered.{Numbered}
 use Rattle.aero_model.specs.declared.numbered.What.{What}
-use Rattle.aero_model.specs.declared.numbered.What.TheVariants.{Read, Write, Acquire, Release, Fork, Join, Begin, End}
+use Rattle.aero_model.specs.declared.numbered.What.TheVariants.{Read, Write, Acquire, Release, Fork, Join, Begin, End, Exempt}
 use Rattle.aero_model.specs.Blocks.{closes}
 use Rattle.aero_model.proofs.Telling.{event_at}
 use Rattle.aero_access.specs.declared.slot.Slot.{Slot}
@@ -87,8 +87,9 @@ takes_some trace n e = go e.what refl
     go (Join u) h = ⊎_elim (λ a. (_, join u h a)) (λ a. (_, idle_join u h a)) (has_acted trace n u)
     go (Release l) h = (_, plain (ap takes_only_own h))
     go (Fork u) h = (_, plain (ap takes_only_own h))
-    go Begin h = (_, plain (ap takes_only_own h))
+    go (Begin label) h = (_, plain (ap takes_only_own h))
     go End h = (_, plain (ap takes_only_own h))
+    go Exempt h = (_, plain (ap takes_only_own h))
 
 pub clocks_of_front : (trace : List Numbered) (n : ℕ) → n ≤ length trace → (clocks : Slot → Clock) × Clocked trace n clocks
 clocks_of_front trace zero le = (λ s u. 0, start)

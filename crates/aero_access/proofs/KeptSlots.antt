@@ -4,7 +4,7 @@ use Rattle.std.specs.Prelude.{Bool, true, false, ◌==◌}
 use Rattle.std.proofs.lemmas.Bool.{eqb-true, and_parts}
 use Rattle.aero_model.specs.declared.numbered.Numbered.{Numbered}
 use Rattle.aero_model.specs.declared.numbered.What.{What}
-use Rattle.aero_model.specs.declared.numbered.What.TheVariants.{Read, Write, Acquire, Release, Fork, Join, Begin, End}
+use Rattle.aero_model.specs.declared.numbered.What.TheVariants.{Read, Write, Acquire, Release, Fork, Join, Begin, End, Exempt}
 use Rattle.aero_model.proofs.Locks.{release_is}
 use Rattle.aero_access.specs.declared.slot.Slot.{Slot}
 use Rattle.aero_access.specs.declared.slot.Slot.TheVariants.{OfThread, LastWrite, LastRead, LastRelease}
@@ -27,10 +27,11 @@ kept_by e (LastRead x t) h =
     inr (rw (← by) (reads x (read_is x e.what parts.1)))
 kept_by e (LastRelease l) h = inr (releases l (release_is l e.what h))
 
--- a begin, an end, an acquire or a join is the last event of its thread alone
+-- a begin or an end, exempt or not, an acquire or a join is the last event of its thread alone
 abbrev pub keeps_own : What → Bool
-keeps_own Begin = true
+keeps_own (Begin label) = true
 keeps_own End = true
+keeps_own Exempt = true
 keeps_own (Acquire l) = true
 keeps_own (Join u) = true
 keeps_own _ = false

@@ -8,7 +8,7 @@ use Rattle.aero_clock.specs.declared.clock.Clock.{Clock}
 use Rattle.aero_clock.specs.Numbers.{number_at, IsRaised}
 use Rattle.aero_model.specs.declared.numbered.Numbered.{Numbered}
 use Rattle.aero_model.specs.declared.numbered.What.{What}
-use Rattle.aero_model.specs.declared.numbered.What.TheVariants.{Fork, Join, Begin, End}
+use Rattle.aero_model.specs.declared.numbered.What.TheVariants.{Fork, Join, Begin, End, Exempt}
 use Rattle.aero_model.specs.Blocks.{is_begin, is_end, by_thread, depth, opens, closes}
 use Rattle.aero_model.specs.Shape.{is_fork_of, has_acted, IsWellFormed}
 use Rattle.aero_model.proofs.Stability.{agree_front, depth_same}
@@ -38,8 +38,9 @@ use Rattle.aero_access.proofs.Events.{own_clock, same_clock, same_clocks, same_a
 abbrev pub keeps_nothing : What → Bool
 keeps_nothing (Fork u) = true
 keeps_nothing (Join u) = true
-keeps_nothing Begin = true
+keeps_nothing (Begin label) = true
 keeps_nothing End = true
+keeps_nothing Exempt = true
 keeps_nothing _ = false
 
 of_none : (t : ℕ) (what : What) → keeps_nothing what ≡ true → (s : Slot) → is_kept s ≡ true → of_slot s (event t what) ≡ false
@@ -49,12 +50,15 @@ of_none t (Fork u) h (LastRelease l) k = refl
 of_none t (Join u) h (LastWrite x) k = refl
 of_none t (Join u) h (LastRead x v) k = and_right (t == v) false refl
 of_none t (Join u) h (LastRelease l) k = refl
-of_none t Begin h (LastWrite x) k = refl
-of_none t Begin h (LastRead x v) k = and_right (t == v) false refl
-of_none t Begin h (LastRelease l) k = refl
+of_none t (Begin label) h (LastWrite x) k = refl
+of_none t (Begin label) h (LastRead x v) k = and_right (t == v) false refl
+of_none t (Begin label) h (LastRelease l) k = refl
 of_none t End h (LastWrite x) k = refl
 of_none t End h (LastRead x v) k = and_right (t == v) false refl
 of_none t End h (LastRelease l) k = refl
+of_none t Exempt h (LastWrite x) k = refl
+of_none t Exempt h (LastRead x v) k = and_right (t == v) false refl
+of_none t Exempt h (LastRelease l) k = refl
 of_none t _ h _ k = cc
 
 -- places of a list that pass
@@ -203,10 +207,11 @@ module _ (threads : List Thread) (table : Table) (t : ℕ) (th : Thread) (at : s
   depth_more h e = sym (depth_same h (h ++ e ∷ []) t (length h) (agree_front (length h) h (e ∷ []) (le_refl (length h))))
 
   pub idle_moves : (h : List Numbered) (what : What) → IsStateOf w h → IsWellFormed (h ++ event t what ∷ []) → IsIdle h t what → IsStateOf (acting w t) (h ++ event t what ∷ [])
+  idle_moves h _ stands ok idle.exempt = idle_stands h Exempt stands ok (plain refl) (no_end h t Exempt refl) (no_begin h t Exempt refl) refl (λ v. refl)
   idle_moves h _ stands ok (idle.inner_begin inside) =
-      idle_stands h Begin stands ok (plain refl) (no_end h t Begin refl)
-      (and_right (by_thread t is_begin (slice_get (h ++ event t Begin ∷ []) (length h))) (depth (h ++ event t Begin ∷ []) t (length h) == 0)
-      (ne_eqb (depth (h ++ event t Begin ∷ []) t (length h)) 0 (λ e. absurd (omega (arith, e, inside, depth_more h (event t Begin))))))
+      idle_stands h (Begin None) stands ok (plain refl) (no_end h t (Begin None) refl)
+      (and_right (by_thread t is_begin (slice_get (h ++ event t (Begin None) ∷ []) (length h))) (depth (h ++ event t (Begin None) ∷ []) t (length h) == 0)
+      (ne_eqb (depth (h ++ event t (Begin None) ∷ []) t (length h)) 0 (λ e. absurd (omega (arith, e, inside, depth_more h (event t (Begin None)))))))
       refl (λ v. refl)
   idle_moves h _ stands ok (idle.inner_end inside) =
       idle_stands h End stands ok (plain refl)
@@ -222,26 +227,26 @@ module _ (threads : List Thread) (table : Table) (t : ℕ) (th : Thread) (at : s
     abbrev after : List Thread
     after = slice_set threads t new
 
-    counted : (h : List Numbered) → IsStateOf w h → IsWellFormed (h ++ event t Begin ∷ []) → number_at th.clock t < 2 ^ 32 - 1
+    counted : (h : List Numbered) → IsStateOf w h → IsWellFormed (h ++ event t (Begin None) ∷ []) → number_at th.clock t < 2 ^ 32 - 1
     counted h stands ok =
-        let own = own_count h (well_formed_front h (event t Begin ∷ []) ok) (length h) w.clock stands.untold.sound stands.untold.complete t in
+        let own = own_count h (well_formed_front h (event t (Begin None) ∷ []) ok) (length h) w.clock stands.untold.sound stands.untold.complete t in
         omega (arith, own, stands.begins t, ap (λ o. thread_clock o t) at, ap thread_begins at, room)
 
-    is_opening : (h : List Numbered) → IsStateOf w h → opens (h ++ event t Begin ∷ []) t (length h) ≡ true
+    is_opening : (h : List Numbered) → IsStateOf w h → opens (h ++ event t (Begin None) ∷ []) t (length h) ≡ true
     is_opening h stands =
-        ap (λ a. by_thread t is_begin a && (depth (h ++ event t Begin ∷ []) t (length h) == 0)) (slice_get-push h (event t Begin))
+        ap (λ a. by_thread t is_begin a && (depth (h ++ event t (Begin None) ∷ []) t (length h) == 0)) (slice_get-push h (event t (Begin None)))
         ∙ and_from _ _ (and_from (t == t) true (eq-eqb t t refl) refl)
-        (eq-eqb (depth (h ++ event t Begin ∷ []) t (length h)) 0
-        (let none : depth h t (length h) ≤ 0 = ltb-false 0 (depth h t (length h)) (sym (stands.in_block t) ∙ inside_is ∙ ap is_some outside) in omega (arith, none, depth_more h (event t Begin))))
+        (eq-eqb (depth (h ++ event t (Begin None) ∷ []) t (length h)) 0
+        (let none : depth h t (length h) ≤ 0 = ltb-false 0 (depth h t (length h)) (sym (stands.in_block t) ∙ inside_is ∙ ap is_some outside) in omega (arith, none, depth_more h (event t (Begin None)))))
 
     swap_and : {X : Type 0} (b : Bool) (y z : X) → (if b then y else z) ≡ (if b && true then y else z)
     swap_and true y z = refl
     swap_and false y z = refl
 
-    begin_step : (h : List Numbered) → IsStateOf w h → IsWellFormed (h ++ event t Begin ∷ []) → IsStep w (acting (state_in after table) t) (event t Begin) (number_at th.clock) true
+    begin_step : (h : List Numbered) → IsStateOf w h → IsWellFormed (h ++ event t (Begin None) ∷ []) → IsStep w (acting (state_in after table) t) (event t (Begin None)) (number_at th.clock) true
     begin_step h stands ok = record {
       clock = clocks;
-      actor = same_actors table t (number_at th.clock) Begin (of_none t Begin refl);
+      actor = same_actors table t (number_at th.clock) (Begin None) (of_none t (Begin None) refl);
       acted = λ u. go_acted u (t == u) (written threads t th new at thread_acted u) (cases_eq t u);
       begins = λ u. written threads t th new at thread_begins u ∙ go_begins u (cases_eq t u) ∙ swap_and (t == u) (thread_begins (slice_get threads u) + 1) (thread_begins (slice_get threads u));
       in_block = λ u. written threads t th new at (λ o. is_some (thread_begin o)) u ∙ ap (λ b. if t == u then b else is_some (thread_begin (slice_get threads u))) open_now ∙ swap_and (t == u) true (is_some (thread_begin (slice_get threads u)));
@@ -263,14 +268,14 @@ module _ (threads : List Thread) (table : Table) (t : ℕ) (th : Thread) (at : s
             ∙ sym (cond-true (t == u) _ _ (eq-eqb t u e))
         go_clock u v (inr ne) = cond-false (t == u) _ _ (ne_eqb t u ne) ∙ sym (cond-false (t == u) _ _ (ne_eqb t u ne))
 
-        own : (v : ℕ) → (t == v) ≡ of_slot (OfThread v) (event t Begin)
+        own : (v : ℕ) → (t == v) ≡ of_slot (OfThread v) (event t (Begin None))
         own v = go (t == v)
           where
             go : (b : Bool) → b ≡ (b || false)
             go true = refl
             go false = refl
 
-        clocks : (s : Slot) (u : ℕ) → clock_in after table s u ≡ (if of_slot s (event t Begin) then (if u == t then number_at th.clock u + 1 else number_at th.clock u) else clock_in threads table s u)
+        clocks : (s : Slot) (u : ℕ) → clock_in after table s u ≡ (if of_slot s (event t (Begin None)) then (if u == t then number_at th.clock u + 1 else number_at th.clock u) else clock_in threads table s u)
         clocks (OfThread v) u =
             written threads t th new at (λ o. thread_clock o u) v
             ∙ ap (λ m. if t == v then m else thread_clock (slice_get threads v) u) (raised (counted h stands ok) u)
@@ -279,18 +284,18 @@ module _ (threads : List Thread) (table : Table) (t : ℕ) (th : Thread) (at : s
         clocks (LastRead x v) u = sym (cond-false ((t == v) && false) _ _ (and_right (t == v) false refl))
         clocks (LastRelease l) u = refl
 
-    pub begin_moves : Moves w (state_in after table) (event t Begin) false
+    pub begin_moves : Moves w (state_in after table) (event t (Begin None)) false
     begin_moves = record {
       told = λ h stands ok is. cc;
       stands = λ h stands ok is.
-          stands_after w h (event t Begin) ok stands (OfThread t ∷ []) (plain refl) (no_end h t Begin refl) (acting (state_in after table) t) true (is_opening h stands) (number_at th.clock)
+          stands_after w h (event t (Begin None)) ok stands (OfThread t ∷ []) (plain refl) (no_end h t (Begin None) refl) (acting (state_in after table) t) true (is_opening h stands) (number_at th.clock)
           (λ u. omega (arith, ap (λ o. thread_clock o u) at))
           (begin_step h stands ok)
-          (none_judged w h (event t Begin) ok stands (OfThread t ∷ []) (plain refl) (no_end h t Begin refl) (λ s m other inside le. plain_none threads table t th at s m other));
+          (none_judged w h (event t (Begin None)) ok stands (OfThread t ∷ []) (plain refl) (no_end h t (Begin None) refl) (λ s m other inside le. plain_none threads table t th at s m other));
     }
 
 pub begin_answer : (threads : List Thread) (table : Table) (t : ℕ) (th : Thread) (at : slice_get threads t ≡ Some th) (new : Thread) {E : Type 0} (r : Result (Unit {0}) E) → th.begin ≡ None → th.begins < 2 ^ 32 - 1
     → (number_at th.clock t < 2 ^ 32 - 1 → OnOk r (IsRaised new.clock th.clock t)) → OnOk r ((u : ℕ) → number_in new.begin u ≡ number_at new.clock u) → OnOk r (IsSome new.begin) → OnOk r (new.begins ≡ th.begins + 1) → new.acted ≡ th.acted
-    → OnOk r (Moves (state_in threads table) (state_in (slice_set threads t new) table) (event t Begin) false)
+    → OnOk r (Moves (state_in threads table) (state_in (slice_set threads t new) table) (event t (Begin None)) false)
 begin_answer threads table t th at new (Ok x) outside room raised begin opened begins acted = begin_moves threads table t th at new outside room (λ l u. (raised l).at u) begin opened begins acted
 begin_answer threads table t th at new (Err e) outside room raised begin opened begins acted = tt

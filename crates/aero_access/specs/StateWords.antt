@@ -4,7 +4,7 @@ use Rattle.aero_clock.specs.declared.clock.Clock.{Clock}
 use Rattle.aero_clock.specs.Numbers.{number_at}
 use Rattle.aero_model.specs.declared.numbered.Numbered.{Numbered}
 use Rattle.aero_model.specs.declared.numbered.What.{What}
-use Rattle.aero_model.specs.declared.numbered.What.TheVariants.{Begin, End, Join}
+use Rattle.aero_model.specs.declared.numbered.What.TheVariants.{Begin, End, Exempt, Join}
 use Rattle.aero_model.specs.Blocks.{depth}
 use Rattle.aero_model.specs.Shape.{has_acted, IsWellFormed}
 use Rattle.aero_access.specs.declared.slot.Slot.{Slot}
@@ -68,9 +68,10 @@ pub record KeepsClock (old new : Table) (slot : Slot) (t : ℕ) (K : ℕ → ℕ
   pub clock : (s : Slot) (u : ℕ) → kept_clock (kept_of new s) u ≡ (if same_slot s slot then K u else kept_clock (kept_of old s) u)
   pub actor : (s : Slot) → kept_thread (kept_of new s) ≡ (if same_slot s slot then Some t else kept_thread (kept_of old s))
 
--- an event of thread t that no clock rule speaks of: a begin or an end within a block, or a join of a thread that has made no event
+-- an event of thread t that no clock rule speaks of: an exempt begin or end, a begin or an end within a block, or a join of a thread that has made no event
 pub data IsIdle (h : List Numbered) (t : ℕ) : What → Type 0 where
-  inner_begin : 0 < depth h t (length h) → IsIdle h t Begin
+  exempt : IsIdle h t Exempt
+  inner_begin : 0 < depth h t (length h) → IsIdle h t (Begin None)
   inner_end : 1 < depth h t (length h) → IsIdle h t End
   idle_join : (u : ℕ) → has_acted h u ≡ false → IsIdle h t (Join u)
 

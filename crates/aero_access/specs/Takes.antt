@@ -12,7 +12,7 @@ pub data Among {A : Type 0} (s : A) : List A → Type 0 where
   here : {ss : List A} → Among s (s ∷ ss)
   there : {r : A} {ss : List A} → Among s ss → Among s (r ∷ ss)
 
--- the event takes no clock but its thread's own: a begin, an end, a release or a fork
+-- the event takes no clock but its thread's own: a begin or an end, exempt or not, a release or a fork
 abbrev pub takes_only_own : What → Bool
 takes_only_own (Read x) = false
 takes_only_own (Write x) = false
@@ -42,7 +42,7 @@ module _ (trace : List Numbered) (n : ℕ) where
 
   -- the slots whose clocks event e at place n takes
   pub data Takes (e : Numbered) : List Slot → Type 0 where
-    -- a begin, an end, a release or a fork: its own thread's clock alone
+    -- a begin or an end, exempt or not, a release or a fork: its own thread's clock alone
     plain : takes_only_own e.what ≡ true → Takes e (OfThread e.thread ∷ [])
     -- a read: the last write's too
     read : (x : ℕ) (ss : List Slot) → e.what ≡ Read x → IfForeign e.thread (LastWrite x) ss → Takes e (OfThread e.thread ∷ ss)

@@ -151,7 +151,7 @@ pub(crate) fn begin(threads: &mut [Thread], table: &Table, t: u32) -> Result<(),
     requires outside { thread_begin (slice_get threads.old t) ≡ None }
     requires count { thread_begins (slice_get threads.old t) < 2 ^ 32 - 1 }
     requires heeded { AreHeeded (state_in threads.old table.now) }
-    ensures moves { OnOk result (Moves (state_in threads.old table.now) (state_in threads.new table.now) (event t Begin) false) }
+    ensures moves { OnOk result (Moves (state_in threads.old table.now) (state_in threads.new table.now) (event t (Begin None)) false) }
     ensures opens { OnOk result (OpensBlock threads.old threads.new t) }
     ensures err { OnErr result (HaveSameBlocks threads.old threads.new) }
     ensures heeded { AreHeeded (state_in threads.new table.now) }

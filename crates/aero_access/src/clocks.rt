@@ -180,7 +180,7 @@ impl Clocks {
         requires outside { in_block_at self.old t ≡ false }
         requires count { begins_at self.old t < 2 ^ 32 - 1 }
         ensures answers { Answers self.old self.new result }
-        ensures follows { Follows self.old self.new (event t Begin) result }
+        ensures follows { Follows self.old self.new (event t (Begin None)) result }
         ensures named { OnOk result (threads_of self.new ≡ max (threads_of self.old) (t + 1)) }
     {
         self.start(t)?;
@@ -188,8 +188,8 @@ impl Clocks {
         Ok(self.finish(t, false))
     }
 
-    /// Thread `t` makes an event that changes no clock: a begin or an end within a block, or a
-    /// join of a thread that has made no event.
+    /// Thread `t` makes an event that changes no clock: an exempt begin or end, a begin or an end
+    /// within a block, or a join of a thread that has made no event.
     pub fn plain(&mut self, t: u32) -> Result<(), Spent>
         requires { closed_by self.old ≡ None }
         ensures answers { Answers self.old self.new (quiet result) }

@@ -111,7 +111,7 @@ module _ (trace : List Numbered) (n : ℕ) (e : Numbered) (at : slice_get trace 
         go e.what (ap (λ (a : Numbered). is_begin a.what) (same_Some e f.event (sym at ∙ f.at)) ∙ f.passes)
       where
         go : (w : What) → is_begin w ≡ true → is_fork_of u w ≡ false
-        go Begin h = refl
+        go (Begin label) h = refl
         go _ h = cc
 
     begin_same : (o w : ℕ) → event_rows trace n e [] rows o w ≡ begin_rows n t rows o w
@@ -196,7 +196,7 @@ module _ (trace : List Numbered) (ok : IsWellFormed trace) (n : ℕ) (e : Number
       (first_after trace ok n e at (quiet_from trace n e at s.closes) [] (stood trace ok n e at [] (takes.plain (own_of e.what begins))) rows first)
     where
       own_of : (w : What) → is_begin w ≡ true → takes_only_own w ≡ true
-      own_of Begin h = refl
+      own_of (Begin label) h = refl
       own_of _ h = cc
 
   pub first_forked : (u : ℕ) → e.what ≡ Fork u → AreFirst trace (suc n) (fork_rows n e.thread u rows)

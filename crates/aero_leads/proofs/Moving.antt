@@ -5,7 +5,7 @@ use Rattle.std.proofs.lemmas.Bool.{cases_eq, both_ways, eqb-true, eq-eqb, ne_eqb
 use Rattle.std.proofs.lemmas.List.{append-nil}
 use Rattle.aero_model.specs.declared.numbered.Numbered.{Numbered}
 use Rattle.aero_model.specs.declared.numbered.What.{What}
-use Rattle.aero_model.specs.declared.numbered.What.TheVariants.{Read, Write, Acquire, Release, Fork, Join, Begin, End}
+use Rattle.aero_model.specs.declared.numbered.What.TheVariants.{Read, Write, Acquire, Release, Fork, Join, Begin, End, Exempt}
 use Rattle.aero_model.specs.Blocks.{is_begin, is_end, by_thread, depth, opens, closes}
 use Rattle.aero_model.specs.Shape.{is_release_of, is_fork_of, IsWellFormed, has_acted}
 use Rattle.aero_model.proofs.Stability.{agree_front}
@@ -264,13 +264,20 @@ taken_join old t u ne acted h stands =
     }
 
 pub taken_idle : (old : State) (t : ℕ) (what : What) (h : List Numbered) → IsStateOf old h → IsIdle h t what → IsTaken old h (event t what) []
+taken_idle old t _ h stands idle.exempt = record {
+  marks = [];
+  takes = takes.plain refl;
+  same = λ w. refl;
+  ends = no_end h t Exempt refl;
+  begins = no_begin h t Exempt refl;
+}
 taken_idle old t _ h stands (idle.inner_begin inside) = record {
   marks = [];
   takes = takes.plain refl;
   same = λ w. refl;
-  ends = no_end h t Begin refl;
-  begins = and_right (by_thread t is_begin (slice_get (h ++ event t Begin ∷ []) (length h))) (depth (h ++ event t Begin ∷ []) t (length h) == 0)
-      (ne_eqb (depth (h ++ event t Begin ∷ []) t (length h)) 0 (λ e. absurd (omega (arith, e, inside, depth_more old h (event t Begin) stands t))));
+  ends = no_end h t (Begin None) refl;
+  begins = and_right (by_thread t is_begin (slice_get (h ++ event t (Begin None) ∷ []) (length h))) (depth (h ++ event t (Begin None) ∷ []) t (length h) == 0)
+      (ne_eqb (depth (h ++ event t (Begin None) ∷ []) t (length h)) 0 (λ e. absurd (omega (arith, e, inside, depth_more old h (event t (Begin None)) stands t))));
 }
 taken_idle old t _ h stands (idle.inner_end inside) = record {
   marks = [];
@@ -319,14 +326,14 @@ moves_fork old new t u gained after = record {
             ∙ sym (gained.rows o w)
 
 -- an outermost begin
-pub moves_begin : (old new : State) (t : ℕ) → old.in_block t ≡ false → ((o w : ℕ) → new.rows o w ≡ (if (o == t) && (t == w) then lesser (old.rows o w) (Some old.now) else old.rows o w)) → IsAfter old (acting new t) (event t Begin) true false → Moves old new (event t Begin) false
+pub moves_begin : (old new : State) (t : ℕ) → old.in_block t ≡ false → ((o w : ℕ) → new.rows o w ≡ (if (o == t) && (t == w) then lesser (old.rows o w) (Some old.now) else old.rows o w)) → IsAfter old (acting new t) (event t (Begin None)) true false → Moves old new (event t (Begin None)) false
 moves_begin old new t outside rows after = record {
   told = λ h stands ok c. cc;
   stands = λ h stands ok c. begun h stands ok;
 }
   where
     e : Numbered
-    e = event t Begin
+    e = event t (Begin None)
 
     begun : (h : List Numbered) → IsStateOf old h → IsWellFormed (h ++ e ∷ []) → IsStateOf (acting new t) (h ++ e ∷ [])
     begun h stands ok =
@@ -346,7 +353,7 @@ moves_begin old new t outside rows after = record {
             ∙ and_from _ _ (and_from (t == t) true (eq-eqb t t refl) refl) (eq-eqb (depth more t (length h)) 0 none_open)
 
         ends : closes more t (length h) ≡ false
-        ends = no_end h t Begin refl
+        ends = no_end h t (Begin None) refl
 
         first : AreFirst more (length h) old.rows
         first = steps.first old h e stands
@@ -371,7 +378,7 @@ swap_and true y z = refl
 swap_and false y z = refl
 
 pub after_begin : (old new : State) (t : ℕ) → ((x : ℕ) → new.write x ≡ old.write x) → ((x : ℕ) → new.reads x ≡ old.reads x) → ((l : ℕ) → new.release l ≡ old.release l) → new.now ≡ old.now
-    → ((u : ℕ) → new.acted u ≡ old.acted u) → ((u : ℕ) → new.begins u ≡ (if t == u then old.begins u + 1 else old.begins u)) → ((u : ℕ) → new.in_block u ≡ (if t == u then true else old.in_block u)) → IsAfter old (acting new t) (event t Begin) true false
+    → ((u : ℕ) → new.acted u ≡ old.acted u) → ((u : ℕ) → new.begins u ≡ (if t == u then old.begins u + 1 else old.begins u)) → ((u : ℕ) → new.in_block u ≡ (if t == u then true else old.in_block u)) → IsAfter old (acting new t) (event t (Begin None)) true false
 after_begin old new t write reads release now acted begins in_block = record {
   write = write;
   reads = reads;
@@ -408,12 +415,14 @@ idle_moves old t what h stands ok quiet =
     same = record { in_block = λ u. refl; begins = λ u. refl; acted = λ u. refl }
 
     no_fork : (what : What) → IsIdle h t what → (u : ℕ) → is_fork_of u what ≡ false
+    no_fork _ idle.exempt u = refl
     no_fork _ (idle.inner_begin inside) u = refl
     no_fork _ (idle.inner_end inside) u = refl
     no_fork _ (idle.idle_join v acted) u = refl
 
     after : (what : What) → IsIdle h t what → IsAfter old (acting old t) (event t what) false false
-    after _ (idle.inner_begin inside) = after_quiet old old (event t Begin) (λ x. refl) (λ x. refl) (λ l. refl) refl same
+    after _ idle.exempt = after_quiet old old (event t Exempt) (λ x. refl) (λ x. refl) (λ l. refl) refl same
+    after _ (idle.inner_begin inside) = after_quiet old old (event t (Begin None)) (λ x. refl) (λ x. refl) (λ l. refl) refl same
     after _ (idle.inner_end inside) = after_quiet old old (event t End) (λ x. refl) (λ x. refl) (λ l. refl) refl same
     after _ (idle.idle_join v acted) = after_quiet old old (event t (Join v)) (λ x. refl) (λ x. refl) (λ l. refl) refl same
 

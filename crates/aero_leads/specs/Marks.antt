@@ -28,7 +28,7 @@ module _ (trace : List Numbered) (n : ℕ) where
 
   -- what event e at place n takes of other threads
   pub data TakesMarks (e : Numbered) : List Mark → Type 0 where
-    -- a begin, an end, a release or a fork: nothing
+    -- a begin or an end, exempt or not, a release or a fork: nothing
     plain : takes_only_own e.what ≡ true → TakesMarks e []
     -- a read: the last write
     read : (x : ℕ) (ms : List Mark) → e.what ≡ Read x → IfOther e.thread (LastWrite x) ms → TakesMarks e ms

@@ -185,7 +185,7 @@ impl Kept {
         requires room { HasRoom self.old t }
         requires outside { (state_in self.old).in_block t ≡ false }
         requires count { (state_in self.old).begins t < 2 ^ 32 - 1 }
-        ensures moves { OnOk result (Moves (state_in self.old) (state_in self.new) (event t Begin) false) }
+        ensures moves { OnOk result (Moves (state_in self.old) (state_in self.new) (event t (Begin None)) false) }
         ensures err { OnErr result (HaveSameBlocks (state_in self.old) (state_in self.new)) }
         ensures room { HasRoom self.new t }
     {

@@ -142,15 +142,15 @@ impl Leads {
         requires outside { in_block_at self.old t ≡ false }
         requires count { begins_at self.old t < 2 ^ 32 - 1 }
         ensures answers { Answers self.old self.new result }
-        ensures follows { Follows self.old self.new (event t Begin) result }
+        ensures follows { Follows self.old self.new (event t (Begin None)) result }
     {
         self.start(t)?;
         self.kept.begin(t)?;
         Ok(self.finish(t, false))
     }
 
-    /// Thread `t` makes an event that takes no other: a begin or an end within a block, or a join
-    /// of a thread that has made no event.
+    /// Thread `t` makes an event that takes no other: an exempt begin or end, a begin or an end
+    /// within a block, or a join of a thread that has made no event.
     pub fn plain(&mut self, t: u32) -> Result<(), Spent>
         requires { closed_by self.old ≡ None }
         ensures answers { Answers self.old self.new (quiet result) }

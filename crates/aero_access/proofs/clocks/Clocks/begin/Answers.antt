@@ -1,4 +1,4 @@
-use Rattle.std.proofs.Common.{sym, subst, ◌≡◌, length, refl, arith, false}
+use Rattle.std.proofs.Common.{sym, subst, ◌≡◌, length, refl, arith, false, None}
 use Rattle.std.proofs.lemmas.List.{with_items_is}
 use Rattle.aero_model.specs.declared.numbered.What.TheVariants.{Begin}
 use Rattle.aero_access.proofs.Standings.{follows}
@@ -9,7 +9,7 @@ use Rattle.aero_access.proofs.clocks.Clocks.begin.Goals as goal
 pub returns-clause-follows : goal.returns-clause-follows
 returns-clause-follows c =
     let kept : length c.begin.new.threads ≡ c.start.new.self.threads.len = omega (arith, c.begin.auto.threads, c.deref_mut.ensures.len) in
-    follows c.args.self.now c.start.new.self _ c.finish.new.self c.deref_mut.result.now c.begin.new.threads c.args.t c.args.t (Begin) c.finish.result false
+    follows c.args.self.now c.start.new.self _ c.finish.new.self c.deref_mut.result.now c.begin.new.threads c.args.t c.args.t (Begin None) c.finish.result false
     c.in_ok-start.ensures.ok c.deref_mut.ensures.value (with_items_is c.start.new.self.threads c.begin.new.threads kept) refl c.in_ok-begin.ensures.moves
     c.finish.ensures.told c.finish.ensures.untold c.finish.ensures.finished
 
