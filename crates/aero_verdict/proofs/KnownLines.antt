@@ -6,12 +6,12 @@ use Rattle.aero_model.specs.declared.numbered.Numbered.{Numbered}
 use Rattle.aero_model.specs.Numbering.{Tables}
 use Rattle.aero_grammar.specs.Tabled.{line_in, lines_in}
 
-pub line_at : (tables : Tables) (events : List (ℕ × Numbered)) (i : ℕ) (d : ℕ × Numbered) → i < length events →
-    line_in tables (slice_index_or events i d) ≡ get_or (lines_in tables events) i (line_in tables (slice_index_or events i d))
-line_at tables events i d less = sym (get_or-map (line_in tables) events i d (line_in tables (slice_index_or events i d)) less)
+pub line_at : (tables : Tables) (labels : List (List ℕ)) (events : List (ℕ × Numbered)) (i : ℕ) (d : ℕ × Numbered) → i < length events →
+    line_in tables labels (slice_index_or events i d) ≡ get_or (lines_in tables labels events) i (line_in tables labels (slice_index_or events i d))
+line_at tables labels events i d less = sym (get_or-map (line_in tables labels) events i d (line_in tables labels (slice_index_or events i d)) less)
 
-pub lines_long : (tables : Tables) (events : List (ℕ × Numbered)) → length (lines_in tables events) ≡ length events
-lines_long tables events = length-map events (line_in tables)
+pub lines_long : (tables : Tables) (labels : List (List ℕ)) (events : List (ℕ × Numbered)) → length (lines_in tables labels events) ≡ length events
+lines_long tables labels events = length-map events (line_in tables labels)
 
-pub line_less : (tables : Tables) (events : List (ℕ × Numbered)) (i : ℕ) → i < length events → i < length (lines_in tables events)
-line_less tables events i less = let long = lines_long tables events in omega (arith, less, long)
+pub line_less : (tables : Tables) (labels : List (List ℕ)) (events : List (ℕ × Numbered)) (i : ℕ) → i < length events → i < length (lines_in tables labels events)
+line_less tables labels events i less = let long = lines_long tables labels events in omega (arith, less, long)

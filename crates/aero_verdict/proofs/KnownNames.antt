@@ -1,16 +1,19 @@
 -- The numbers of a block's names that are known.
-use Rattle.std.proofs.Common.{◌≡◌, ℕ, ◌==◌, if◌then◌else◌, List, [], ◌∷◌, ◌++◌, length, Some, sym, ◌∙◌, ap, subst, inl, inr, arith}
-use Rattle.std.specs.Prelude.{bytes_eq, slice_get}
+use Rattle.std.proofs.Common.{◌≡◌, ℕ, zero, suc, ◌<◌, ◌==◌, Bool, false, if◌then◌else◌, List, [], ◌∷◌, ◌++◌, length, map, take, Some, None, refl, sym, ◌∙◌, ap, subst, inl, inr, arith}
+use Rattle.std.specs.Prelude.{bytes_eq, slice_get, slice_index_or}
 use Rattle.std.specs.List.{list_any}
 use Rattle.std.proofs.lemmas.Bool.{cases_Bool, cond-true, cond-false, eqb-true, lt-leb}
 use Rattle.std.proofs.lemmas.Option.{slice_get_within, same_Some}
-use Rattle.aero_model.specs.Numbering.{with_name, number_of}
+use Rattle.aero_model.specs.declared.numbered.What.{What}
+use Rattle.aero_model.specs.declared.numbered.What.TheVariants.{Read, Write, Acquire, Release, Fork, Join, Begin, End, Exempt}
+use Rattle.aero_model.specs.Exempt.{label_of, is_listed}
+use Rattle.aero_model.specs.Numbering.{with_name, number_of, Tables}
 use Rattle.aero_access.proofs.KeptLists.{slice_get-pushed}
 use Rattle.aero_names.specs.Listing.{Listing}
 use Rattle.aero_names.proofs.Listings.{number_of-place}
 use Rattle.aero_names.proofs.NewNames.{has_name, still_passes, number_stays}
-use Rattle.aero_grammar.specs.Tabled.{name_at}
-use Rattle.aero_verdict.specs.Known.{IsKnown, AreKnown}
+use Rattle.aero_grammar.specs.Tabled.{name_at, op_of, target_in}
+use Rattle.aero_verdict.specs.Known.{IsKnown, AreKnown, is_told_exempt, HasLabel}
 use Rattle.aero_verdict.specs.Numbers.{NumbersName}
 
 -- of no name yet
@@ -66,3 +69,30 @@ known_pushed old new block known numbers n number h all is m other at =
           ])
       | inr not_next ↦ stay m other (ap (λ ns. slice_get ns m) (sym (is ∙ cond-false (length known == n) (known ++ number ∷ []) known not_next)) ∙ at)
     ]
+
+-- what is told of the labels of a block
+
+told_at : (f : List ℕ → Bool) (names : List (List ℕ)) (n : ℕ) → n < length names → slice_index_or (map f names) n false ≡ f (name_at names n)
+told_at f [] n less = absurd (omega (arith, less))
+told_at f (name ∷ names) zero less = refl
+told_at f (name ∷ names) (suc n) less = told_at f names n (omega (arith, less))
+
+pub told_exempt : (tables : Tables) (block labels : List (List ℕ)) (exempt : List Bool) (w : What) → HasLabel block w → exempt ≡ map (λ label. list_any (bytes_eq label) labels) block →
+    is_told_exempt exempt w ≡ is_listed labels (label_of (op_of w) (target_in tables block w))
+told_exempt tables block labels exempt (Begin (Some label)) has marked =
+    ap (λ flags. slice_index_or flags label false) marked ∙ told_at (λ name. list_any (bytes_eq name) labels) block label has
+told_exempt tables block labels exempt (Begin None) has marked = refl
+told_exempt tables block labels exempt End has marked = refl
+told_exempt tables block labels exempt Exempt has marked = refl
+told_exempt tables block labels exempt (Read x) has marked = refl
+told_exempt tables block labels exempt (Write x) has marked = refl
+told_exempt tables block labels exempt (Acquire l) has marked = refl
+told_exempt tables block labels exempt (Release l) has marked = refl
+told_exempt tables block labels exempt (Fork u) has marked = refl
+told_exempt tables block labels exempt (Join u) has marked = refl
+
+-- one label more
+pub told_next : (f : List ℕ → Bool) (names : List (List ℕ)) (n : ℕ) → n < length names → map f (take (suc n) names) ≡ map f (take n names) ++ f (name_at names n) ∷ []
+told_next f [] n less = absurd (omega (arith, less))
+told_next f (name ∷ names) zero less = refl
+told_next f (name ∷ names) (suc n) less = ap (λ flags. f name ∷ flags) (told_next f names n (omega (arith, less)))

@@ -1,6 +1,8 @@
 pub mod KnownNames
+pub mod KnownLabels
 pub mod KnownLines
 pub mod Targets
+pub mod Judged
 pub mod Judging
 pub mod Steps
 pub mod Lines

@@ -1,36 +1,38 @@
 -- Events that are admitted one after the other.
-use Rattle.std.proofs.Common.{◌≡◌, ℕ, suc, ◌+◌, ◌<◌, ◌≤◌, nat_le, List, [], ◌∷◌, ◌++◌, length, take, drop, Option, Some, None, option_map, refl, sym, ◌∙◌, ap, subst, get_or, arith, add-one, length-append}
+use Rattle.std.proofs.Common.{◌≡◌, ℕ, suc, ◌+◌, ◌<◌, ◌≤◌, nat_le, Bool, List, [], ◌∷◌, ◌++◌, length, take, drop, Option, Some, None, option_map, refl, sym, ◌∙◌, ap, subst, get_or, arith, add-one, length-append}
 use Rattle.std.specs.Prelude.{slice_get}
 use Rattle.std.proofs.lemmas.Bool.{cond-true, cond-false, le-leb, lt-leb}
 use Rattle.std.proofs.lemmas.List.{append_assoc, take_all}
 use Rattle.std.proofs.lemmas.List.Elements.{filter-append}
 use Rattle.std.proofs.lemmas.Option.{slice_get_read, slice_get_within}
-use Rattle.aero_model.specs.declared.limits.Limits.{Limits}
 use Rattle.aero_model.specs.declared.verdict.ShapeFault.{ShapeFault}
 use Rattle.aero_model.specs.Cycle.{HasTellingCycle}
 use Rattle.aero_model.specs.declared.numbered.Numbered.{Numbered}
+use Rattle.aero_model.specs.Exempt.{is_exempt}
 use Rattle.aero_model.specs.Named.{Named}
 use Rattle.aero_model.specs.Shape.{IsLawful, fault_at}
 use Rattle.aero_grammar.specs.Reading.{after_lines}
 use Rattle.aero_access.specs.Judgement.{IsTold}
 use Rattle.aero_verdict.specs.declared.checker.Checker.{Checker}
 use Rattle.aero_verdict.specs.declared.checker.Stop.TheVariants.{Refused, Closed}
-use Rattle.aero_verdict.specs.Kept.{trace_in, StandsFor, IsNext, IsExpected, Refuses, Judged, up_to, AreNext, AreExpected, StopsIn}
+use Rattle.aero_verdict.specs.Kept.{trace_in, judged_in, StandsFor, IsNext, IsExpected, Refuses, Judged, up_to, AreNext, AreExpected, StopsIn}
+use Rattle.aero_verdict.specs.Known.{AreMarked}
+use Rattle.aero_verdict.specs.Verdict.{Rules}
 use Rattle.aero_verdict.proofs.Steps.{take_pushed, front_and_rest}
 
 -- after the first i of these events: what was kept of those before them is kept of these too
-pub record Admits {E : Type 0} (stands_for : E → List Numbered → Type 0) (start : Checker E) (events : List (ℕ × Named)) (before most i : ℕ) (now : Checker E) : Type 0 where
+pub record Admits {E : Type 0} (stands_for : E → List Numbered → Type 0) (start : Checker E) (block : List (List ℕ)) (flags : List Bool) (events : List (ℕ × Named)) (before most i : ℕ) (now : Checker E) : Type 0 where
   pub count_is : now.shape.admitted ≡ start.shape.admitted + length (up_to most (take i events))
-  pub keeps : (limits : Limits) (all : List (ℕ × Named)) → AreNext stands_for limits start all before (up_to most events) → StandsFor stands_for limits now all
+  pub keeps : (rules : Rules) (all : List (ℕ × Named)) → AreNext stands_for rules start all block flags before (up_to most events) → StandsFor stands_for rules now all
 
 slice_get_seam : {A : Type 0} (xs : List A) (y : A) (ys : List A) → slice_get (xs ++ y ∷ ys) (length xs) ≡ Some y
 slice_get_seam [] y ys = refl
 slice_get_seam (x ∷ xs) y ys = slice_get_seam xs y ys
 
-pub nothing_admitted : {E : Type 0} (stands_for : E → List Numbered → Type 0) (start : Checker E) (events : List (ℕ × Named)) (before most : ℕ) → Admits stands_for start events before most 0 start
-nothing_admitted stands_for start events before most = record { count_is = omega arith; keeps = λ limits all next. next.0 }
+pub nothing_admitted : {E : Type 0} (stands_for : E → List Numbered → Type 0) (start : Checker E) (block : List (List ℕ)) (flags : List Bool) (events : List (ℕ × Named)) (before most : ℕ) → Admits stands_for start block flags events before most 0 start
+nothing_admitted stands_for start block flags events before most = record { count_is = omega arith; keeps = λ rules all next. next.0 }
 
-module _ {E : Type 0} (stands_for : E → List Numbered → Type 0) (start now : Checker E) (events : List (ℕ × Named)) (before most i : ℕ) (so_far : Admits stands_for start events before most i now) (less : i < length events) (item : ℕ × Named) (is : item ≡ get_or events i item) where
+module _ {E : Type 0} (stands_for : E → List Numbered → Type 0) (start now : Checker E) (block : List (List ℕ)) (flags : List Bool) (events : List (ℕ × Named)) (before most i : ℕ) (so_far : Admits stands_for start block flags events before most i now) (less : i < length events) (item : ℕ × Named) (is : item ≡ get_or events i item) where
   item_at : slice_get events i ≡ Some item
   item_at = slice_get_read events (length events) i item refl less is
 
@@ -38,7 +40,7 @@ module _ {E : Type 0} (stands_for : E → List Numbered → Type 0) (start now :
   front_next = ap (λ k. take k events) (add-one i) ∙ take_pushed events i item item_at
 
   -- an event on a line that doesn't count
-  pub passed_over : most < item.0 → Admits stands_for start events before most (i + 1) now
+  pub passed_over : most < item.0 → Admits stands_for start block flags events before most (i + 1) now
   passed_over beyond =
       let same : up_to most (take (i + 1) events) ≡ up_to most (take i events) ++ [] =
       ap (up_to most) front_next
@@ -47,7 +49,7 @@ module _ {E : Type 0} (stands_for : E → List Numbered → Type 0) (start now :
       let count = ap length same in
       record { count_is = omega (arith, so_far.count_is, count, length-append (up_to most (take i events)) []); keeps = so_far.keeps }
 
-  module _ (within : item.0 ≤ most) where
+  module _ (within : item.0 ≤ most) (exempt : Bool) (told_exempt : (labels : List (List ℕ)) → AreMarked labels block flags → exempt ≡ is_exempt labels item.1) where
     counted : up_to most (take (i + 1) events) ≡ up_to most (take i events) ++ item ∷ []
     counted =
         ap (up_to most) front_next
@@ -75,60 +77,60 @@ module _ {E : Type 0} (stands_for : E → List Numbered → Type 0) (start now :
     abbrev here : ℕ × Named
     here = (before + item.0, item.1)
 
-    next_at : (limits : Limits) (all : List (ℕ × Named)) → AreNext stands_for limits start all before (up_to most events) → slice_get all now.shape.admitted ≡ Some here
+    next_at : (rules : Rules) (all : List (ℕ × Named)) → AreNext stands_for rules start all block flags before (up_to most events) → slice_get all now.shape.admitted ≡ Some here
     unfolding place
-    next_at limits all next =
+    next_at rules all next =
         ap (slice_get all) so_far.count_is ∙ next.1 place place_within ∙ ap (option_map (after_lines before)) at_place
 
-    is_next : (limits : Limits) (all : List (ℕ × Named)) → AreNext stands_for limits start all before (up_to most events) → IsNext stands_for limits now all here
-    is_next limits all next = (so_far.keeps limits all next, next_at limits all next)
+    is_next : (rules : Rules) (all : List (ℕ × Named)) → AreNext stands_for rules start all block flags before (up_to most events) → IsNext stands_for rules now all here exempt
+    is_next rules all next = (so_far.keeps rules all next, next_at rules all next, told_exempt rules.labels next.2)
 
-    pub expected : AreExpected stands_for start before (up_to most events) → IsExpected stands_for now here
+    pub expected : AreExpected stands_for start block flags before (up_to most events) → IsExpected stands_for now here exempt
     expected are = (are.0, are.1, are.2, is_next are.0 are.1 are.3)
 
-    line_is : (limits : Limits) (all : List (ℕ × Named)) → AreNext stands_for limits start all before (up_to most events) → option_map (λ (e : ℕ × Named). e.0) (slice_get all (start.shape.admitted + place)) ≡ Some (before + item.0)
+    line_is : (rules : Rules) (all : List (ℕ × Named)) → AreNext stands_for rules start all block flags before (up_to most events) → option_map (λ (e : ℕ × Named). e.0) (slice_get all (start.shape.admitted + place)) ≡ Some (before + item.0)
     unfolding place
-    line_is limits all next = ap (λ n. option_map (λ (e : ℕ × Named). e.0) (slice_get all n)) (sym so_far.count_is) ∙ ap (option_map (λ (e : ℕ × Named). e.0)) (next_at limits all next)
+    line_is rules all next = ap (λ n. option_map (λ (e : ℕ × Named). e.0) (slice_get all n)) (sym so_far.count_is) ∙ ap (option_map (λ (e : ℕ × Named). e.0)) (next_at rules all next)
 
     pub one_more : (new : Checker E) (told : Option ℕ) → told ≡ None → new.shape.admitted ≡ now.shape.admitted + 1 →
-        ((limits : Limits) (all : List (ℕ × Named)) → IsNext stands_for limits now all here → Judged stands_for limits new all now.shape.admitted told) → Admits stands_for start events before most (i + 1) new
+        ((rules : Rules) (all : List (ℕ × Named)) → IsNext stands_for rules now all here exempt → Judged stands_for rules new all now.shape.admitted told) → Admits stands_for start block flags events before most (i + 1) new
     one_more new told none count kept =
         let more = ap length counted in
         record {
           count_is = omega (arith, count, so_far.count_is, more, length-append (up_to most (take i events)) (item ∷ []));
-          keeps = λ limits all next. subst (Judged stands_for limits new all now.shape.admitted) none (kept limits all (is_next limits all next));
+          keeps = λ rules all next. subst (Judged stands_for rules new all now.shape.admitted) none (kept rules all (is_next rules all next));
         }
 
-    pub refused_in : (new : Checker E) (fault : ShapeFault) → ((limits : Limits) (all : List (ℕ × Named)) → IsNext stands_for limits now all here → Refuses limits now all fault) →
-        (limits : Limits) (all : List (ℕ × Named)) → AreNext stands_for limits start all before (up_to most events) → StopsIn limits new all start.shape.admitted before (up_to most events) (before + item.0) (Refused fault)
+    pub refused_in : (new : Checker E) (fault : ShapeFault) → ((rules : Rules) (all : List (ℕ × Named)) → IsNext stands_for rules now all here exempt → Refuses rules now all fault) →
+        (rules : Rules) (all : List (ℕ × Named)) → AreNext stands_for rules start all block flags before (up_to most events) → StopsIn rules new all start.shape.admitted before (up_to most events) (before + item.0) (Refused fault)
     unfolding place
-    refused_in new fault refuses limits all next =
-        let stands = so_far.keeps limits all next in
+    refused_in new fault refuses rules all next =
+        let stands = so_far.keeps rules all next in
         record {
           index = place;
           within = place_within;
           stops = (
-            subst (IsLawful limits (trace_in all)) so_far.count_is stands.counts.lawful,
-            subst (λ n. ¬ HasTellingCycle (trace_in all) n) so_far.count_is stands.untold,
-            λ not_memory. ap (fault_at limits (trace_in all)) (sym so_far.count_is) ∙ refuses limits all (is_next limits all next) not_memory,
+            subst (IsLawful rules.limits (trace_in all)) so_far.count_is stands.counts.lawful,
+            subst (λ n. ¬ HasTellingCycle (judged_in rules all) n) so_far.count_is stands.untold,
+            λ not_memory. ap (fault_at rules.limits (trace_in all)) (sym so_far.count_is) ∙ refuses rules all (is_next rules all next) not_memory,
           );
-          line_of = line_is limits all next;
+          line_of = line_is rules all next;
         }
 
     pub closed_in : (new : Checker E) (t : ℕ) (told : Option ℕ) → told ≡ Some t → new.shape.admitted ≡ now.shape.admitted + 1 →
-        ((limits : Limits) (all : List (ℕ × Named)) → IsNext stands_for limits now all here → Judged stands_for limits new all now.shape.admitted told) →
-        (limits : Limits) (all : List (ℕ × Named)) → AreNext stands_for limits start all before (up_to most events) → StopsIn limits new all start.shape.admitted before (up_to most events) (before + item.0) (Closed t)
+        ((rules : Rules) (all : List (ℕ × Named)) → IsNext stands_for rules now all here exempt → Judged stands_for rules new all now.shape.admitted told) →
+        (rules : Rules) (all : List (ℕ × Named)) → AreNext stands_for rules start all block flags before (up_to most events) → StopsIn rules new all start.shape.admitted before (up_to most events) (before + item.0) (Closed t)
     unfolding place
-    closed_in new t answer is count judged limits all next =
-        let told = subst (Judged stands_for limits new all now.shape.admitted) is (judged limits all (is_next limits all next)) in
+    closed_in new t answer is count judged rules all next =
+        let told = subst (Judged stands_for rules new all now.shape.admitted) is (judged rules all (is_next rules all next)) in
         record {
           index = place;
           within = place_within;
-          stops = (count ∙ add-one now.shape.admitted ∙ ap suc so_far.count_is, told.0, subst (λ n. IsTold (trace_in all) n (Some t)) so_far.count_is told.1);
-          line_of = line_is limits all next;
+          stops = (count ∙ add-one now.shape.admitted ∙ ap suc so_far.count_is, told.0, subst (λ n. IsTold (judged_in rules all) n (Some t)) so_far.count_is told.1);
+          line_of = line_is rules all next;
         }
 
 -- after all of them
-pub all_admitted : {E : Type 0} (stands_for : E → List Numbered → Type 0) (start now : Checker E) (events : List (ℕ × Named)) (before most i : ℕ) → Admits stands_for start events before most i now → length events ≤ i → now.shape.admitted ≡ start.shape.admitted + length (up_to most events)
-all_admitted stands_for start now events before most i so_far done =
+pub all_admitted : {E : Type 0} (stands_for : E → List Numbered → Type 0) (start now : Checker E) (block : List (List ℕ)) (flags : List Bool) (events : List (ℕ × Named)) (before most i : ℕ) → Admits stands_for start block flags events before most i now → length events ≤ i → now.shape.admitted ≡ start.shape.admitted + length (up_to most events)
+all_admitted stands_for start now block flags events before most i so_far done =
     so_far.count_is ∙ ap (λ es. start.shape.admitted + length (up_to most es)) (take_all i events done)

@@ -22,9 +22,10 @@ use Rattle.aero_model.proofs.Lawful.{lawful_well_formed}
 use Rattle.aero_model.proofs.Places.{in_block}
 use Rattle.aero_model.proofs.Telling.{telling_more}
 use Rattle.aero_grammar.specs.Reading.{Reading}
-use Rattle.aero_verdict.specs.Verdict.{IsVerdict, IsFaultless, IsClean, IsIllFormed, IsMalformed, IsViolation, BeginsOnLine, counted_events, events_of, checked_trace}
+use Rattle.aero_verdict.specs.Verdict.{Rules, IsVerdict, IsFaultless, IsClean, IsIllFormed, IsMalformed, IsViolation, BeginsOnLine, counted_events, events_of, read_trace, checked_trace}
+use Rattle.aero_verdict.proofs.Judged.{judged_well}
 use Rattle.aero_verdict.proofs.Openers.{opener_number}
-use Rattle.aero_verdict.proofs.Readings.{trace_length}
+use Rattle.aero_verdict.proofs.Readings.{trace_length, read_length}
 
 -- only an event of the trace is refused
 refused_within : (limits : Limits) (trace : List Numbered) (n : ℕ) (fault : ShapeFault) → fault_at limits trace n ≡ Some fault → n < length trace
@@ -73,77 +74,83 @@ one_begin trace t k p q first second in_p in_q =
       | inr (inr less) ↦ let rise = blocks_rise trace t (suc q) p (omega (arith, less)) in absurd (omega (arith, rise, at_p, at_q, a.number))
     ]
 
-module _ (parts : List Reading) (limits : Limits) where
+module _ (parts : List Reading) (rules : Rules) where
   abbrev trace : List Numbered
-  trace = checked_trace parts limits
+  trace = checked_trace parts rules
 
-  ill_formed_once : (k l : ℕ) (f g : ShapeFault) → IsIllFormed parts limits k f → IsIllFormed parts limits l g → IllFormed k f ≡ IllFormed l g
+  abbrev read : List Numbered
+  read = read_trace parts rules
+
+  none_refused : (n : ℕ) (fault : ShapeFault) → IsLawful rules.limits read (length trace) → fault_at rules.limits read n ≡ Some fault → ⊥
+  none_refused n fault lawful = not_both rules.limits read n fault (subst (IsLawful rules.limits read) (sym (read_length rules parts)) lawful)
+
+  ill_formed_once : (k l : ℕ) (f g : ShapeFault) → IsIllFormed parts rules k f → IsIllFormed parts rules l g → IllFormed k f ≡ IllFormed l g
   ill_formed_once k l f g a b =
-      let same = same_place limits trace a.place b.place f g a.clean.lawful b.clean.lawful a.cause b.cause in
-      let lines : Some k ≡ Some l = sym a.line_of ∙ ap (λ n. option_map (λ e. e.0) (slice_get (counted_events parts limits) n)) same ∙ b.line_of in
-      let faults : Some f ≡ Some g = sym a.cause ∙ ap (fault_at limits trace) same ∙ b.cause in
+      let same = same_place rules.limits read a.place b.place f g a.clean.lawful b.clean.lawful a.cause b.cause in
+      let lines : Some k ≡ Some l = sym a.line_of ∙ ap (λ n. option_map (λ e. e.0) (slice_get (counted_events parts rules) n)) same ∙ b.line_of in
+      let faults : Some f ≡ Some g = sym a.cause ∙ ap (fault_at rules.limits read) same ∙ b.cause in
       cc
 
-  malformed_once : (k l : ℕ) (f g : LineFault) → IsMalformed parts limits k f → IsMalformed parts limits l g → Malformed k f ≡ Malformed l g
+  malformed_once : (k l : ℕ) (f g : LineFault) → IsMalformed parts rules k f → IsMalformed parts rules l g → Malformed k f ≡ Malformed l g
   malformed_once k l f g a b =
       let same : ◌≡◌ {A = Option (ℕ × LineFault)} (Some (k, f)) (Some (l, g)) = sym a.cause ∙ b.cause in
       let pair : Option (ℕ × LineFault) → ℕ × LineFault = λ o. unwrap_or o (k, f) in
       ap (λ o. Malformed (pair o).0 (pair o).1) same
 
   -- a violation stands at an event
-  violation_within : (k b : ℕ) (name : List ℕ) (v : IsViolation parts limits k name b) → suc v.place ≤ length trace
+  violation_within : (k b : ℕ) (name : List ℕ) (v : IsViolation parts rules k name b) → suc v.place ≤ length trace
   violation_within k b name v = elim (cases_lt v.place (length trace)) [ inl less ↦ less | inr past ↦ absurd (no_event past) ]
     where
       no_event : length trace ≤ v.place → ⊥
       no_event past =
-          let many = trace_length limits parts in
-          let none = ap (option_map (λ (e : ℕ × Named). e.0)) (slice_get_past (counted_events parts limits) v.place (omega (arith, many, past))) in
+          let many = trace_length rules parts in
+          let none = ap (option_map (λ (e : ℕ × Named). e.0)) (slice_get_past (counted_events parts rules) v.place (omega (arith, many, past))) in
           let line = v.line_of in
           cc
 
-  no_violation : (k b : ℕ) (name : List ℕ) → IsClean parts limits (length trace) → IsViolation parts limits k name b → ⊥
+  no_violation : (k b : ℕ) (name : List ℕ) → IsClean parts rules (length trace) → IsViolation parts rules k name b → ⊥
   no_violation k b name clean v = clean.no_cycle (telling_more trace (suc v.place) (length trace) (violation_within k b name v) v.closing.closed)
 
-  not_ill_formed : (k l b : ℕ) (name : List ℕ) (f : ShapeFault) → IsIllFormed parts limits l f → IsViolation parts limits k name b → ⊥
+  not_ill_formed : (k l b : ℕ) (name : List ℕ) (f : ShapeFault) → IsIllFormed parts rules l f → IsViolation parts rules k name b → ⊥
   not_ill_formed k l b name f i v =
       elim (cases_lt v.place i.place) [
         | inl before ↦ i.clean.no_cycle (telling_more trace (suc v.place) i.place (omega (arith, before)) v.closing.closed)
         | inr after ↦ let none = v.lawful i.place (omega (arith, after)) in let cause = i.cause in cc
       ]
 
-  violation_once : (k l b c : ℕ) (m n : List ℕ) → IsViolation parts limits k m b → IsViolation parts limits l n c → Violation k m b ≡ Violation l n c
+  violation_once : (k l b c : ℕ) (m n : List ℕ) → IsViolation parts rules k m b → IsViolation parts rules l n c → Violation k m b ≡ Violation l n c
   violation_once k l b c m n v w =
       let same : v.place ≡ w.place = one_closing trace v.place w.place v.closing w.closing in
       let opener : IsOpener trace (suc v.place) w.t w.number = subst (λ p. IsOpener trace (suc p) w.t w.number) (sym same) w.opener in
       let first : v.t ≤ w.t = no_later trace (suc v.place) v.t v.number w.t w.number v.opener opener.begins in
       let second : w.t ≤ v.t = no_later trace (suc v.place) w.t w.number v.t v.number opener v.opener.begins in
       let one : v.t ≡ w.t = omega (arith, first, second) in
-      let well = lawful_well_formed limits trace (suc v.place) v.lawful in
+      let well = judged_well rules.labels (events_of parts rules) (suc v.place) (lawful_well_formed rules.limits read (suc v.place) v.lawful) in
       let here = opener_number trace v.place v.t v.number well v.closing v.opener in
       let there = opener_number trace v.place w.t w.number well v.closing opener in
       let number : v.number ≡ w.number = sym here.1 ∙ ap (λ t. blocks trace t (suc v.place)) one ∙ there.1 in
-      let other : BeginsOnLine parts limits v.t v.number c = subst (λ t. BeginsOnLine parts limits t v.number c) (sym one) (subst (λ j. BeginsOnLine parts limits w.t j c) (sym number) w.begins) in
+      let other : BeginsOnLine parts rules v.t v.number c = subst (λ t. BeginsOnLine parts rules t v.number c) (sym one) (subst (λ j. BeginsOnLine parts rules w.t j c) (sym number) w.begins) in
       let begin : v.begins.place ≡ other.place = one_begin trace v.t v.number v.begins.place other.place v.begins.outermost other.outermost v.begins.block other.block in
-      let lines : Some k ≡ Some l = sym v.line_of ∙ ap (λ p. option_map (λ (e : ℕ × Named). e.0) (slice_get (counted_events parts limits) p)) same ∙ w.line_of in
-      let begins : Some b ≡ Some c = sym v.begins.line_of ∙ ap (λ p. option_map (λ (e : ℕ × Named). e.0) (slice_get (counted_events parts limits) p)) begin ∙ other.line_of in
-      let names : Some m ≡ Some n = sym v.name ∙ ap (λ t. slice_get (tables_of (events_of parts limits)).threads t) one ∙ w.name in
+      let lines : Some k ≡ Some l = sym v.line_of ∙ ap (λ p. option_map (λ (e : ℕ × Named). e.0) (slice_get (counted_events parts rules) p)) same ∙ w.line_of in
+      let begins : Some b ≡ Some c = sym v.begins.line_of ∙ ap (λ p. option_map (λ (e : ℕ × Named). e.0) (slice_get (counted_events parts rules) p)) begin ∙ other.line_of in
+      let names : Some m ≡ Some n = sym v.name ∙ ap (λ t. slice_get (tables_of (events_of parts rules)).threads t) one ∙ w.name in
       cc
 
   abbrev Faulty : ℕ → LineFault → Type 0
-  Faulty l g = IsMalformed parts limits l g
+  Faulty l g = IsMalformed parts rules l g
 
-  not_faulty : (e b p l : ℕ) (g : LineFault) → IsFaultless parts limits e b p → Faulty l g → ⊥
+  not_faulty : (e b p l : ℕ) (g : LineFault) → IsFaultless parts rules e b p → Faulty l g → ⊥
   not_faulty e b p l g v w = let none : ◌≡◌ {A = Option (ℕ × LineFault)} None (Some (l, g)) = sym v.no_fault ∙ w.cause in cc
 
-  open_once : (e b p d c q : ℕ) → IsFaultless parts limits e b p → IsFaultless parts limits d c q → p ≡ q
+  open_once : (e b p d c q : ℕ) → IsFaultless parts rules e b p → IsFaultless parts rules d c q → p ≡ q
   open_once e b p d c q v w = v.open_are ∙ sym w.open_are
 
-  pub one_verdict : (v w : Verdict) → IsVerdict parts limits v → IsVerdict parts limits w → v ≡ w
+  pub one_verdict : (v w : Verdict) → IsVerdict parts rules v → IsVerdict parts rules w → v ≡ w
   one_verdict (Serializable m b) (Serializable n c) v w = ap₂ Serializable (v.events_are ∙ sym w.events_are) (v.blocks_are ∙ sym w.blocks_are)
   one_verdict (Serializable m b) (Pending n c p) v w = absurd (let same = open_once m b 0 n c p v w.1 in omega (arith, same, w.0))
   one_verdict (Serializable m b) (Violation l t g) v w = absurd (no_violation l g t v.clean w)
   one_verdict (Serializable m b) (Malformed l g) v w = absurd (not_faulty m b 0 l g v w)
-  one_verdict (Serializable m b) (IllFormed l g) v w = absurd (not_both limits trace w.place g v.clean.lawful w.cause)
+  one_verdict (Serializable m b) (IllFormed l g) v w = absurd (none_refused w.place g v.clean.lawful w.cause)
   one_verdict (Pending m b p) (Serializable n c) v w = absurd (let same = open_once n c 0 m b p w v.1 in omega (arith, same, v.0))
   one_verdict (Pending m b p) (Pending n c q) v w =
       let events : m ≡ n = v.1.events_are ∙ sym w.1.events_are in
@@ -152,7 +159,7 @@ module _ (parts : List Reading) (limits : Limits) where
       cc
   one_verdict (Pending m b p) (Violation l t g) v w = absurd (no_violation l g t v.1.clean w)
   one_verdict (Pending m b p) (Malformed l g) v w = absurd (not_faulty m b p l g v.1 w)
-  one_verdict (Pending m b p) (IllFormed l g) v w = absurd (not_both limits trace w.place g v.1.clean.lawful w.cause)
+  one_verdict (Pending m b p) (IllFormed l g) v w = absurd (none_refused w.place g v.1.clean.lawful w.cause)
   one_verdict (Violation k s f) (Serializable n c) v w = absurd (no_violation k f s w.clean v)
   one_verdict (Violation k s f) (Pending n c q) v w = absurd (no_violation k f s w.1.clean v)
   one_verdict (Violation k s f) (Violation l t g) v w = violation_once k l f g s t v w
@@ -162,9 +169,9 @@ module _ (parts : List Reading) (limits : Limits) where
   one_verdict (Malformed k f) (Pending n c q) v w = absurd (not_faulty n c q k f w.1 v)
   one_verdict (Malformed k f) (Violation l t g) v w = absurd (no_violation l g t v.clean w)
   one_verdict (Malformed k f) (Malformed l g) v w = malformed_once k l f g v w
-  one_verdict (Malformed k f) (IllFormed l g) v w = absurd (not_both limits trace w.place g v.clean.lawful w.cause)
-  one_verdict (IllFormed k f) (Serializable n c) v w = absurd (not_both limits trace v.place f w.clean.lawful v.cause)
-  one_verdict (IllFormed k f) (Pending n c q) v w = absurd (not_both limits trace v.place f w.1.clean.lawful v.cause)
+  one_verdict (Malformed k f) (IllFormed l g) v w = absurd (none_refused w.place g v.clean.lawful w.cause)
+  one_verdict (IllFormed k f) (Serializable n c) v w = absurd (none_refused v.place f w.clean.lawful v.cause)
+  one_verdict (IllFormed k f) (Pending n c q) v w = absurd (none_refused v.place f w.1.clean.lawful v.cause)
   one_verdict (IllFormed k f) (Violation l t g) v w = absurd (not_ill_formed l k g t f v w)
-  one_verdict (IllFormed k f) (Malformed l g) v w = absurd (not_both limits trace v.place f w.clean.lawful v.cause)
+  one_verdict (IllFormed k f) (Malformed l g) v w = absurd (none_refused v.place f w.clean.lawful v.cause)
   one_verdict (IllFormed k f) (IllFormed l g) v w = ill_formed_once k l f g v w

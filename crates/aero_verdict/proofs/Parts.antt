@@ -1,10 +1,9 @@
 -- The parts of a trace, one after the other.
-use Rattle.std.proofs.Common.{◌≡◌, ℕ, suc, ◌+◌, ◌-◌, ◌<◌, ◌≤◌, ◌^◌, nat_le, nat_lt, min, true, false, List, [], ◌∷◌, ◌++◌, length, map, drop, Some, None, option_map, sym, ◌∙◌, ap, ap₂, subst, refl, arith, add-one, add_assoc, length-append}
+use Rattle.std.proofs.Common.{◌≡◌, ℕ, suc, ◌+◌, ◌-◌, ◌<◌, ◌≤◌, ◌^◌, nat_le, nat_lt, min, Bool, true, false, List, [], ◌∷◌, ◌++◌, length, map, drop, Some, None, option_map, sym, ◌∙◌, ap, ap₂, subst, refl, arith, add-one, add_assoc, length-append}
 use Rattle.std.specs.Prelude.{slice_get, is_some, All, if◌then◌else◌}
 use Rattle.std.proofs.lemmas.Bool.{cond-true, cond-false, lt-ltb, le-ltb}
 use Rattle.std.proofs.lemmas.List.{append_assoc, append-nil, drop_all, map-append, length-map}
 use Rattle.std.proofs.lemmas.List.Elements.{filter-append, All-nil, All-append, All-map, All-filter, All-same}
-use Rattle.aero_model.specs.declared.limits.Limits.{Limits}
 use Rattle.aero_model.specs.declared.verdict.LineFault.{LineFault}
 use Rattle.aero_model.specs.declared.verdict.LineFault.TheVariants.{TooManyLines}
 use Rattle.aero_model.specs.declared.verdict.Verdict.{Verdict}
@@ -17,34 +16,35 @@ use Rattle.aero_grammar.specs.Reading.{Reading, after_lines, whole_reading, IsRe
 use Rattle.aero_verdict.specs.declared.checker.Checker.{Checker}
 use Rattle.aero_verdict.specs.declared.checker.Stop.{Stop}
 use Rattle.aero_verdict.specs.Kept.{StandsFor, HasNamedActor, CanBeTold, up_to, AreNext, AreExpected, StopsIn, TellsStop}
+use Rattle.aero_verdict.specs.Known.{AreMarked}
 use Rattle.aero_verdict.specs.Parts.{AreBefore, greatest_number, Stands, ComesNext}
-use Rattle.aero_verdict.specs.Verdict.{counted_events, checked_trace, IsClean, IsVerdict, IsMalformed, IsFaultless}
+use Rattle.aero_verdict.specs.Verdict.{Rules, counted_events, read_trace, checked_trace, IsClean, IsVerdict, IsMalformed, IsFaultless}
 use Rattle.aero_verdict.proofs.Readings.{after_faulty, after_faultless, begins_with, after_again, fault_again, rising_within, all_up_to, up_to_shorter, up_to_after, fault_told, goes_on, trace_length, start, here}
 use Rattle.aero_verdict.proofs.Stops.{verdict_at}
 use Rattle.aero_verdict.proofs.ThreadNames.{can_be_told}
 
 -- nothing is wrong with the events, where all of them were admitted
-clean_here : {E : Type 0} (stands_for : E → List Numbered → Type 0) (limits : Limits) (parts : List Reading) (checker : Checker E) → StandsFor stands_for limits checker (counted_events parts limits) → checker.shape.admitted ≡ length (checked_trace parts limits) →
-    IsClean parts limits (length (checked_trace parts limits))
-clean_here stands_for limits parts checker stands all =
+clean_here : {E : Type 0} (stands_for : E → List Numbered → Type 0) (rules : Rules) (parts : List Reading) (checker : Checker E) → StandsFor stands_for rules checker (counted_events parts rules) → checker.shape.admitted ≡ length (checked_trace parts rules) →
+    IsClean parts rules (length (checked_trace parts rules))
+clean_here stands_for rules parts checker stands all =
     record {
-      lawful = subst (IsLawful limits (checked_trace parts limits)) all stands.counts.lawful;
-      no_cycle = subst (λ n. ¬ HasTellingCycle (checked_trace parts limits) n) all stands.untold;
+      lawful = subst (IsLawful rules.limits (read_trace parts rules)) all stands.counts.lawful;
+      no_cycle = subst (λ n. ¬ HasTellingCycle (checked_trace parts rules) n) all stands.untold;
     }
 
-module _ (limits : Limits) (parts rest : List Reading) (p : Reading) (events : List (ℕ × Named)) (total : ℕ) (before : AreBefore parts (p ∷ rest) events total) (reading : IsReading p) (most : ℕ) (most_is : most ≡ limits.lines - total) where
+module _ (rules : Rules) (parts rest : List Reading) (p : Reading) (events : List (ℕ × Named)) (total : ℕ) (before : AreBefore parts (p ∷ rest) events total) (reading : IsReading p) (most : ℕ) (most_is : most ≡ rules.limits.lines - total) where
   -- the events so far that count, and those of this part
   abbrev front : List (ℕ × Named)
-  front = up_to limits.lines events
+  front = up_to rules.limits.lines events
 
   abbrev more : List (ℕ × Named)
   more = up_to most p.events
 
-  counted_here : up_to limits.lines (map (after_lines total) p.events) ≡ map (after_lines total) more
-  counted_here = up_to_after total limits.lines 0 p.events reading.rising ∙ ap (λ k. map (after_lines total) (up_to k p.events)) (sym most_is)
+  counted_here : up_to rules.limits.lines (map (after_lines total) p.events) ≡ map (after_lines total) more
+  counted_here = up_to_after total rules.limits.lines 0 p.events reading.rising ∙ ap (λ k. map (after_lines total) (up_to k p.events)) (sym most_is)
 
-  counted_with : up_to limits.lines (events ++ map (after_lines total) p.events) ≡ front ++ map (after_lines total) more
-  counted_with = filter-append (λ e. nat_le e.0 limits.lines) events (map (after_lines total) p.events) ∙ ap (λ es. front ++ es) counted_here
+  counted_with : up_to rules.limits.lines (events ++ map (after_lines total) p.events) ≡ front ++ map (after_lines total) more
+  counted_with = filter-append (λ e. nat_le e.0 rules.limits.lines) events (map (after_lines total) p.events) ∙ ap (λ es. front ++ es) counted_here
 
   pub few_more : length more ≤ most
   few_more = let few = rising_within 0 most p.events reading.rising (omega arith) in omega (arith, few)
@@ -56,86 +56,87 @@ module _ (limits : Limits) (parts rest : List Reading) (p : Reading) (events : L
       let shorter = up_to_shorter most p.events in
       omega (arith, few, all, shorter)
 
-  module _ {E : Type 0} (stands_for : E → List Numbered → Type 0) (checker : Checker E) (lines : ℕ) (k : ℕ) (count_is : checker.shape.admitted ≡ length front) (kept : (later : List (ℕ × Named)) → StandsFor stands_for limits checker (front ++ later)) (lines_are : lines ≡ min total greatest_number) where
+  module _ {E : Type 0} (stands_for : E → List Numbered → Type 0) (checker : Checker E) (lines : ℕ) (k : ℕ) (count_is : checker.shape.admitted ≡ length front) (kept : (later : List (ℕ × Named)) → StandsFor stands_for rules checker (front ++ later)) (lines_are : lines ≡ min total greatest_number) (block : List (List ℕ)) (flags : List Bool) (marked : AreMarked rules.labels block flags) where
     -- where an event counts, the lines before it can be told
     lines_told : 0 < length more → total ≡ lines
     lines_told some =
         let few : length more ≤ most = few_more in
-        let small : limits.lines ≤ 2 ^ 24 = limits.most_lines in
+        let small : rules.limits.lines ≤ 2 ^ 24 = rules.limits.most_lines in
         omega (arith, some, few, most_is, lines_are, small)
 
-    next_here : (later : List (ℕ × Named)) → AreNext stands_for limits checker (front ++ (map (after_lines total) more ++ later)) lines more
+    next_here : (later : List (ℕ × Named)) → AreNext stands_for rules checker (front ++ (map (after_lines total) more ++ later)) block flags lines more
     next_here later = (
       kept (map (after_lines total) more ++ later),
       λ i less. goes_on front later more total checker.shape.admitted count_is i less ∙ ap (λ n. option_map (after_lines n) (slice_get more i)) (lines_told (omega (arith, less))),
+      marked,
     )
 
-    pub expected_here : length front + length more < 2 ^ 32 → AreExpected stands_for checker lines more
+    pub expected_here : length front + length more < 2 ^ 32 → AreExpected stands_for checker block flags lines more
     expected_here short =
         let lengths : length (front ++ (map (after_lines total) more ++ [])) ≡ length front + (length more + 0) =
         length-append front (map (after_lines total) more ++ [])
         ∙ ap (λ b. length front + b) (length-append (map (after_lines total) more) [] ∙ ap (λ b. b + 0) (length-map more (after_lines total))) in
-        (limits, front ++ (map (after_lines total) more ++ []), omega (arith, lengths, short), next_here [])
+        (rules, front ++ (map (after_lines total) more ++ []), omega (arith, lengths, short), next_here [])
 
     -- the events of the whole
     later_events : List (ℕ × Named)
     later_events = map (after_lines total) (begins_with p (whole_reading rest)).0
 
-    counted_whole : counted_events parts limits ≡ front ++ (map (after_lines total) more ++ up_to limits.lines later_events)
+    counted_whole : counted_events parts rules ≡ front ++ (map (after_lines total) more ++ up_to rules.limits.lines later_events)
     unfolding later_events
     counted_whole =
-        ap (up_to limits.lines) (before.events_are ∙ ap (λ es. events ++ map (after_lines total) es) (begins_with p (whole_reading rest)).1)
-        ∙ filter-append (λ e. nat_le e.0 limits.lines) events (map (after_lines total) (p.events ++ (begins_with p (whole_reading rest)).0))
+        ap (up_to rules.limits.lines) (before.events_are ∙ ap (λ es. events ++ map (after_lines total) es) (begins_with p (whole_reading rest)).1)
+        ∙ filter-append (λ e. nat_le e.0 rules.limits.lines) events (map (after_lines total) (p.events ++ (begins_with p (whole_reading rest)).0))
         ∙ ap (λ es. front ++ es) (
-        ap (up_to limits.lines) (map-append (after_lines total) p.events (begins_with p (whole_reading rest)).0)
-        ∙ filter-append (λ e. nat_le e.0 limits.lines) (map (after_lines total) p.events) (map (after_lines total) (begins_with p (whole_reading rest)).0)
-        ∙ ap (λ es. es ++ up_to limits.lines (map (after_lines total) (begins_with p (whole_reading rest)).0)) counted_here
+        ap (up_to rules.limits.lines) (map-append (after_lines total) p.events (begins_with p (whole_reading rest)).0)
+        ∙ filter-append (λ e. nat_le e.0 rules.limits.lines) (map (after_lines total) p.events) (map (after_lines total) (begins_with p (whole_reading rest)).0)
+        ∙ ap (λ es. es ++ up_to rules.limits.lines (map (after_lines total) (begins_with p (whole_reading rest)).0)) counted_here
         )
 
-    next_whole : AreNext stands_for limits checker (counted_events parts limits) lines more
-    next_whole = subst (λ all. AreNext stands_for limits checker all lines more) (sym counted_whole) (next_here (up_to limits.lines later_events))
+    next_whole : AreNext stands_for rules checker (counted_events parts rules) block flags lines more
+    next_whole = subst (λ all. AreNext stands_for rules checker all block flags lines more) (sym counted_whole) (next_here (up_to rules.limits.lines later_events))
 
     -- what stops in this part is told
-    pub stopped : (new : Checker E) (line : ℕ) (stop : Stop) → ((all : List (ℕ × Named)) → AreNext stands_for limits checker all lines more → StopsIn limits new all checker.shape.admitted lines more line stop) →
-        (verdict : Verdict) → TellsStop new line stop verdict → IsVerdict parts limits verdict
-    stopped new line stop stops verdict tells = verdict_at limits parts new checker.shape.admitted lines more line stop (stops (counted_events parts limits) next_whole) verdict tells
+    pub stopped : (new : Checker E) (line : ℕ) (stop : Stop) → ((all : List (ℕ × Named)) → AreNext stands_for rules checker all block flags lines more → StopsIn rules new all checker.shape.admitted lines more line stop) →
+        (verdict : Verdict) → TellsStop new line stop verdict → IsVerdict parts rules verdict
+    stopped new line stop stops verdict tells = verdict_at rules parts new checker.shape.admitted lines more line stop (stops (counted_events parts rules) next_whole) verdict tells
 
     -- and where that is a cycle, its thread has a name
-    pub stopped_named : All HasNamedActor front → All HasNamedActor more → (new : Checker E) (line : ℕ) (stop : Stop) → ((all : List (ℕ × Named)) → AreNext stands_for limits checker all lines more → StopsIn limits new all checker.shape.admitted lines more line stop) →
+    pub stopped_named : All HasNamedActor front → All HasNamedActor more → (new : Checker E) (line : ℕ) (stop : Stop) → ((all : List (ℕ × Named)) → AreNext stands_for rules checker all block flags lines more → StopsIn rules new all checker.shape.admitted lines more line stop) →
         CanBeTold new stop
     stopped_named before_named here_named new line stop stops =
-        can_be_told limits new (front ++ (map (after_lines total) more ++ []))
+        can_be_told rules new (front ++ (map (after_lines total) more ++ []))
         (All-append HasNamedActor front (map (after_lines total) more ++ []) before_named (All-append HasNamedActor (map (after_lines total) more) [] (All-map HasNamedActor (after_lines total) more here_named) (All-nil HasNamedActor)))
         checker.shape.admitted lines more line stop (stops (front ++ (map (after_lines total) more ++ [])) (next_here []))
 
-    module _ (new : Checker E) (counted : new.shape.admitted ≡ checker.shape.admitted + length more) (kept_on : (all : List (ℕ × Named)) → AreNext stands_for limits checker all lines more → StandsFor stands_for limits new all) where
-      stands_whole : StandsFor stands_for limits new (counted_events parts limits)
-      stands_whole = kept_on (counted_events parts limits) next_whole
+    module _ (new : Checker E) (counted : new.shape.admitted ≡ checker.shape.admitted + length more) (kept_on : (all : List (ℕ × Named)) → AreNext stands_for rules checker all block flags lines more → StandsFor stands_for rules new all) where
+      stands_whole : StandsFor stands_for rules new (counted_events parts rules)
+      stands_whole = kept_on (counted_events parts rules) next_whole
 
       -- where this part has a fault, its line is malformed
       pub malformed : (line : ℕ) (fault : LineFault) → p.fault ≡ Some (line, fault) → (told : ℕ × LineFault) →
-          ((all_lines : ℕ) → fault_within limits.lines all_lines (Some (min (lines + line) greatest_number, fault)) ≡ Some told) → IsMalformed parts limits told.0 told.1
+          ((all_lines : ℕ) → fault_within rules.limits.lines all_lines (Some (min (lines + line) greatest_number, fault)) ≡ Some told) → IsMalformed parts rules told.0 told.1
       malformed line fault is told tells =
           let faulty : is_some p.fault ≡ true = ap is_some is in
           let only : (whole_reading parts).events ≡ events ++ map (after_lines total) p.events = before.events_are ∙ ap (λ r. events ++ map (after_lines total) r.events) (after_faulty p (whole_reading rest) faulty) in
-          let len : new.shape.admitted ≡ length (checked_trace parts limits) =
+          let len : new.shape.admitted ≡ length (checked_trace parts rules) =
           counted
           ∙ ap₂ (λ a b. a + b) count_is (sym (length-map more (after_lines total)))
           ∙ sym (length-append front (map (after_lines total) more))
-          ∙ ap length (sym (ap (up_to limits.lines) only ∙ counted_with))
-          ∙ sym (trace_length limits parts) in
-          let small : limits.lines ≤ 2 ^ 24 = limits.most_lines in
+          ∙ ap length (sym (ap (up_to rules.limits.lines) only ∙ counted_with))
+          ∙ sym (trace_length rules parts) in
+          let small : rules.limits.lines ≤ 2 ^ 24 = rules.limits.most_lines in
           let same : min (total + line) greatest_number ≡ min (lines + line) greatest_number = omega arith in
           record {
-            clean = clean_here stands_for limits parts new stands_whole len;
+            clean = clean_here stands_for rules parts new stands_whole len;
             cause =
-                ap (fault_within limits.lines (whole_reading parts).lines) (
+                ap (fault_within rules.limits.lines (whole_reading parts).lines) (
                 before.fault_is
                 ∙ ap (λ r. option_map (after_lines total) r.fault) (after_faulty p (whole_reading rest) faulty)
                 ∙ ap (option_map (after_lines total)) is
                 )
-                ∙ fault_told limits.lines (whole_reading parts).lines (total + line) fault small
-                ∙ ap (λ k. fault_within limits.lines (whole_reading parts).lines (Some (k, fault))) same
+                ∙ fault_told rules.limits.lines (whole_reading parts).lines (total + line) fault small
+                ∙ ap (λ k. fault_within rules.limits.lines (whole_reading parts).lines (Some (k, fault))) same
                 ∙ tells (whole_reading parts).lines;
           }
 
@@ -154,10 +155,10 @@ module _ (limits : Limits) (parts rest : List Reading) (p : Reading) (events : L
             fault_is = before.fault_is ∙ ap (λ r. option_map (after_lines total) r.fault) same ∙ fault_again total p.lines (whole_reading rest).fault;
           }
 
-      pub stands_after : All HasNamedActor front → All HasNamedActor more → length front ≤ total → length front ≤ limits.lines → p.fault ≡ None → rest ≡ drop (k + 1) parts →
-          (lines_after : ℕ) → lines_after ≡ min (lines + p.lines) greatest_number → Stands stands_for limits parts (k + 1) lines_after new
+      pub stands_after : All HasNamedActor front → All HasNamedActor more → length front ≤ total → length front ≤ rules.limits.lines → p.fault ≡ None → rest ≡ drop (k + 1) parts →
+          (lines_after : ℕ) → lines_after ≡ min (lines + p.lines) greatest_number → Stands stands_for rules parts (k + 1) lines_after new
       stands_after before_named here_named few few_enough none rest_is lines_after after_is =
-          let len : length (up_to limits.lines (events ++ map (after_lines total) p.events)) ≡ length front + length more =
+          let len : length (up_to rules.limits.lines (events ++ map (after_lines total) p.events)) ≡ length front + length more =
           ap length counted_with ∙ length-append front (map (after_lines total) more) ∙ ap (λ b. length front + b) (length-map more (after_lines total)) in
           let by_lines : length more ≤ p.lines = no_more_than_lines in
           let by_limit : length more ≤ most = few_more in
@@ -170,14 +171,14 @@ module _ (limits : Limits) (parts rest : List Reading) (p : Reading) (events : L
             few = omega (arith, len, few, by_lines);
             few_enough = omega (arith, len, few, few_enough, by_limit, most_is);
             actors =
-                All-same HasNamedActor (up_to limits.lines (events ++ map (after_lines total) p.events)) (front ++ map (after_lines total) more) counted_with
+                All-same HasNamedActor (up_to rules.limits.lines (events ++ map (after_lines total) p.events)) (front ++ map (after_lines total) more) counted_with
                 (All-append HasNamedActor front (map (after_lines total) more) before_named (All-map HasNamedActor (after_lines total) more here_named));
             kept = λ later.
-                subst (StandsFor stands_for limits new) (sym (append_assoc front (map (after_lines total) more) later) ∙ ap (λ es. es ++ later) (sym counted_with)) (kept_on (front ++ (map (after_lines total) more ++ later)) (next_here later));
+                subst (StandsFor stands_for rules new) (sym (append_assoc front (map (after_lines total) more) later) ∙ ap (λ es. es ++ later) (sym counted_with)) (kept_on (front ++ (map (after_lines total) more ++ later)) (next_here later));
           }
 
-pub nothing_yet : {E : Type 0} (stands_for : E → List Numbered → Type 0) (limits : Limits) (parts : List Reading) (checker : Checker E) → checker.shape.admitted ≡ 0 → ((events : List (ℕ × Named)) → StandsFor stands_for limits checker events) → Stands stands_for limits parts 0 0 checker
-nothing_yet stands_for limits parts checker none kept =
+pub nothing_yet : {E : Type 0} (stands_for : E → List Numbered → Type 0) (rules : Rules) (parts : List Reading) (checker : Checker E) → checker.shape.admitted ≡ 0 → ((events : List (ℕ × Named)) → StandsFor stands_for rules checker events) → Stands stands_for rules parts 0 0 checker
+nothing_yet stands_for rules parts checker none kept =
     record {
       events = [];
       total = 0;
@@ -192,43 +193,43 @@ nothing_yet stands_for limits parts checker none kept =
 
 -- after all parts
 
-module _ {E : Type 0} (stands_for : E → List Numbered → Type 0) (limits : Limits) (parts : List Reading) (k lines : ℕ) (checker : Checker E) (stands : Stands stands_for limits parts k lines checker) (all : length parts ≤ k) where
+module _ {E : Type 0} (stands_for : E → List Numbered → Type 0) (rules : Rules) (parts : List Reading) (k lines : ℕ) (checker : Checker E) (stands : Stands stands_for rules parts k lines checker) (all : length parts ≤ k) where
   before_none : AreBefore parts [] stands.events stands.total
   before_none = subst (λ r. AreBefore parts r stands.events stands.total) (drop_all k parts all) stands.before
 
   events_are : (whole_reading parts).events ≡ stands.events
   events_are = before_none.events_are ∙ append-nil stands.events
 
-  admitted_are : checker.shape.admitted ≡ length (checked_trace parts limits)
-  admitted_are = stands.count_is ∙ ap (λ es. length (up_to limits.lines es)) (sym events_are) ∙ sym (trace_length limits parts)
+  admitted_are : checker.shape.admitted ≡ length (checked_trace parts rules)
+  admitted_are = stands.count_is ∙ ap (λ es. length (up_to rules.limits.lines es)) (sym events_are) ∙ sym (trace_length rules parts)
 
-  at_end : StandsFor stands_for limits checker (counted_events parts limits)
-  at_end = subst (StandsFor stands_for limits checker) (append-nil (up_to limits.lines stands.events) ∙ ap (up_to limits.lines) (sym events_are)) (stands.kept [])
+  at_end : StandsFor stands_for rules checker (counted_events parts rules)
+  at_end = subst (StandsFor stands_for rules checker) (append-nil (up_to rules.limits.lines stands.events) ∙ ap (up_to rules.limits.lines) (sym events_are)) (stands.kept [])
 
-  malformed_is : malformed_line limits.lines (whole_reading parts) ≡ (if nat_lt limits.lines (stands.total + 0) then Some (suc limits.lines, TooManyLines) else None)
-  malformed_is = ap₂ (λ n f. fault_within limits.lines n f) before_none.lines_are before_none.fault_is
+  malformed_is : malformed_line rules.limits.lines (whole_reading parts) ≡ (if nat_lt rules.limits.lines (stands.total + 0) then Some (suc rules.limits.lines, TooManyLines) else None)
+  malformed_is = ap₂ (λ n f. fault_within rules.limits.lines n f) before_none.lines_are before_none.fault_is
 
-  pub too_many : limits.lines < lines → IsMalformed parts limits (limits.lines + 1) TooManyLines
+  pub too_many : rules.limits.lines < lines → IsMalformed parts rules (rules.limits.lines + 1) TooManyLines
   too_many more = record {
-    clean = clean_here stands_for limits parts checker at_end admitted_are;
+    clean = clean_here stands_for rules parts checker at_end admitted_are;
     cause =
         malformed_is
-        ∙ cond-true (nat_lt limits.lines (stands.total + 0)) _ _ (lt-ltb limits.lines (stands.total + 0) (omega (arith, stands.lines_are)))
-        ∙ ap (λ n. Some (n, TooManyLines)) (sym (add-one limits.lines));
+        ∙ cond-true (nat_lt rules.limits.lines (stands.total + 0)) _ _ (lt-ltb rules.limits.lines (stands.total + 0) (omega (arith, stands.lines_are)))
+        ∙ ap (λ n. Some (n, TooManyLines)) (sym (add-one rules.limits.lines));
   }
 
-  begun_whole : checker.blocks.begun ≡ count_below (is_outer_begin (checked_trace parts limits)) (length (checked_trace parts limits))
-  begun_whole = at_end.counts.begun_are ∙ ap (count_below (is_outer_begin (checked_trace parts limits))) admitted_are
+  begun_whole : checker.blocks.begun ≡ count_below (is_outer_begin (checked_trace parts rules)) (length (checked_trace parts rules))
+  begun_whole = at_end.counts.begun_are ∙ ap (count_below (is_outer_begin (checked_trace parts rules))) admitted_are
 
-  ended_whole : checker.blocks.ended ≡ count_below (is_outer_end (checked_trace parts limits)) (length (checked_trace parts limits))
-  ended_whole = at_end.counts.ended_are ∙ ap (count_below (is_outer_end (checked_trace parts limits))) admitted_are
+  ended_whole : checker.blocks.ended ≡ count_below (is_outer_end (checked_trace parts rules)) (length (checked_trace parts rules))
+  ended_whole = at_end.counts.ended_are ∙ ap (count_below (is_outer_end (checked_trace parts rules))) admitted_are
 
-  pub faultless : lines ≤ limits.lines → IsFaultless parts limits checker.shape.admitted checker.blocks.begun (checker.blocks.begun - checker.blocks.ended)
+  pub faultless : lines ≤ rules.limits.lines → IsFaultless parts rules checker.shape.admitted checker.blocks.begun (checker.blocks.begun - checker.blocks.ended)
   faultless few =
-      let small : limits.lines ≤ 2 ^ 24 = limits.most_lines in
+      let small : rules.limits.lines ≤ 2 ^ 24 = rules.limits.most_lines in
       record {
-        clean = clean_here stands_for limits parts checker at_end admitted_are;
-        no_fault = malformed_is ∙ cond-false (nat_lt limits.lines (stands.total + 0)) _ _ (le-ltb limits.lines (stands.total + 0) (omega (arith, stands.lines_are, small)));
+        clean = clean_here stands_for rules parts checker at_end admitted_are;
+        no_fault = malformed_is ∙ cond-false (nat_lt rules.limits.lines (stands.total + 0)) _ _ (le-ltb rules.limits.lines (stands.total + 0) (omega (arith, stands.lines_are, small)));
         events_are = admitted_are;
         blocks_are = begun_whole;
         open_are = ap₂ (λ b e. b - e) begun_whole ended_whole;
@@ -236,58 +237,58 @@ module _ {E : Type 0} (stands_for : E → List Numbered → Type 0) (limits : Li
 
 -- the next part
 
-module _ {E : Type 0} (stands_for : E → List Numbered → Type 0) (limits : Limits) (parts : List Reading) (k lines : ℕ) (checker : Checker E) (part : Reading) (next : ComesNext stands_for limits parts k lines checker part) (p : Reading) (view : p ≡ part) (reading : IsReading p) (most : ℕ) (most_is : most ≡ limits.lines - lines) (es : List (ℕ × Named)) (es_are : es ≡ p.events) where
-  abbrev stands : Stands stands_for limits parts k lines checker
+module _ {E : Type 0} (stands_for : E → List Numbered → Type 0) (rules : Rules) (parts : List Reading) (k lines : ℕ) (checker : Checker E) (part : Reading) (next : ComesNext stands_for rules parts k lines checker part) (p : Reading) (view : p ≡ part) (reading : IsReading p) (most : ℕ) (most_is : most ≡ rules.limits.lines - lines) (es : List (ℕ × Named)) (es_are : es ≡ p.events) (block : List (List ℕ)) (flags : List Bool) (marked : AreMarked rules.labels block flags) where
+  abbrev stands : Stands stands_for rules parts k lines checker
   stands = next.so_far
 
   before_here : AreBefore parts (p ∷ drop (k + 1) parts) stands.events stands.total
   before_here = here parts k p part next.part_is view stands.events stands.total stands.before
 
-  most_here : most ≡ limits.lines - stands.total
-  most_here = let small : limits.lines ≤ 2 ^ 24 = limits.most_lines in omega (arith, most_is, stands.lines_are, small)
+  most_here : most ≡ rules.limits.lines - stands.total
+  most_here = let small : rules.limits.lines ≤ 2 ^ 24 = rules.limits.most_lines in omega (arith, most_is, stands.lines_are, small)
 
-  few_here : length (up_to limits.lines stands.events) + length (up_to most p.events) < 2 ^ 32
+  few_here : length (up_to rules.limits.lines stands.events) + length (up_to most p.events) < 2 ^ 32
   few_here =
-      let small : limits.lines ≤ 2 ^ 24 = limits.most_lines in
-      let few = few_more limits parts (drop (k + 1) parts) p stands.events stands.total before_here reading most most_here in
+      let small : rules.limits.lines ≤ 2 ^ 24 = rules.limits.most_lines in
+      let few = few_more rules parts (drop (k + 1) parts) p stands.events stands.total before_here reading most most_here in
       omega (arith, small, few, stands.few_enough, most_is)
 
-  pub part_expected : AreExpected stands_for checker lines (up_to most es)
+  pub part_expected : AreExpected stands_for checker block flags lines (up_to most es)
   part_expected =
-      subst (λ xs. AreExpected stands_for checker lines (up_to most xs)) (sym es_are)
-      (expected_here limits parts (drop (k + 1) parts) p stands.events stands.total before_here reading most most_here stands_for checker lines k stands.count_is stands.kept stands.lines_are few_here)
+      subst (λ xs. AreExpected stands_for checker block flags lines (up_to most xs)) (sym es_are)
+      (expected_here rules parts (drop (k + 1) parts) p stands.events stands.total before_here reading most most_here stands_for checker lines k stands.count_is stands.kept stands.lines_are block flags marked few_here)
 
   pub lines_fit : lines + most < 2 ^ 32
-  lines_fit = let small : limits.lines ≤ 2 ^ 24 = limits.most_lines in omega (arith, most_is, small, stands.lines_are)
+  lines_fit = let small : rules.limits.lines ≤ 2 ^ 24 = rules.limits.most_lines in omega (arith, most_is, small, stands.lines_are)
 
-  pub part_stopped : (new : Checker E) (line : ℕ) (stop : Stop) → ((all : List (ℕ × Named)) → AreNext stands_for limits checker all lines (up_to most es) → StopsIn limits new all checker.shape.admitted lines (up_to most es) line stop) →
-      (verdict : Verdict) → TellsStop new line stop verdict → IsVerdict parts limits verdict
+  pub part_stopped : (new : Checker E) (line : ℕ) (stop : Stop) → ((all : List (ℕ × Named)) → AreNext stands_for rules checker all block flags lines (up_to most es) → StopsIn rules new all checker.shape.admitted lines (up_to most es) line stop) →
+      (verdict : Verdict) → TellsStop new line stop verdict → IsVerdict parts rules verdict
   part_stopped new line stop stops =
-      stopped limits parts (drop (k + 1) parts) p stands.events stands.total before_here reading most most_here stands_for checker lines k stands.count_is stands.kept stands.lines_are new line stop
-      (subst (λ xs. (all : List (ℕ × Named)) → AreNext stands_for limits checker all lines (up_to most xs) → StopsIn limits new all checker.shape.admitted lines (up_to most xs) line stop) es_are stops)
+      stopped rules parts (drop (k + 1) parts) p stands.events stands.total before_here reading most most_here stands_for checker lines k stands.count_is stands.kept stands.lines_are block flags marked new line stop
+      (subst (λ xs. (all : List (ℕ × Named)) → AreNext stands_for rules checker all block flags lines (up_to most xs) → StopsIn rules new all checker.shape.admitted lines (up_to most xs) line stop) es_are stops)
 
   named_here : All HasNamedActor es → All HasNamedActor (up_to most p.events)
   named_here named = subst (λ xs. All HasNamedActor (up_to most xs)) es_are (All-filter (λ e. nat_le e.0 most) HasNamedActor es named)
 
-  pub part_can_be_told : All HasNamedActor es → (new : Checker E) (line : ℕ) (stop : Stop) → ((all : List (ℕ × Named)) → AreNext stands_for limits checker all lines (up_to most es) → StopsIn limits new all checker.shape.admitted lines (up_to most es) line stop) →
+  pub part_can_be_told : All HasNamedActor es → (new : Checker E) (line : ℕ) (stop : Stop) → ((all : List (ℕ × Named)) → AreNext stands_for rules checker all block flags lines (up_to most es) → StopsIn rules new all checker.shape.admitted lines (up_to most es) line stop) →
       CanBeTold new stop
   part_can_be_told named new line stop stops =
-      stopped_named limits parts (drop (k + 1) parts) p stands.events stands.total before_here reading most most_here stands_for checker lines k stands.count_is stands.kept stands.lines_are stands.actors (named_here named) new line stop
-      (subst (λ xs. (all : List (ℕ × Named)) → AreNext stands_for limits checker all lines (up_to most xs) → StopsIn limits new all checker.shape.admitted lines (up_to most xs) line stop) es_are stops)
+      stopped_named rules parts (drop (k + 1) parts) p stands.events stands.total before_here reading most most_here stands_for checker lines k stands.count_is stands.kept stands.lines_are block flags marked stands.actors (named_here named) new line stop
+      (subst (λ xs. (all : List (ℕ × Named)) → AreNext stands_for rules checker all block flags lines (up_to most xs) → StopsIn rules new all checker.shape.admitted lines (up_to most xs) line stop) es_are stops)
 
-  module _ (new : Checker E) (counted : new.shape.admitted ≡ checker.shape.admitted + length (up_to most es)) (kept_on : (all : List (ℕ × Named)) → AreNext stands_for limits checker all lines (up_to most es) → StandsFor stands_for limits new all) where
+  module _ (new : Checker E) (counted : new.shape.admitted ≡ checker.shape.admitted + length (up_to most es)) (kept_on : (all : List (ℕ × Named)) → AreNext stands_for rules checker all block flags lines (up_to most es) → StandsFor stands_for rules new all) where
     counted_on : new.shape.admitted ≡ checker.shape.admitted + length (up_to most p.events)
     counted_on = counted ∙ ap (λ xs. checker.shape.admitted + length (up_to most xs)) es_are
 
-    kept_here : (all : List (ℕ × Named)) → AreNext stands_for limits checker all lines (up_to most p.events) → StandsFor stands_for limits new all
-    kept_here = subst (λ xs. (all : List (ℕ × Named)) → AreNext stands_for limits checker all lines (up_to most xs) → StandsFor stands_for limits new all) es_are kept_on
+    kept_here : (all : List (ℕ × Named)) → AreNext stands_for rules checker all block flags lines (up_to most p.events) → StandsFor stands_for rules new all
+    kept_here = subst (λ xs. (all : List (ℕ × Named)) → AreNext stands_for rules checker all block flags lines (up_to most xs) → StandsFor stands_for rules new all) es_are kept_on
 
     pub part_malformed : (line : ℕ) (fault : LineFault) → p.fault ≡ Some (line, fault) → (told : ℕ × LineFault) →
-        ((all_lines : ℕ) → fault_within limits.lines all_lines (Some (min (lines + line) greatest_number, fault)) ≡ Some told) → IsMalformed parts limits told.0 told.1
+        ((all_lines : ℕ) → fault_within rules.limits.lines all_lines (Some (min (lines + line) greatest_number, fault)) ≡ Some told) → IsMalformed parts rules told.0 told.1
     part_malformed =
-        malformed limits parts (drop (k + 1) parts) p stands.events stands.total before_here reading most most_here stands_for checker lines k stands.count_is stands.kept stands.lines_are new counted_on kept_here
+        malformed rules parts (drop (k + 1) parts) p stands.events stands.total before_here reading most most_here stands_for checker lines k stands.count_is stands.kept stands.lines_are block flags marked new counted_on kept_here
 
-    pub part_passed : All HasNamedActor es → p.fault ≡ None → Stands stands_for limits parts (k + 1) (min (lines + part.lines) greatest_number) new
+    pub part_passed : All HasNamedActor es → p.fault ≡ None → Stands stands_for rules parts (k + 1) (min (lines + part.lines) greatest_number) new
     part_passed named none =
-        stands_after limits parts (drop (k + 1) parts) p stands.events stands.total before_here reading most most_here stands_for checker lines k stands.count_is stands.kept stands.lines_are new counted_on kept_here
+        stands_after rules parts (drop (k + 1) parts) p stands.events stands.total before_here reading most most_here stands_for checker lines k stands.count_is stands.kept stands.lines_are block flags marked new counted_on kept_here
         stands.actors (named_here named) stands.few stands.few_enough none refl (min (lines + part.lines) greatest_number) (ap (λ (r : Reading). min (lines + r.lines) greatest_number) (sym view))

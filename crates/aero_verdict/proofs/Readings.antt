@@ -5,14 +5,15 @@ use Rattle.std.proofs.lemmas.Bool.{cond-true, cond-false, cond_both, cases_lt, c
 use Rattle.std.proofs.lemmas.List.{append-nil, length-map}
 use Rattle.std.proofs.lemmas.Option.{slice_get-map, slice_get_within, get_or_from_slice_get}
 use Rattle.std.proofs.Math.Seq.{drop-cons}
-use Rattle.aero_model.specs.declared.limits.Limits.{Limits}
 use Rattle.aero_model.specs.declared.verdict.LineFault.{LineFault}
+use Rattle.aero_model.specs.Exempt.{marked, marked_trace}
 use Rattle.aero_model.specs.Named.{Named}
 use Rattle.aero_model.specs.Numbering.{tables_of, numbered}
+use Rattle.aero_model.proofs.Exempt.{judged_length}
 use Rattle.aero_grammar.specs.Reading.{Reading, after_lines, followed_by, whole_reading, LinesRise, fault_within}
 use Rattle.aero_verdict.specs.Kept.{up_to, GoesOn}
 use Rattle.aero_verdict.specs.Parts.{AreBefore, greatest_number}
-use Rattle.aero_verdict.specs.Verdict.{counted_events, events_of, checked_trace}
+use Rattle.aero_verdict.specs.Verdict.{Rules, counted_events, events_of, read_trace, checked_trace}
 
 -- one part, and those after it
 
@@ -158,7 +159,15 @@ here parts k p part at same events lines before =
     subst P (rest_at parts k part at ∙ ap (λ x. x ∷ drop (k + 1) parts) (sym same)) before
 
 -- so many events count
-pub trace_length : (limits : Limits) (parts : List Reading) → length (checked_trace parts limits) ≡ length (counted_events parts limits)
-trace_length limits parts =
-    length-map (events_of parts limits) (numbered (tables_of (events_of parts limits)))
-    ∙ length-map (counted_events parts limits) (λ e. e.1)
+pub trace_length : (rules : Rules) (parts : List Reading) → length (checked_trace parts rules) ≡ length (counted_events parts rules)
+trace_length rules parts =
+    judged_length (marked_trace rules.labels (events_of parts rules))
+    ∙ length-map (events_of parts rules) (marked rules.labels (tables_of (events_of parts rules)))
+    ∙ length-map (counted_events parts rules) (λ e. e.1)
+
+-- and no more are read
+pub read_length : (rules : Rules) (parts : List Reading) → length (read_trace parts rules) ≡ length (checked_trace parts rules)
+read_length rules parts =
+    length-map (events_of parts rules) (numbered (tables_of (events_of parts rules)))
+    ∙ length-map (counted_events parts rules) (λ e. e.1)
+    ∙ sym (trace_length rules parts)

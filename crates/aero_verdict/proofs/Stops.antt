@@ -4,7 +4,6 @@ use Rattle.std.specs.Prelude.{slice_get, fold, bytes_eq}
 use Rattle.std.specs.List.{list_any}
 use Rattle.std.proofs.lemmas.Bool.{cond_both}
 use Rattle.aero_model.specs.declared.numbered.Numbered.{Numbered}
-use Rattle.aero_model.specs.declared.limits.Limits.{Limits}
 use Rattle.aero_model.specs.declared.verdict.Verdict.{Verdict}
 use Rattle.aero_model.specs.Blocks.{blocks, Block}
 use Rattle.aero_model.specs.Named.{Named}
@@ -17,9 +16,10 @@ use Rattle.aero_verdict.specs.declared.checker.Stop.TheVariants.{Refused, Closed
 use Rattle.aero_verdict.specs.Begun.{begin_line}
 use Rattle.aero_verdict.specs.Kept.{LastBegins, StopsIn, TellsStop}
 use Rattle.aero_verdict.specs.Limited.{names_in}
-use Rattle.aero_verdict.specs.Verdict.{IsVerdict, IsViolation, counted_events, events_of, checked_trace}
+use Rattle.aero_verdict.specs.Verdict.{Rules, IsVerdict, IsViolation, counted_events, events_of, read_trace, checked_trace}
 use Rattle.aero_verdict.proofs.Steps.{front_and_rest}
 use Rattle.aero_names.proofs.Fronts.{tables_extended}
+use Rattle.aero_verdict.proofs.Judged.{read_so_far, judged_well}
 use Rattle.aero_verdict.proofs.Openers.{opener_number}
 
 -- a name keeps its place, whatever names come later
@@ -43,38 +43,40 @@ named_still events n t y at =
     subst (λ es. slice_get (tables_of es).threads t ≡ Some y) (front_and_rest events n)
     (ap (λ ns. slice_get ns t) extends.threads.1 ∙ still_at (tables_of (take n events)).threads extends.threads.0 t y at)
 
-module _ {E : Type 0} (limits : Limits) (parts : List Reading) (new : Checker E) (n before : ℕ) (more : List (ℕ × Named)) (line : ℕ) where
+module _ {E : Type 0} (rules : Rules) (parts : List Reading) (new : Checker E) (n before : ℕ) (more : List (ℕ × Named)) (line : ℕ) where
   abbrev events : List (ℕ × Named)
-  events = counted_events parts limits
+  events = counted_events parts rules
 
   abbrev trace : List Numbered
-  trace = checked_trace parts limits
+  trace = checked_trace parts rules
 
-  violation : (t : ℕ) (name : List ℕ) → StopsIn limits new events n before more line (Closed t) → slice_get (names_in new.numbering).threads t ≡ Some name →
-      IsViolation parts limits line name (begin_line new.blocks t)
+  violation : (t : ℕ) (name : List ℕ) → StopsIn rules new events n before more line (Closed t) → slice_get (names_in new.numbering).threads t ≡ Some name →
+      IsViolation parts rules line name (begin_line new.blocks t)
   violation t name stops at =
       let p = n + stops.index in
       let count : new.shape.admitted ≡ suc p = stops.stops.0 in
       let counts = stops.stops.1 in
       let told = stops.stops.2 in
-      let well : IsWellFormed (take (suc p) trace) = subst (λ k. IsWellFormed (take k trace)) count counts.shape_stands.well_formed in
+      let well : IsWellFormed (take (suc p) trace) =
+      subst (λ k. IsWellFormed (take k trace)) count
+      (judged_well rules.labels (events_of parts rules) new.shape.admitted (subst IsWellFormed (read_so_far rules.labels (events_of parts rules) new.shape.admitted) counts.shape_stands.well_formed)) in
       let number = opener_number trace p t (blocks trace t p) well told.0 told.1 in
-      let last : LastBegins events (suc p) t (begin_line new.blocks t) =
-      subst (λ k. 0 < blocks trace t k → LastBegins events k t (begin_line new.blocks t)) count (counts.lines_are t) number.0 in
+      let last : LastBegins rules events (suc p) t (begin_line new.blocks t) =
+      subst (λ k. 0 < blocks trace t k → LastBegins rules events k t (begin_line new.blocks t)) count (counts.lines_are t) number.0 in
       record {
         place = p;
-        lawful = subst (IsLawful limits trace) count counts.lawful;
+        lawful = subst (IsLawful rules.limits (read_trace parts rules)) count counts.lawful;
         closing = told.0;
         line_of = stops.line_of;
         t = t;
         number = blocks trace t p;
         opener = told.1;
-        name = named_still (events_of parts limits) new.shape.admitted t name (ap (λ ts. slice_get ts.threads t) (sym counts.names_are) ∙ at);
+        name = named_still (events_of parts rules) new.shape.admitted t name (ap (λ ts. slice_get ts.threads t) (sym counts.names_are) ∙ at);
         begins = record { place = last.place; outermost = last.outermost; block = last.block ∙ ap (Block t) number.1; line_of = last.line_of };
       }
 
-  pub verdict_at : (stop : Stop) → StopsIn limits new events n before more line stop → (verdict : Verdict) → TellsStop new line stop verdict → IsVerdict parts limits verdict
+  pub verdict_at : (stop : Stop) → StopsIn rules new events n before more line stop → (verdict : Verdict) → TellsStop new line stop verdict → IsVerdict parts rules verdict
   verdict_at (Refused fault) stops verdict tells =
-      subst (IsVerdict parts limits) (sym tells.1)
+      subst (IsVerdict parts rules) (sym tells.1)
       (record { place = n + stops.index; clean = record { lawful = stops.stops.0; no_cycle = stops.stops.1 }; cause = stops.stops.2 tells.0; line_of = stops.line_of })
-  verdict_at (Closed t) stops verdict tells = subst (IsVerdict parts limits) (sym tells.2) (violation t tells.0 stops tells.1)
+  verdict_at (Closed t) stops verdict tells = subst (IsVerdict parts rules) (sym tells.2) (violation t tells.0 stops tells.1)

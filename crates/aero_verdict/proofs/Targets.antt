@@ -1,5 +1,5 @@
 -- What is numbered of an event, name by name.
-use Rattle.std.proofs.Common.{◌≡◌, ℕ, nat_le, List, Some, None, refl, sym, ◌∙◌, ap, ap₂}
+use Rattle.std.proofs.Common.{◌≡◌, ℕ, nat_le, List, Option, Some, None, refl, sym, ◌∙◌, ap, ap₂}
 use Rattle.std.proofs.lemmas.Bool.{cond-true, cond-false}
 use Rattle.aero_model.specs.declared.numbered.What.{What}
 use Rattle.aero_model.specs.declared.numbered.What.TheVariants.{Read, Write, Acquire, Release, Fork, Join, Begin, End}
@@ -74,10 +74,10 @@ module _ (old : Numbering) (list : Listing) (target : List ℕ) (number : ℕ) w
       within = λ limits is. (thread_added limits is, cond-false (nat_le limits.threads number) _ _ (h.within limits.threads is.threads).1);
     }
 
--- an operation without a target
+-- an operation whose target gets no number, and one without a target
 
-pub begins : (old : Numbering) → NumbersTarget old old op.Begin None Begin
-begins old = record { what_is = refl; names_are = refl; within = λ limits is. (is, refl) }
+pub begins : (old : Numbering) (target : Option (List ℕ)) → NumbersTarget old old op.Begin target (Begin None)
+begins old target = record { what_is = refl; names_are = refl; within = λ limits is. (is, refl) }
 
 pub ends : (old : Numbering) → NumbersTarget old old op.End None End
 ends old = record { what_is = refl; names_are = refl; within = λ limits is. (is, refl) }

@@ -5,12 +5,13 @@ use Rattle.std.specs.List.{list_any}
 use Rattle.std.proofs.lemmas.Bool.{and_parts, eqb-true}
 use Rattle.std.proofs.lemmas.List.Elements.{All-map}
 use Rattle.std.proofs.lemmas.Option.{slice_get-map, slice_get_within, slice_get-get_or, get_or_from_slice_get}
-use Rattle.aero_model.specs.declared.limits.Limits.{Limits}
 use Rattle.aero_model.specs.declared.numbered.Numbered.{Numbered}
 use Rattle.aero_model.specs.Blocks.{is_begin, by_thread, opens, blocks, depth}
+use Rattle.aero_model.specs.Exempt.{Marked, judged, marked}
 use Rattle.aero_model.specs.Named.{Named}
-use Rattle.aero_model.specs.Numbering.{Tables, tables_of, number_of, numbered, thread_target}
+use Rattle.aero_model.specs.Numbering.{Tables, tables_of, number_of, thread_target}
 use Rattle.aero_model.specs.Shape.{IsWellFormed}
+use Rattle.aero_model.proofs.Exempt.{judged_at}
 use Rattle.aero_grammar.specs.Tabled.{lines_in, IsTabled}
 use Rattle.aero_grammar.specs.Words.{IsName}
 use Rattle.aero_names.specs.Numbers.{with_event}
@@ -21,8 +22,10 @@ use Rattle.aero_verdict.specs.declared.checker.Checker.{Checker}
 use Rattle.aero_verdict.specs.declared.checker.Stop.{Stop}
 use Rattle.aero_verdict.specs.declared.checker.Stop.TheVariants.{Refused, Closed}
 use Rattle.aero_verdict.specs.Begun.{begin_line}
-use Rattle.aero_verdict.specs.Kept.{names_of, trace_in, LastBegins, HasNamedActor, CanBeTold, StopsIn}
+use Rattle.aero_verdict.specs.Kept.{names_of, marked_in, judged_in, LastBegins, HasNamedActor, CanBeTold, StopsIn}
 use Rattle.aero_verdict.specs.Limited.{IsNamedThread}
+use Rattle.aero_verdict.specs.Verdict.{Rules}
+use Rattle.aero_verdict.proofs.Judged.{read_so_far, judged_well}
 use Rattle.aero_verdict.proofs.Openers.{opener_number}
 use Rattle.aero_verdict.proofs.Steps.{take_pushed, front_and_rest}
 use Rattle.aero_verdict.proofs.Stops.{named_still}
@@ -83,9 +86,9 @@ module _ (named : List Named) (q : ℕ) (e : Named) (at : slice_get named q ≡ 
       (subst (λ es. slice_get (tables_of es).threads number ≡ Some e.thread) (sym (take_again named (suc q) n (omega (arith, less)))) in_front)
 
 -- the actors of a block's events have names
-pub actors_named : (tables : Tables) (events : List (ℕ × Numbered)) → IsTabled tables events → All IsName tables.threads → All HasNamedActor (lines_in tables events)
-actors_named tables events tabled names = λ k d within.
-    let lines = lines_in tables events in
+pub actors_named : (tables : Tables) (labels : List (List ℕ)) (events : List (ℕ × Numbered)) → IsTabled tables labels events → All IsName tables.threads → All HasNamedActor (lines_in tables labels events)
+actors_named tables labels events tabled names = λ k d within.
+    let lines = lines_in tables labels events in
     let named = map (λ (e : ℕ × Named). e.1) lines in
     let e = (get_or lines k d).1 in
     let at : slice_get named k ≡ Some e = slice_get-map (λ (e : ℕ × Named). e.1) lines k ∙ ap (option_map (λ (e : ℕ × Named). e.1)) (slice_get-get_or lines k d within) in
@@ -102,31 +105,38 @@ begun_by : (o : Option Numbered) (t : ℕ) → by_thread t is_begin o ≡ true �
 begun_by None t is = absurd (cc)
 begun_by (Some x) t is = record { event = x; here = refl; thread_is = eqb-true x.thread t (and_parts (x.thread == t) (is_begin x.what) is).0 }
 
-module _ {E : Type 0} (limits : Limits) (checker : Checker E) (events : List (ℕ × Named)) (actors : All HasNamedActor events) where
+module _ {E : Type 0} (rules : Rules) (checker : Checker E) (events : List (ℕ × Named)) (actors : All HasNamedActor events) where
+  abbrev all : List Marked
+  all = marked_in rules events
+
   abbrev trace : List Numbered
-  trace = trace_in events
+  trace = judged_in rules events
 
   -- a thread that has begun a block has a name
-  named_by : (n t line : ℕ) → LastBegins events n t line → (name : List ℕ) × (slice_get (tables_of (take n (names_of events))).threads t ≡ Some name) × IsName name
+  named_by : (n t line : ℕ) → LastBegins rules events n t line → (name : List ℕ) × (slice_get (tables_of (take n (names_of events))).threads t ≡ Some name) × IsName name
   named_by n t line last =
       let begins = begun_by (slice_get trace last.place) t (and_parts (by_thread t is_begin (slice_get trace last.place)) (depth trace t last.place == 0) last.outermost).0 in
-      let named = was_at (numbered (tables_of (names_of events))) (names_of events) last.place begins.event begins.here in
+      let mark = was (judged (take last.place all)) (slice_get all last.place) begins.event (sym (judged_at all last.place) ∙ begins.here) in
+      let named = was_at (marked rules.labels (tables_of (names_of events))) (names_of events) last.place mark.value mark.here in
       let line_of = was_at (λ (e : ℕ × Named). e.1) events last.place named.value named.here in
-      let number : number_of (tables_of (names_of events)).threads named.value.thread ≡ t = ap (λ (x : Numbered). x.thread) named.gives ∙ begins.thread_is in (
+      let number : number_of (tables_of (names_of events)).threads named.value.thread ≡ t =
+      ap (λ (x : Marked). x.event.thread) named.gives ∙ ap (λ (x : Numbered). x.thread) mark.gives ∙ begins.thread_is in (
         named.value.thread,
         ap (slice_get (tables_of (take n (names_of events))).threads) (sym number) ∙ in_first (names_of events) last.place named.value named.here n last.before,
         subst (λ (e : Named). IsName e.thread) line_of.gives (at_place HasNamedActor events last.place line_of.value actors line_of.here),
       )
 
-  pub can_be_told : (n before : ℕ) (more : List (ℕ × Named)) (line : ℕ) (stop : Stop) → StopsIn limits checker events n before more line stop → CanBeTold checker stop
+  pub can_be_told : (n before : ℕ) (more : List (ℕ × Named)) (line : ℕ) (stop : Stop) → StopsIn rules checker events n before more line stop → CanBeTold checker stop
   can_be_told n before more line (Refused fault) stops = tt
   can_be_told n before more line (Closed t) stops =
       let p = n + stops.index in
       let count : checker.shape.admitted ≡ suc p = stops.stops.0 in
       let counts = stops.stops.1 in
       let told = stops.stops.2 in
-      let well : IsWellFormed (take (suc p) trace) = subst (λ k. IsWellFormed (take k trace)) count counts.shape_stands.well_formed in
+      let well : IsWellFormed (take (suc p) trace) =
+      subst (λ k. IsWellFormed (take k trace)) count
+      (judged_well rules.labels (names_of events) checker.shape.admitted (subst IsWellFormed (read_so_far rules.labels (names_of events) checker.shape.admitted) counts.shape_stands.well_formed)) in
       let number = opener_number trace p t (blocks trace t p) well told.0 told.1 in
-      let last : LastBegins events checker.shape.admitted t (begin_line checker.blocks t) = counts.lines_are t (subst (λ k. 0 < blocks trace t k) (sym count) number.0) in
+      let last : LastBegins rules events checker.shape.admitted t (begin_line checker.blocks t) = counts.lines_are t (subst (λ k. 0 < blocks trace t k) (sym count) number.0) in
       let named = named_by checker.shape.admitted t (begin_line checker.blocks t) last in
       (named.0, ap (λ (ts : Tables). slice_get ts.threads t) counts.names_are ∙ named.1, named.2)

@@ -1,10 +1,10 @@
 -- The verdict at traces whose verdict is known.
-use Rattle.std.proofs.Common.{◌≡◌, ◌≢◌, ◌⊎◌, inl, inr, Some, ℕ, zero, suc, ◌<◌, ◌≤◌, ◌^◌, List, [], ◌∷◌, ◌++◌, refl, sym, ◌∙◌, ap, arith, lit<, lit≤}
+use Rattle.std.proofs.Common.{◌≡◌, ◌≢◌, ◌⊎◌, inl, inr, Some, None, ℕ, zero, suc, ◌<◌, ◌≤◌, ◌^◌, List, [], ◌∷◌, ◌++◌, refl, sym, ◌∙◌, ap, arith, lit<, lit≤}
 use Rattle.std.specs.Prelude.{codes}
 use Rattle.aero_model.specs.declared.limits.Limits.{Limits}
 use Rattle.aero_model.specs.declared.verdict.LineFault.TheVariants.{NoOperation, MissingTarget, TooManyLines}
 use Rattle.aero_model.specs.declared.verdict.ShapeFault.TheVariants.{TooManyThreads, TooManyNames, ThreadJoined, LockHeldByOther, LockNotHeld, ForkStarted, EndWithoutBegin}
-use Rattle.aero_model.specs.declared.verdict.Verdict.TheVariants.{Serializable, Violation, Malformed, IllFormed}
+use Rattle.aero_model.specs.declared.verdict.Verdict.TheVariants.{Serializable, Pending, Violation, Malformed, IllFormed}
 use Rattle.aero_model.specs.declared.numbered.Numbered.{Numbered}
 use Rattle.aero_model.specs.declared.numbered.What.TheVariants.{Begin, Read, Write}
 use Rattle.aero_access.specs.StateWords.{event}
@@ -14,10 +14,10 @@ use Rattle.aero_model.specs.Graph.{Conflicts, same_thread, write_read, read_writ
 use Rattle.aero_model.proofs.Telling.{closing_from}
 use Rattle.aero_model.proofs.Walks.{last_is}
 use Rattle.aero_grammar.specs.Reading.{reading_of}
-use Rattle.aero_verdict.specs.Verdict.{IsVerdict}
+use Rattle.aero_verdict.specs.Verdict.{Rules, under, IsVerdict}
 
-abbrev greatest : Limits
-greatest =
+abbrev greatest_limits : Limits
+greatest_limits =
     record {
       bytes = 2 ^ 30;
       lines = 2 ^ 24;
@@ -33,14 +33,17 @@ greatest =
       most_names = lit≤ tt;
     }
 
-abbrev two_lines : Limits
-two_lines = record greatest { lines = 2; some_lines = lit< tt; most_lines = lit≤ tt }
+abbrev greatest : Rules
+greatest = under greatest_limits []
 
-abbrev two_threads : Limits
-two_threads = record greatest { threads = 2; some_threads = lit< tt; most_threads = lit≤ tt }
+abbrev two_lines : Rules
+two_lines = under (record greatest_limits { lines = 2; some_lines = lit< tt; most_lines = lit≤ tt }) []
 
-abbrev one_name : Limits
-one_name = record greatest { names = 1; some_names = lit< tt; most_names = lit≤ tt }
+abbrev two_threads : Rules
+two_threads = under (record greatest_limits { threads = 2; some_threads = lit< tt; most_threads = lit≤ tt }) []
+
+abbrev one_name : Rules
+one_name = under (record greatest_limits { names = 1; some_names = lit< tt; most_names = lit≤ tt }) []
 
 -- what holds at each place below a number holds at the next one too
 pub below_suc : (P : ℕ → Type 0) (n : ℕ) → ((i : ℕ) → i < n → P i) → P n → (i : ℕ) → i < suc n → P i
@@ -159,6 +162,17 @@ inner_begins_do_not_count =
       open_are = refl;
     }
 
+-- a block that is no transaction
+
+exempt_block : IsVerdict (reading_of (text (codes "T1|begin(a)" ∷ codes "T1|end" ∷ [])) ∷ []) (under greatest_limits (codes "a" ∷ [])) (Serializable 2 0)
+exempt_block = record { clean = record { lawful = below_suc _ 1 (below_suc _ 0 (none_below _) refl) refl; no_cycle = none_of_two _ _ (lit≤ tt) }; no_fault = refl; events_are = refl; blocks_are = refl; open_are = refl }
+
+other_label : IsVerdict (reading_of (codes "T1|begin(a)") ∷ []) (under greatest_limits (codes "b" ∷ [])) (Pending 1 1 1)
+other_label = (lit< tt, record { clean = record { lawful = below_suc _ 0 (none_below _) refl; no_cycle = none_of_two _ _ (lit≤ tt) }; no_fault = refl; events_are = refl; blocks_are = refl; open_are = refl })
+
+one_end_too_many : IsVerdict (reading_of (text (codes "T1|begin(a)" ∷ codes "T1|end" ∷ codes "T1|end" ∷ [])) ∷ []) (under greatest_limits (codes "a" ∷ [])) (IllFormed 3 EndWithoutBegin)
+one_end_too_many = record { place = 2; clean = record { lawful = below_suc _ 1 (below_suc _ 0 (none_below _) refl) refl; no_cycle = none_of_two _ _ (lit≤ tt) }; cause = refl; line_of = refl }
+
 -- a violation
 
 -- nor have events of two transactions, where no conflict leads from the second to the first
@@ -182,9 +196,9 @@ none_one_way trace n x y either into_first (first, w ∷ ws, telling) =
     ]
 
 abbrev crossed : List Numbered
-crossed = event 0 Begin ∷ event 1 Begin ∷ event 0 (Write 0) ∷ event 1 (Read 0) ∷ event 1 (Write 1) ∷ event 0 (Read 1) ∷ []
+crossed = event 0 (Begin None) ∷ event 1 (Begin None) ∷ event 0 (Write 0) ∷ event 1 (Read 0) ∷ event 1 (Write 1) ∷ event 0 (Read 1) ∷ []
 
-begin_and_write : (a b : Numbered) → a ≡ event 1 Begin → b ≡ event 0 (Write 0) → ¬ Conflicts a b
+begin_and_write : (a b : Numbered) → a ≡ event 1 (Begin None) → b ≡ event 0 (Write 0) → ¬ Conflicts a b
 begin_and_write a b a_is b_is (same_thread same) = let first = ap (λ (e : Numbered). e.thread) a_is in let second = ap (λ (e : Numbered). e.thread) b_is in omega (arith, first, second, same)
 begin_and_write a b a_is b_is (write_read x first second) = let is = ap (λ (e : Numbered). e.what) a_is in cc
 begin_and_write a b a_is b_is (read_write x first second) = let is = ap (λ (e : Numbered). e.what) a_is in cc
@@ -206,7 +220,7 @@ into_first_block i zero less c is = absurd (omega (arith, c.earlier))
 into_first_block i (suc zero) less c is = absurd (other_block is)
 into_first_block zero (suc (suc zero)) less c is = refl
 into_first_block (suc zero) (suc (suc zero)) less c is =
-    let first : Some (event 1 Begin) ≡ Some c.first = c.first_at in
+    let first : Some (event 1 (Begin None)) ≡ Some c.first = c.first_at in
     let second : Some (event 0 (Write 0)) ≡ Some c.second = c.second_at in
     absurd (begin_and_write c.first c.second (cc) (cc) c.conflict)
 into_first_block (suc (suc i)) (suc (suc zero)) less c is = absurd (omega (arith, c.earlier))

@@ -2,12 +2,32 @@
 use Rattle.std.specs.Prelude.{◌≡◌, ◌<◌, ◌-◌, ◌^◌, ℕ, Bool, List, [], ◌∷◌, ◌++◌, length, Option, None}
 use Rattle.aero_model.specs.declared.numbered.Numbered.{Numbered}
 use Rattle.aero_model.specs.declared.numbered.What.{What}
+use Rattle.aero_model.specs.declared.numbered.What.TheVariants.{Begin, End, Exempt}
 use Rattle.aero_model.specs.Shape.{shape_fault, IsWellFormed}
 use Rattle.aero_access.specs.StateWords.{event}
 use Rattle.aero_access.specs.Judgement.{IsTold}
 use Rattle.aero_shape.specs.declared.admission.Admitted.{Admitted}
 use Rattle.aero_shape.specs.declared.admission.Admitted.TheVariants.{Plain}
 use Rattle.aero_shape.specs.Admission.{admitted_as}
+
+-- a begin without a label, an end, or an exempt one of either
+abbrev pub IsBare : What → Type 0
+IsBare (Begin None) = Unit {0}
+IsBare End = Unit {0}
+IsBare Exempt = Unit {0}
+IsBare _ = ⊥
+
+-- what the operation is judged as: a begin or an end as a begin without a label, an end or an exempt one, any other as itself
+abbrev pub IsJudgedWhat : What → What → Type 0
+IsJudgedWhat (Begin label) judged = IsBare judged
+IsJudgedWhat End judged = IsBare judged
+IsJudgedWhat Exempt judged = IsBare judged
+IsJudgedWhat what judged = judged ≡ what
+
+-- what the event that was read is judged as: an event of the same thread
+pub record IsJudgedAs (e judged : Numbered) : Type 0 where
+  pub thread : judged.thread ≡ e.thread
+  pub what : IsJudgedWhat e.what judged.what
 
 -- it stands for these events, and the next one is well-formed after them and is this
 pub record ComesAfter (stands : List Numbered → Type 0) (h : List Numbered) (e : Numbered) (admitted : Admitted) : Type 0 where
@@ -20,12 +40,12 @@ pub record ComesAfter (stands : List Numbered → Type 0) (h : List Numbered) (e
 abbrev pub ActsAfter : (List Numbered → Type 0) → List Numbered → ℕ → What → Type 0
 ActsAfter stands h t what = (in_block : Bool) × ComesAfter stands h (event t what) (Plain in_block)
 
--- this is so for some list of fewer events than there are numbers
+-- this is so for some list of fewer events than there are numbers, and for some event that the one that was read is judged as
 abbrev pub IsAdmitted : (List Numbered → Type 0) → Numbered → Admitted → Type 0
-IsAdmitted stands e admitted = (h : List Numbered) × (length h < 2 ^ 32 - 1) × ComesAfter stands h e admitted
+IsAdmitted stands e admitted = (h : List Numbered) × (judged : Numbered) × IsJudgedAs e judged × (length h < 2 ^ 32 - 1) × ComesAfter stands h judged admitted
 
 abbrev pub IsToAct : (List Numbered → Type 0) → ℕ → What → Type 0
-IsToAct stands t what = (h : List Numbered) × ActsAfter stands h t what
+IsToAct stands t what = (h : List Numbered) × (judged : What) × IsJudgedWhat what judged × ActsAfter stands h t judged
 
 -- The answer after the event at place n is what is to be told, so it is None exactly where there is no telling cycle. Then the engine stands for the longer trace.
 pub record Tells (stands : List Numbered → Type 0) (trace : List Numbered) (n : ℕ) (told : Option ℕ) : Type 0 where

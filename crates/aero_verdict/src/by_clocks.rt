@@ -6,7 +6,7 @@ ghost use Rattle.aero_model.specs.Shape.{IsWellFormed};
 ghost use Rattle.aero_access.specs.Standing.{StandsFor, Tells, closed_by};
 ghost use Rattle.aero_access.specs.StateWords.{event, IsIdle};
 ghost use Rattle.aero_shape.specs.declared.admission.Admitted.TheVariants.{IdleJoin};
-ghost use Rattle.aero_verdict.specs.Judging.{IsAdmitted, IsToAct, ComesAfter, ActsAfter};
+ghost use Rattle.aero_verdict.specs.Judging.{IsAdmitted, IsJudgedAs, IsJudgedWhat, IsToAct, ComesAfter, ActsAfter};
 
 use aero_access::clocks::{Clocks, Spent};
 use aero_end::end;
@@ -20,7 +20,7 @@ pub(crate) fn judge(
     admitted: Admitted,
 ) -> Result<Option<u32>, Spent>
     requires { IsAdmitted (StandsFor clocks.old) event.now admitted }
-    ensures { (h : List Numbered) → ComesAfter (StandsFor clocks.old) h event.now admitted → IfOk result (Tells clocks.new (h ++ event.now ∷ []) (length h)) }
+    ensures { (h : List Numbered) (judged : Numbered) → IsJudgedAs event.now judged → ComesAfter (StandsFor clocks.old) h judged admitted → IfOk result (Tells clocks.new (h ++ judged ∷ []) (length h)) }
 {
     let t = event.thread;
     match admitted {
@@ -34,7 +34,7 @@ pub(crate) fn judge(
 // The same of an event that is no outermost begin or end, and no join of a thread that has not acted.
 fn act(clocks: &mut Clocks, t: u32, what: What) -> Result<Option<u32>, Spent>
     requires { IsToAct (StandsFor clocks.old) t what }
-    ensures { (h : List Numbered) → ActsAfter (StandsFor clocks.old) h t what → IfOk result (Tells clocks.new (h ++ event t what ∷ []) (length h)) }
+    ensures { (h : List Numbered) (judged : What) → IsJudgedWhat what judged → ActsAfter (StandsFor clocks.old) h t judged → IfOk result (Tells clocks.new (h ++ event t judged ∷ []) (length h)) }
 {
     match what {
         What::Read(x) => clocks.read(t, x),
@@ -43,14 +43,14 @@ fn act(clocks: &mut Clocks, t: u32, what: What) -> Result<Option<u32>, Spent>
         What::Release(l) => clocks.release(t, l),
         What::Fork(u) => clocks.fork(t, u),
         What::Join(u) => clocks.join(t, u),
-        What::Begin | What::End => pass(clocks, t),
+        What::Begin(_) | What::End | What::Exempt => pass(clocks, t),
     }
 }
 
 // The same of a join of a thread that has not acted.
 fn join_idle(clocks: &mut Clocks, event: &Numbered) -> Result<Option<u32>, Spent>
     requires { IsAdmitted (StandsFor clocks.old) event.now IdleJoin }
-    ensures { (h : List Numbered) → ComesAfter (StandsFor clocks.old) h event.now IdleJoin → IfOk result (Tells clocks.new (h ++ event.now ∷ []) (length h)) }
+    ensures { (h : List Numbered) (judged : Numbered) → IsJudgedAs event.now judged → ComesAfter (StandsFor clocks.old) h judged IdleJoin → IfOk result (Tells clocks.new (h ++ judged ∷ []) (length h)) }
 {
     pass(clocks, event.thread)
 }

@@ -1,22 +1,24 @@
 //! The verdict on what the parts of a trace say.
 ghost use Rattle.std.specs.Prelude.{◌≡◌, ◌≢◌, ◌-◌, ℕ, List, Some, IsTrue, IfOk, IfSome, OnOk, OnErr};
-ghost use Rattle.aero_model.specs.declared.limits.Limits.{Limits};
 ghost use Rattle.aero_model.specs.Verdicts.{HasOwnFault};
 ghost use Rattle.aero_grammar.specs.Reading.{Reading, fault_within, is_own_fault};
-ghost use Rattle.aero_verdict.specs.Verdict.{IsVerdict, IsFaultless};
+ghost use Rattle.aero_verdict.specs.Verdict.{Rules, under, IsVerdict, IsFaultless};
 ghost use Rattle.aero_verdict.specs.Kept.{CanBeTold, TellsStop};
 ghost use Rattle.aero_verdict.specs.Parts.{Stands, IsPartExpected, ComesNext, TellsPart};
 
 use crate::checker::{Checker, Stop};
 use crate::engine::Engine;
-use crate::known::BlockNames;
+use crate::known::{BlockNames, exempt_labels};
 use aero_grammar::parsed::Parsed;
 use aero_leads::leads::Leads;
+use aero_model::except::Except;
 use aero_model::limits::Limits;
 use aero_model::verdict::{LineFault, ShapeFault, Verdict};
 use std::alloc::{AllocError, Global};
 
-/// The verdict on the trace that the parts hold, one after the other, under the limits.
+/// The verdict on the trace that the parts hold, one after the other, under the limits. A block that
+/// begins with one of the labels of `except` is no transaction: its begin and its end are events of
+/// their thread, and nothing more.
 ///
 /// Line numbers count from 1 through all parts: those of a part follow the lines of the parts
 /// before it. What follows a part with a fault is ignored, and so is each event on a line after
@@ -34,12 +36,18 @@ use std::alloc::{AllocError, Global};
 ///   blocks there are.
 /// - `Serializable`: nothing is wrong, and no block is open.
 ///
-/// No fault of a verdict is `Memory`. An `AllocError` says that memory was refused: to the names, the states, the first places or the answer.
-pub fn check_trace(alloc: Global, parts: &[Parsed], limits: &Limits) -> Result<Verdict, AllocError>
-    ensures verdict { IfOk result (λ verdict. IsVerdict parts.now limits.now verdict) }
+/// No fault of a verdict is `Memory`. An `AllocError` says that memory was refused: to the names, the
+/// states, the first places or the answer.
+pub fn check_trace(
+    alloc: Global,
+    parts: &[Parsed],
+    limits: &Limits,
+    except: &Except,
+) -> Result<Verdict, AllocError>
+    ensures verdict { IfOk result (λ verdict. IsVerdict parts.now (under limits.now except.now) verdict) }
     ensures own_fault { IfOk result HasOwnFault }
 {
-    check_trace_by::<Leads>(alloc, parts, limits)
+    check_trace_by::<Leads>(alloc, parts, limits, except)
 }
 
 /// The same, judged by an engine of the caller's choice.
@@ -47,13 +55,14 @@ pub fn check_trace_by<E: Engine>(
     alloc: Global,
     parts: &[Parsed],
     limits: &Limits,
+    except: &Except,
 ) -> Result<Verdict, AllocError>
-    ensures verdict { IfOk result (λ verdict. IsVerdict parts.now limits.now verdict) }
+    ensures verdict { IfOk result (λ verdict. IsVerdict parts.now (under limits.now except.now) verdict) }
     ensures own_fault { IfOk result HasOwnFault }
 {
     let mut checker = Checker::<E>::new(alloc, limits);
 
-    check_parts(alloc, &mut checker, parts, limits)
+    check_parts(alloc, &mut checker, parts, limits, except)
 }
 
 // The same where no event was admitted yet.
@@ -62,15 +71,16 @@ fn check_parts<E: Engine>(
     checker: &mut Checker<E>,
     parts: &[Parsed],
     limits: &Limits,
+    except: &Except,
 ) -> Result<Verdict, AllocError>
-    requires { Stands E.stands_for limits.now parts.now 0 0 checker.old }
-    ensures verdict { IfOk result (λ verdict. IsVerdict parts.now limits.now verdict) }
+    requires { Stands E.stands_for (under limits.now except.now) parts.now 0 0 checker.old }
+    ensures verdict { IfOk result (λ verdict. IsVerdict parts.now (under limits.now except.now) verdict) }
     ensures own_fault { IfOk result HasOwnFault }
 {
     // The lines of the parts so far. A number that a `u32` can't tell is past every limit.
     let mut lines = 0u32;
     for part in parts {
-        if let Some(verdict) = check_part(alloc, checker, part, lines, limits)? {
+        if let Some(verdict) = check_part(alloc, checker, part, lines, limits, except)? {
             return Ok(verdict);
         }
         lines = lines.saturating_add(part.lines);
@@ -91,17 +101,22 @@ fn check_part<E: Engine>(
     part: &Parsed,
     lines: u32,
     limits: &Limits,
+    except: &Except,
 ) -> Result<Option<Verdict>, AllocError>
-    requires { IsPartExpected E.stands_for limits.now lines checker.old part.now }
+    requires { IsPartExpected E.stands_for (under limits.now except.now) lines checker.old part.now }
     ensures told { IfOk result (λ told. (parts : List Reading) (k : ℕ) →
-        ComesNext E.stands_for limits.now parts k lines checker.old part.now → TellsPart E.stands_for limits.now parts k lines checker.new part.now told) }
+        ComesNext E.stands_for (under limits.now except.now) parts k lines checker.old part.now →
+        TellsPart E.stands_for (under limits.now except.now) parts k lines checker.new part.now told) }
     ensures own_fault { IfOk result (λ told. IfSome told HasOwnFault) }
 {
     let most = limits.lines.saturating_sub(lines);
+    let exempt = exempt_labels(alloc, &part.labels, except)?;
     let block = BlockNames {
         threads: &part.threads,
         variables: &part.variables,
         locks: &part.locks,
+        labels: &part.labels,
+        exempt: exempt.as_slice(),
     };
     if let Err((line, stop)) = checker.admit_all(alloc, block, &part.events, lines, most) {
         let verdict = stopped_at(alloc, checker, line, stop)?;
@@ -140,8 +155,8 @@ fn stopped_at<E: Engine>(
 
 // The verdict where nothing is wrong.
 fn faultless<E: Engine>(checker: &Checker<E>) -> Verdict
-    ensures verdict { (parts : List Reading) (limits : Limits) →
-        IsFaultless parts limits checker.now.shape.admitted checker.now.blocks.begun (checker.now.blocks.begun - checker.now.blocks.ended) → IsVerdict parts limits result }
+    ensures verdict { (parts : List Reading) (rules : Rules) →
+        IsFaultless parts rules checker.now.shape.admitted checker.now.blocks.begun (checker.now.blocks.begun - checker.now.blocks.ended) → IsVerdict parts rules result }
     ensures own_fault { HasOwnFault result }
 {
     let events = checker.events();

@@ -33,21 +33,21 @@ pub(crate) struct Checker<E: Engine> {
 }
 
 impl<E: Engine> Checker<E> {
-    ghost use Rattle.std.specs.Prelude.{◌≡◌, ◌≢◌, ◌+◌, ◌-◌, ◌≤◌, ◌<◌, ◌^◌, ℕ, List, length, slice_get, Some, IsOk, OnOk, OnErr, IfOk, IfErr};
-    ghost use Rattle.aero_model.specs.declared.limits.Limits.{Limits};
+    ghost use Rattle.std.specs.Prelude.{◌≡◌, ◌≢◌, ◌+◌, ◌-◌, ◌≤◌, ◌<◌, ◌^◌, ℕ, List, length, slice_get, All, Some, IsOk, OnOk, OnErr, IfOk, IfErr};
     ghost use Rattle.aero_model.specs.Named.{Named};
     ghost use Rattle.aero_model.specs.Names.{most_inline_bytes};
     ghost use Rattle.aero_grammar.specs.Words.{IsName};
     ghost use Rattle.aero_verdict.specs.Begun.{begin_line};
     ghost use Rattle.aero_verdict.specs.Kept.{StandsFor, IsNext, IsExpected, Refuses, Judged, up_to, AreNext, AreExpected, StopsIn};
     ghost use Rattle.aero_grammar.specs.Tabled.{named_in, lines_in};
-    ghost use Rattle.aero_verdict.specs.Known.{tables_in, Knows};
+    ghost use Rattle.aero_verdict.specs.Known.{tables_in, Knows, is_told_exempt, HasLabel};
+    ghost use Rattle.aero_verdict.specs.Verdict.{Rules, under};
     ghost use Rattle.aero_verdict.specs.Limited.{names_in, IsNamedThread, HasLongName};
 
     // No event was admitted yet.
     pub(crate) fn new(alloc: Global, limits: &Limits) -> Checker<E>
         ensures none { result.shape.admitted ≡ 0 }
-        ensures kept { (events : List (ℕ × Named)) → StandsFor E.stands_for limits.now result events }
+        ensures kept { (labels : List (List ℕ)) (events : List (ℕ × Named)) → StandsFor E.stands_for (under limits.now labels) result events }
     {
         Checker {
             numbering: Numbering::new(alloc, limits),
@@ -96,9 +96,9 @@ impl<E: Engine> Checker<E> {
         self.blocks.begin_line(t)
     }
 
-    // Admits the next event, which stands on this line and has these numbers in its block: the thread in whose open block a cycle begins
-    // that closes with it, if there is one. Or says why the event is ill-formed, or that memory was
-    // refused. No event is admitted after an error or a thread.
+    // Admits the next event, which stands on this line and has these numbers in its block: the
+    // thread in whose open block a cycle begins that closes with it, if there is one. Or says why the
+    // event is ill-formed, or that memory was refused. No event is admitted after an error or a thread.
     #[inline(always)]
     fn admit(
         &mut self,
@@ -107,17 +107,19 @@ impl<E: Engine> Checker<E> {
         line: u32,
         event: Numbered,
     ) -> Result<Option<u32>, ShapeFault>
-        requires next { IsExpected E.stands_for self.old (line, named_in (tables_in block) event) }
+        requires next { IsExpected E.stands_for self.old (line, named_in (tables_in block) block.labels.now event) (is_told_exempt block.exempt.now event.what) }
         requires known { Knows self.old.numbering (tables_in block) known.old }
         ensures counted { OnOk result (self.new.shape.admitted ≡ self.old.shape.admitted + 1) }
-        ensures judged { IfOk result (λ told. (limits : Limits) (events : List (ℕ × Named)) → IsNext E.stands_for limits self.old events (line, named_in (tables_in block.entry) event) →
-            Judged E.stands_for limits self.new events self.old.shape.admitted told) }
-        ensures refused { IfErr result (λ fault. (limits : Limits) (events : List (ℕ × Named)) →
-            IsNext E.stands_for limits self.old events (line, named_in (tables_in block.entry) event) → Refuses limits self.old events fault) }
+        ensures judged { IfOk result (λ told. (rules : Rules) (events : List (ℕ × Named)) →
+            IsNext E.stands_for rules self.old events (line, named_in (tables_in block.entry) block.entry.labels.now event) (is_told_exempt block.entry.exempt.now event.what) →
+            Judged E.stands_for rules self.new events self.old.shape.admitted told) }
+        ensures refused { IfErr result (λ fault. (rules : Rules) (events : List (ℕ × Named)) →
+            IsNext E.stands_for rules self.old events (line, named_in (tables_in block.entry) block.entry.labels.now event) (is_told_exempt block.entry.exempt.now event.what) →
+            Refuses rules self.old events fault) }
         ensures known { OnOk result (Knows self.new.numbering (tables_in block.entry) known.new) }
     {
         let numbered = self.numbering.number(known, block, event)?;
-        let admitted = self.shape.admit(&numbered)?;
+        let admitted = self.shape.admit(&numbered, block.is_exempt(event.what))?;
         if self.blocks.count(admitted, numbered.thread, line).is_err() {
             return Err(ShapeFault::Memory);
         }
@@ -138,14 +140,15 @@ impl<E: Engine> Checker<E> {
         before: u32,
         most: u32,
     ) -> Result<(), (u32, Stop)>
-        requires next { AreExpected E.stands_for self.old before (up_to most (lines_in (tables_in block) events.now)) }
+        requires next { AreExpected E.stands_for self.old block.labels.now block.exempt.now before (up_to most (lines_in (tables_in block) block.labels.now events.now)) }
+        requires labelled { All (λ e. HasLabel block.labels.now e.1.what) events.now }
         requires lines { before + most < 2 ^ 32 }
-        ensures counted { OnOk result (self.new.shape.admitted ≡ self.old.shape.admitted + length (up_to most (lines_in (tables_in block.entry) events.now))) }
-        ensures kept { OnOk result ((limits : Limits) (all : List (ℕ × Named)) →
-            AreNext E.stands_for limits self.old all before (up_to most (lines_in (tables_in block.entry) events.now)) → StandsFor E.stands_for limits self.new all) }
-        ensures stopped { IfErr result (λ stopped. (limits : Limits) (all : List (ℕ × Named)) →
-            AreNext E.stands_for limits self.old all before (up_to most (lines_in (tables_in block.entry) events.now)) →
-            StopsIn limits self.new all self.old.shape.admitted before (up_to most (lines_in (tables_in block.entry) events.now)) stopped.0 stopped.1) }
+        ensures counted { OnOk result (self.new.shape.admitted ≡ self.old.shape.admitted + length (up_to most (lines_in (tables_in block.entry) block.entry.labels.now events.now))) }
+        ensures kept { OnOk result ((rules : Rules) (all : List (ℕ × Named)) →
+            AreNext E.stands_for rules self.old all block.entry.labels.now block.entry.exempt.now before (up_to most (lines_in (tables_in block.entry) block.entry.labels.now events.now)) → StandsFor E.stands_for rules self.new all) }
+        ensures stopped { IfErr result (λ stopped. (rules : Rules) (all : List (ℕ × Named)) →
+            AreNext E.stands_for rules self.old all block.entry.labels.now block.entry.exempt.now before (up_to most (lines_in (tables_in block.entry) block.entry.labels.now events.now)) →
+            StopsIn rules self.new all self.old.shape.admitted before (up_to most (lines_in (tables_in block.entry) block.entry.labels.now events.now)) stopped.0 stopped.1) }
     {
         let mut known = Known::new(alloc);
         for (line, event) in events {

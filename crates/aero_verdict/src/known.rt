@@ -1,20 +1,68 @@
 //! The numbers of a block's names in the trace, each looked up at the event that first has it.
-ghost use Rattle.std.specs.Prelude.{◌≡◌, ◌==◌, ◌++◌, ◌∷◌, [], ℕ, List, length, if◌then◌else◌, IfOk, IfErr, OnOk};
+ghost use Rattle.std.specs.Prelude.{◌≡◌, ◌<◌, ◌==◌, ◌++◌, ◌∷◌, [], ℕ, List, length, map, bytes_eq, if◌then◌else◌, IfOk, IfErr, OnOk};
+ghost use Rattle.std.specs.List.{list_any};
 ghost use Rattle.aero_grammar.specs.Tabled.{name_at};
 ghost use Rattle.aero_verdict.specs.Known.{AreKnown};
 ghost use Rattle.aero_verdict.specs.Numbers.{NumbersName, RefusesName};
 
+use aero_model::except::Except;
+use aero_model::numbered::What;
 use aero_model::verdict::ShapeFault;
 use aero_names::list::NameList;
 use aero_names::names::{Names, NamesFault};
 use std::alloc::{AllocError, Global};
 
-// The tables of a block.
+// The tables of a block, and of each of its labels whether a block with it is no transaction.
 #[derive(Clone, Copy)]
 pub(crate) struct BlockNames<'a> {
     pub threads: &'a NameList,
     pub variables: &'a NameList,
     pub locks: &'a NameList,
+    pub labels: &'a NameList,
+    pub exempt: &'a [bool],
+}
+
+impl BlockNames<'_> {
+    ghost use Rattle.std.specs.Prelude.{◌≡◌};
+    ghost use Rattle.aero_verdict.specs.Known.{is_told_exempt};
+
+    // Whether the operation is the begin of a block that is no transaction.
+    #[inline(always)]
+    pub(crate) fn is_exempt(self, what: What) -> bool
+        ensures { result ≡ is_told_exempt self.entry.exempt.now what }
+    {
+        match what {
+            What::Begin(Some(label)) => self.exempt.get(label as usize) == Some(&true),
+            _ => false,
+        }
+    }
+}
+
+// Of each of the labels whether it is listed. An `AllocError` says that memory was refused, which
+// is asked for where there is a label.
+pub(crate) fn exempt_labels(
+    alloc: Global,
+    labels: &NameList,
+    except: &Except,
+) -> Result<Vec<bool>, AllocError>
+    ensures { IfOk result (λ exempt. exempt.items ≡ map (λ label. list_any (bytes_eq label) except.now) labels.now) }
+{
+    let mut exempt = Vec::new(alloc);
+    for n in 0..labels.len() {
+        exempt.push(is_listed(labels, n, except))?;
+    }
+    Ok(exempt)
+}
+
+// Whether the label with this number is listed.
+fn is_listed(labels: &NameList, n: u32, except: &Except) -> bool
+    requires { n < length labels.now }
+    ensures { result ≡ list_any (bytes_eq (name_at labels.now n)) except.now }
+{
+    match labels.name(n) {
+        Some(label) => except.has_bytes(label),
+        None => unreachable!(),
+    }
 }
 
 // The numbers in the trace of the first names of each of the block's tables.

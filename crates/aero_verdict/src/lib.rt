@@ -8,7 +8,7 @@
 //!
 //! ```text
 //! // T1|begin, T1|w(x) and T1|end, on three lines
-//! let verdict = check_trace(alloc, &parts, &Limits::greatest())?;
+//! let verdict = check_trace(alloc, &parts, &Limits::greatest(), &except)?;
 //! assert!(rt; matches!(verdict, Verdict::Serializable { events: 3, blocks: 1 }));
 //! ```
 #![tactic(auto)]

@@ -54,7 +54,7 @@ impl Numbering {
         }
     }
 
-    // The event by its numbers in the trace, of which new names get the next. It comes by its numbers
+    // The event by its numbers in the trace, without a label, of which new names get the next. It comes by its numbers
     // in its block, whose names these are. The actor comes before the target.
     //
     // An error is `TooManyThreads` or `TooManyNames` where a name is one too many, or `Memory`.
@@ -66,8 +66,8 @@ impl Numbering {
         event: Numbered,
     ) -> Result<Numbered, ShapeFault>
         requires { Knows self.old (tables_in block) known.old }
-        ensures ok { IfOk result (λ numbered. NumbersEvent self.old self.new (named_in (tables_in block.entry) event) numbered) }
-        ensures err { IfErr result (λ fault. RefusesEvent self.old (named_in (tables_in block.entry) event) fault) }
+        ensures ok { IfOk result (λ numbered. NumbersEvent self.old self.new (named_in (tables_in block.entry) block.entry.labels.now event) numbered) }
+        ensures err { IfErr result (λ fault. RefusesEvent self.old (named_in (tables_in block.entry) block.entry.labels.now event) fault) }
         ensures known { OnOk result (Knows self.new (tables_in block.entry) known.new) }
     {
         let full = ShapeFault::TooManyThreads;
@@ -92,8 +92,8 @@ impl Numbering {
         what: What,
     ) -> Result<What, ShapeFault>
         requires { Knows self.old (tables_in block) known.old }
-        ensures ok { IfOk result (λ numbered. NumbersTarget self.old self.new (op_of what) (target_in (tables_in block.entry) what) numbered) }
-        ensures err { IfErr result (λ fault. RefusesTarget self.old (op_of what) (target_in (tables_in block.entry) what) fault) }
+        ensures ok { IfOk result (λ numbered. NumbersTarget self.old self.new (op_of what) (target_in (tables_in block.entry) block.entry.labels.now what) numbered) }
+        ensures err { IfErr result (λ fault. RefusesTarget self.old (op_of what) (target_in (tables_in block.entry) block.entry.labels.now what) fault) }
         ensures known { OnOk result (Knows self.new (tables_in block.entry) known.new) }
     {
         let many_threads = ShapeFault::TooManyThreads;
@@ -153,8 +153,8 @@ impl Numbering {
                 )?;
                 Ok(What::Join(number))
             }
-            What::Begin => Ok(What::Begin),
-            What::End => Ok(What::End),
+            What::Begin(_) => Ok(What::Begin(None)),
+            What::End | What::Exempt => Ok(What::End),
         }
     }
 }

@@ -3,4 +3,5 @@ use Rattle.aero_verdict.proofs.Judging.{idle_inside}
 use Rattle.aero_verdict.proofs.by_clocks.act.Goals as goal
 
 pub returns-in-Begin : goal.returns-in-Begin
-returns-in-Begin c = λ h acts. c.pass.ensures h c.args.what acts.1.standing acts.1.well_formed (idle_inside (StandsFor c.args.clocks.now) h c.args.t c.args.what acts.0 acts.1 c.in-Begin.is)
+returns-in-Begin c = λ h judged judges acts.
+    c.pass.ensures h judged acts.1.standing acts.1.well_formed (idle_inside (StandsFor c.args.clocks.now) h c.args.t c.args.what judged acts.0 judges acts.1 c.in-Begin.is)

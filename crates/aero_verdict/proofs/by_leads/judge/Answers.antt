@@ -2,20 +2,26 @@ use Rattle.std.proofs.Common.{length, subst}
 use Rattle.std.specs.Prelude.{IfOk}
 use Rattle.aero_leads.specs.Standing.{StandsFor, Tells, begins_at}
 use Rattle.aero_verdict.specs.Judging.{ComesAfter}
-use Rattle.aero_verdict.proofs.Judging.{begins_few, end_follows}
+use Rattle.aero_verdict.proofs.Judging.{begins_few, end_follows, plain_follows, plain_after}
 use Rattle.aero_verdict.proofs.by_leads.judge.Goals as goal
 
 pub begin-requires-clause-count : goal.begin-requires-clause-count
 begin-requires-clause-count c =
     let t = c.args.event.now.thread in
-    begins_few (StandsFor c.args.leads.now) c.requires.0 c.args.event.now c.args.admitted c.requires.2 c.requires.1 (begins_at c.args.leads.now t) (c.requires.2.standing.state.begins t)
+    let (h, judged, judges, short, after) = c.requires in
+    begins_few (StandsFor c.args.leads.now) h c.args.event.now judged judges c.args.admitted after short (begins_at c.args.leads.now t) (after.standing.state.begins t)
 
 pub returns-in-OuterEnd : goal.returns-in-OuterEnd
-returns-in-OuterEnd c = λ h after.
-    end_follows (StandsFor c.args.leads.now) h c.args.event.now c.args.admitted after (λ trace. IfOk c.end.result (Tells c.end.new.self trace (length h))) c.in-OuterEnd.is (c.end.ensures.follows h)
+returns-in-OuterEnd c = λ h judged judges after.
+    end_follows (StandsFor c.args.leads.now) h c.args.event.now judged judges c.args.admitted after (λ trace. IfOk c.end.result (Tells c.end.new.self trace (length h))) c.in-OuterEnd.is (c.end.ensures.follows h)
 
-pub returns-in-IdleJoin : goal.returns-in-IdleJoin
-returns-in-IdleJoin c = λ h after. c.join_idle.ensures h (subst (ComesAfter (StandsFor c.args.leads.now) h c.args.event.now) c.in-IdleJoin.is after)
+pub act-requires : goal.act-requires
+act-requires c =
+    let (h, judged, judges, short, after) = c.requires in
+    let plain = plain_after (StandsFor c.args.leads.now) h c.args.event.now judged judges c.args.admitted after in
+    (h, judged.what, judges.what, (c.in-Plain.in_block, subst (ComesAfter (StandsFor c.args.leads.now) h _) c.in-Plain.is plain))
 
 pub returns-in-Plain : goal.returns-in-Plain
-returns-in-Plain c = λ h after. c.act.ensures h (c.in-Plain.in_block, subst (ComesAfter (StandsFor c.args.leads.now) h c.args.event.now) c.in-Plain.is after)
+returns-in-Plain c = λ h judged judges after.
+    plain_follows (StandsFor c.args.leads.now) h c.args.event.now judged judges c.args.admitted after (λ trace. IfOk c.act.result (Tells c.act.new.leads trace (length h)))
+    (λ same. c.act.ensures h judged.what judges.what (c.in-Plain.in_block, subst (ComesAfter (StandsFor c.args.leads.now) h _) c.in-Plain.is same))

@@ -5,6 +5,6 @@ use Rattle.aero_verdict.specs.Verdict.{checked_trace}
 use Rattle.aero_verdict.proofs.laws.a_serializable_trace_has_no_cycle.Goals as goal
 
 pub returns : goal.returns
-returns c = λ parts limits events blocks v.
-    let trace = checked_trace parts limits in
+returns c = λ parts rules events blocks v.
+    let trace = checked_trace parts rules in
     serializable_where_ended trace (length trace) (all_ended trace (sym v.open_are)) v.clean.no_cycle

@@ -5,6 +5,6 @@ use Rattle.aero_verdict.proofs.checker.Checker.admit_all.Given as goal
 
 abbrev pub invariant-loop-line : goal.invariant-loop-line
 invariant-loop-line g l = record {
-  admits : Admits g.E.Engine.stands_for l.initial.self (lines_in (tables_in l.block) l.events) l.before l.most l.line-index l.self;
+  admits : Admits g.E.Engine.stands_for l.initial.self l.block.labels.now l.block.exempt.now (lines_in (tables_in l.block) l.block.labels.now l.events) l.before l.most l.line-index l.self;
   known : Knows l.self.numbering (tables_in l.block) l.known;
 }
