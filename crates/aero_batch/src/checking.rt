@@ -2,14 +2,15 @@
 ghost use Rattle.std.specs.Prelude.{◌≡◌, ◌<◌, ◌-◌, ◌^◌, length, vec_len, slice_get, IfOk, OnOk};
 ghost use Rattle.std.specs.Arc.{arc_value};
 ghost use Rattle.aero_batch.specs.Steps.{MayAsk, ChecksNext, SettlesNext, with_check};
+ghost use Rattle.aero_intake.specs.PlanRules.{rules_of};
 ghost use Rattle.aero_intake.specs.Tracks.{IsReady, with_value};
 ghost use Rattle.aero_intake.specs.Stories.{changed};
 
 use crate::helpers::Helpers;
 use crate::inquiry::Inquiry;
 use crate::progress::Progress;
+use aero_intake::plan::Plan;
 use aero_intake::track::{Readings, Track, take_readings, take_value};
-use aero_model::limits::Limits;
 use aero_pieces::answer::Value;
 use aero_pieces::question::Question;
 use std::alloc::{AllocError, Global};
@@ -19,21 +20,21 @@ use std::sync::{Arc, Wait};
 pub fn check_next<H: Helpers, T: Wait>(
     rt: &T,
     alloc: Global,
-    limits: &Limits,
+    plan: &Plan,
     helpers: &mut H,
     progress: &mut Progress,
 ) -> Result<(), AllocError>
     requires may { MayAsk progress.old }
     requires unchecked { progress.old.checked < vec_len progress.old.tracks }
     requires ready { (t : Track) → slice_get progress.old.tracks.items progress.old.checked ≡ Some t → IsReady t }
-    ensures { OnOk result (ChecksNext limits.now progress.old progress.new) }
+    ensures { OnOk result (ChecksNext (rules_of plan.now) progress.old progress.new) }
 {
     let place = progress.checked;
     let readings = take_readings(&mut progress.tracks[place]);
     ask_check(
         rt,
         alloc,
-        limits,
+        plan,
         helpers,
         &mut progress.inquiry,
         place as u64,
@@ -46,7 +47,7 @@ pub fn check_next<H: Helpers, T: Wait>(
 fn ask_check<H: Helpers, T: Wait>(
     rt: &T,
     alloc: Global,
-    limits: &Limits,
+    plan: &Plan,
     helpers: &mut H,
     inquiry: &mut Inquiry,
     trace: u64,
@@ -54,27 +55,28 @@ fn ask_check<H: Helpers, T: Wait>(
 ) -> Result<(), AllocError>
     requires room { length inquiry.old.open_ones < 64 }
     requires few { inquiry.old.asked < 2 ^ 64 - 1 }
-    ensures { OnOk result (inquiry.new ≡ with_check limits.now inquiry.old trace readings) }
+    ensures { OnOk result (inquiry.new ≡ with_check (rules_of plan.now) inquiry.old trace readings) }
 {
     let Some(readings) = readings else {
         return Ok(());
     };
-    let question = check_question(alloc, limits, trace, readings)?;
+    let question = check_question(alloc, plan, trace, readings)?;
     inquiry.ask(rt, helpers, question)
 }
 
 fn check_question(
     alloc: Global,
-    limits: &Limits,
+    plan: &Plan,
     trace: u64,
     readings: Readings,
 ) -> Result<Arc<Question, Global>, AllocError>
-    ensures { IfOk result (λ question. arc_value question ≡ Question.Check trace readings limits.now) }
+    ensures { IfOk result (λ question. arc_value question ≡ Question.Check trace readings plan.now.limits plan.now.except) }
 {
     Question::Check {
         trace,
         parsed: readings.into_parts(),
-        limits: *limits,
+        limits: plan.limits,
+        except: plan.except.share()?,
     }
     .share(alloc)
 }

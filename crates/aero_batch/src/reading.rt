@@ -2,15 +2,16 @@
 ghost use Rattle.std.specs.Prelude.{◌≡◌, ◌<◌, ◌≤◌, ◌+◌, ◌^◌, length, vec_len, IfOk, IfSome, OnOk};
 ghost use Rattle.std.specs.Arc.{arc_value};
 ghost use Rattle.aero_model.specs.CallCounts.{seen_by};
+ghost use Rattle.aero_intake.specs.PlanRules.{rules_of};
 ghost use Rattle.aero_batch.specs.Steps.{MayAsk, ReadsOn, EndsSource, with_block, wanted, last_of, ended_track};
 
 use crate::helpers::Helpers;
 use crate::progress::Progress;
 use aero_intake::intake::{Intake, Taken};
+use aero_intake::plan::Plan;
 use aero_intake::track::{Track, arrive, is_decided};
 use aero_lines::cutter::Block;
 use aero_model::counting::Counting;
-use aero_model::limits::Limits;
 use aero_model::verdict::{Ending, Finding};
 use aero_pieces::question::{Bytes, Question};
 use std::alloc::{AllocError, Global};
@@ -23,7 +24,7 @@ use std::sync::{Arc, Wait};
 pub fn read_on<R: Read, H: Helpers, T: Wait>(
     rt: &T,
     alloc: Global,
-    limits: &Limits,
+    plan: &Plan,
     reader: &mut Counting<R>,
     helpers: &mut H,
     progress: &mut Progress,
@@ -32,15 +33,15 @@ pub fn read_on<R: Read, H: Helpers, T: Wait>(
     requires unread { progress.old.read < vec_len progress.old.tracks }
     requires room { 0 < vec_len progress.old.buffer }
     requires short { vec_len progress.old.buffer ≤ 2 ^ 20 }
-    requires within { progress.old.intake.count ≤ limits.now.bytes + 1 }
-    ensures { OnOk result (ReadsOn limits.now (seen_by R.remaining reader.old) (seen_by R.remaining reader.new) progress.old progress.new) }
+    requires within { progress.old.intake.count ≤ plan.now.limits.bytes + 1 }
+    ensures { OnOk result (ReadsOn (rules_of plan.now) (seen_by R.remaining reader.old) (seen_by R.remaining reader.new) progress.old progress.new) }
 {
     match progress
         .intake
-        .take(reader, &mut progress.buffer, limits.bytes)?
+        .take(reader, &mut progress.buffer, plan.limits.bytes)?
     {
-        Taken::Piece(block) => ask_block(rt, alloc, limits, helpers, progress, block),
-        Taken::Ended(ending) => end_source(rt, alloc, limits, helpers, progress, ending),
+        Taken::Piece(block) => ask_block(rt, alloc, plan, helpers, progress, block),
+        Taken::Ended(ending) => end_source(rt, alloc, plan, helpers, progress, ending),
     }
 }
 
@@ -49,7 +50,7 @@ pub fn read_on<R: Read, H: Helpers, T: Wait>(
 fn ask_block<H: Helpers, T: Wait>(
     rt: &T,
     alloc: Global,
-    limits: &Limits,
+    plan: &Plan,
     helpers: &mut H,
     progress: &mut Progress,
     block: Option<Block>,
@@ -57,9 +58,9 @@ fn ask_block<H: Helpers, T: Wait>(
     requires may { MayAsk progress.old }
     requires unread { progress.old.read < vec_len progress.old.tracks }
     requires short { IfSome block (λ bytes. length bytes ≤ 2 ^ 30) }
-    ensures { OnOk result (progress.new ≡ with_block progress.old (wanted limits.now progress.old block)) }
+    ensures { OnOk result (progress.new ≡ with_block progress.old (wanted (rules_of plan.now) progress.old block)) }
 {
-    if is_decided(&progress.tracks[progress.read], limits) {
+    if is_decided(&progress.tracks[progress.read], &plan.limits) {
         return Ok(());
     }
     let Some(block) = block else {
@@ -95,19 +96,19 @@ fn block_question(
 fn end_source<H: Helpers, T: Wait>(
     rt: &T,
     alloc: Global,
-    limits: &Limits,
+    plan: &Plan,
     helpers: &mut H,
     progress: &mut Progress,
     ending: Ending,
 ) -> Result<(), AllocError>
     requires may { MayAsk progress.old }
     requires unread { progress.old.read < vec_len progress.old.tracks }
-    ensures { OnOk result (EndsSource limits.now ending progress.old progress.new) }
+    ensures { OnOk result (EndsSource (rules_of plan.now) ending progress.old progress.new) }
 {
     let intake = mem::replace(&mut progress.intake, Intake::new(alloc));
     let bytes = u64::from(intake.count());
     let last = last_block(intake, ending)?;
-    ask_block(rt, alloc, limits, helpers, progress, last)?;
+    ask_block(rt, alloc, plan, helpers, progress, last)?;
     let place = progress.read;
     end_track(&mut progress.tracks[place], ending, bytes, progress.blocks);
     progress.blocks = 0;

@@ -2,6 +2,7 @@
 ghost use Rattle.std.specs.Prelude.{◌≡◌, ◌<◌, ◌≤◌, ◌+◌, ℕ, List, None, Some, true, false, length, map, vec_len, vec_capacity, [], IfOk, IfErr, OnOk};
 ghost use Rattle.aero_report.specs.Texts.{no_counts};
 ghost use Rattle.aero_model.specs.CallCounts.{Seen, seen_by};
+ghost use Rattle.aero_intake.specs.PlanRules.{rules_of};
 ghost use Rattle.aero_batch.specs.Founds.{Sighted, sighted, WasRun};
 ghost use Rattle.aero_batch.specs.Holding.{HasNumbers, IsBegun, Stands};
 
@@ -15,7 +16,6 @@ use aero_gather::gather::Tally;
 use aero_intake::plan::Plan;
 use aero_intake::source::Source;
 use aero_model::counting::Counting;
-use aero_model::limits::Limits;
 use aero_worker::{Crew, Gate};
 use std::alloc::{AllocError, Global};
 use std::io::{Read, Write};
@@ -40,7 +40,7 @@ pub fn run<R: Read, W: Write, G: Gate + Drop + 'static, T: Threads + Wait + Copy
     gate: Arc<G>,
 ) -> Outcome
     requires { length sources.old ≤ 65536 }
-    ensures ran { WasRun plan.now.limits (map (sighted R.remaining) sources.old) (map (sighted R.remaining) sources.new)
+    ensures ran { WasRun (rules_of plan.now) (map (sighted R.remaining) sources.old) (map (sighted R.remaining) sources.new)
         (seen_by W.contents writer.old) (seen_by W.contents writer.new) result.endings.items result.counts result.cause }
     ensures all_settled { result.cause ≡ None → result.tally.asked ≡ result.tally.kept + result.tally.done_here }
     ensures tallied { result.tally.kept + result.tally.done_here ≤ result.tally.asked }
@@ -65,7 +65,7 @@ pub fn run_over<R: Read, W: Write, H: Helpers, T: Wait>(
     helpers: &mut H,
 ) -> Outcome
     requires { length sources.old ≤ 65536 }
-    ensures ran { WasRun plan.now.limits (map (sighted R.remaining) sources.old) (map (sighted R.remaining) sources.new)
+    ensures ran { WasRun (rules_of plan.now) (map (sighted R.remaining) sources.old) (map (sighted R.remaining) sources.new)
         (seen_by W.contents writer.old) (seen_by W.contents writer.new) result.endings.items result.counts result.cause }
     ensures all_settled { result.cause ≡ None → result.tally.asked ≡ result.tally.kept + result.tally.done_here }
     ensures tallied { result.tally.kept + result.tally.done_here ≤ result.tally.asked }
@@ -75,11 +75,7 @@ pub fn run_over<R: Read, W: Write, H: Helpers, T: Wait>(
     let Ok((mut progress, mut told)) = begin(alloc, plan, sources.len(), workers == 0) else {
         return refused(alloc, workers);
     };
-    let around = Around {
-        rt,
-        alloc,
-        limits: &plan.limits,
-    };
+    let around = Around { rt, alloc, plan };
     match run_on(&around, sources, writer, helpers, &mut progress, &mut told) {
         Ok(()) => outcome_of(told, None, &progress.inquiry, workers),
         Err(cause) => outcome_of(told, Some(cause), &progress.inquiry, workers),
@@ -91,7 +87,7 @@ pub fn run_over<R: Read, W: Write, H: Helpers, T: Wait>(
 struct Around<'a, T> {
     rt: &'a T,
     alloc: Global,
-    limits: &'a Limits,
+    plan: &'a Plan,
 }
 
 // What stands before the first step, over so many sources.
@@ -102,7 +98,7 @@ fn begin(
     is_alone: bool,
 ) -> Result<(Progress, Told), AllocError>
     requires { sources ≤ 65536 }
-    ensures { IfOk result (λ begun. IsBegun plan.now.limits sources begun.0 begun.1) }
+    ensures { IfOk result (λ begun. IsBegun (rules_of plan.now) sources begun.0 begun.1) }
 {
     let told = Told::new(alloc, sources)?;
     let progress = Progress::new(alloc, plan, sources, is_alone)?;
@@ -160,10 +156,10 @@ fn run_on<R: Read, W: Write, H: Helpers, T: Wait>(
     progress: &mut Progress,
     told: &mut Told,
 ) -> Result<(), Cause>
-    requires { IsBegun around.now.limits.now (length sources.old) progress.old told.old }
-    ensures done { OnOk result (WasRun around.now.limits.now (map (sighted R.remaining) sources.old) (map (sighted R.remaining) sources.new)
+    requires { IsBegun (rules_of around.now.plan.now) (length sources.old) progress.old told.old }
+    ensures done { OnOk result (WasRun (rules_of around.now.plan.now) (map (sighted R.remaining) sources.old) (map (sighted R.remaining) sources.new)
         (seen_by W.contents writer.old) (seen_by W.contents writer.new) told.new.endings.items told.new.counts None) }
-    ensures stopped { IfErr result (λ cause. WasRun around.now.limits.now (map (sighted R.remaining) sources.old) (map (sighted R.remaining) sources.new)
+    ensures stopped { IfErr result (λ cause. WasRun (rules_of around.now.plan.now) (map (sighted R.remaining) sources.old) (map (sighted R.remaining) sources.new)
         (seen_by W.contents writer.old) (seen_by W.contents writer.new) told.new.endings.items told.new.counts (Some cause)) }
     ensures settled { OnOk result (length progress.new.inquiry.open_ones ≡ 0) }
 {
@@ -185,22 +181,22 @@ fn advance<R: Read, W: Write, H: Helpers, T: Wait>(
     progress: &mut Progress,
     told: &mut Told,
 ) -> Result<bool, Cause>
-    requires { HasNumbers around.now.limits.now (length sources.old) progress.old told.old }
-    ensures stands { OnOk result ((old : List Sighted) (before : Seen) → Stands around.now.limits.now old (map (sighted R.remaining) sources.old) before (seen_by W.contents writer.old) progress.old told.old
-        → Stands around.now.limits.now old (map (sighted R.remaining) sources.new) before (seen_by W.contents writer.new) progress.new told.new) }
-    ensures stopped { IfErr result (λ cause. (old : List Sighted) (before : Seen) → Stands around.now.limits.now old (map (sighted R.remaining) sources.old) before (seen_by W.contents writer.old) progress.old told.old
-        → WasRun around.now.limits.now old (map (sighted R.remaining) sources.new) before (seen_by W.contents writer.new) told.new.endings.items told.new.counts (Some cause)) }
+    requires { HasNumbers (rules_of around.now.plan.now) (length sources.old) progress.old told.old }
+    ensures stands { OnOk result ((old : List Sighted) (before : Seen) → Stands (rules_of around.now.plan.now) old (map (sighted R.remaining) sources.old) before (seen_by W.contents writer.old) progress.old told.old
+        → Stands (rules_of around.now.plan.now) old (map (sighted R.remaining) sources.new) before (seen_by W.contents writer.new) progress.new told.new) }
+    ensures stopped { IfErr result (λ cause. (old : List Sighted) (before : Seen) → Stands (rules_of around.now.plan.now) old (map (sighted R.remaining) sources.old) before (seen_by W.contents writer.old) progress.old told.old
+        → WasRun (rules_of around.now.plan.now) old (map (sighted R.remaining) sources.new) before (seen_by W.contents writer.new) told.new.endings.items told.new.counts (Some cause)) }
     ensures all_told { IfOk result (λ is_done. is_done ≡ true → vec_len told.new.endings ≡ length sources.new) }
     ensures all_settled { IfOk result (λ is_done. is_done ≡ true → length progress.new.inquiry.open_ones ≡ 0) }
 {
-    let Around { rt, alloc, limits } = *around;
-    if tell_ready(alloc, limits, sources, progress, writer, told)? {
+    let Around { rt, alloc, plan } = *around;
+    if tell_ready(alloc, plan, sources, progress, writer, told)? {
         return Ok(false);
     }
     if told.endings.len() == sources.len() && progress.inquiry.is_settled() {
         return Ok(true);
     }
-    match step(rt, alloc, limits, sources, helpers, progress) {
+    match step(rt, alloc, plan, sources, helpers, progress) {
         Ok(()) => Ok(false),
         Err(refused) => Err(cause_of(refused)),
     }
@@ -216,18 +212,18 @@ fn cause_of(_refused: AllocError) -> Cause
 // Writes the next line, where it is found what it is to say. The answer says whether it is.
 fn tell_ready<R: Read, W: Write>(
     alloc: Global,
-    limits: &Limits,
+    plan: &Plan,
     sources: &[Source<R>],
     progress: &Progress,
     writer: &mut Counting<W>,
     told: &mut Told,
 ) -> Result<bool, Cause>
-    requires { HasNumbers limits.now (length sources.now) progress.now told.old }
-    ensures stands { IfOk result (λ is_told. is_told ≡ true → (old : List Sighted) (before : Seen) → Stands limits.now old (map (sighted R.remaining) sources.now) before (seen_by W.contents writer.old) progress.now told.old
-        → Stands limits.now old (map (sighted R.remaining) sources.now) before (seen_by W.contents writer.new) progress.now told.new) }
+    requires { HasNumbers (rules_of plan.now) (length sources.now) progress.now told.old }
+    ensures stands { IfOk result (λ is_told. is_told ≡ true → (old : List Sighted) (before : Seen) → Stands (rules_of plan.now) old (map (sighted R.remaining) sources.now) before (seen_by W.contents writer.old) progress.now told.old
+        → Stands (rules_of plan.now) old (map (sighted R.remaining) sources.now) before (seen_by W.contents writer.new) progress.now told.new) }
     ensures unchanged { IfOk result (λ is_told. is_told ≡ false → (seen_by W.contents writer.new ≡ seen_by W.contents writer.old) × (told.new ≡ told.old)) }
-    ensures stopped { IfErr result (λ cause. (old : List Sighted) (before : Seen) → Stands limits.now old (map (sighted R.remaining) sources.now) before (seen_by W.contents writer.old) progress.now told.old
-        → WasRun limits.now old (map (sighted R.remaining) sources.now) before (seen_by W.contents writer.new) told.new.endings.items told.new.counts (Some cause)) }
+    ensures stopped { IfErr result (λ cause. (old : List Sighted) (before : Seen) → Stands (rules_of plan.now) old (map (sighted R.remaining) sources.now) before (seen_by W.contents writer.old) progress.now told.old
+        → WasRun (rules_of plan.now) old (map (sighted R.remaining) sources.now) before (seen_by W.contents writer.new) told.new.endings.items told.new.counts (Some cause)) }
 {
     let place = told.endings.len();
     if place >= progress.checked {

@@ -3,15 +3,16 @@ ghost use Rattle.std.specs.Prelude.{◌≡◌, ◌<◌, ◌≤◌, ℕ, length, 
 ghost use Rattle.aero_model.specs.CallCounts.{seen_by};
 ghost use Rattle.aero_batch.specs.Founds.{sighted};
 ghost use Rattle.aero_batch.specs.Holding.{Counted};
+ghost use Rattle.aero_intake.specs.PlanRules.{rules_of};
 ghost use Rattle.aero_batch.specs.Steps.{Steps};
 
 use crate::checking::{check_next, settle_next};
 use crate::helpers::Helpers;
 use crate::progress::Progress;
 use crate::reading::read_on;
+use aero_intake::plan::Plan;
 use aero_intake::source::Source;
 use aero_intake::track::is_ready;
-use aero_model::limits::Limits;
 use std::alloc::{AllocError, Global};
 use std::io::Read;
 use std::sync::Wait;
@@ -22,32 +23,32 @@ use std::sync::Wait;
 pub fn step<R: Read, H: Helpers, T: Wait>(
     rt: &T,
     alloc: Global,
-    limits: &Limits,
+    plan: &Plan,
     sources: &mut [Source<R>],
     helpers: &mut H,
     progress: &mut Progress,
 ) -> Result<(), AllocError>
-    requires { Counted limits.now (length sources.old) progress.old }
-    ensures steps { OnOk result (Steps limits.now (map (sighted R.remaining) sources.old) (map (sighted R.remaining) sources.new) progress.old progress.new) }
+    requires { Counted (rules_of plan.now) (length sources.old) progress.old }
+    ensures steps { OnOk result (Steps (rules_of plan.now) (map (sighted R.remaining) sources.old) (map (sighted R.remaining) sources.new) progress.old progress.new) }
     ensures names { map (λ s. s.name) (map (sighted R.remaining) sources.new) ≡ map (λ s. s.name) (map (sighted R.remaining) sources.old) }
     ensures others { (s : ℕ) → (progress.old.read ≡ s → ⊥) → slice_get (map (sighted R.remaining) sources.new) s ≡ slice_get (map (sighted R.remaining) sources.old) s }
 {
     let is_answered = progress.inquiry.hear(rt, helpers);
-    step_on(rt, alloc, limits, sources, helpers, progress, is_answered)
+    step_on(rt, alloc, plan, sources, helpers, progress, is_answered)
 }
 
 // The same, where it is said whether the oldest question has its answer.
 fn step_on<R: Read, H: Helpers, T: Wait>(
     rt: &T,
     alloc: Global,
-    limits: &Limits,
+    plan: &Plan,
     sources: &mut [Source<R>],
     helpers: &mut H,
     progress: &mut Progress,
     is_answered: bool,
 ) -> Result<(), AllocError>
-    requires { Counted limits.now (length sources.old) progress.old }
-    ensures steps { OnOk result (Steps limits.now (map (sighted R.remaining) sources.old) (map (sighted R.remaining) sources.new) progress.old progress.new) }
+    requires { Counted (rules_of plan.now) (length sources.old) progress.old }
+    ensures steps { OnOk result (Steps (rules_of plan.now) (map (sighted R.remaining) sources.old) (map (sighted R.remaining) sources.new) progress.old progress.new) }
     ensures names { map (λ s. s.name) (map (sighted R.remaining) sources.new) ≡ map (λ s. s.name) (map (sighted R.remaining) sources.old) }
     ensures others { (s : ℕ) → (progress.old.read ≡ s → ⊥) → slice_get (map (sighted R.remaining) sources.new) s ≡ slice_get (map (sighted R.remaining) sources.old) s }
 {
@@ -55,11 +56,11 @@ fn step_on<R: Read, H: Helpers, T: Wait>(
         return settle_next(rt, helpers, progress);
     }
     if progress.checked < progress.read && is_ready(&progress.tracks[progress.checked]) {
-        return check_next(rt, alloc, limits, helpers, progress);
+        return check_next(rt, alloc, plan, helpers, progress);
     }
     if !is_answered && progress.read < sources.len() {
         let source = &mut sources[progress.read];
-        return read_on(rt, alloc, limits, &mut source.reader, helpers, progress);
+        return read_on(rt, alloc, plan, &mut source.reader, helpers, progress);
     }
     settle_next(rt, helpers, progress)
 }

@@ -3,7 +3,6 @@ use Rattle.std.proofs.Common.{◌≡◌, ℕ, suc, ◌+◌, ◌<◌, nat_le, nat
 use Rattle.std.specs.Prelude.{IfSome, is_some, option_map, if◌then◌else◌}
 use Rattle.std.proofs.lemmas.Bool.{cond-true, cond-false, cond_both, cases_lt, lt-leb, lt-ltb, le-ltb}
 use Rattle.std.proofs.lemmas.List.{map-append}
-use Rattle.aero_model.specs.declared.limits.Limits.{Limits}
 use Rattle.aero_model.specs.declared.verdict.LineFault.{LineFault}
 use Rattle.aero_model.specs.declared.verdict.LineFault.TheVariants.{TooManyLines}
 use Rattle.aero_model.specs.Lines.{lines_of}
@@ -12,6 +11,7 @@ use Rattle.aero_grammar.specs.Meaning.{Meaning, Blank, Means, Faulty, meaning}
 use Rattle.aero_grammar.specs.Reading.{Reading, after_lines, followed_by, whole_reading, line_reading, reading_of, events_within, fault_within, malformed_line}
 use Rattle.aero_grammar.proofs.Joined.{reading, whole_reading-append}
 use Rattle.aero_verdict.proofs.Readings.{after_faulty, after_faultless}
+use Rattle.aero_verdict.specs.Verdict.{Rules}
 use Rattle.aero_intake.specs.Laws.{FirstBlocksDecide}
 use Rattle.aero_intake.specs.Tracks.{decides}
 use Rattle.aero_intake.proofs.Judged.{one_read, same_verdict}
@@ -84,20 +84,20 @@ counts_alike limit e n None v is above =
       fault = too_many limit n beyond ∙ sym (fault_later limit n v.lines v.fault beyond above);
     }
 
-pub front_counts : (limits : Limits) (front more : List (List ℕ)) → decides limits (map reading_of front) ≡ true →
-    CountsAlike limits.lines (whole_reading (map reading_of front)) (whole_reading (map reading_of (front ++ more)))
-front_counts limits front more is =
+pub front_counts : (rules : Rules) (front more : List (List ℕ)) → decides rules.limits (map reading_of front) ≡ true →
+    CountsAlike rules.limits.lines (whole_reading (map reading_of front)) (whole_reading (map reading_of (front ++ more)))
+front_counts rules front more is =
     let w = whole_reading (map reading_of front) in
     let v = whole_reading (map reading_of more) in
     let joined : whole_reading (map reading_of (front ++ more)) ≡ followed_by w v = ap whole_reading (map-append reading_of front more) ∙ whole_reading-append (map reading_of front) (map reading_of more) in
-    rw joined (counts_alike limits.lines w.events w.lines w.fault v is (blocks_above more))
+    rw joined (counts_alike rules.limits.lines w.events w.lines w.fault v is (blocks_above more))
 
 pub first_blocks_decide : FirstBlocksDecide
-first_blocks_decide front more limits verdict is =
-    let alike = front_counts limits front more is in
+first_blocks_decide front more rules verdict is =
+    let alike = front_counts rules front more is in
     let fronts = map reading_of front in
     let all = map reading_of (front ++ more) in
-    (same_verdict limits fronts all alike.events alike.fault verdict, same_verdict limits all fronts (sym alike.events) (sym alike.fault) verdict)
+    (same_verdict rules fronts all alike.events alike.fault verdict, same_verdict rules all fronts (sym alike.events) (sym alike.fault) verdict)
 
 -- more blocks decide where the first ones do
 
@@ -110,11 +110,11 @@ still_decides limit e n None d m (Some g) is = fault_is limit (n + g.0) g.1
     fault_is : (limit line : ℕ) (fault : LineFault) → is_some (fault_within limit 0 (Some (line, fault))) ≡ true
     fault_is limit line fault = cond_both (nat_le line (suc limit)) (Some (line, fault)) (Some (suc limit, TooManyLines)) (λ o. is_some o ≡ true) (λ _. refl) (λ _. refl)
 
-pub more_decide : (limits : Limits) (front more : List Reading) → decides limits front ≡ true → decides limits (front ++ more) ≡ true
-more_decide limits front more is =
+pub more_decide : (rules : Rules) (front more : List Reading) → decides rules.limits front ≡ true → decides rules.limits (front ++ more) ≡ true
+more_decide rules front more is =
     let w = whole_reading front in
     let v = whole_reading more in
-    rw (whole_reading-append front more) (still_decides limits.lines w.events w.lines w.fault v.events v.lines v.fault is)
+    rw (whole_reading-append front more) (still_decides rules.limits.lines w.events w.lines w.fault v.events v.lines v.fault is)
 
 -- how many lines there are with one block more, and whether one of them is malformed
 

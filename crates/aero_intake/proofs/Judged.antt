@@ -4,13 +4,13 @@ use Rattle.std.proofs.lemmas.List.{append-nil}
 use Rattle.std.specs.Prelude.{map, option_map, slice_get, length}
 use Rattle.std.specs.List.{concat}
 use Rattle.aero_model.specs.declared.numbered.Numbered.{Numbered}
-use Rattle.aero_model.specs.declared.limits.Limits.{Limits}
 use Rattle.aero_model.specs.declared.verdict.LineFault.{LineFault}
 use Rattle.aero_model.specs.declared.verdict.ShapeFault.{ShapeFault}
 use Rattle.aero_model.specs.declared.verdict.Verdict.{Verdict}
 use Rattle.aero_model.specs.declared.verdict.Verdict.TheVariants.{Serializable, Pending, Violation, Malformed, IllFormed}
 use Rattle.aero_model.specs.Blocks.{Block, opens, transaction}
 use Rattle.aero_model.specs.Cycle.{HasTellingCycle, IsClosing, IsOpener}
+use Rattle.aero_model.specs.Exempt.{judged_trace, marked_trace}
 use Rattle.aero_model.specs.Named.{Named}
 use Rattle.aero_model.specs.Numbering.{tables_of, trace_of}
 use Rattle.aero_model.specs.Shape.{IsLawful, fault_at}
@@ -19,7 +19,7 @@ use Rattle.aero_grammar.specs.Reading.{Reading, reading_of, whole_reading, event
 use Rattle.aero_grammar.proofs.Joined.{reading_of-cap, reading_of-concat}
 use Rattle.aero_lines.specs.Cutting.{nothing_yet, blocks_from}
 use Rattle.aero_lines.proofs.Runs.{blocks_are_the_text}
-use Rattle.aero_verdict.specs.Verdict.{IsVerdict, IsViolation, IsIllFormed, IsMalformed, IsFaultless, IsClean, BeginsOnLine}
+use Rattle.aero_verdict.specs.Verdict.{Rules, IsVerdict, IsViolation, IsIllFormed, IsMalformed, IsFaultless, IsClean, BeginsOnLine}
 use Rattle.aero_intake.specs.Laws.{BlocksJudgeAsTheText}
 
 -- what the blocks say, one after the other, is what the text says
@@ -40,33 +40,36 @@ one_read r = go r.events r.lines r.fault
     go events lines (Some f) = refl
 
 -- a verdict speaks of parts through the events that count and the malformed line
-module _ (limits : Limits) (parts others : List Reading) (same : events_within limits.lines (whole_reading parts) ≡ events_within limits.lines (whole_reading others))
-    (same_fault : malformed_line limits.lines (whole_reading parts) ≡ malformed_line limits.lines (whole_reading others)) where
+module _ (rules : Rules) (parts others : List Reading) (same : events_within rules.limits.lines (whole_reading parts) ≡ events_within rules.limits.lines (whole_reading others))
+    (same_fault : malformed_line rules.limits.lines (whole_reading parts) ≡ malformed_line rules.limits.lines (whole_reading others)) where
   abbrev counted : List Reading → List (ℕ × Named)
-  counted rs = events_within limits.lines (whole_reading rs)
+  counted rs = events_within rules.limits.lines (whole_reading rs)
 
   abbrev named : List (ℕ × Named) → List Named
   named es = map (λ e. e.1) es
 
+  abbrev read : List (ℕ × Named) → List Numbered
+  read es = trace_of (named es)
+
   abbrev trace : List (ℕ × Named) → List Numbered
-  trace es = trace_of (named es)
+  trace es = judged_trace (marked_trace rules.labels (named es))
 
   on_line : (n line : ℕ) → option_map (λ e. e.0) (slice_get (counted parts) n) ≡ Some line → option_map (λ e. e.0) (slice_get (counted others) n) ≡ Some line
   on_line n line is = subst (λ es. option_map (λ e. e.0) (slice_get es n) ≡ Some line) same is
 
-  lawful : (n : ℕ) → IsLawful limits (trace (counted parts)) n → IsLawful limits (trace (counted others)) n
-  lawful n is = subst (λ es. IsLawful limits (trace es) n) same is
+  lawful : (n : ℕ) → IsLawful rules.limits (read (counted parts)) n → IsLawful rules.limits (read (counted others)) n
+  lawful n is = subst (λ es. IsLawful rules.limits (read es) n) same is
 
-  clean : (n : ℕ) → IsClean parts limits n → IsClean others limits n
+  clean : (n : ℕ) → IsClean parts rules n → IsClean others rules n
   clean n is = record {
     lawful = lawful n is.lawful;
     no_cycle = subst (λ es. ¬ HasTellingCycle (trace es) n) same is.no_cycle;
   }
 
-  clean_all : IsClean parts limits (length (trace (counted parts))) → IsClean others limits (length (trace (counted others)))
-  clean_all is = subst (λ es. IsClean others limits (length (trace es))) same (clean _ is)
+  clean_all : IsClean parts rules (length (trace (counted parts))) → IsClean others rules (length (trace (counted others)))
+  clean_all is = subst (λ es. IsClean others rules (length (trace es))) same (clean _ is)
 
-  begins : (t number line : ℕ) → BeginsOnLine parts limits t number line → BeginsOnLine others limits t number line
+  begins : (t number line : ℕ) → BeginsOnLine parts rules t number line → BeginsOnLine others rules t number line
   begins t number line is = record {
     place = is.place;
     outermost = subst (λ es. opens (trace es) t is.place ≡ true) same is.outermost;
@@ -74,7 +77,7 @@ module _ (limits : Limits) (parts others : List Reading) (same : events_within l
     line_of = on_line is.place line is.line_of;
   }
 
-  violation : (line : ℕ) (thread : List ℕ) (begun : ℕ) → IsViolation parts limits line thread begun → IsViolation others limits line thread begun
+  violation : (line : ℕ) (thread : List ℕ) (begun : ℕ) → IsViolation parts rules line thread begun → IsViolation others rules line thread begun
   violation line thread begun is = record {
     place = is.place;
     lawful = lawful (suc is.place) is.lawful;
@@ -87,21 +90,21 @@ module _ (limits : Limits) (parts others : List Reading) (same : events_within l
     begins = begins is.t is.number begun is.begins;
   }
 
-  ill_formed : (line : ℕ) (fault : ShapeFault) → IsIllFormed parts limits line fault → IsIllFormed others limits line fault
+  ill_formed : (line : ℕ) (fault : ShapeFault) → IsIllFormed parts rules line fault → IsIllFormed others rules line fault
   ill_formed line fault is = record {
     place = is.place;
     clean = clean is.place is.clean;
-    cause = subst (λ es. fault_at limits (trace es) is.place ≡ Some fault) same is.cause;
+    cause = subst (λ es. fault_at rules.limits (read es) is.place ≡ Some fault) same is.cause;
     line_of = on_line is.place line is.line_of;
   }
 
-  malformed : (line : ℕ) (fault : LineFault) → IsMalformed parts limits line fault → IsMalformed others limits line fault
+  malformed : (line : ℕ) (fault : LineFault) → IsMalformed parts rules line fault → IsMalformed others rules line fault
   malformed line fault is = record {
     clean = clean_all is.clean;
     cause = sym same_fault ∙ is.cause;
   }
 
-  faultless : (events blocks pending : ℕ) → IsFaultless parts limits events blocks pending → IsFaultless others limits events blocks pending
+  faultless : (events blocks pending : ℕ) → IsFaultless parts rules events blocks pending → IsFaultless others rules events blocks pending
   faultless events blocks pending is = record {
     clean = clean_all is.clean;
     no_fault = sym same_fault ∙ is.no_fault;
@@ -110,7 +113,7 @@ module _ (limits : Limits) (parts others : List Reading) (same : events_within l
     open_are = subst (λ es. pending ≡ open_count (trace es)) same is.open_are;
   }
 
-  pub same_verdict : (verdict : Verdict) → IsVerdict parts limits verdict → IsVerdict others limits verdict
+  pub same_verdict : (verdict : Verdict) → IsVerdict parts rules verdict → IsVerdict others rules verdict
   same_verdict (Serializable events blocks) is = faultless events blocks 0 is
   same_verdict (Pending events blocks pending) is = (is.0, faultless events blocks pending is.1)
   same_verdict (Violation line thread begun) is = violation line thread begun is
@@ -119,10 +122,10 @@ module _ (limits : Limits) (parts others : List Reading) (same : events_within l
 
 -- the verdicts on what a text says are those on what its blocks say
 pub judged_alike : BlocksJudgeAsTheText
-judged_alike pieces limits verdict =
+judged_alike pieces rules verdict =
     let parts = map reading_of (blocks_from nothing_yet pieces) in
     let text = reading_of (concat pieces) in
     let same : whole_reading parts ≡ whole_reading (text ∷ []) = blocks_read pieces ∙ sym (one_read text) in
-    let events = ap (events_within limits.lines) same in
-    let fault = ap (malformed_line limits.lines) same in
-    (same_verdict limits parts (text ∷ []) events fault verdict, same_verdict limits (text ∷ []) parts (sym events) (sym fault) verdict)
+    let events = ap (events_within rules.limits.lines) same in
+    let fault = ap (malformed_line rules.limits.lines) same in
+    (same_verdict rules parts (text ∷ []) events fault verdict, same_verdict rules (text ∷ []) parts (sym events) (sym fault) verdict)

@@ -19,7 +19,7 @@ use Rattle.aero_pieces.specs.declared.answer.Value.{Value}
 use Rattle.aero_pieces.specs.declared.answer.Value.TheVariants.{Parsed, Judged}
 use Rattle.aero_pieces.specs.Values.{IsValueOf}
 use Rattle.aero_verdict.specs.Finding.{IsFinding}
-use Rattle.aero_verdict.specs.Verdict.{IsVerdict}
+use Rattle.aero_verdict.specs.Verdict.{Rules, under, IsVerdict}
 use Rattle.aero_intake.specs.declared.track.Track.{Track}
 use Rattle.aero_intake.specs.declared.track.Track.TheVariants.{Arriving, Arrived, Checking, Found}
 use Rattle.aero_intake.specs.Stories.{Story, Asked, AreEnough, own_block, own_check, blocks_asked, checks_asked, HasArrived, AreSettled, IsTracked, AreTracked, changed, trace_of}
@@ -35,14 +35,14 @@ own_block-same s trace number bytes same = ap (λ b. if b then bytes ∷ [] else
 
 pub own_block-other : (s : ℕ) (q : Question) → (trace_of q ≡ s → ⊥) → own_block s q ≡ []
 own_block-other s (Parse trace number bytes) other = ap (λ b. if b then bytes ∷ [] else []) (ne_eqb trace s other)
-own_block-other s (Check trace parts limits) other = refl
+own_block-other s (Check trace parts limits labels) other = refl
 
-own_check-same : (s trace : ℕ) (parts : List Reading) (limits : Limits) → trace ≡ s → own_check s (Check trace parts limits) ≡ record { parts = parts; limits = limits } ∷ []
-own_check-same s trace parts limits same = ap (λ b. if b then record { parts = parts; limits = limits } ∷ [] else []) (eq-eqb trace s same)
+own_check-same : (s trace : ℕ) (parts : List Reading) (limits : Limits) (labels : List (List ℕ)) → trace ≡ s → own_check s (Check trace parts limits labels) ≡ record { parts = parts; rules = under limits labels } ∷ []
+own_check-same s trace parts limits labels same = ap (λ b. if b then record { parts = parts; rules = under limits labels } ∷ [] else []) (eq-eqb trace s same)
 
 pub own_check-other : (s : ℕ) (q : Question) → (trace_of q ≡ s → ⊥) → own_check s q ≡ []
 own_check-other s (Parse trace number bytes) other = refl
-own_check-other s (Check trace parts limits) other = ap (λ b. if b then record { parts = parts; limits = limits } ∷ [] else []) (ne_eqb trace s other)
+own_check-other s (Check trace parts limits labels) other = ap (λ b. if b then record { parts = parts; rules = under limits labels } ∷ [] else []) (ne_eqb trace s other)
 
 blocks_asked-more : (s : ℕ) (qs : List Question) (q : Question) → blocks_asked s (qs ++ q ∷ []) ≡ blocks_asked s qs ++ own_block s q
 blocks_asked-more s [] q = append-nil (own_block s q)
@@ -83,23 +83,23 @@ nil_right (x ∷ xs) ys is = cc
 -- settling
 
 -- what is known of a source of which nothing is settled
-settled_other : (limits : Limits) (q : Question) (rest : List Question) (s : ℕ) (story : Story) (t : Track) → own_block s q ≡ [] → own_check s q ≡ [] →
-    IsTracked limits (q ∷ rest) s story t → IsTracked limits rest s story t
-settled_other limits q rest s story (Arriving readings) no_block no_check is = (
+settled_other : (rules : Rules) (q : Question) (rest : List Question) (s : ℕ) (story : Story) (t : Track) → own_block s q ≡ [] → own_check s q ≡ [] →
+    IsTracked rules (q ∷ rest) s story t → IsTracked rules rest s story t
+settled_other rules q rest s story (Arriving readings) no_block no_check is = (
   subst (λ bs. readings ++ map reading_of (bs ++ blocks_asked s rest) ≡ map reading_of story.blocks) no_block is.0,
   subst (λ cs. cs ++ checks_asked s rest ≡ []) no_check is.1,
   is.2,
 )
-settled_other limits q rest s story (Arrived bytes blocks readings) no_block no_check is = (
+settled_other rules q rest s story (Arrived bytes blocks readings) no_block no_check is = (
   subst (λ bs. readings ++ map reading_of (bs ++ blocks_asked s rest) ≡ map reading_of story.blocks) no_block is.0,
   subst (λ cs. cs ++ checks_asked s rest ≡ []) no_check is.1,
   is.2,
 )
-settled_other limits q rest s story (Checking bytes) no_block no_check is = (
-  subst (λ cs. All (λ a. a ≡ record { parts = map reading_of story.blocks; limits = limits }) (cs ++ checks_asked s rest)) no_check is.0,
+settled_other rules q rest s story (Checking bytes) no_block no_check is = (
+  subst (λ cs. All (λ a. a ≡ record { parts = map reading_of story.blocks; rules = rules }) (cs ++ checks_asked s rest)) no_check is.0,
   is.1,
 )
-settled_other limits q rest s story (Found bytes ending finding) no_block no_check is = is
+settled_other rules q rest s story (Found bytes ending finding) no_block no_check is = is
 
 -- the block that is settled goes from those that are asked about to those that are read
 part_settled : (story : Story) (rest : List Question) (s trace number : ℕ) (bytes : List ℕ) (readings : List Reading) (r : Reading) → trace ≡ s → r ≡ reading_of bytes →
@@ -110,16 +110,16 @@ part_settled story rest s trace number bytes readings r same is before =
     ∙ (sym (ap (λ bs. readings ++ map reading_of (bs ++ blocks_asked s rest)) (own_block-same s trace number bytes same)) ∙ before))
 
 -- the blocks that were asked about have the verdict of all
-enough_judged : (limits : Limits) (asked all : List (List ℕ)) (w : Verdict) → AreEnough limits asked all → IsVerdict (map reading_of asked) limits w → IsVerdict (map reading_of all) limits w
-enough_judged limits asked all w (inl same) is = subst (λ bs. IsVerdict (map reading_of bs) limits w) same is
-enough_judged limits asked all w (inr alike) is =
-    let first = (first_blocks_decide alike.front alike.rest limits w alike.decided).1 (subst (λ bs. IsVerdict (map reading_of bs) limits w) alike.asked_are is) in
-    subst (λ bs. IsVerdict (map reading_of bs) limits w) (sym alike.all_are) ((first_blocks_decide alike.front alike.others limits w alike.decided).0 first)
+enough_judged : (rules : Rules) (asked all : List (List ℕ)) (w : Verdict) → AreEnough rules asked all → IsVerdict (map reading_of asked) rules w → IsVerdict (map reading_of all) rules w
+enough_judged rules asked all w (inl same) is = subst (λ bs. IsVerdict (map reading_of bs) rules w) same is
+enough_judged rules asked all w (inr alike) is =
+    let first = (first_blocks_decide alike.front alike.rest rules w alike.decided).1 (subst (λ bs. IsVerdict (map reading_of bs) rules w) alike.asked_are is) in
+    subst (λ bs. IsVerdict (map reading_of bs) rules w) (sym alike.all_are) ((first_blocks_decide alike.front alike.others rules w alike.decided).0 first)
 
 -- one more block is asked about, or none
-pub enough_asked : (limits : Limits) (asked all more : List (List ℕ)) → AreEnough limits asked all → AreEnough limits (asked ++ more) (all ++ more)
-enough_asked limits asked all more (inl same) = inl (ap (λ bs. bs ++ more) same)
-enough_asked limits asked all more (inr alike) = inr (record {
+pub enough_asked : (rules : Rules) (asked all more : List (List ℕ)) → AreEnough rules asked all → AreEnough rules (asked ++ more) (all ++ more)
+enough_asked rules asked all more (inl same) = inl (ap (λ bs. bs ++ more) same)
+enough_asked rules asked all more (inr alike) = inr (record {
   front = alike.front;
   rest = alike.rest ++ more;
   others = alike.others ++ more;
@@ -129,8 +129,8 @@ enough_asked limits asked all more (inr alike) = inr (record {
 })
 
 -- one more block is dropped, or none, where those that were asked about decide
-pub enough_dropped : (limits : Limits) (asked all more : List (List ℕ)) → decides limits (map reading_of asked) ≡ true → AreEnough limits asked all → AreEnough limits asked (all ++ more)
-enough_dropped limits asked all more decided (inl same) = inr (record {
+pub enough_dropped : (rules : Rules) (asked all more : List (List ℕ)) → decides rules.limits (map reading_of asked) ≡ true → AreEnough rules asked all → AreEnough rules asked (all ++ more)
+enough_dropped rules asked all more decided (inl same) = inr (record {
   front = asked;
   rest = [];
   others = more;
@@ -138,7 +138,7 @@ enough_dropped limits asked all more decided (inl same) = inr (record {
   all_are = ap (λ bs. bs ++ more) (sym same);
   decided = decided;
 })
-enough_dropped limits asked all more decided (inr alike) = inr (record {
+enough_dropped rules asked all more decided (inr alike) = inr (record {
   front = alike.front;
   rest = alike.rest;
   others = alike.others ++ more;
@@ -147,52 +147,52 @@ enough_dropped limits asked all more decided (inr alike) = inr (record {
   decided = alike.decided;
 })
 
-verdict_found : (limits : Limits) (story : Story) (bytes : ℕ) (parts : List Reading) (asked : Limits) (w : Verdict) →
-    ◌≡◌ {A = Asked} (record { parts = parts; limits = asked }) (record { parts = map reading_of story.blocks; limits = limits }) →
-    HasArrived limits story bytes (length story.blocks) → ∥ IsVerdict parts asked w ∥₁ → ∥ IsFinding (concat story.pieces) endings.Whole limits (findings.Judged w) ∥₁
-verdict_found limits story bytes parts asked w same has known =
-    let there : ∥ IsVerdict (map reading_of story.blocks) limits w ∥₁ = subst (λ (a : Asked). ∥ IsVerdict a.parts a.limits w ∥₁) same known in
-    ∥∥₁_elim there squash₁ (λ v. merely (w, (judged_alike story.pieces limits w).0 (enough_judged limits story.blocks (blocks_from nothing_yet story.pieces) w has.enough v), refl))
+verdict_found : (rules : Rules) (story : Story) (bytes : ℕ) (parts : List Reading) (asked : Rules) (w : Verdict) →
+    ◌≡◌ {A = Asked} (record { parts = parts; rules = asked }) (record { parts = map reading_of story.blocks; rules = rules }) →
+    HasArrived rules story bytes (length story.blocks) → ∥ IsVerdict parts asked w ∥₁ → ∥ IsFinding (concat story.pieces) endings.Whole rules (findings.Judged w) ∥₁
+verdict_found rules story bytes parts asked w same has known =
+    let there : ∥ IsVerdict (map reading_of story.blocks) rules w ∥₁ = subst (λ (a : Asked). ∥ IsVerdict a.parts a.rules w ∥₁) same known in
+    ∥∥₁_elim there squash₁ (λ v. merely (w, (judged_alike story.pieces rules w).0 (enough_judged rules story.blocks (blocks_from nothing_yet story.pieces) w has.enough v), refl))
 
 -- what is known of the source of which a question is settled
-settled_own : (limits : Limits) (q : Question) (rest : List Question) (s : ℕ) (story : Story) (t : Track) (v : Value) → trace_of q ≡ s → IsValueOf q v →
-    IsTracked limits (q ∷ rest) s story t → IsTracked limits rest s story (with_value t v)
-settled_own limits (Parse trace number bytes) rest s story (Arriving readings) (Parsed r) same known is =
+settled_own : (rules : Rules) (q : Question) (rest : List Question) (s : ℕ) (story : Story) (t : Track) (v : Value) → trace_of q ≡ s → IsValueOf q v →
+    IsTracked rules (q ∷ rest) s story t → IsTracked rules rest s story (with_value t v)
+settled_own rules (Parse trace number bytes) rest s story (Arriving readings) (Parsed r) same known is =
     (part_settled story rest s trace number bytes readings r same (parsed_value trace number bytes r known) is.0, is.1, is.2)
-settled_own limits (Parse trace number bytes) rest s story (Arrived n blocks readings) (Parsed r) same known is =
+settled_own rules (Parse trace number bytes) rest s story (Arrived n blocks readings) (Parsed r) same known is =
     (part_settled story rest s trace number bytes readings r same (parsed_value trace number bytes r known) is.0, is.1, is.2)
-settled_own limits (Parse trace number bytes) rest s story (Checking n) (Parsed r) same known is = is
-settled_own limits (Parse trace number bytes) rest s story (Found n ending finding) (Parsed r) same known is = is
-settled_own limits (Parse trace number bytes) rest s story t (Judged w) same known is = absurd (not_judged trace number bytes w known)
-settled_own limits (Check trace parts asked) rest s story t (Parsed r) same known is = absurd (not_parsed trace parts asked r known)
-settled_own limits (Check trace parts asked) rest s story (Arriving readings) (Judged w) same known is =
-    (is.0, nil_right (own_check s (Check trace parts asked)) (checks_asked s rest) is.1, is.2)
-settled_own limits (Check trace parts asked) rest s story (Arrived n blocks readings) (Judged w) same known is =
-    (is.0, nil_right (own_check s (Check trace parts asked)) (checks_asked s rest) is.1, is.2)
-settled_own limits (Check trace parts asked) rest s story (Checking n) (Judged w) same known is =
-    let all = subst (λ cs. All (λ a. a ≡ record { parts = map reading_of story.blocks; limits = limits }) (cs ++ checks_asked s rest)) (own_check-same s trace parts asked same) is.0 in
-    let first = All-head (λ a. a ≡ record { parts = map reading_of story.blocks; limits = limits }) (record { parts = parts; limits = asked }) (checks_asked s rest) all in
-    (is.1.ended, is.1.byte_count, verdict_found limits story n parts asked w first is.1 known)
-settled_own limits (Check trace parts asked) rest s story (Found n ending finding) (Judged w) same known is = is
+settled_own rules (Parse trace number bytes) rest s story (Checking n) (Parsed r) same known is = is
+settled_own rules (Parse trace number bytes) rest s story (Found n ending finding) (Parsed r) same known is = is
+settled_own rules (Parse trace number bytes) rest s story t (Judged w) same known is = absurd (not_judged trace number bytes w known)
+settled_own rules (Check trace parts limits labels) rest s story t (Parsed r) same known is = absurd (not_parsed trace parts limits labels r known)
+settled_own rules (Check trace parts limits labels) rest s story (Arriving readings) (Judged w) same known is =
+    (is.0, nil_right (own_check s (Check trace parts limits labels)) (checks_asked s rest) is.1, is.2)
+settled_own rules (Check trace parts limits labels) rest s story (Arrived n blocks readings) (Judged w) same known is =
+    (is.0, nil_right (own_check s (Check trace parts limits labels)) (checks_asked s rest) is.1, is.2)
+settled_own rules (Check trace parts limits labels) rest s story (Checking n) (Judged w) same known is =
+    let all = subst (λ cs. All (λ a. a ≡ record { parts = map reading_of story.blocks; rules = rules }) (cs ++ checks_asked s rest)) (own_check-same s trace parts limits labels same) is.0 in
+    let first = All-head (λ a. a ≡ record { parts = map reading_of story.blocks; rules = rules }) (record { parts = parts; rules = under limits labels }) (checks_asked s rest) all in
+    (is.1.ended, is.1.byte_count, verdict_found rules story n parts (under limits labels) w first is.1 known)
+settled_own rules (Check trace parts limits labels) rest s story (Found n ending finding) (Judged w) same known is = is
 
-pub value_goes : (limits : Limits) (tale : ℕ → Story) (q : Question) (rest : List Question) (v : Value) (tracks : List Track) → IsValueOf q v →
-    AreTracked limits (q ∷ rest) tale tracks → AreTracked limits rest tale (changed (trace_of q) (λ x. with_value x v) tracks)
-value_goes limits tale q rest v tracks known tracked s t at =
+pub value_goes : (rules : Rules) (tale : ℕ → Story) (q : Question) (rest : List Question) (v : Value) (tracks : List Track) → IsValueOf q v →
+    AreTracked rules (q ∷ rest) tale tracks → AreTracked rules rest tale (changed (trace_of q) (λ x. with_value x v) tracks)
+value_goes rules tale q rest v tracks known tracked s t at =
     elim (cases_eq (trace_of q) s) [
       | inl same ↦
           (let at_place = subst (λ p. slice_get (changed p (λ x. with_value x v) tracks) s ≡ Some t) same at in
           let was = before_change (λ x. with_value x v) (slice_get tracks s) t (sym (changed_there s (λ x. with_value x v) tracks) ∙ at_place) in
-          subst (λ x. IsTracked limits rest s (tale s) x) (sym was.2) (settled_own limits q rest s (tale s) was.0 v same known (tracked s was.0 was.1)))
+          subst (λ x. IsTracked rules rest s (tale s) x) (sym was.2) (settled_own rules q rest s (tale s) was.0 v same known (tracked s was.0 was.1)))
       | inr other ↦
-          settled_other limits q rest s (tale s) t (own_block-other s q other) (own_check-other s q other)
+          settled_other rules q rest s (tale s) t (own_block-other s q other) (own_check-other s q other)
           (tracked s t (sym (changed_elsewhere (trace_of q) s (λ x. with_value x v) tracks other) ∙ at))
     ]
 
 -- asking
 
-pub asked_other : (limits : Limits) (qs : List Question) (q : Question) (s : ℕ) (story : Story) (t : Track) → (trace_of q ≡ s → ⊥) →
-    IsTracked limits qs s story t → IsTracked limits (qs ++ q ∷ []) s story t
-asked_other limits qs q s story t other is = go t is
+pub asked_other : (rules : Rules) (qs : List Question) (q : Question) (s : ℕ) (story : Story) (t : Track) → (trace_of q ≡ s → ⊥) →
+    IsTracked rules qs s story t → IsTracked rules (qs ++ q ∷ []) s story t
+asked_other rules qs q s story t other is = go t is
   where
     blocks : blocks_asked s (qs ++ q ∷ []) ≡ blocks_asked s qs
     blocks = blocks_asked-more s qs q ∙ (ap (λ bs. blocks_asked s qs ++ bs) (own_block-other s q other) ∙ append-nil (blocks_asked s qs))
@@ -200,17 +200,17 @@ asked_other limits qs q s story t other is = go t is
     checks : checks_asked s (qs ++ q ∷ []) ≡ checks_asked s qs
     checks = checks_asked-more s qs q ∙ (ap (λ cs. checks_asked s qs ++ cs) (own_check-other s q other) ∙ append-nil (checks_asked s qs))
 
-    go : (t : Track) → IsTracked limits qs s story t → IsTracked limits (qs ++ q ∷ []) s story t
+    go : (t : Track) → IsTracked rules qs s story t → IsTracked rules (qs ++ q ∷ []) s story t
     go (Arriving readings) is = (subst (λ bs. readings ++ map reading_of bs ≡ map reading_of story.blocks) (sym blocks) is.0, checks ∙ is.1, is.2)
     go (Arrived n k readings) is = (subst (λ bs. readings ++ map reading_of bs ≡ map reading_of story.blocks) (sym blocks) is.0, checks ∙ is.1, is.2)
-    go (Checking n) is = (subst (λ cs. All (λ a. a ≡ record { parts = map reading_of story.blocks; limits = limits }) cs) (sym checks) is.0, is.1)
+    go (Checking n) is = (subst (λ cs. All (λ a. a ≡ record { parts = map reading_of story.blocks; rules = rules }) cs) (sym checks) is.0, is.1)
     go (Found n ending finding) is = is
 
 -- one more block of a source that hasn't ended is asked about
-pub asked_block : (limits : Limits) (qs : List Question) (s number : ℕ) (block : List ℕ) (story : Story) (pieces : List (List ℕ)) (readings : List Reading) →
-    IsTracked limits qs s story (Arriving readings) →
-    IsTracked limits (qs ++ Parse s number block ∷ []) s (record { pieces = pieces; blocks = story.blocks ++ block ∷ []; ending = None }) (Arriving readings)
-asked_block limits qs s number block story pieces readings is = (
+pub asked_block : (rules : Rules) (qs : List Question) (s number : ℕ) (block : List ℕ) (story : Story) (pieces : List (List ℕ)) (readings : List Reading) →
+    IsTracked rules qs s story (Arriving readings) →
+    IsTracked rules (qs ++ Parse s number block ∷ []) s (record { pieces = pieces; blocks = story.blocks ++ block ∷ []; ending = None }) (Arriving readings)
+asked_block rules qs s number block story pieces readings is = (
   ap (λ bs. readings ++ map reading_of bs) (blocks_asked-more s qs (Parse s number block) ∙ ap (λ bs. blocks_asked s qs ++ bs) (own_block-same s s number block refl))
       ∙ (ap (λ rs. readings ++ rs) (map-append reading_of (blocks_asked s qs) (block ∷ []))
       ∙ (sym (append_assoc readings (map reading_of (blocks_asked s qs)) (reading_of block ∷ []))
@@ -221,10 +221,10 @@ asked_block limits qs s number block story pieces readings is = (
 )
 
 -- what is settled of the blocks that were asked about decides, and so do all of them
-pub settled_decide : (limits : Limits) (qs : List Question) (s : ℕ) (story : Story) (readings : List Reading) → AreSettled story qs s readings → decides limits readings ≡ true →
-    decides limits (map reading_of story.blocks) ≡ true
-settled_decide limits qs s story readings are is =
-    subst (λ rs. decides limits rs ≡ true) are (more_decide limits readings (map reading_of (blocks_asked s qs)) is)
+pub settled_decide : (rules : Rules) (qs : List Question) (s : ℕ) (story : Story) (readings : List Reading) → AreSettled story qs s readings → decides rules.limits readings ≡ true →
+    decides rules.limits (map reading_of story.blocks) ≡ true
+settled_decide rules qs s story readings are is =
+    subst (λ rs. decides rules.limits rs ≡ true) are (more_decide rules readings (map reading_of (blocks_asked s qs)) is)
 
 no_blocks_left : (readings rs : List Reading) (blocks : List (List ℕ)) (bs : List (List ℕ)) → readings ++ map reading_of bs ≡ map reading_of blocks → length readings ≡ length blocks →
     readings ≡ map reading_of blocks
@@ -234,15 +234,15 @@ no_blocks_left readings rs blocks (b ∷ bs) is same =
     absurd (omega (arith, lengths, same, length-append readings (reading_of b ∷ map reading_of bs), length-map blocks reading_of))
 
 -- the verdict on a whole source is asked for once all its blocks are read
-pub asked_check : (limits : Limits) (qs : List Question) (s bytes blocks : ℕ) (story : Story) (readings : List Reading) → length readings ≡ blocks →
-    IsTracked limits qs s story (Arrived bytes blocks readings) → IsTracked limits (qs ++ Check s readings limits ∷ []) s story (Checking bytes)
-asked_check limits qs s bytes blocks story readings ready is =
+pub asked_check : (rules : Rules) (qs : List Question) (s bytes blocks : ℕ) (story : Story) (readings : List Reading) → length readings ≡ blocks →
+    IsTracked rules qs s story (Arrived bytes blocks readings) → IsTracked rules (qs ++ Check s readings rules.limits rules.labels ∷ []) s story (Checking bytes)
+asked_check rules qs s bytes blocks story readings ready is =
     let all_read = no_blocks_left readings [] story.blocks (blocks_asked s qs) is.0 (ready ∙ is.2.block_count) in
-    let one : checks_asked s (qs ++ Check s readings limits ∷ []) ≡ record { parts = readings; limits = limits } ∷ [] =
-    checks_asked-more s qs (Check s readings limits) ∙ ap₂ (λ xs ys. xs ++ ys) is.1 (own_check-same s s readings limits refl) in (
-      subst (λ cs. All (λ a. a ≡ record { parts = map reading_of story.blocks; limits = limits }) cs) (sym one)
-          (All-cons (λ a. a ≡ record { parts = map reading_of story.blocks; limits = limits }) (record { parts = readings; limits = limits }) []
-          (ap (λ rs. record { parts = rs; limits = limits }) all_read) (All-nil (λ a. a ≡ record { parts = map reading_of story.blocks; limits = limits }))),
+    let one : checks_asked s (qs ++ Check s readings rules.limits rules.labels ∷ []) ≡ record { parts = readings; rules = rules } ∷ [] =
+    checks_asked-more s qs (Check s readings rules.limits rules.labels) ∙ ap₂ (λ xs ys. xs ++ ys) is.1 (own_check-same s s readings rules.limits rules.labels refl) in (
+      subst (λ cs. All (λ a. a ≡ record { parts = map reading_of story.blocks; rules = rules }) cs) (sym one)
+          (All-cons (λ a. a ≡ record { parts = map reading_of story.blocks; rules = rules }) (record { parts = readings; rules = rules }) []
+          (ap (λ rs. record { parts = rs; rules = rules }) all_read) (All-nil (λ a. a ≡ record { parts = map reading_of story.blocks; rules = rules }))),
       record { ended = is.2.ended; enough = is.2.enough; byte_count = is.2.byte_count; block_count = refl },
     )
 

@@ -20,5 +20,5 @@ pub not_judged : (trace number : ℕ) (bytes : List ℕ) (verdict : Verdict) →
 not_judged trace number bytes verdict is = ∥∥₁_elim is (λ x y. absurd x) (λ e. e)
 
 -- and the question on a trace by a verdict
-pub not_parsed : (trace : ℕ) (parts : List Reading) (limits : Limits) (parsed : Reading) → IsValueOf (Check trace parts limits) (Parsed parsed) → ⊥
-not_parsed trace parts limits parsed is = ∥∥₁_elim is (λ x y. absurd x) (λ e. e)
+pub not_parsed : (trace : ℕ) (parts : List Reading) (limits : Limits) (labels : List (List ℕ)) (parsed : Reading) → IsValueOf (Check trace parts limits labels) (Parsed parsed) → ⊥
+not_parsed trace parts limits labels parsed is = ∥∥₁_elim is (λ x y. absurd x) (λ e. e)

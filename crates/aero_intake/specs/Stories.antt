@@ -1,7 +1,6 @@
 -- What is known of each source, while questions on it are asked and settled.
 use Rattle.std.specs.Prelude.{◌≡◌, ◌⊎◌, ℕ, zero, suc, ◌==◌, true, if◌then◌else◌, List, [], ◌∷◌, ◌++◌, map, length, slice_get, Option, Some, None, All}
 use Rattle.std.specs.List.{concat}
-use Rattle.aero_model.specs.declared.limits.Limits.{Limits}
 use Rattle.aero_model.specs.declared.verdict.Ending.{Ending}
 use Rattle.aero_model.specs.declared.verdict.Ending.TheVariants as endings
 use Rattle.aero_grammar.specs.Reading.{Reading, reading_of}
@@ -11,6 +10,7 @@ use Rattle.aero_pieces.specs.declared.question.Question.TheVariants.{Parse, Chec
 use Rattle.aero_pieces.specs.declared.answer.Value.{Value}
 use Rattle.aero_pieces.specs.Values.{IsValueOf}
 use Rattle.aero_verdict.specs.Finding.{IsFinding}
+use Rattle.aero_verdict.specs.Verdict.{Rules, under}
 use Rattle.aero_intake.specs.declared.track.Track.{Track}
 use Rattle.aero_intake.specs.declared.track.Track.TheVariants.{Arriving, Arrived, Checking, Found}
 use Rattle.aero_intake.specs.Tracks.{decides, with_value}
@@ -24,12 +24,12 @@ pub record Story : Type 0 where
 -- what a question on a trace says of it
 pub record Asked : Type 0 where
   pub parts : List Reading
-  pub limits : Limits
+  pub rules : Rules
 
 -- the block that a question is about, where it is of the source
 abbrev pub own_block : ℕ → Question → List (List ℕ)
 own_block s (Parse trace number bytes) = if trace == s then bytes ∷ [] else []
-own_block s (Check trace parts limits) = []
+own_block s (Check trace parts limits labels) = []
 
 -- the blocks of the source that are asked about, in order
 abbrev pub blocks_asked : ℕ → List Question → List (List ℕ)
@@ -38,29 +38,29 @@ blocks_asked s (q ∷ more) = own_block s q ++ blocks_asked s more
 
 abbrev pub own_check : ℕ → Question → List Asked
 own_check s (Parse trace number bytes) = []
-own_check s (Check trace parts limits) = if trace == s then record { parts = parts; limits = limits } ∷ [] else []
+own_check s (Check trace parts limits labels) = if trace == s then record { parts = parts; rules = under limits labels } ∷ [] else []
 
 abbrev pub checks_asked : ℕ → List Question → List Asked
 checks_asked s [] = []
 checks_asked s (q ∷ more) = own_check s q ++ checks_asked s more
 
 -- Both begin with the same blocks, and these decide.
-pub record BeginAlike (limits : Limits) (asked all : List (List ℕ)) : Type 0 where
+pub record BeginAlike (rules : Rules) (asked all : List (List ℕ)) : Type 0 where
   pub front : List (List ℕ)
   pub rest : List (List ℕ)
   pub others : List (List ℕ)
   pub asked_are : asked ≡ front ++ rest
   pub all_are : all ≡ front ++ others
-  pub decided : decides limits (map reading_of front) ≡ true
+  pub decided : decides rules.limits (map reading_of front) ≡ true
 
 -- The blocks that were asked about are all, or have the same first ones, and those decide.
-abbrev pub AreEnough : Limits → List (List ℕ) → List (List ℕ) → Type 0
-AreEnough limits asked all = (asked ≡ all) ⊎ BeginAlike limits asked all
+abbrev pub AreEnough : Rules → List (List ℕ) → List (List ℕ) → Type 0
+AreEnough rules asked all = (asked ≡ all) ⊎ BeginAlike rules asked all
 
 -- What is known of a source that has come whole: how many bytes came, and how many of its blocks were asked about.
-pub record HasArrived (limits : Limits) (story : Story) (bytes blocks : ℕ) : Type 0 where
+pub record HasArrived (rules : Rules) (story : Story) (bytes blocks : ℕ) : Type 0 where
   pub ended : story.ending ≡ Some endings.Whole
-  pub enough : AreEnough limits story.blocks (blocks_from nothing_yet story.pieces)
+  pub enough : AreEnough rules story.blocks (blocks_from nothing_yet story.pieces)
   pub byte_count : bytes ≡ length (concat story.pieces)
   pub block_count : blocks ≡ length story.blocks
 
@@ -69,21 +69,21 @@ abbrev pub AreSettled : Story → List Question → ℕ → List Reading → Typ
 AreSettled story qs s readings = readings ++ map reading_of (blocks_asked s qs) ≡ map reading_of story.blocks
 
 -- The track of source s fits the story.
-abbrev pub IsTracked : Limits → List Question → ℕ → Story → Track → Type 0
-IsTracked limits qs s story (Arriving readings) = AreSettled story qs s readings × (checks_asked s qs ≡ []) × (story.ending ≡ None)
-IsTracked limits qs s story (Arrived bytes blocks readings) = AreSettled story qs s readings × (checks_asked s qs ≡ []) × HasArrived limits story bytes blocks
-IsTracked limits qs s story (Checking bytes) =
-    All (λ a. a ≡ record { parts = map reading_of story.blocks; limits = limits }) (checks_asked s qs) × HasArrived limits story bytes (length story.blocks)
-IsTracked limits qs s story (Found bytes ending finding) =
-    (story.ending ≡ Some ending) × (bytes ≡ length (concat story.pieces)) × ∥ IsFinding (concat story.pieces) ending limits finding ∥₁
+abbrev pub IsTracked : Rules → List Question → ℕ → Story → Track → Type 0
+IsTracked rules qs s story (Arriving readings) = AreSettled story qs s readings × (checks_asked s qs ≡ []) × (story.ending ≡ None)
+IsTracked rules qs s story (Arrived bytes blocks readings) = AreSettled story qs s readings × (checks_asked s qs ≡ []) × HasArrived rules story bytes blocks
+IsTracked rules qs s story (Checking bytes) =
+    All (λ a. a ≡ record { parts = map reading_of story.blocks; rules = rules }) (checks_asked s qs) × HasArrived rules story bytes (length story.blocks)
+IsTracked rules qs s story (Found bytes ending finding) =
+    (story.ending ≡ Some ending) × (bytes ≡ length (concat story.pieces)) × ∥ IsFinding (concat story.pieces) ending rules finding ∥₁
 
-abbrev pub AreTracked : Limits → List Question → (ℕ → Story) → List Track → Type 0
-AreTracked limits qs tale tracks = (s : ℕ) (t : Track) → slice_get tracks s ≡ Some t → IsTracked limits qs s (tale s) t
+abbrev pub AreTracked : Rules → List Question → (ℕ → Story) → List Track → Type 0
+AreTracked rules qs tale tracks = (s : ℕ) (t : Track) → slice_get tracks s ≡ Some t → IsTracked rules qs s (tale s) t
 
 -- the number of the trace that a question is about
 abbrev pub trace_of : Question → ℕ
 trace_of (Parse trace number bytes) = trace
-trace_of (Check trace parts limits) = trace
+trace_of (Check trace parts limits labels) = trace
 
 -- the list with another element at the place, if it has one there
 abbrev pub changed : {A : Type 0} → ℕ → (A → A) → List A → List A

@@ -39,7 +39,7 @@ greatest =
       most_names = lit≤ tt;
     }
 
-value_of_check : IsValueOf (Check 0 (reading ∷ []) greatest) (Judged (Serializable 1 0))
+value_of_check : IsValueOf (Check 0 (reading ∷ []) greatest []) (Judged (Serializable 1 0))
 value_of_check =
     ∣ record {
       clean = record { lawful = below_suc _ 0 (none_below _) refl; no_cycle = none_of_two _ _ (lit≤ tt) };

@@ -5,12 +5,12 @@ use Rattle.aero_pieces.specs.declared.question.Question.TheVariants.{Parse, Chec
 use Rattle.aero_pieces.specs.declared.answer.Value.{Value}
 use Rattle.aero_pieces.specs.declared.answer.Value.TheVariants.{Parsed, Judged}
 use Rattle.aero_grammar.specs.Reading.{reading_of}
-use Rattle.aero_verdict.specs.Verdict.{IsVerdict}
+use Rattle.aero_verdict.specs.Verdict.{under, IsVerdict}
 
 -- what a block says, or the verdict on what the blocks of a trace say
 abbrev pub ValueFits : Question → Value → Type 0
 ValueFits (Parse trace number bytes) (Parsed parsed) = parsed ≡ reading_of bytes
-ValueFits (Check trace parts limits) (Judged verdict) = IsVerdict parts limits verdict
+ValueFits (Check trace parts limits labels) (Judged verdict) = IsVerdict parts (under limits labels) verdict
 ValueFits _ _ = ⊥
 
 -- the same as a mere fact: what shows the verdict isn't kept

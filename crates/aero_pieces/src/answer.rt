@@ -46,8 +46,14 @@ impl Question {
     {
         match self {
             Question::Parse { bytes, .. } => Ok(Value::Parsed(parse_block(alloc, bytes.get())?)),
-            Question::Check { parsed, limits, .. } => {
-                Ok(Value::Judged(check_trace(alloc, parsed.get(), limits)?))
+            Question::Check {
+                parsed,
+                limits,
+                except,
+                ..
+            } => {
+                let verdict = check_trace(alloc, parsed.get(), limits, except.get())?;
+                Ok(Value::Judged(verdict))
             }
         }
     }

@@ -32,14 +32,17 @@ pub fn same(a: &Question, b: &Question) -> bool
             trace,
             parsed,
             limits,
+            except,
         } => match b {
             Question::Check {
                 trace: other_trace,
                 parsed: other_parsed,
                 limits: other_limits,
+                except: other_except,
             } => {
                 *trace == *other_trace
                     && are_same_limits(limits, other_limits)
+                    && except.get().has_same_labels(other_except.get())
                     && are_same_parts(parsed.get(), other_parsed.get())
             }
             Question::Parse { .. } => false,
@@ -77,6 +80,7 @@ fn is_same_parsed(a: &Parsed, b: &Parsed) -> bool
         && a.threads.has_same_names(&b.threads)
         && a.variables.has_same_names(&b.variables)
         && a.locks.has_same_names(&b.locks)
+        && a.labels.has_same_names(&b.labels)
 }
 
 fn are_same_events(a: &[(u32, Numbered)], b: &[(u32, Numbered)]) -> bool

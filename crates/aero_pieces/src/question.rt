@@ -4,6 +4,7 @@ ghost use Rattle.std.specs.Arc.{arc_value};
 ghost use Rattle.std.specs.Vec.{vec_len};
 
 use aero_grammar::parsed::Parsed;
+use aero_model::except::SharedExcept;
 use aero_model::limits::Limits;
 use std::alloc::{AllocError, Global};
 use std::marker::Model;
@@ -88,11 +89,13 @@ pub enum Question {
         number: u64,
         bytes: Bytes,
     },
-    /// What is the verdict on it under these limits, where its blocks say this?
+    /// What is the verdict on it under these limits, where its blocks say this, and those that
+    /// begin with one of these labels are no transactions?
     Check {
         trace: u64,
         parsed: Parts,
         limits: Limits,
+        except: SharedExcept,
     },
 }
 

@@ -1,5 +1,5 @@
 use Rattle.std.proofs.Common.{rules, ◌≡◌, length, arith}
-use Rattle.aero_pieces.proofs.SameLists.{same_lists}
+use Rattle.aero_model.proofs.SameLists.{same_lists}
 use Rattle.aero_pieces.proofs.equal.are_same_events.Goals as goal
 
 pub returns : goal.returns
