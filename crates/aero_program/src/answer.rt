@@ -29,7 +29,7 @@ use std::thread::Threads;
 /// Does what the words ask for, and gives the exit status.
 ///
 /// Where they ask for traces to be judged, it judges the files, or standard input where there are
-/// none, writes the report to standard output and flushes it, and then writes the notes on the sources
+/// none, in which blocks with the labels that they give are no transactions, writes the report to standard output and flushes it, and then writes the notes on the sources
 /// to standard error. Help goes to standard output, which is flushed; why there is nothing to judge,
 /// and why the program fails, goes to standard error. Where standard error takes nothing, the status
 /// still tells. A read, a write or a flush that is interrupted is tried again.
@@ -52,7 +52,7 @@ pub fn answer<
         (seen_by (λ w. E.contents (tried_by w)) errors.old) (seen_by (λ w. E.contents (tried_by w)) errors.new) result }
 {
     match asked {
-        Ok(config) => judge(rt, alloc, &config, files, stdin, output, errors),
+        Ok(config) => judge(rt, alloc, config, files, stdin, output, errors),
         Err(stop) => tell_stop(&stop, output, errors),
     }
 }
@@ -67,22 +67,24 @@ fn judge<
 >(
     rt: T,
     alloc: Global,
-    config: &Config,
+    config: Config,
     files: &F,
     stdin: S,
     output: &mut Output<O>,
     errors: &mut Counting<E>,
 ) -> u8
-    ensures { Judges (map string_bytes config.now.files.items) (S.remaining stdin) (shown_by O.contents output.old) (shown_by O.contents output.new)
+    ensures { Judges config.except.items (map string_bytes config.files.items) (S.remaining stdin) (shown_by O.contents output.old) (shown_by O.contents output.new)
         (seen_by E.contents errors.old) (seen_by E.contents errors.new) result }
 {
-    let Ok(mut sources) = sources_of(alloc, files, stdin, &config.files) else {
+    let Ok((plan, words)) = config.into_plan(alloc) else {
+        return fail(Failure::Memory, errors);
+    };
+    let Ok(mut sources) = sources_of(alloc, files, stdin, &words) else {
         return fail(Failure::Memory, errors);
     };
     let Ok(gate) = Arc::new(alloc, NoGate) else {
         return fail(Failure::Memory, errors);
     };
-    let plan = config.plan();
     let outcome = run(rt, alloc, &mut sources, &mut output.writer, &plan, gate);
     let flushed = output.flush();
     let end = status_after(&outcome, &flushed);
@@ -130,6 +132,8 @@ fn tell_stop<O: Write, E: Write>(
             3
         }
         Stop::Refused(Refused::TooManyFiles) => fail(Failure::TooManyFiles, errors),
+        Stop::Refused(Refused::BadLabel) => fail(Failure::BadLabel, errors),
+        Stop::Refused(Refused::TooManyLabels) => fail(Failure::TooManyLabels, errors),
         Stop::Refused(Refused::Memory) => fail(Failure::Memory, errors),
         Stop::Unread(unread) => fail(Failure::from(*unread), errors),
     }

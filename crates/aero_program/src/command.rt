@@ -1,34 +1,45 @@
 //! What a command line asks for, or why nothing is judged.
-ghost use Rattle.std.specs.Prelude.{◌≡◌, ◌<◌, ◌≤◌, ◌^◌, vec_len};
+ghost use Rattle.std.specs.Prelude.{◌≡◌, ◌<◌, ◌≤◌, ◌^◌, IfOk, vec_len};
 ghost use Rattle.aero_program.specs.Command.{AreGreatest};
 
 use crate::arguments::Unread;
 use aero_batch::plan::Plan;
+use aero_model::except::{Except, SharedExcept};
 use aero_model::limits::Limits;
-use std::alloc::AllocError;
+use aero_model::name::Name;
+use std::alloc::{AllocError, Global};
 
-/// What a command line asks for: 1 to 16 workers, reads of 1 to 1,048,576 bytes, and at most
-/// 65,536 files, in the order of the words. No files at all means standard input.
+/// What a command line asks for: 1 to 16 workers, reads of 1 to 1,048,576 bytes, at most 65,536
+/// files, and at most 64 labels of blocks that are no transactions, both in the order of the words.
+/// No files at all means standard input.
 #[derive(Drop)]
 pub struct Config {
     pub workers: u32,
     pub piece: u32,
     pub files: Vec<String>,
+    pub except: Vec<Name>,
     ghost some_workers: { 0 < workers },
     ghost most_workers: { workers ≤ 16 },
     ghost some_piece: { 0 < piece },
     ghost most_piece: { piece ≤ 2 ^ 20 },
     ghost most_files: { vec_len files ≤ 2 ^ 16 },
+    ghost most_labels: { vec_len except ≤ 64 },
 }
 
 impl Config {
-    /// The plan of a run that does what is asked for, under the greatest limits.
-    pub fn plan(&self) -> Plan
-        ensures workers { result.workers ≡ self.now.workers }
-        ensures piece { result.piece ≡ self.now.piece }
-        ensures limits { AreGreatest result.limits }
+    /// The plan of a run that does what is asked for, under the greatest limits, and the files that
+    /// it is to judge.
+    pub fn into_plan(self, alloc: Global) -> Result<(Plan, Vec<String>), AllocError>
+        ensures workers { IfOk result (λ made. made.0.workers ≡ self.workers) }
+        ensures piece { IfOk result (λ made. made.0.piece ≡ self.piece) }
+        ensures limits { IfOk result (λ made. AreGreatest made.0.limits) }
+        ensures except { IfOk result (λ made. made.0.except ≡ self.except.items) }
+        ensures files { IfOk result (λ made. made.1 ≡ self.files) }
     {
-        Plan::new(self.workers, self.piece, Limits::greatest()).unwrap()
+        let except = Except::new(self.except).unwrap();
+        let shared = SharedExcept::new(alloc, except)?;
+        let plan = Plan::new(self.workers, self.piece, Limits::greatest(), shared).unwrap();
+        Ok((plan, self.files))
     }
 }
 
@@ -41,6 +52,10 @@ pub enum Refused {
     Usage(String),
     /// It names more than 65,536 files.
     TooManyFiles,
+    /// What it gives as a label is none: it has no byte, more than 255, a `|` or a control byte.
+    BadLabel,
+    /// It gives more than 64 labels.
+    TooManyLabels,
     /// Memory was refused.
     Memory,
 }

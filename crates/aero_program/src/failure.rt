@@ -14,6 +14,10 @@ pub enum Failure {
     Write,
     /// The command line names more than 65,536 files.
     TooManyFiles,
+    /// The command line gives as a label what is none.
+    BadLabel,
+    /// The command line gives more than 64 labels.
+    TooManyLabels,
     /// A word of the command line is not UTF-8.
     NotUtf8,
 }
@@ -27,6 +31,8 @@ impl Failure {
             Failure::Memory => "aerodrome: out of memory\n",
             Failure::Write => "aerodrome: write failed\n",
             Failure::TooManyFiles => "aerodrome: more than 65536 files\n",
+            Failure::BadLabel => "aerodrome: not a label\n",
+            Failure::TooManyLabels => "aerodrome: more than 64 labels\n",
             Failure::NotUtf8 => "aerodrome: a word is not UTF-8\n",
         }
     }
@@ -36,7 +42,8 @@ impl Failure {
         ensures { result ≡ failure_status self }
     {
         match self {
-            Failure::TooManyFiles | Failure::NotUtf8 => 3,
+            Failure::TooManyFiles | Failure::BadLabel | Failure::TooManyLabels | Failure::NotUtf8 =>
+                3,
             Failure::Memory | Failure::Write => 4,
         }
     }

@@ -1,10 +1,9 @@
 -- The two numbers of the command line lie in their ranges.
-use Rattle.std.proofs.Common.{◌≡◌, ◌⊎◌, ◌∙◌, ◌<◌, ◌≤◌, ◌^◌, ap, ℕ, true, List, [], ◌∷◌, length, Option, Some, None, sym, subst, inl, inr, refl, arith, slice_index, codes}
+use Rattle.std.proofs.Common.{◌≡◌, ◌∙◌, ◌<◌, ◌≤◌, ◌^◌, ◌==◌, if◌then◌else◌, ap, ℕ, zero, suc, true, List, [], ◌∷◌, length, Option, Some, None, sym, subst, inl, inr, refl, arith, slice_index, codes}
 use Rattle.std.specs.List.{slice_index_or}
 use Rattle.std.specs.Str.{bytes_eq}
 use Rattle.std.specs.Prelude.{pos, Result, unwrap_or}
 use Rattle.std.specs.Str.Parse.{ParsesUnsigned}
-use Rattle.std.proofs.lemmas.Bool.{cases_lt}
 use Rattle.std.proofs.lemmas.Slice.Eq.{bytes_eq-Decides}
 use Rattle.clap.specs.Facts.{args_of}
 use Rattle.clap.specs.Built.{IsParsedFrom}
@@ -40,46 +39,29 @@ number_within E G most number f name within none value only fits = go (one_text 
         let high : got.0 ≤ most = got.3 in
         (omega arith, omega arith)
 
-one_of_three : (j : ℕ) → j < 3 → (j ≡ 0) ⊎ ((j ≡ 1) ⊎ (j ≡ 2))
-one_of_three j lt = elim (cases_lt j 1) [
-  | inl h ↦ inl (omega arith)
-  | inr h ↦ elim (cases_lt j 2) [ inl h2 ↦ inr (inl (omega arith)) | inr h2 ↦ inr (inr (omega arith)) ]
-]
-
 abbrev initial : Arg → ℕ
 initial a = slice_index a.id.now 0
 
--- the initials of the three names are different
-place_by_initial : (a b c : Arg) → initial a ≡ 119 → initial b ≡ 112 → initial c ≡ 102
-    → (j k : ℕ) (d e : Arg) → j < 3 → k < 3
-    → initial (slice_index_or (a ∷ b ∷ c ∷ []) j e) ≡ initial (slice_index_or (a ∷ b ∷ c ∷ []) k d) → j ≡ k
-place_by_initial a b c ia ib ic j k d e ltj ltk same =
-    elim (one_of_three j ltj) [
-      | inl j0 ↦ elim (one_of_three k ltk) [
-        | inl k0 ↦ omega arith
-        | inr (inl k1) ↦ let bad : initial a ≡ initial b = rw (j0, k1) at same in absurd (omega arith)
-        | inr (inr k2) ↦ let bad : initial a ≡ initial c = rw (j0, k2) at same in absurd (omega arith)
-      ]
-      | inr (inl j1) ↦ elim (one_of_three k ltk) [
-        | inl k0 ↦ let bad : initial b ≡ initial a = rw (j1, k0) at same in absurd (omega arith)
-        | inr (inl k1) ↦ omega arith
-        | inr (inr k2) ↦ let bad : initial b ≡ initial c = rw (j1, k2) at same in absurd (omega arith)
-      ]
-      | inr (inr j2) ↦ elim (one_of_three k ltk) [
-        | inl k0 ↦ let bad : initial c ≡ initial a = rw (j2, k0) at same in absurd (omega arith)
-        | inr (inl k1) ↦ let bad : initial c ≡ initial b = rw (j2, k1) at same in absurd (omega arith)
-        | inr (inr k2) ↦ omega arith
-      ]
-    ]
+-- the place of the argument of the program whose name begins so
+abbrev place_by : ℕ → ℕ
+place_by first = if first == 119 then 0 else if first == 112 then 1 else if first == 101 then 2 else 3
+
+place_of : (a b c d : Arg) → initial a ≡ 119 → initial b ≡ 112 → initial c ≡ 101 → initial d ≡ 102
+    → (j : ℕ) (e : Arg) → j < 4 → place_by (initial (slice_index_or (a ∷ b ∷ c ∷ d ∷ []) j e)) ≡ j
+place_of a b c d ia ib ic id zero e lt = ap place_by ia
+place_of a b c d ia ib ic id (suc zero) e lt = ap place_by ib
+place_of a b c d ia ib ic id (suc (suc zero)) e lt = ap place_by ic
+place_of a b c d ia ib ic id (suc (suc (suc zero))) e lt = ap place_by id
+place_of a b c d ia ib ic id (suc (suc (suc (suc j)))) e lt = absurd (omega arith)
 
 -- what is read of an option of the command line is within its range
 option_within : (line : Command) (m : ArgMatches) (p : IsParsedFrom line m) (known : IsCommandLine line)
-    → (k : ℕ) (a : Arg) (name : List ℕ) (first most : ℕ) → k < 3
+    → (k : ℕ) (a : Arg) (name : List ℕ) (first most : ℕ) → k < 4
     → slice_index_or (args_of line) k a ≡ a → IsNumberOption a name most → slice_index name 0 ≡ first
     → (first ≡ 0 → ⊥) → (first ≡ 104 → ⊥) → (first ≡ 118 → ⊥)
     → ReadsWithin (found_of m) name most
 option_within line m p known k a name first most ltk at option start not0 not104 not118 text read =
-    let size : length (args_of line) ≡ 3 = ap length known.args in
+    let size : length (args_of line) ≡ 4 = ap length known.args in
     let begins : slice_index a.id.now 0 ≡ first = ap (λ (t : List ℕ). slice_index t 0) option.id ∙ start in
     let parser : (slice_index_or (args_of line) k a).value_parser ≡ Some (vp.Signed (pos 1) (pos most)) = rw at option.parser in
     let id : (slice_index_or (args_of line) k a).id.now ≡ name = rw at option.id in
@@ -87,13 +69,16 @@ option_within line m p known k a name first most ltk at option start not0 not104
     → bytes_eq (slice_index_or (args_of line) j e).id.now (slice_index_or (args_of line) k a).id.now ≡ true → j ≡ k =
     λ j e lt same.
     let ids = (bytes_eq-Decides (slice_index_or (args_of line) j e).id.now (slice_index_or (args_of line) k a).id.now).0 same in
-    place_by_initial known.workers known.piece known.files
+    let place : (i : ℕ) (f : Arg) → i < 4 → place_by (initial (slice_index_or (known.workers ∷ known.piece ∷ known.except ∷ known.files ∷ []) i f)) ≡ i =
+    place_of known.workers known.piece known.except known.files
     (ap (λ (t : List ℕ). slice_index t 0) known.workers_option.id)
     (ap (λ (t : List ℕ). slice_index t 0) known.piece_option.id)
-    (ap (λ (t : List ℕ). slice_index t 0) known.files_id)
-    j k a e (omega arith) ltk
-    (subst (λ (l : List Arg). initial (slice_index_or l j e) ≡ initial (slice_index_or l k a)) known.args
+    (ap (λ (t : List ℕ). slice_index t 0) known.except_id)
+    (ap (λ (t : List ℕ). slice_index t 0) known.files_id) in
+    sym (place j e (omega arith))
+    ∙ (ap place_by (subst (λ (l : List Arg). initial (slice_index_or l j e) ≡ initial (slice_index_or l k a)) known.args
     (ap (λ (t : List ℕ). slice_index t 0) ids))
+    ∙ place k a ltk)
     in
     let got = passed line m p known.no_groups known.groups known.globals k a (omega arith) unique
     (λ empty. not0 (sym start ∙ ap (λ (t : List ℕ). slice_index t 0) (sym id ∙ empty)))

@@ -17,7 +17,8 @@ THREAD|OPERATION(TARGET)|LOCATION. The operations:
   acq(l), rel(l)    it acquires, releases lock l
   fork(u), join(u)  it starts thread u, waits for the end of thread u
   begin, end        an atomic block begins, ends; blocks may lie in blocks;
-                    parentheses and a label may follow, and say nothing
+                    begin(label) gives it a label of 1 to 255 bytes, which
+                    --except can name; what follows an end says nothing
 The location may be missing and isn't examined. Spaces and tabs round the
 thread and the operation don't count. Blank lines are skipped, and count as
 lines. One byte 13 at a line's end is dropped; a byte 0 to 8, 10 to 31 or 127
@@ -28,13 +29,21 @@ accesses of one variable of which one is a write, a release and a later acquire
 of one lock, a fork and the events of the thread that it starts, the events of
 a thread and a join of it. Blocks behave as if each had run alone, and the
 trace is called serializable, where no block has to come both before and after
-another, by conflicts, be it through further blocks and events.";
+another, by conflicts, be it through further blocks and events.
+
+A block that isn't meant to behave so, as a main loop that takes a lock again
+and again between begin(main) and end, can be left out by --except main: its
+begin and its end then count as events of their thread alone, and blocks within
+it as blocks of their own.";
 
 pub const WORKERS: &str = "How many threads work on the traces, 1 to 16. The report is the same
 for each";
 
 pub const PIECE: &str = "How many bytes one read asks for at most, 1 to 1048576. The report is
 the same for each";
+
+pub const EXCEPT: &str = "A block that begins with this label is no block. May be given for up
+to 64 labels, each 1 to 255 bytes without `|` and control characters";
 
 pub const FILES: &str = "The traces to judge, in this order, at most 65536. Without a FILE it
 is standard input, which the report calls `-`. As a FILE, `-` is a

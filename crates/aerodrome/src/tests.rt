@@ -57,7 +57,7 @@ fn the_words_that_are_taken(rt: HostRuntime) {
 
 #[test]
 fn the_words_that_are_refused(rt: HostRuntime) -> Result<(), Fail> {
-    let rows: [&[&str]; 14] = [
+    let rows: [&[&str]; 16] = [
         &["--workers", "0"],
         &["--workers", "17"],
         &["--workers", "4294967312"],
@@ -69,6 +69,8 @@ fn the_words_that_are_refused(rt: HostRuntime) -> Result<(), Fail> {
         &["--piece", "0"],
         &["--piece", "1048577"],
         &["--piece", "1", "--piece", "1"],
+        &["--except"],
+        &["--except", "a", "--except"],
         &["--nothing"],
         &["-x"],
         &["--nothing", "--help"],
@@ -97,6 +99,8 @@ fn the_help_says_all_and_the_version_is_told(rt: HostRuntime) -> Result<(), Fail
         "--piece <N>",
         "1 to 1048576",
         "[default: 65536]",
+        "--except <LABEL>",
+        "64 labels",
         "[FILE]...",
         "65536",
         "NAME: serializable (E events, B blocks)",
@@ -157,5 +161,71 @@ fn files_are_counted(rt: HostRuntime) -> Result<(), Fail> {
     assert!(rt; matches!(settle_words(alloc, &words), Err(Refused::Help(_))));
     words.push(String::from_str(alloc, "b")?)?;
     assert!(rt; matches!(settle_words(alloc, &words), Err(Refused::Help(_))));
+    Ok(())
+}
+
+// Expects these labels, in this order.
+fn expect_labels(rt: &(impl Abort + AllocGlobal), words: &[&str], labels: &[&str]) {
+    match settled(rt.alloc(), words) {
+        Err(refused) => assert!(rt; false, "{refused:?}"),
+        Ok(config) => {
+            assert_eq!(rt; config.except.len(), labels.len());
+            for (label, expected) in config.except.iter().zip(labels) {
+                assert!(rt; label.bytes() == expected.as_bytes(), "{expected}");
+            }
+        }
+    }
+}
+
+#[test]
+fn labels_are_read_in_order(rt: HostRuntime) {
+    expect_labels(&rt, &[], &[]);
+    expect_labels(&rt, &["a", "--workers", "1"], &[]);
+    expect_labels(&rt, &["--except", "a", "--except", "b"], &["a", "b"]);
+    expect_labels(&rt, &["--except=b", "n", "--except", "a"], &["b", "a"]);
+    expect_labels(&rt, &["--except", "a b)", "--except", "a"], &["a b)", "a"]);
+    for text in ["", "a|b", "a\n", "\u{7f}"] {
+        let words = ["--except", "a", "--except", text];
+        assert!(rt;
+            matches!(settled(rt.alloc(), &words), Err(Refused::BadLabel)),
+            "{text:?}"
+        );
+    }
+}
+
+// A text of so many bytes, as the label of one `--except`.
+fn label_of_length(alloc: Global, count: usize) -> Result<Vec<String>, AllocError> {
+    let mut label = String::new(alloc);
+    for _ in 0..count {
+        label.push('a')?;
+    }
+    let mut words = owned_words(alloc, &["--except"])?;
+    words.push(label)?;
+    Ok(words)
+}
+
+// So many labels, and then one more word.
+fn words_with_labels(alloc: Global, count: usize, last: &str) -> Result<Vec<String>, AllocError> {
+    let mut words = Vec::new(alloc);
+    for _ in 0..count {
+        words.push(String::from_str(alloc, "--except=a")?)?;
+    }
+    words.push(String::from_str(alloc, last)?)?;
+    Ok(words)
+}
+
+#[test]
+fn labels_are_measured_and_counted(rt: HostRuntime) -> Result<(), Fail> {
+    let alloc = rt.alloc();
+    let words = label_of_length(alloc, 255)?;
+    assert!(rt; settle_words(alloc, &words).is_ok());
+    let words = label_of_length(alloc, 256)?;
+    assert!(rt; matches!(settle_words(alloc, &words), Err(Refused::BadLabel)));
+    let words = words_with_labels(alloc, 64, "n")?;
+    assert!(rt; settle_words(alloc, &words).is_ok());
+    let words = words_with_labels(alloc, 64, "--except=a")?;
+    assert!(rt; matches!(settle_words(alloc, &words), Err(Refused::TooManyLabels)));
+    let words = words_with_labels(alloc, 65, "--except=")?;
+    assert!(rt; matches!(settle_words(alloc, &words), Err(Refused::BadLabel)));
     Ok(())
 }

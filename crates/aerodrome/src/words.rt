@@ -1,10 +1,13 @@
 //! The words of the command line, and what they ask for.
-ghost use Rattle.std.specs.Prelude.{◌≡◌, ◌<◌, ◌≤◌, ◌^◌, [], Some, IfOk, codes, false, length, pos, vec_len};
+ghost use Rattle.std.specs.Prelude.{◌≡◌, ◌<◌, ◌≤◌, ◌^◌, ◌++◌, ◌∷◌, [], Some, IfOk, OnOk, codes, false, length, map, pos, vec_len};
 ghost use Rattle.clap.specs.Words.{found_of};
 ghost use Rattle.clap.specs.declared.builder.value_parser.ValueParser.TheVariants as vp;
+ghost use Rattle.aerodrome.specs.Labels.{IsTold};
 ghost use Rattle.aerodrome.specs.Words.{IsCommandLine, ReadsWithin};
 
 use crate::help;
+use aero_model::except::MOST_LABELS;
+use aero_model::name::{Name, NameFault};
 pub use aero_program::command::{Config, Refused};
 use clap::builder::ValueParser;
 use clap::error::ErrorKind;
@@ -48,6 +51,11 @@ fn command_line<'a>(alloc: Global) -> Result<Command<'a>, AllocError>
     let piece = number_option(alloc, "piece", MOST_PIECE)
         .default_value("65536")
         .help(help::PIECE);
+    let except = Arg::new(alloc, "except")
+        .long("except")
+        .value_name("LABEL")
+        .action(ArgAction::Append)
+        .help(help::EXCEPT);
     let files = Arg::new(alloc, "files")
         .value_name("FILE")
         .action(ArgAction::Append)
@@ -61,6 +69,7 @@ fn command_line<'a>(alloc: Global) -> Result<Command<'a>, AllocError>
         .after_long_help(help::REPORT)
         .arg(workers)?
         .arg(piece)?
+        .arg(except)?
         .arg(files)
 }
 
@@ -113,12 +122,60 @@ fn settle(alloc: Global, matches: &ArgMatches<'_>) -> Result<Config, Refused>
     if given.len() > MOST_FILES {
         return Err(Refused::TooManyFiles);
     }
+    let labels = matches.get_strs("except").unwrap_or(&[]);
+    let except = few_labels(labels_of(alloc, labels)?)?;
     let files = owned(alloc, given)?;
     Ok(Config {
         workers,
         piece,
         files,
+        except,
     })
+}
+
+// The labels that the texts are, in their order. The first that is none is refused.
+fn labels_of(alloc: Global, texts: &[&str]) -> Result<Vec<Name>, Refused>
+    ensures { IfOk result (λ labels. labels.items ≡ map (λ text. text.now) texts.now) }
+{
+    let mut labels = Vec::new(alloc);
+    for text in texts {
+        push_label(&mut labels, label_of(alloc, text)?)?;
+    }
+    Ok(labels)
+}
+
+fn push_label(labels: &mut Vec<Name>, label: Name) -> Result<(), AllocError>
+    ensures { OnOk result (labels.new.items ≡ labels.old.items ++ label ∷ []) }
+{
+    labels.push(label)?;
+    Ok(())
+}
+
+/// The label that a text is.
+///
+/// # Errors
+///
+/// `BadLabel` where it is none: it has no byte, more than 255, a `|` or a control byte. `Memory`
+/// where it is one, and memory is refused.
+pub fn label_of(alloc: Global, text: &str) -> Result<Name, Refused>
+    ensures { IsTold result text.now }
+{
+    match Name::read(alloc, text.as_bytes()) {
+        Ok(label) => Ok(label),
+        Err(NameFault::Memory) => Err(Refused::Memory),
+        Err(_) => Err(Refused::BadLabel),
+    }
+}
+
+// The labels, unless there are too many.
+fn few_labels(labels: Vec<Name>) -> Result<Vec<Name>, Refused>
+    ensures same { IfOk result (λ few. few ≡ labels) }
+    ensures few { IfOk result (λ few. vec_len few ≤ 64) }
+{
+    if labels.len() > MOST_LABELS {
+        return Err(Refused::TooManyLabels);
+    }
+    Ok(labels)
 }
 
 // The number of an option, from 1 to `most`.
