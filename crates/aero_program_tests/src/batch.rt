@@ -7,7 +7,7 @@ mod runs;
 mod streams;
 
 use crate::batch::habits::Habit;
-use crate::batch::runs::{Who, run_by};
+use crate::batch::runs::{Who, plan_by, run_by, run_planned};
 use crate::batch::streams::{BreaksOnce, CutsOnce, Either, Endless, Later, Tells};
 use aero_batch::outcome::{Cause, Outcome};
 use aero_intake::source::Source;
@@ -120,6 +120,61 @@ fn expect_text<T: Abort + AllocGlobal + Threads + Wait + Copy + Send + 'static>(
     ];
     for who in others {
         expect_start(rt, text, limits, 7, who, &start)?;
+    }
+    Ok(())
+}
+
+// Whether the text has this line where these labels are listed, whoever helps.
+fn has_line<T: AllocGlobal + Threads + Wait + Copy + Send + 'static>(
+    rt: &T,
+    text: &[u8],
+    labels: &str,
+    line: &str,
+) -> Result<bool, Fail> {
+    let start = lines_of(rt.alloc(), line)?;
+    for who in EVERYBODY {
+        let mut sources = Vec::new(rt.alloc());
+        sources.push(source_of(rt.alloc(), "n", text)?)?;
+        let mut writer = Counting::new(Vec::new(rt.alloc()));
+        let plan = plan_by(rt.alloc(), who, Limits::greatest(), 7, labels)?;
+        let outcome = run_planned(*rt, who, &mut sources, &mut writer, &plan)?;
+        if outcome.cause.is_some() || !writer.into_inner().as_slice().starts_with(&start) {
+            return Ok(false);
+        }
+    }
+    Ok(true)
+}
+
+// A block that begins with a listed label is no transaction.
+#[test]
+fn a_text_has_its_line_by_the_labels(rt: HostRuntime) -> Result<(), Fail> {
+    let one = "T1|begin(a)/T2|begin/T1|w(x)/T2|r(x)/T2|w(y)/T1|r(y)";
+    let two = "T1|begin(a)/T1|begin(b)/T1|w(x)/T2|r(x)/T2|w(y)/T1|r(y)/T1|end/T1|end";
+    let inner = "T1|begin/T1|begin(a)/T1|end/T1|w(x)/T2|w(x)/T1|r(x)";
+    let rows = [
+        (
+            one,
+            "a",
+            "n: no violation, 1 blocks open (6 events, 1 blocks)/",
+        ),
+        (one, "", "n: violation at line 6: block of T1 from line 1/"),
+        (two, "a", "n: violation at line 6: block of T1 from line 2/"),
+        (two, "b", "n: violation at line 6: block of T1 from line 1/"),
+        (two, "a b", "n: serializable (8 events, 0 blocks)/"),
+        (
+            inner,
+            "a",
+            "n: violation at line 6: block of T1 from line 1/",
+        ),
+        (
+            "T1|begin(a)/T1|end/T1|end",
+            "a",
+            "n:3: ill-formed: EndWithoutBegin/",
+        ),
+    ];
+    for (text, labels, line) in rows {
+        let text = lines_of(rt.alloc(), text)?;
+        assert!(rt; has_line(&rt, &text, labels, line)?);
     }
     Ok(())
 }

@@ -8,4 +8,6 @@
 #[cfg(test)]
 mod batch;
 #[cfg(test)]
+mod except;
+#[cfg(test)]
 mod program;

@@ -247,6 +247,7 @@ fn config_of(alloc: Global, file: Option<&str>) -> Result<Config, Fail> {
     Ok(Config {
         workers: 2,
         piece: 1,
+        except: Vec::new(alloc),
         files,
     })
 }

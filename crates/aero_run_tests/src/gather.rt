@@ -154,7 +154,7 @@ const VALUES_COME_IN_THE_ORDER_OF_THE_QUESTIONS: [(Step, &str); 13] = [
     (Step::Accept("T1|w(x)"), "Kept"),
     (Step::Settle, "Read(0)"),
     (Step::Settle, "Write(0)"),
-    (Step::Settle, "Begin"),
+    (Step::Settle, "Begin(None)"),
     (Step::Settle, "Read(0)"),
     (Step::Tally, "asked 4, kept 3, done here 1"),
 ];

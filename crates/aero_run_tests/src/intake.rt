@@ -1,4 +1,5 @@
 // How sources come and end, step by step, and which plans there are.
+use crate::except::listed;
 use aero_intake::intake::{Intake, Taken};
 use aero_intake::plan::Plan;
 use aero_model::counting::Counting;
@@ -156,7 +157,8 @@ fn a_plan_is_within_its_bounds(rt: HostRuntime) -> Result<(), Fail> {
         (1, 1_048_577, false),
     ];
     for (workers, piece, is_plan) in rows {
-        let plan = Plan::new(workers, piece, Limits::greatest());
+        let labels = listed(rt.alloc(), "a").ok_or("labels")?;
+        let plan = Plan::new(workers, piece, Limits::greatest(), labels);
         assert!(rt; plan.is_some() == is_plan, "{workers} {piece}");
     }
     Ok(())

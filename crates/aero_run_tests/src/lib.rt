@@ -7,6 +7,8 @@
 #![tactic(auto)]
 
 #[cfg(test)]
+mod except;
+#[cfg(test)]
 mod gather;
 #[cfg(test)]
 mod intake;

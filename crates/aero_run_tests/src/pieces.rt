@@ -1,3 +1,4 @@
+use crate::except::listed;
 use aero_grammar::block::parse_block;
 use aero_model::limits::Limits;
 use aero_model::numbered::What;
@@ -25,11 +26,12 @@ fn block_question(alloc: Global, trace: u64, number: u64, block: &str) -> Result
     })
 }
 
-// The verdict on a trace, whose blocks stand between `;`.
+// The verdict on a trace, whose blocks stand between `;`, where these labels are listed.
 fn trace_question(
     alloc: Global,
     trace: u64,
     limits: Limits,
+    labels: &str,
     blocks: &str,
 ) -> Result<Question, Fail> {
     let mut parts = Vec::new(alloc);
@@ -40,6 +42,7 @@ fn trace_question(
         trace,
         parsed: Parts::new(parts),
         limits,
+        except: listed(alloc, labels).ok_or("labels")?,
     })
 }
 
@@ -60,10 +63,10 @@ fn is_read(value: &Value) -> bool {
     }
 }
 
-// Whether the value is a serializable trace with one event and no block.
-fn is_serializable(value: Value) -> bool {
+// Whether the value is a serializable trace with so many events and no block.
+fn is_serializable(value: Value, many: u32) -> bool {
     match value {
-        Value::Judged(Verdict::Serializable { events, blocks }) => events == 1 && blocks == 0,
+        Value::Judged(Verdict::Serializable { events, blocks }) => events == many && blocks == 0,
         _ => false,
     }
 }
@@ -79,8 +82,12 @@ fn a_question_is_answered_by_its_value(rt: HostRuntime) -> Result<(), Fail> {
     assert!(rt; same(answer.question(), &question) && is_read(answer.value()));
     assert!(rt; is_read(&answer.into_value()));
 
-    let question = trace_question(alloc, 0, Limits::greatest(), "T1|r(x)")?.share(alloc)?;
-    assert!(rt; is_serializable(Question::answer(&question, alloc)?.into_value()));
+    let question = trace_question(alloc, 0, Limits::greatest(), "", "T1|r(x)")?.share(alloc)?;
+    assert!(rt; is_serializable(Question::answer(&question, alloc)?.into_value(), 1));
+
+    let block = "T1|begin(a)/T1|end";
+    let question = trace_question(alloc, 0, Limits::greatest(), "a", block)?.share(alloc)?;
+    assert!(rt; is_serializable(Question::answer(&question, alloc)?.into_value(), 2));
     Ok(())
 }
 
@@ -131,12 +138,35 @@ fn traces_with_the_same_parts_are_the_same_question(rt: HostRuntime) -> Result<(
         (one, 0, most, "T1|acq(l)///", false),
     ];
     for (blocks, trace, limits, other_blocks, is_same) in rows {
-        let check = trace_question(alloc, 0, most, blocks)?;
-        let other = trace_question(alloc, trace, limits, other_blocks)?;
+        let check = trace_question(alloc, 0, most, "a", blocks)?;
+        let other = trace_question(alloc, trace, limits, "a", other_blocks)?;
         let both = (same(&check, &other), same(&other, &check));
         assert!(rt; both == (is_same, is_same), "{blocks:?} {other_blocks:?}");
     }
-    let check = trace_question(alloc, 0, most, two)?;
+    let check = trace_question(alloc, 0, most, "a", two)?;
     assert!(rt; !same(&check, &block_question(alloc, 0, 0, "T1|r(x)")?));
+    Ok(())
+}
+
+#[test]
+fn traces_with_the_same_labels_are_the_same_question(rt: HostRuntime) -> Result<(), Fail> {
+    let alloc = rt.alloc();
+    let most = Limits::greatest();
+    let check = trace_question(alloc, 0, most, "a b", "T1|begin(a)")?;
+    // the labels that are listed, the block, and whether it is the same as the first
+    let rows = [
+        ("a b", "T1|begin(a)", true),
+        ("a b", "T1|begin(b)", false),
+        ("a b", "T1|begin", false),
+        ("b a", "T1|begin(a)", false),
+        ("a", "T1|begin(a)", false),
+        ("a b c", "T1|begin(a)", false),
+        ("", "T1|begin(a)", false),
+    ];
+    for (labels, block, is_same) in rows {
+        let other = trace_question(alloc, 0, most, labels, block)?;
+        let both = (same(&check, &other), same(&other, &check));
+        assert!(rt; both == (is_same, is_same));
+    }
     Ok(())
 }

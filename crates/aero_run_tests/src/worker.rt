@@ -1,5 +1,6 @@
 // What no clause says: that workers answer, that they work at once, and that a crew ends where nobody receives,
 // where no thread can be made and where memory is refused.
+use crate::except::listed;
 use aero_model::limits::Limits;
 use aero_model::numbered::What;
 use aero_model::verdict::Verdict;
@@ -56,6 +57,7 @@ fn trace_question(alloc: Global) -> Option<Arc<Question>> {
         trace: 0,
         parsed: parts_of(alloc, value).ok()?,
         limits: Limits::greatest(),
+        except: listed(alloc, "")?,
     };
     question.share(alloc).ok()
 }

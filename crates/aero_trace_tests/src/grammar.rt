@@ -30,7 +30,8 @@ fn lines_say_their_events_or_have_their_first_fault(rt: HostRuntime) -> Result<(
         ("T0|r())", "T0 Read )"),
         ("T0|begin", "T0 Begin"),
         ("T0|begin()", "T0 Begin"),
-        ("T0|begin(foo)|7", "T0 Begin"),
+        ("T0|begin(foo)|7", "T0 Begin foo"),
+        ("T0| begin(f(o) ) |7", "T0 Begin f(o) "),
         ("T0|end", "T0 End"),
         ("T0|end(foo)", "T0 End"),
         ("T0|r(x)\r", "T0 Read x"),
@@ -101,7 +102,10 @@ fn says(alloc: Global, line: &str, byte: u8, count: usize, wanted: &str) -> Resu
 #[test]
 fn long_names_and_lines_meet_their_limits(rt: HostRuntime) -> Result<(), Fail> {
     let rows = [
+        ("T0|begin(#)", b'a', 255, "T0 Begin #"),
+        ("T0|begin(#)", b'a', 256, "T0 Begin"),
         ("T0|begin(#)", b'a', 300, "T0 Begin"),
+        ("#|begin(x)", b'a', 256, "NameTooLong"),
         ("T0|r(#)", b'a', 255, "T0 Read #"),
         ("T0|r(#)", b'a', 256, "NameTooLong"),
         ("#|begin", b'a', 256, "NameTooLong"),
@@ -160,6 +164,7 @@ fn words_of(alloc: Global, parsed: &Parsed) -> Result<String, Fail> {
     push_names(alloc, &mut words, ", threads", &parsed.threads)?;
     push_names(alloc, &mut words, ", variables", &parsed.variables)?;
     push_names(alloc, &mut words, ", locks", &parsed.locks)?;
+    push_names(alloc, &mut words, ", labels", &parsed.labels)?;
     for (line, event) in &parsed.events {
         let said = format!(in alloc; ", {line}: {} {:?}", event.thread, event.what)?;
         words.push_str(&said)?;
@@ -173,19 +178,23 @@ fn words_of(alloc: Global, parsed: &Parsed) -> Result<String, Fail> {
 #[test]
 fn blocks_are_read_up_to_their_first_fault(rt: HostRuntime) -> Result<(), Fail> {
     let rows = [
-        ("", "lines 0, threads, variables, locks"),
-        ("/", "lines 1, threads, variables, locks"),
+        ("", "lines 0, threads, variables, locks, labels"),
+        ("/", "lines 1, threads, variables, locks, labels"),
         (
             "/T1|r(x)/T1/T2|w(y)",
-            "lines 3, threads T1, variables x, locks, 2: 0 Read(0), 3: NoOperation",
+            "lines 3, threads T1, variables x, locks, labels, 2: 0 Read(0), 3: NoOperation",
         ),
         (
             "T2|fork(T1)/T2|r(x)/T1|w(x)",
-            "lines 3, threads T2 T1, variables x, locks, 1: 0 Fork(1), 2: 0 Read(0), 3: 1 Write(0)",
+            "lines 3, threads T2 T1, variables x, locks, labels, 1: 0 Fork(1), 2: 0 Read(0), 3: 1 Write(0)",
+        ),
+        (
+            "a|begin(x)/b|begin/a|begin(y)/b|begin(x)/b|end(z)/b|r(y)",
+            "lines 6, threads a b, variables y, locks, labels x y, 1: 0 Begin(Some(0)), 2: 1 Begin(None), 3: 0 Begin(Some(1)), 4: 1 Begin(Some(0)), 5: 1 End, 6: 1 Read(0)",
         ),
         (
             "a|acq(b)/b|join(a)//a|rel(b)/a|begin(b)/c|end/c|w(a)/c|r(b)/b|acq(c)",
-            "lines 9, threads a b c, variables a b, locks b c, 1: 0 Acquire(0), 2: 1 Join(0), 4: 0 Release(0), 5: 0 Begin, 6: 2 End, 7: 2 Write(0), 8: 2 Read(1), 9: 1 Acquire(1)",
+            "lines 9, threads a b c, variables a b, locks b c, labels b, 1: 0 Acquire(0), 2: 1 Join(0), 4: 0 Release(0), 5: 0 Begin(Some(0)), 6: 2 End, 7: 2 Write(0), 8: 2 Read(1), 9: 1 Acquire(1)",
         ),
     ];
     for (row, wanted) in rows {

@@ -231,7 +231,13 @@ fn make_by_clocks(clocks: &mut Clocks, t: u32, event: Event) -> Result<Option<u3
     }
 }
 
-// Events that fit each other: a linear congruential generator, who holds the one lock, and which
+// A number below this one, from the next state of a linear congruential generator.
+pub(crate) fn roll(state: &mut u32, sides: u32) -> u32 {
+    *state = state.wrapping_mul(1_664_525).wrapping_add(1_013_904_223);
+    (*state >> 16).checked_rem(sides).unwrap_or(0)
+}
+
+// Events that fit each other: the state of `roll`, who holds the one lock, and which
 // threads were forked and joined.
 #[derive(Drop)]
 struct Plan {
@@ -244,11 +250,7 @@ struct Plan {
 impl Plan {
     // A number below this one.
     fn roll(&mut self, sides: u32) -> u32 {
-        self.state = self
-            .state
-            .wrapping_mul(1_664_525)
-            .wrapping_add(1_013_904_223);
-        (self.state >> 16).checked_rem(sides).unwrap_or(0)
+        roll(&mut self.state, sides)
     }
 
     // An acquire or a release of the lock by thread t, where that fits.

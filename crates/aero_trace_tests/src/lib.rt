@@ -2,7 +2,8 @@
 //!
 //! A crate with tests is proved twice, with them and without, so they stand here, above all of the
 //! crates, and each is proved once. A module has the tests of the crate that it is named for, most of
-//! them as tables of texts. It has nothing for other crates.
+//! them as tables of texts, and `replaced` compares verdicts of generated traces. It has nothing for
+//! other crates.
 #![tactic(auto)]
 
 #[cfg(test)]
@@ -19,6 +20,8 @@ mod lines;
 mod model;
 #[cfg(test)]
 mod names;
+#[cfg(test)]
+mod replaced;
 #[cfg(test)]
 mod shape;
 #[cfg(test)]

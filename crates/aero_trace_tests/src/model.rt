@@ -1,4 +1,5 @@
 use aero_model::counting::Counting;
+use aero_model::except::{Except, SharedExcept};
 use aero_model::limits::Limits;
 use aero_model::name::{Name, NameFault};
 use std::alloc::Global;
@@ -56,6 +57,97 @@ fn limits_are_made_up_to_the_greatest(rt: HostRuntime) {
             assert!(rt; !are_made(numbers), "{wrong} at {at}");
         }
     }
+}
+
+// The list of a text's labels, which stand between its spaces.
+pub(crate) fn except_of(alloc: Global, text: &str) -> Result<Except, Fail> {
+    let mut labels = Vec::new(alloc);
+    for label in text.split(' ') {
+        if !label.is_empty() {
+            labels.push(Name::read(alloc, label.as_bytes())?)?;
+        }
+    }
+    match Except::new(labels) {
+        Some(except) => Ok(except),
+        None => Err("too many labels".into()),
+    }
+}
+
+// Whether a list of so many labels is made.
+fn is_listed(alloc: Global, count: usize) -> Result<bool, Fail> {
+    let mut labels = Vec::new(alloc);
+    for _ in 0..count {
+        labels.push(Name::read(alloc, b"f")?)?;
+    }
+    Ok(Except::new(labels).is_some())
+}
+
+#[test]
+fn up_to_64_labels_are_listed(rt: HostRuntime) -> Result<(), Fail> {
+    for (count, wanted) in [(0, true), (64, true), (65, false)] {
+        assert!(rt; is_listed(rt.alloc(), count)? == wanted, "{count}");
+    }
+    Ok(())
+}
+
+// Whether the list has the label, as a name and as bytes alike.
+fn has(alloc: Global, except: &Except, label: &str) -> Result<Option<bool>, Fail> {
+    let name = Name::read(alloc, label.as_bytes())?;
+    let has = except.has(&name);
+    Ok((except.has_bytes(label.as_bytes()) == has).then_some(has))
+}
+
+#[test]
+fn a_list_has_the_labels_that_are_listed(rt: HostRuntime) -> Result<(), Fail> {
+    let except = except_of(rt.alloc(), "f g.h() f")?;
+    let rows = [
+        ("f", true),
+        ("g.h()", true),
+        ("F", false),
+        ("ff", false),
+        ("g.h", false),
+        ("g", false),
+    ];
+    for (label, wanted) in rows {
+        assert!(rt; has(rt.alloc(), &except, label)? == Some(wanted), "{label}");
+    }
+    let none = except_of(rt.alloc(), "")?;
+    assert!(rt; has(rt.alloc(), &none, "f")? == Some(false));
+    Ok(())
+}
+
+// Whether lists of these labels are the same, in both directions alike.
+fn are_same(alloc: Global, a: &str, b: &str) -> Result<Option<bool>, Fail> {
+    let (a, b) = (except_of(alloc, a)?, except_of(alloc, b)?);
+    let are_same = a.has_same_labels(&b);
+    Ok((b.has_same_labels(&a) == are_same).then_some(are_same))
+}
+
+#[test]
+fn lists_of_labels_are_the_same_in_their_order(rt: HostRuntime) -> Result<(), Fail> {
+    let rows = [
+        ("", "", true),
+        ("ab c", "ab c", true),
+        ("ab c", "c ab", false),
+        ("ab c", "a bc", false),
+        ("ab c", "ab", false),
+        ("ab", "ab ab", false),
+    ];
+    for (a, b, wanted) in rows {
+        assert!(rt; are_same(rt.alloc(), a, b)? == Some(wanted), "{a}, {b}");
+    }
+    Ok(())
+}
+
+#[test]
+fn a_list_of_labels_is_shared(rt: HostRuntime) -> Result<(), Fail> {
+    let except = except_of(rt.alloc(), "f g")?;
+    let first = SharedExcept::new(rt.alloc(), except_of(rt.alloc(), "f g")?)?;
+    let second = first.share()?;
+    assert!(rt; first.get().has_same_labels(&except));
+    drop(first);
+    assert!(rt; second.get().has_same_labels(&except));
+    Ok(())
 }
 
 // Fails at its first call and at every other one after it, of `read`, `write` and `flush` alike, and

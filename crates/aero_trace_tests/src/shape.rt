@@ -52,6 +52,16 @@ const A_JOINED_THREAD_DOES_NOTHING_MORE: [Row; 11] = [
     ("7 Fork 41", "ForkStarted"),
 ];
 
+const AN_EXEMPT_BLOCK_IS_NONE: [Row; 7] = [
+    ("0 ExemptBegin", "outside"),
+    ("0 Begin", "OuterBegin"),
+    ("0 ExemptBegin", "in a block"),
+    ("0 End", "in a block"),
+    ("0 End", "OuterEnd"),
+    ("0 End", "outside"),
+    ("0 End", "EndWithoutBegin"),
+];
+
 // The event of such a text: a thread, what it does, and the target if there is one.
 fn event_of(text: &str) -> Option<Numbered> {
     let (thread, deed) = text.split_once(' ')?;
@@ -63,7 +73,7 @@ fn event_of(text: &str) -> Option<Numbered> {
         "Release" => What::Release(target),
         "Fork" => What::Fork(target),
         "Join" => What::Join(target),
-        "Begin" => What::Begin,
+        "Begin" | "ExemptBegin" => What::Begin(None),
         "End" => What::End,
         _ => return None,
     };
@@ -98,19 +108,21 @@ fn admitted_of(rt: &impl Abort, alloc: Global, rows: &[Row]) -> u32 {
     let mut shape = Shape::new(alloc);
     for (text, wanted) in rows {
         let event = event_of(text).expect(rt, "an event");
+        let exempt = text.contains("Exempt");
         assert!(rt; shape.admitted() < 100);
-        assert!(rt; told(shape.admit(&event)) == *wanted, "{text}");
+        assert!(rt; told(shape.admit(&event, exempt)) == *wanted, "{text}");
     }
     shape.admitted()
 }
 
 #[test]
 fn each_event_is_admitted_or_has_its_cause(rt: HostRuntime) {
-    let tables: [(&[Row], u32); 4] = [
+    let tables: [(&[Row], u32); 5] = [
         (&[], 0),
         (&EACH_CAUSE_AND_EACH_KIND, 8),
         (&A_LOCK_IS_FREE_AFTER_AS_MANY_RELEASES_AS_ACQUIRES, 6),
         (&A_JOINED_THREAD_DOES_NOTHING_MORE, 5),
+        (&AN_EXEMPT_BLOCK_IS_NONE, 6),
     ];
     for (rows, admitted) in tables {
         assert!(rt; admitted_of(&rt, rt.alloc(), rows) == admitted);

@@ -1,6 +1,8 @@
+use crate::model::except_of;
 use aero_access::clocks::Clocks;
 use aero_grammar::block::parse_block;
 use aero_grammar::parsed::Parsed;
+use aero_model::except::Except;
 use aero_model::limits::Limits;
 use aero_model::verdict::Verdict;
 use aero_verdict::engine::Engine;
@@ -17,7 +19,7 @@ fn parsed(alloc: Global, text: &[u8]) -> Result<Parsed, Fail> {
 }
 
 // The parts of a row's text, in which a `/` stands for the end of a line and a `+` ends a part.
-fn parts_of(alloc: Global, row: &str) -> Result<Vec<Parsed>, Fail> {
+pub(crate) fn parts_of(alloc: Global, row: &str) -> Result<Vec<Parsed>, Fail> {
     let mut parts = Vec::new(alloc);
     let mut text = Vec::new(alloc);
     for byte in row.as_bytes() {
@@ -58,24 +60,32 @@ fn words_of(alloc: Global, verdict: &Verdict) -> Result<String, Fail> {
 }
 
 // The verdict that this engine leads to, in words.
-fn judged_by<E: Engine>(alloc: Global, parts: &[Parsed], limits: &Limits) -> Result<String, Fail> {
-    let verdict = check_trace_by::<E>(alloc, parts, limits)?;
+pub(crate) fn judged_by<E: Engine>(
+    alloc: Global,
+    parts: &[Parsed],
+    limits: &Limits,
+    except: &Except,
+) -> Result<String, Fail> {
+    let verdict = check_trace_by::<E>(alloc, parts, limits, except)?;
     words_of(alloc, &verdict)
 }
 
-// Checks that the row has the verdict under the limits, and has it by clocks too.
+// Checks that the row has the verdict under the limits, and has it by clocks too, where blocks with
+// these labels are no transactions.
 fn expect(
     rt: &impl Abort,
     alloc: Global,
     limits: &Limits,
+    labels: &str,
     row: &str,
     wanted: &str,
 ) -> Result<(), Fail> {
     let parts = parts_of(alloc, row)?;
-    let verdict = check_trace(alloc, &parts, limits)?;
+    let except = except_of(alloc, labels)?;
+    let verdict = check_trace(alloc, &parts, limits, &except)?;
     let words = words_of(alloc, &verdict)?;
     assert!(rt; words.as_str() == wanted, "{words}");
-    let by_clocks = judged_by::<Clocks>(alloc, &parts, limits)?;
+    let by_clocks = judged_by::<Clocks>(alloc, &parts, limits, &except)?;
     assert!(rt; by_clocks.as_str() == wanted, "by clocks {by_clocks}");
     Ok(())
 }
@@ -88,7 +98,7 @@ fn expect_under(
 ) -> Result<(), Fail> {
     for ((lines, threads, names), row, wanted) in rows {
         let limits = Limits::new(1000, *lines, *threads, *names).expect(rt, "limits");
-        expect(rt, alloc, &limits, row, wanted)?;
+        expect(rt, alloc, &limits, "", row, wanted)?;
     }
     Ok(())
 }
@@ -146,7 +156,7 @@ fn serializable_and_pending_traces(rt: HostRuntime) -> Result<(), Fail> {
         ),
     ];
     for (row, wanted) in rows {
-        expect(&rt, rt.alloc(), &Limits::greatest(), row, wanted)?;
+        expect(&rt, rt.alloc(), &Limits::greatest(), "", row, wanted)?;
     }
     Ok(())
 }
@@ -205,7 +215,7 @@ fn violations_where_a_cycle_closes(rt: HostRuntime) -> Result<(), Fail> {
         ),
     ];
     for (row, wanted) in rows {
-        expect(&rt, rt.alloc(), &Limits::greatest(), row, wanted)?;
+        expect(&rt, rt.alloc(), &Limits::greatest(), "", row, wanted)?;
     }
     Ok(())
 }
@@ -249,7 +259,7 @@ fn the_first_fault_by_line_with_its_cause(rt: HostRuntime) -> Result<(), Fail> {
         ("T1|end/+T+", "ill-formed 1 EndWithoutBegin"),
     ];
     for (row, wanted) in rows {
-        expect(&rt, rt.alloc(), &Limits::greatest(), row, wanted)?;
+        expect(&rt, rt.alloc(), &Limits::greatest(), "", row, wanted)?;
     }
     Ok(())
 }
@@ -400,6 +410,149 @@ fn limits_on_threads_and_names(rt: HostRuntime) -> Result<(), Fail> {
     expect_under(&rt, rt.alloc(), &rows)
 }
 
+// Labels, a trace, and its verdict where blocks with these labels are no transactions.
+type Labelled = (&'static str, &'static str, &'static str);
+
+const OPEN_AND_CLOSE_NO_BLOCK: [Labelled; 14] = [
+    (
+        "a",
+        "T1|begin(a)/T2|begin/T1|w(x)/T2|r(x)/T2|w(y)/T1|r(y)/+",
+        "pending 6 1 1",
+    ),
+    (
+        "",
+        "T1|begin(a)/T2|begin/T1|w(x)/T2|r(x)/T2|w(y)/T1|r(y)/+",
+        "violation 6 T1 1",
+    ),
+    (
+        "a",
+        "T1|begin(a)/T1|begin(b)/T1|w(x)/T2|r(x)/T2|w(y)/T1|r(y)/T1|end/T1|end/+",
+        "violation 6 T1 2",
+    ),
+    (
+        "b",
+        "T1|begin(a)/T1|begin(b)/T1|w(x)/T2|r(x)/T2|w(y)/T1|r(y)/T1|end/T1|end/+",
+        "violation 6 T1 1",
+    ),
+    (
+        "a b",
+        "T1|begin(a)/T1|begin(b)/T1|w(x)/T2|r(x)/T2|w(y)/T1|r(y)/T1|end/T1|end/+",
+        "serializable 8 0",
+    ),
+    (
+        "a",
+        "T1|begin/T1|begin(a)/T1|end/T1|w(x)/T2|w(x)/T1|r(x)/+",
+        "violation 6 T1 1",
+    ),
+    (
+        "a",
+        "T1|begin(a)/T1|begin(b)/T1|w(x)/T1|end/T2|w(x)/T1|r(x)/T1|end/+",
+        "serializable 7 1",
+    ),
+    (
+        "b",
+        "T1|begin(a)/T1|begin(b)/T1|w(x)/T1|end/T2|w(x)/T1|r(x)/T1|end/+",
+        "violation 6 T1 1",
+    ),
+    (
+        "a",
+        "T1|begin/T2|begin(a)/T1|w(x)/T2|end/T2|w(x)/T1|r(x)/+",
+        "violation 6 T1 1",
+    ),
+    ("a", "T1|begin(a)/T1|w(x)/+", "serializable 2 0"),
+    // They are events of their thread.
+    (
+        "a",
+        "T1|begin/T1|fork(T2)/T2|begin(a)/T1|join(T2)/+",
+        "violation 4 T1 1",
+    ),
+    ("a", "T2|begin(a)/T1|fork(T2)/+", "ill-formed 2 ForkStarted"),
+    (
+        "a",
+        "T1|begin(a)/T1|end/T1|end/+",
+        "ill-formed 3 EndWithoutBegin",
+    ),
+    ("a", "T1|begin(a)/T2|end/+", "ill-formed 2 EndWithoutBegin"),
+];
+
+const WHICH_LABELS_AND_OVER_PARTS: [Labelled; 12] = [
+    // No begin has the label: a variable has it, or a label begins or ends with it.
+    (
+        "b",
+        "T1|begin(a)/T1|w(x)/T2|w(x)/T1|r(x)/+",
+        "violation 4 T1 1",
+    ),
+    (
+        "A aa",
+        "T1|begin(a)/T1|w(x)/T2|w(x)/T1|r(x)/+",
+        "violation 4 T1 1",
+    ),
+    (
+        "a x",
+        "T1|begin(xa)/T1|w(x)/T2|w(x)/T1|r(x)/+",
+        "violation 4 T1 1",
+    ),
+    // A label that is listed twice, and one with a location behind it.
+    (
+        "a a",
+        "T1|begin(a)/T1|w(x)/T2|w(x)/T1|r(x)/+",
+        "serializable 4 0",
+    ),
+    (
+        "b a",
+        "T1|begin(a)|7/T1|w(x)/T2|w(x)/T1|r(x)/+",
+        "serializable 4 0",
+    ),
+    // The begin in one part, and its end in the next.
+    (
+        "a",
+        "T1|begin(a)/T1|begin/T1|w(x)/+T1|end/T2|w(x)/T1|r(x)/T1|end/+",
+        "serializable 7 1",
+    ),
+    (
+        "",
+        "T1|begin(a)/T1|begin/T1|w(x)/+T1|end/T2|w(x)/T1|r(x)/T1|end/+",
+        "violation 6 T1 1",
+    ),
+    (
+        "a",
+        "T1|begin/T1|begin(a)/T1|w(x)/+T1|end/T2|w(x)/T1|r(x)/+",
+        "violation 6 T1 1",
+    ),
+    (
+        "a",
+        "T1|begin(a)/+T1|end/+T1|end/+",
+        "ill-formed 3 EndWithoutBegin",
+    ),
+    // The second part has the labels in the other order.
+    (
+        "a",
+        "T1|begin(a)/T1|end/T1|begin(b)/T1|end/+T1|begin(b)/T1|w(x)/T2|w(x)/T1|r(x)/T1|begin(a)/T1|end/T1|end/+",
+        "violation 8 T1 5",
+    ),
+    (
+        "b",
+        "T1|begin(a)/T1|end/T1|begin(b)/T1|end/+T1|begin(b)/T1|w(x)/T2|w(x)/T1|r(x)/T1|begin(a)/T1|end/T1|end/+",
+        "serializable 11 2",
+    ),
+    (
+        "a b",
+        "T1|begin(a)/T1|end/T1|begin(b)/T1|end/+T1|begin(b)/T1|w(x)/T2|w(x)/T1|r(x)/T1|begin(a)/T1|end/T1|end/+",
+        "serializable 11 0",
+    ),
+];
+
+#[test]
+fn blocks_with_listed_labels_are_no_transactions(rt: HostRuntime) -> Result<(), Fail> {
+    let tables: [&[Labelled]; 2] = [&OPEN_AND_CLOSE_NO_BLOCK, &WHICH_LABELS_AND_OVER_PARTS];
+    for rows in tables {
+        for (labels, row, wanted) in rows {
+            expect(&rt, rt.alloc(), &Limits::greatest(), labels, row, wanted)?;
+        }
+    }
+    Ok(())
+}
+
 // Two threads make blocks of one write in turn, and each of many threads makes one, to a variable of its own.
 #[test]
 fn many_blocks_and_many_threads(rt: HostRuntime) -> Result<(), Fail> {
@@ -413,6 +566,7 @@ fn many_blocks_and_many_threads(rt: HostRuntime) -> Result<(), Fail> {
         &rt,
         alloc,
         &Limits::greatest(),
+        "",
         &row,
         "serializable 90000 30000",
     )?;
@@ -427,7 +581,7 @@ fn many_blocks_and_many_threads(rt: HostRuntime) -> Result<(), Fail> {
             row.push_str(&lines)?;
         }
         row.push_str("+")?;
-        expect(&rt, alloc, &Limits::greatest(), &row, wanted)?;
+        expect(&rt, alloc, &Limits::greatest(), "", &row, wanted)?;
     }
     Ok(())
 }

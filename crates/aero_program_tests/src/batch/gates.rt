@@ -1,6 +1,7 @@
 // Runs with a crew, under gates.
 use crate::batch::runs::run_gated;
 use crate::batch::{CROSSED, REPORT_OF_THREE, lines_of, source_of, texts_of_two, three_sources};
+use crate::except::listed;
 use aero_batch::outcome::Outcome;
 use aero_intake::plan::Plan;
 use aero_model::counting::Counting;
@@ -8,6 +9,7 @@ use aero_model::limits::Limits;
 use aero_pieces::answer::Answer;
 use aero_pieces::question::Question;
 use aero_worker::Gate;
+use std::alloc::Global;
 use std::process::Abort;
 use std::sync::atomic::{AtomicBool, AtomicU64, Ordering};
 use std::sync::{Arc, Wait};
@@ -102,8 +104,9 @@ impl Gate for TwoAtOnce {
     }
 }
 
-fn plan_with(workers: u32, piece: u32) -> Result<Plan, Fail> {
-    match Plan::new(workers, piece, Limits::greatest()) {
+fn plan_with(alloc: Global, workers: u32, piece: u32) -> Result<Plan, Fail> {
+    let except = listed(alloc, "").ok_or("labels")?;
+    match Plan::new(workers, piece, Limits::greatest(), except) {
         Some(plan) => Ok(plan),
         None => Err("no such plan".into()),
     }
@@ -126,7 +129,7 @@ fn expect_second_first<T: Abort + AllocGlobal + Threads + Wait + Copy + Send + '
     let texts = texts_of_two(rt.alloc())?;
     let mut sources = three_sources(&texts, rt.alloc())?;
     let mut writer = Counting::new(Vec::new(rt.alloc()));
-    let plan = plan_with(workers, 7)?;
+    let plan = plan_with(rt.alloc(), workers, 7)?;
     let shared = Arc::try_clone(&gate)?;
     let outcome = ran(run_gated(rt, &mut sources, &mut writer, &plan, shared))?;
     assert_eq!(rt; writer.into_inner(), lines_of(rt.alloc(), REPORT_OF_THREE)?);
@@ -149,7 +152,7 @@ fn expect_two_at_once<T: Abort + AllocGlobal + Threads + Wait + Copy + Send + 's
         source_of(rt.alloc(), "n", crossed.as_slice())?,
     ];
     let mut writer = Counting::new(Vec::new(rt.alloc()));
-    let plan = plan_with(2, 65_536)?;
+    let plan = plan_with(rt.alloc(), 2, 65_536)?;
     let shared = Arc::try_clone(&gate)?;
     let outcome = ran(run_gated(rt, &mut sources, &mut writer, &plan, shared))?;
     assert!(rt; gate.meeting.was_met(2));

@@ -1,5 +1,6 @@
 // Runs by whoever it is. The callers need nothing of what a run promises.
 use crate::batch::habits::{Habit, helper_with};
+use crate::except::listed;
 use aero_batch::helpers::Nobody;
 use aero_batch::outcome::Outcome;
 use aero_batch::run::{run, run_over};
@@ -8,6 +9,7 @@ use aero_intake::source::Source;
 use aero_model::counting::Counting;
 use aero_model::limits::Limits;
 use aero_worker::{Gate, NoGate};
+use std::alloc::Global;
 use std::io::{Read, Write};
 use std::sync::{Arc, Wait};
 use std::test::Fail;
@@ -24,7 +26,7 @@ pub(crate) enum Who {
     Crew(u32),
 }
 
-// Runs over at most nine sources. Whoever answers is counted, and has answered as much as was to be expected.
+// Runs over at most nine sources, with no label listed.
 pub(crate) fn run_by<R: Read, W: Write, T: AllocGlobal + Threads + Wait + Copy + Send + 'static>(
     rt: T,
     who: Who,
@@ -33,19 +35,47 @@ pub(crate) fn run_by<R: Read, W: Write, T: AllocGlobal + Threads + Wait + Copy +
     limits: Limits,
     piece: u32,
 ) -> Result<Outcome, Fail> {
+    let plan = plan_by(rt.alloc(), who, limits, piece, "")?;
+    run_planned(rt, who, sources, writer, &plan)
+}
+
+// The plan of a run by these, where these labels are listed, between which a space stands.
+pub(crate) fn plan_by(
+    alloc: Global,
+    who: Who,
+    limits: Limits,
+    piece: u32,
+    labels: &str,
+) -> Result<Plan, Fail> {
     let workers = match who {
         Who::Crew(workers) => workers,
         Who::Alone | Who::Helped(_) => 1,
     };
-    let Some(plan) = Plan::new(workers, piece, limits) else {
-        return Err("no such plan".into());
-    };
+    let except = listed(alloc, labels).ok_or("labels")?;
+    match Plan::new(workers, piece, limits, except) {
+        Some(plan) => Ok(plan),
+        None => Err("no such plan".into()),
+    }
+}
+
+// Runs by this plan. Whoever answers is counted, and has answered as much as was to be expected.
+pub(crate) fn run_planned<
+    R: Read,
+    W: Write,
+    T: AllocGlobal + Threads + Wait + Copy + Send + 'static,
+>(
+    rt: T,
+    who: Who,
+    sources: &mut [Source<R>],
+    writer: &mut Counting<W>,
+    plan: &Plan,
+) -> Result<Outcome, Fail> {
     let (outcome, workers) = match who {
-        Who::Alone => (run_alone(&rt, sources, writer, &plan), 0),
-        Who::Helped(habit) => (run_helped(&rt, sources, writer, &plan, habit), 2),
+        Who::Alone => (run_alone(&rt, sources, writer, plan), 0),
+        Who::Helped(habit) => (run_helped(&rt, sources, writer, plan, habit), 2),
         Who::Crew(workers) => {
             let gate = Arc::new(rt.alloc(), NoGate)?;
-            (run_gated(rt, sources, writer, &plan, gate), workers)
+            (run_gated(rt, sources, writer, plan, gate), workers)
         }
     };
     let Some(outcome) = outcome else {
