@@ -29,10 +29,11 @@ use std::thread::Threads;
 /// Does what the words ask for, and gives the exit status.
 ///
 /// Where they ask for traces to be judged, it judges the files, or standard input where there are
-/// none, in which blocks with the labels that they give are no transactions, writes the report to standard output and flushes it, and then writes the notes on the sources
-/// to standard error. Help goes to standard output, which is flushed; why there is nothing to judge,
-/// and why the program fails, goes to standard error. Where standard error takes nothing, the status
-/// still tells. A read, a write or a flush that is interrupted is tried again.
+/// none, in which blocks with the labels that they give are no transactions, writes the report to
+/// standard output and flushes it, and then writes the notes on the sources to standard error. Help
+/// goes to standard output, which is flushed; why there is nothing to judge, and why the program
+/// fails, goes to standard error. Where standard error takes nothing, the status still tells. A read,
+/// a write or a flush that is interrupted is tried again.
 pub fn answer<
     S: Read + Drop,
     F: Files + Drop,

@@ -76,6 +76,12 @@ fn each_end_has_its_status(rt: HostRuntime) {
             "aerodrome: more than 65536 files\n",
             3,
         ),
+        (Failure::BadLabel, "aerodrome: not a label\n", 3),
+        (
+            Failure::TooManyLabels,
+            "aerodrome: more than 64 labels\n",
+            3,
+        ),
         (Failure::NotUtf8, "aerodrome: a word is not UTF-8\n", 3),
     ];
     for (failure, line, expected) in failures {
@@ -449,7 +455,7 @@ fn what_is_not_judged_is_told(rt: HostRuntime) -> Result<(), Fail> {
         error_writes: 1,
         ..SOUND
     };
-    let rows: [(Stop, Damage, Wanted); 12] = [
+    let rows: [(Stop, Damage, Wanted); 14] = [
         (refused(alloc, "help\n", true)?, SOUND, (b"help\n", b"", 0)),
         (
             refused(alloc, "help\n", true)?,
@@ -492,6 +498,16 @@ fn what_is_not_judged_is_told(rt: HostRuntime) -> Result<(), Fail> {
                 ..SOUND
             },
             (b"", b"", 3),
+        ),
+        (
+            Stop::Refused(Refused::BadLabel),
+            SOUND,
+            (b"", b"aerodrome: not a label\n", 3),
+        ),
+        (
+            Stop::Refused(Refused::TooManyLabels),
+            SOUND,
+            (b"", b"aerodrome: more than 64 labels\n", 3),
         ),
         (Stop::Refused(Refused::Memory), SOUND, memory),
         (

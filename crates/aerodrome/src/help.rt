@@ -42,8 +42,9 @@ for each";
 pub const PIECE: &str = "How many bytes one read asks for at most, 1 to 1048576. The report is
 the same for each";
 
-pub const EXCEPT: &str = "A block that begins with this label is no block. May be given for up
-to 64 labels, each 1 to 255 bytes without `|` and control characters";
+pub const EXCEPT: &str = "Blocks that begin with begin(LABEL) are no transactions. May be given
+for up to 64 labels, each 1 to 255 bytes without `|` and control
+characters; a label that begins with - as --except=LABEL";
 
 pub const FILES: &str = "The traces to judge, in this order, at most 65536. Without a FILE it
 is standard input, which the report calls `-`. As a FILE, `-` is a
