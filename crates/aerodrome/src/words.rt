@@ -156,7 +156,7 @@ fn push_label(labels: &mut Vec<Name>, label: Name) -> Result<(), AllocError>
 /// # Errors
 ///
 /// `BadLabel` where it is none: it has no byte, more than 255, a `|` or a control byte. `Memory`
-/// where it is one, and memory is refused.
+/// where it is one of more than 16 bytes, and memory is refused.
 pub fn label_of(alloc: Global, text: &str) -> Result<Name, Refused>
     ensures { IsTold result text.now }
 {
