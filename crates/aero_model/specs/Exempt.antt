@@ -1,5 +1,5 @@
 -- Blocks that are no transactions. A begin can be exempt. It and the end that matches it are then judged as events of their thread, and nothing more.
-use Rattle.std.specs.Prelude.{ℕ, zero, suc, ◌-◌, ◌==◌, ◌&&◌, nat_lt, Bool, false, if◌then◌else◌, List, [], ◌∷◌, ◌++◌, length, map, bytes_eq, slice_get, Option, Some, None}
+use Rattle.std.specs.Prelude.{◌≡◌, ℕ, zero, suc, ◌-◌, ◌==◌, ◌&&◌, nat_lt, Bool, false, if◌then◌else◌, List, [], ◌∷◌, ◌++◌, length, map, bytes_eq, slice_get, Option, Some, None}
 use Rattle.std.specs.List.{list_any}
 use Rattle.aero_model.specs.declared.numbered.Numbered.{Numbered}
 use Rattle.aero_model.specs.declared.numbered.What.{What}
@@ -55,6 +55,25 @@ judged_after before (m ∷ more) = judged before m ∷ judged_after (before ++ m
 -- The trace that is judged. In it the depth of a thread counts the blocks that aren't exempt.
 abbrev pub judged_trace : List Marked → List Numbered
 judged_trace marked = judged_after [] marked
+
+-- a begin without a label, an end, or an exempt one of either
+abbrev pub IsBare : What → Type 0
+IsBare (Begin None) = Unit {0}
+IsBare End = Unit {0}
+IsBare Exempt = Unit {0}
+IsBare _ = ⊥
+
+-- what the operation is judged as: a begin or an end as a begin without a label, an end or an exempt one, any other as itself
+abbrev pub IsJudgedWhat : What → What → Type 0
+IsJudgedWhat (Begin label) judged = IsBare judged
+IsJudgedWhat End judged = IsBare judged
+IsJudgedWhat Exempt judged = IsBare judged
+IsJudgedWhat what judged = judged ≡ what
+
+-- what the event that was read is judged as: an event of the same thread
+pub record IsJudgedAs (e judged : Numbered) : Type 0 where
+  pub thread : judged.thread ≡ e.thread
+  pub what : IsJudgedWhat e.what judged.what
 
 abbrev pub label_of : Op → Option (List ℕ) → Option (List ℕ)
 label_of op.Begin target = target

@@ -13,24 +13,24 @@ pub struct Limits {
     ghost some_bytes: { 0 < bytes },
     ghost most_bytes: { bytes ≤ 2 ^ 30 },
     ghost some_lines: { 0 < lines },
-    ghost most_lines: { lines ≤ 2 ^ 24 },
+    ghost most_lines: { lines ≤ 2 ^ 28 },
     ghost some_threads: { 0 < threads },
-    ghost most_threads: { threads ≤ 1024 },
+    ghost most_threads: { threads ≤ 2 ^ 16 },
     ghost some_names: { 0 < names },
-    ghost most_names: { names ≤ 2 ^ 20 },
+    ghost most_names: { names ≤ 2 ^ 26 },
 }
 
 const MOST_BYTES: u32 = 1 << 30;
 
-const MOST_LINES: u32 = 1 << 24;
+const MOST_LINES: u32 = 1 << 28;
 
-const MOST_THREADS: u32 = 1024;
+const MOST_THREADS: u32 = 1 << 16;
 
-const MOST_NAMES: u32 = 1 << 20;
+const MOST_NAMES: u32 = 1 << 26;
 
 impl Limits {
     /// These limits, or `None` where a number is 0 or above the greatest of its kind: 2^30 bytes,
-    /// 2^24 lines, 1,024 threads, 2^20 names.
+    /// 2^28 lines, 65,536 threads, 2^26 names.
     pub fn new(bytes: u32, lines: u32, threads: u32, names: u32) -> Option<Limits>
         ensures within { IsSome result ↔ AreLimits bytes lines threads names }
         ensures bytes { IfSome result (λ limits. limits.bytes ≡ bytes) }
@@ -55,12 +55,12 @@ impl Limits {
         })
     }
 
-    /// The greatest limits: 2^30 bytes, 2^24 lines, 1,024 threads, 2^20 names.
+    /// The greatest limits: 2^30 bytes, 2^28 lines, 65,536 threads, 2^26 names.
     pub fn greatest() -> Limits
         ensures bytes { result.bytes ≡ 2 ^ 30 }
-        ensures lines { result.lines ≡ 2 ^ 24 }
-        ensures threads { result.threads ≡ 1024 }
-        ensures names { result.names ≡ 2 ^ 20 }
+        ensures lines { result.lines ≡ 2 ^ 28 }
+        ensures threads { result.threads ≡ 2 ^ 16 }
+        ensures names { result.names ≡ 2 ^ 26 }
     {
         Limits {
             bytes: MOST_BYTES,

@@ -87,6 +87,13 @@ pub enum Verdict {
     },
 }
 
+/// A transaction in a serial order: the line of its first event, from 1, and the thread that made it.
+#[derive(Drop)]
+pub struct Step {
+    pub line: u32,
+    pub thread: Name,
+}
+
 /// How the reading of a source ended.
 #[derive(Clone, Copy, Debug, PartialEq, Eq)]
 pub enum Ending {
@@ -100,6 +107,8 @@ pub enum Ending {
 #[derive(Drop)]
 pub enum Finding {
     Judged(Verdict),
+    /// The verdict, which is `Serializable`, and the transactions in the serial order.
+    Ordered(Verdict, Vec<Step>),
     Broken(u64),
     TooLarge,
 }
