@@ -1,0 +1,10 @@
+pub mod Near
+pub mod Order
+pub mod Waiting
+pub mod Numbers
+pub mod Laws
+pub mod Held
+pub mod Kept
+pub mod MarkWords
+pub mod Numbering
+pub mod Standing

@@ -1,0 +1,21 @@
+//! The serial order of the transactions of a trace.
+//!
+//! Transactions are numbered in the order of their first events. An edge leads from one to another
+//! where near events do: the last of a thread, a variable or a lock and the next. `least_order`
+//! goes along such edges and takes, each time, the least number that may come. The `laws` say that
+//! this is the serial order, though conflicts have many more edges. `Transactions` gathers numbers and
+//! edges event by event.
+//!
+//! ```text
+//! // Number 2 comes before 1, and 0 before both.
+//! let order = least_order(alloc, 3, &mut [(0, 2), (2, 1)])?;
+//! assert!(rt; order.as_slice() == [0, 2, 1].as_slice());
+//! ```
+#![tactic(auto)]
+
+pub mod free;
+pub mod laws;
+pub mod lookup;
+pub mod marks;
+pub mod order;
+pub mod transactions;

@@ -1,0 +1,108 @@
+//! The transactions of a trace, event by event, and their serial order.
+ghost use Rattle.std.specs.Prelude.{◌≡◌, ◌↔◌, ◌<◌, ◌≤◌, ◌+◌, ◌^◌, List, [], ◌∷◌, ◌++◌, length, map, vec_len, slice_index_or, OnOk, IfOk, IfSome, IsSome};
+ghost use Rattle.aero_model.specs.declared.numbered.Numbered.{Numbered};
+ghost use Rattle.aero_model.specs.Cycle.{IsSerializable};
+ghost use Rattle.aero_model.specs.Serial.{IsSerialOrder};
+ghost use Rattle.aero_model.specs.Shape.{IsWellFormed};
+ghost use Rattle.aero_order.specs.Numbering.{IsNumbered};
+ghost use Rattle.aero_order.specs.Numbers.{AreFirsts, AreEdges};
+
+use crate::lookup::look_up;
+use crate::marks::Marks;
+use crate::order::least_order;
+use aero_model::numbered::Numbered;
+use std::alloc::{AllocError, Global};
+
+/// The transactions of the events so far, by numbers in the order of their first events.
+#[derive(Drop)]
+pub struct Transactions {
+    events: u32,
+    firsts: Vec<u32>,
+    edges: Vec<(u32, u32)>,
+    marks: Marks,
+    ghost few: { vec_len firsts ≤ events },
+}
+
+impl Transactions {
+    ghost use Rattle.std.specs.Prelude.{nat_lt};
+    ghost use Rattle.aero_model.specs.Blocks.{depth};
+    ghost use Rattle.aero_model.specs.Exempt.{IsJudgedAs};
+    ghost use Rattle.aero_order.specs.Standing.{StandsFor, events_of};
+
+    /// Of no event.
+    pub fn new(alloc: Global) -> Transactions
+        ensures { StandsFor result [] }
+    {
+        Transactions {
+            events: 0,
+            firsts: Vec::new(alloc),
+            edges: Vec::new(alloc),
+            marks: Marks::new(alloc),
+        }
+    }
+
+    /// Adds the next event as it was read, which is judged as one of its thread; `inside` says
+    /// whether its thread is in a block before it. Where memory is refused, no more may be asked.
+    pub fn add(&mut self, event: &Numbered, inside: bool) -> Result<(), AllocError>
+        requires { events_of self.old < u32.MAX }
+        ensures counted { OnOk result (events_of self.new ≡ events_of self.old + 1) }
+        ensures stands { OnOk result ((trace : List Numbered) (judged : Numbered) → IsJudgedAs event.now judged → inside ≡ nat_lt 0 (depth trace event.now.thread (length trace)) → StandsFor self.old trace → StandsFor self.new (trace ++ judged ∷ [])) }
+    {
+        let place = self.events;
+        self.events = place + 1;
+        let known = if inside {
+            self.marks.own(event.thread)
+        } else {
+            None
+        };
+        let number = number_of(&mut self.firsts, known, place)?;
+        self.marks.look_back(event, number, &mut self.edges)?;
+        self.marks.note(event, number)
+    }
+
+    /// The places of the transactions' first events in the serial order, unless there is a cycle.
+    pub fn order(self, alloc: Global) -> Result<Option<Vec<u32>>, AllocError>
+        requires { (trace : List Numbered) × StandsFor self trace }
+        ensures exact { IfOk result (λ order. (trace : List Numbered) → IsWellFormed trace → StandsFor self trace → IsSome order ↔ IsSerializable trace (length trace)) }
+        ensures serial { IfOk result (λ order. IfSome order (λ places. (trace : List Numbered) → IsWellFormed trace → StandsFor self trace → IsSerialOrder trace places.items)) }
+    {
+        let firsts = self.firsts;
+        let mut edges = self.edges;
+        order_of(alloc, &firsts, &mut edges)
+    }
+}
+
+// The number of an event's transaction. A new one gets the next, and has its first event at this
+// place.
+fn number_of(firsts: &mut Vec<u32>, known: Option<u32>, place: u32) -> Result<u32, AllocError>
+    requires { vec_len firsts.old ≤ place }
+    ensures numbered { IfOk result (λ v. IsNumbered known place firsts.old.items firsts.new.items v) }
+    ensures few { vec_len firsts.new ≤ place + 1 }
+{
+    match known {
+        Some(number) => Ok(number),
+        None => {
+            let number = firsts.len() as u32;
+            firsts.push(place)?;
+            Ok(number)
+        }
+    }
+}
+
+// The first places in the order along the edges, if it has all of them.
+fn order_of(
+    alloc: Global,
+    firsts: &[u32],
+    edges: &mut [(u32, u32)],
+) -> Result<Option<Vec<u32>>, AllocError>
+    requires few { length firsts.now < 2 ^ 32 }
+    requires stands { (trace : List Numbered) × AreFirsts trace firsts.now × AreEdges trace firsts.now edges.old }
+    ensures exact { IfOk result (λ order. (trace : List Numbered) → IsWellFormed trace → AreFirsts trace firsts.now → AreEdges trace firsts.now edges.old → IsSome order ↔ IsSerializable trace (length trace)) }
+    ensures serial { IfOk result (λ order. IfSome order (λ places. (trace : List Numbered) → IsWellFormed trace → AreFirsts trace firsts.now → AreEdges trace firsts.now edges.old → IsSerialOrder trace places.items)) }
+{
+    let order = least_order(alloc, firsts.len() as u32, edges)?;
+    if order.len() < firsts.len() {
+        return Ok(None);
+    }
+    Ok(Some(look_up(alloc, firsts, &order)?))
+}
