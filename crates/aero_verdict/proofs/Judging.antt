@@ -15,7 +15,8 @@ use Rattle.aero_shape.specs.declared.admission.Admitted.{Admitted}
 use Rattle.aero_shape.specs.declared.admission.Admitted.TheVariants.{Plain, OuterBegin, OuterEnd, IdleJoin}
 use Rattle.aero_shape.specs.Admission.{deed_as}
 use Rattle.aero_verdict.specs.Begun.{begins_block, ends_block}
-use Rattle.aero_verdict.specs.Judging.{IsBare, IsJudgedWhat, IsJudgedAs, ComesAfter}
+use Rattle.aero_model.specs.Exempt.{IsBare, IsJudgedWhat, IsJudgedAs}
+use Rattle.aero_verdict.specs.Judging.{ComesAfter}
 
 -- whether an answer says that a thread is joined that has not acted
 abbrev joins_idle : Admitted → Bool

@@ -12,4 +12,7 @@ pub mod Stops
 pub mod ThreadNames
 pub mod Parts
 pub mod OneVerdict
+pub mod Faultless
+pub mod OnLines
+pub mod Found
 pub mod Vectors

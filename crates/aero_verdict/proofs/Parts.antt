@@ -1,8 +1,8 @@
 -- The parts of a trace, one after the other.
-use Rattle.std.proofs.Common.{◌≡◌, ℕ, suc, ◌+◌, ◌-◌, ◌<◌, ◌≤◌, ◌^◌, nat_le, nat_lt, min, Bool, true, false, List, [], ◌∷◌, ◌++◌, length, map, drop, Some, None, option_map, sym, ◌∙◌, ap, ap₂, subst, refl, arith, add-one, add_assoc, length-append}
+use Rattle.std.proofs.Common.{◌≡◌, ℕ, suc, ◌+◌, ◌-◌, ◌<◌, ◌≤◌, ◌^◌, nat_le, nat_lt, min, Bool, true, false, List, [], ◌∷◌, ◌++◌, length, map, drop, Some, None, option_map, sym, ◌∙◌, ap, ap₂, subst, refl, arith, add-one, length-append}
 use Rattle.std.specs.Prelude.{slice_get, is_some, All, if◌then◌else◌}
 use Rattle.std.proofs.lemmas.Bool.{cond-true, cond-false, lt-ltb, le-ltb}
-use Rattle.std.proofs.lemmas.List.{append_assoc, append-nil, drop_all, map-append, length-map}
+use Rattle.std.proofs.lemmas.List.{append_assoc, append-nil, drop_all, take_all, map-append, length-map}
 use Rattle.std.proofs.lemmas.List.Elements.{filter-append, All-nil, All-append, All-map, All-filter, All-same}
 use Rattle.aero_model.specs.declared.verdict.LineFault.{LineFault}
 use Rattle.aero_model.specs.declared.verdict.LineFault.TheVariants.{TooManyLines}
@@ -17,9 +17,9 @@ use Rattle.aero_verdict.specs.declared.checker.Checker.{Checker}
 use Rattle.aero_verdict.specs.declared.checker.Stop.{Stop}
 use Rattle.aero_verdict.specs.Kept.{StandsFor, HasNamedActor, CanBeTold, up_to, AreNext, AreExpected, StopsIn, TellsStop}
 use Rattle.aero_verdict.specs.Known.{AreMarked}
-use Rattle.aero_verdict.specs.Parts.{AreBefore, greatest_number, Stands, ComesNext}
+use Rattle.aero_verdict.specs.Parts.{AreBefore, greatest_number, Stands, StandsForAll, ComesNext}
 use Rattle.aero_verdict.specs.Verdict.{Rules, counted_events, read_trace, checked_trace, IsClean, IsVerdict, IsMalformed, IsFaultless}
-use Rattle.aero_verdict.proofs.Readings.{after_faulty, after_faultless, begins_with, after_again, fault_again, rising_within, all_up_to, up_to_shorter, up_to_after, fault_told, goes_on, trace_length, start, here}
+use Rattle.aero_verdict.proofs.Readings.{after_faulty, begins_with, passed_on, rising_within, all_up_to, up_to_shorter, up_to_after, fault_told, goes_on, trace_length, start, here}
 use Rattle.aero_verdict.proofs.Stops.{verdict_at}
 use Rattle.aero_verdict.proofs.ThreadNames.{can_be_told}
 
@@ -61,7 +61,7 @@ module _ (rules : Rules) (parts rest : List Reading) (p : Reading) (events : Lis
     lines_told : 0 < length more → total ≡ lines
     lines_told some =
         let few : length more ≤ most = few_more in
-        let small : rules.limits.lines ≤ 2 ^ 24 = rules.limits.most_lines in
+        let small : rules.limits.lines ≤ 2 ^ 28 = rules.limits.most_lines in
         omega (arith, some, few, most_is, lines_are, small)
 
     next_here : (later : List (ℕ × Named)) → AreNext stands_for rules checker (front ++ (map (after_lines total) more ++ later)) block flags lines more
@@ -125,7 +125,7 @@ module _ (rules : Rules) (parts rest : List Reading) (p : Reading) (events : Lis
           ∙ sym (length-append front (map (after_lines total) more))
           ∙ ap length (sym (ap (up_to rules.limits.lines) only ∙ counted_with))
           ∙ sym (trace_length rules parts) in
-          let small : rules.limits.lines ≤ 2 ^ 24 = rules.limits.most_lines in
+          let small : rules.limits.lines ≤ 2 ^ 28 = rules.limits.most_lines in
           let same : min (total + line) greatest_number ≡ min (lines + line) greatest_number = omega arith in
           record {
             clean = clean_here stands_for rules parts new stands_whole len;
@@ -142,22 +142,17 @@ module _ (rules : Rules) (parts rest : List Reading) (p : Reading) (events : Lis
 
       -- this part is one of those before, where it has no fault
       passed : p.fault ≡ None → AreBefore parts rest (events ++ map (after_lines total) p.events) (total + p.lines)
-      passed none =
-          let faultless : is_some p.fault ≡ false = ap is_some none in
-          let same = after_faultless p (whole_reading rest) faultless in
-          record {
-            events_are =
-                before.events_are
-                ∙ ap (λ r. events ++ map (after_lines total) r.events) same
-                ∙ ap (λ es. events ++ es) (map-append (after_lines total) p.events (map (after_lines p.lines) (whole_reading rest).events) ∙ ap (λ es. map (after_lines total) p.events ++ es) (after_again total p.lines (whole_reading rest).events))
-                ∙ sym (append_assoc events (map (after_lines total) p.events) (map (after_lines (total + p.lines)) (whole_reading rest).events));
-            lines_are = before.lines_are ∙ ap (λ r. total + r.lines) same ∙ sym (add_assoc total p.lines (whole_reading rest).lines);
-            fault_is = before.fault_is ∙ ap (λ r. option_map (after_lines total) r.fault) same ∙ fault_again total p.lines (whole_reading rest).fault;
-          }
+      passed = passed_on parts rest p events total before
 
-      pub stands_after : All HasNamedActor front → All HasNamedActor more → length front ≤ total → length front ≤ rules.limits.lines → p.fault ≡ None → rest ≡ drop (k + 1) parts →
+      within_here : All (λ e. e.0 ≤ total) events → All (λ e. e.0 ≤ total + p.lines) (events ++ map (after_lines total) p.events)
+      within_here before_within =
+          All-append (λ e. e.0 ≤ total + p.lines) events (map (after_lines total) p.events)
+          (λ i d less. omega (arith, before_within i d less))
+          (All-map (λ e. e.0 ≤ total + p.lines) (after_lines total) p.events (λ i d less. omega (arith, reading.within i d less)))
+
+      pub stands_after : All (λ e. e.0 ≤ total) events → All HasNamedActor front → All HasNamedActor more → length front ≤ total → length front ≤ rules.limits.lines → p.fault ≡ None → rest ≡ drop (k + 1) parts →
           (lines_after : ℕ) → lines_after ≡ min (lines + p.lines) greatest_number → Stands stands_for rules parts (k + 1) lines_after new
-      stands_after before_named here_named few few_enough none rest_is lines_after after_is =
+      stands_after before_within before_named here_named few few_enough none rest_is lines_after after_is =
           let len : length (up_to rules.limits.lines (events ++ map (after_lines total) p.events)) ≡ length front + length more =
           ap length counted_with ∙ length-append front (map (after_lines total) more) ∙ ap (λ b. length front + b) (length-map more (after_lines total)) in
           let by_lines : length more ≤ p.lines = no_more_than_lines in
@@ -169,6 +164,7 @@ module _ (rules : Rules) (parts rest : List Reading) (p : Reading) (events : Lis
             lines_are = omega (arith, after_is, lines_are);
             count_is = counted ∙ ap (λ a. a + length more) count_is ∙ sym len;
             few = omega (arith, len, few, by_lines);
+            within = within_here before_within;
             few_enough = omega (arith, len, few, few_enough, by_limit, most_is);
             actors =
                 All-same HasNamedActor (up_to rules.limits.lines (events ++ map (after_lines total) p.events)) (front ++ map (after_lines total) more) counted_with
@@ -186,6 +182,7 @@ nothing_yet stands_for rules parts checker none kept =
       lines_are = omega arith;
       count_is = none;
       few = omega arith;
+      within = All-nil (λ e. e.0 ≤ 0);
       few_enough = omega arith;
       actors = All-nil HasNamedActor;
       kept = λ later. kept later;
@@ -224,9 +221,29 @@ module _ {E : Type 0} (stands_for : E → List Numbered → Type 0) (rules : Rul
   ended_whole : checker.blocks.ended ≡ count_below (is_outer_end (checked_trace parts rules)) (length (checked_trace parts rules))
   ended_whole = at_end.counts.ended_are ∙ ap (count_below (is_outer_end (checked_trace parts rules))) admitted_are
 
+  -- where there are no more lines than the limit, each event counts, and the engine stands for all of them
+  pub stands_for_all : lines ≤ rules.limits.lines → StandsForAll (stands_for checker.engine) rules parts
+  stands_for_all few =
+      let small : rules.limits.lines ≤ 2 ^ 28 = rules.limits.most_lines in
+      let count_all : up_to rules.limits.lines stands.events ≡ stands.events = all_up_to rules.limits.lines stands.events (λ i d less. omega (arith, stands.within i d less, few, stands.lines_are, small)) in
+      record {
+        countable =
+            record {
+              no_fault = before_none.fault_is;
+              few_events = let long = ap length events_are in let counted = ap length count_all in omega (arith, stands.few_enough, small, long, counted);
+              few_lines = omega (arith, before_none.lines_are, few, stands.lines_are, small);
+            };
+        all_count =
+            ap (up_to rules.limits.lines) events_are
+            ∙ count_all
+            ∙ sym events_are;
+        stands_for =
+            subst (stands_for checker.engine) (take_all checker.shape.admitted (checked_trace parts rules) (omega (arith, admitted_are))) at_end.engine_stands;
+      }
+
   pub faultless : lines ≤ rules.limits.lines → IsFaultless parts rules checker.shape.admitted checker.blocks.begun (checker.blocks.begun - checker.blocks.ended)
   faultless few =
-      let small : rules.limits.lines ≤ 2 ^ 24 = rules.limits.most_lines in
+      let small : rules.limits.lines ≤ 2 ^ 28 = rules.limits.most_lines in
       record {
         clean = clean_here stands_for rules parts checker at_end admitted_are;
         no_fault = malformed_is ∙ cond-false (nat_lt rules.limits.lines (stands.total + 0)) _ _ (le-ltb rules.limits.lines (stands.total + 0) (omega (arith, stands.lines_are, small)));
@@ -245,11 +262,11 @@ module _ {E : Type 0} (stands_for : E → List Numbered → Type 0) (rules : Rul
   before_here = here parts k p part next.part_is view stands.events stands.total stands.before
 
   most_here : most ≡ rules.limits.lines - stands.total
-  most_here = let small : rules.limits.lines ≤ 2 ^ 24 = rules.limits.most_lines in omega (arith, most_is, stands.lines_are, small)
+  most_here = let small : rules.limits.lines ≤ 2 ^ 28 = rules.limits.most_lines in omega (arith, most_is, stands.lines_are, small)
 
   few_here : length (up_to rules.limits.lines stands.events) + length (up_to most p.events) < 2 ^ 32
   few_here =
-      let small : rules.limits.lines ≤ 2 ^ 24 = rules.limits.most_lines in
+      let small : rules.limits.lines ≤ 2 ^ 28 = rules.limits.most_lines in
       let few = few_more rules parts (drop (k + 1) parts) p stands.events stands.total before_here reading most most_here in
       omega (arith, small, few, stands.few_enough, most_is)
 
@@ -259,7 +276,7 @@ module _ {E : Type 0} (stands_for : E → List Numbered → Type 0) (rules : Rul
       (expected_here rules parts (drop (k + 1) parts) p stands.events stands.total before_here reading most most_here stands_for checker lines k stands.count_is stands.kept stands.lines_are block flags marked few_here)
 
   pub lines_fit : lines + most < 2 ^ 32
-  lines_fit = let small : rules.limits.lines ≤ 2 ^ 24 = rules.limits.most_lines in omega (arith, most_is, small, stands.lines_are)
+  lines_fit = let small : rules.limits.lines ≤ 2 ^ 28 = rules.limits.most_lines in omega (arith, most_is, small, stands.lines_are)
 
   pub part_stopped : (new : Checker E) (line : ℕ) (stop : Stop) → ((all : List (ℕ × Named)) → AreNext stands_for rules checker all block flags lines (up_to most es) → StopsIn rules new all checker.shape.admitted lines (up_to most es) line stop) →
       (verdict : Verdict) → TellsStop new line stop verdict → IsVerdict parts rules verdict
@@ -291,4 +308,4 @@ module _ {E : Type 0} (stands_for : E → List Numbered → Type 0) (rules : Rul
     pub part_passed : All HasNamedActor es → p.fault ≡ None → Stands stands_for rules parts (k + 1) (min (lines + part.lines) greatest_number) new
     part_passed named none =
         stands_after rules parts (drop (k + 1) parts) p stands.events stands.total before_here reading most most_here stands_for checker lines k stands.count_is stands.kept stands.lines_are block flags marked new counted_on kept_here
-        stands.actors (named_here named) stands.few stands.few_enough none refl (min (lines + part.lines) greatest_number) (ap (λ (r : Reading). min (lines + r.lines) greatest_number) (sym view))
+        stands.within stands.actors (named_here named) stands.few stands.few_enough none refl (min (lines + part.lines) greatest_number) (ap (λ (r : Reading). min (lines + r.lines) greatest_number) (sym view))

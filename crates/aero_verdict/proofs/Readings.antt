@@ -2,7 +2,7 @@
 use Rattle.std.proofs.Common.{◌≡◌, ℕ, zero, suc, ◌+◌, ◌-◌, ◌<◌, ◌≤◌, ◌^◌, nat_le, min, Bool, true, false, List, [], ◌∷◌, ◌++◌, length, map, drop, Option, Some, None, option_map, inl, inr, refl, sym, ◌∙◌, ap, ap₂, subst, arith, add-one, zero-add, add_assoc}
 use Rattle.std.specs.Prelude.{slice_get, is_some, All}
 use Rattle.std.proofs.lemmas.Bool.{cond-true, cond-false, cond_both, cases_lt, cases_Bool, le-leb, lt-leb}
-use Rattle.std.proofs.lemmas.List.{append-nil, length-map}
+use Rattle.std.proofs.lemmas.List.{append_assoc, append-nil, map-append, length-map}
 use Rattle.std.proofs.lemmas.Option.{slice_get-map, slice_get_within, get_or_from_slice_get}
 use Rattle.std.proofs.Math.Seq.{drop-cons}
 use Rattle.aero_model.specs.declared.verdict.LineFault.{LineFault}
@@ -120,7 +120,7 @@ up_to_after total limit n (e ∷ es) rise =
     ]
 
 -- the line of a fault, where it is told up to the greatest number alone
-pub fault_told : (limit lines line : ℕ) (fault : LineFault) → limit ≤ 2 ^ 24 → fault_within limit lines (Some (line, fault)) ≡ fault_within limit lines (Some (min line greatest_number, fault))
+pub fault_told : (limit lines line : ℕ) (fault : LineFault) → limit ≤ 2 ^ 28 → fault_within limit lines (Some (line, fault)) ≡ fault_within limit lines (Some (min line greatest_number, fault))
 fault_told limit lines line fault le =
     elim (cases_lt greatest_number line) [
       | inl beyond ↦
@@ -147,7 +147,7 @@ start parts =
       fault_is = sym (fault_after_none (whole_reading parts).fault);
     }
 
-rest_at : (parts : List Reading) (k : ℕ) (p : Reading) → slice_get parts k ≡ Some p → drop k parts ≡ p ∷ drop (k + 1) parts
+pub rest_at : (parts : List Reading) (k : ℕ) (p : Reading) → slice_get parts k ≡ Some p → drop k parts ≡ p ∷ drop (k + 1) parts
 rest_at parts k p at =
     drop-cons parts k p (slice_get_within parts k p at) ∙ ap₂ (λ x m. x ∷ drop m parts) (get_or_from_slice_get parts k p p at) (sym (add-one k))
 
@@ -157,6 +157,21 @@ pub here : (parts : List Reading) (k : ℕ) (p part : Reading) → slice_get par
 here parts k p part at same events lines before =
     let P : List Reading → Type 0 = λ rest. AreBefore parts rest events lines in
     subst P (rest_at parts k part at ∙ ap (λ x. x ∷ drop (k + 1) parts) (sym same)) before
+
+-- a part without a fault is one of those before
+pub passed_on : (parts rest : List Reading) (p : Reading) (events : List (ℕ × Named)) (total : ℕ) → AreBefore parts (p ∷ rest) events total → p.fault ≡ None → AreBefore parts rest (events ++ map (after_lines total) p.events) (total + p.lines)
+passed_on parts rest p events total before none =
+    let faultless : is_some p.fault ≡ false = ap is_some none in
+    let same = after_faultless p (whole_reading rest) faultless in
+    record {
+      events_are =
+          before.events_are
+          ∙ ap (λ r. events ++ map (after_lines total) r.events) same
+          ∙ ap (λ es. events ++ es) (map-append (after_lines total) p.events (map (after_lines p.lines) (whole_reading rest).events) ∙ ap (λ es. map (after_lines total) p.events ++ es) (after_again total p.lines (whole_reading rest).events))
+          ∙ sym (append_assoc events (map (after_lines total) p.events) (map (after_lines (total + p.lines)) (whole_reading rest).events));
+      lines_are = before.lines_are ∙ ap (λ r. total + r.lines) same ∙ sym (add_assoc total p.lines (whole_reading rest).lines);
+      fault_is = before.fault_is ∙ ap (λ r. option_map (after_lines total) r.fault) same ∙ fault_again total p.lines (whole_reading rest).fault;
+    }
 
 -- so many events count
 pub trace_length : (rules : Rules) (parts : List Reading) → length (checked_trace parts rules) ≡ length (counted_events parts rules)

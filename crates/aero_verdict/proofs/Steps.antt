@@ -34,7 +34,8 @@ use Rattle.aero_verdict.specs.declared.checker.Checker.{Checker}
 use Rattle.aero_verdict.specs.declared.numbering.Numbering.{Numbering}
 use Rattle.aero_verdict.specs.declared.blocks.Blocks.{Blocks}
 use Rattle.aero_verdict.specs.Begun.{begin_line, begins_block, ends_block, CountsBlock}
-use Rattle.aero_verdict.specs.Judging.{IsBare, IsJudgedWhat, IsJudgedAs, ComesAfter, IsAdmitted, Tells}
+use Rattle.aero_model.specs.Exempt.{IsBare, IsJudgedWhat, IsJudgedAs}
+use Rattle.aero_verdict.specs.Judging.{ComesAfter, IsAdmitted, Tells}
 use Rattle.aero_verdict.specs.Kept.{names_of, trace_in, marked_in, judged_in, LastBegins, Counts, StandsFor, IsNext, Refuses, Judged}
 use Rattle.aero_verdict.specs.Limited.{names_in, IsLimited, NumbersEvent, RefusesEvent}
 use Rattle.aero_verdict.specs.Verdict.{Rules}

@@ -12,7 +12,7 @@ use Rattle.aero_model.specs.Named.{Named}
 use Rattle.aero_model.specs.Numbering.{Tables, tables_of, number_of, thread_target}
 use Rattle.aero_model.specs.Shape.{IsWellFormed}
 use Rattle.aero_model.proofs.Exempt.{judged_at}
-use Rattle.aero_grammar.specs.Tabled.{lines_in, IsTabled}
+use Rattle.aero_grammar.specs.Tabled.{name_at, line_in, lines_in, numbered_line, IsTabled}
 use Rattle.aero_grammar.specs.Words.{IsName}
 use Rattle.aero_names.specs.Numbers.{with_event}
 use Rattle.aero_names.proofs.Fronts.{Extends, tables_pushed, tables_extended}
@@ -31,7 +31,7 @@ use Rattle.aero_verdict.proofs.Steps.{take_pushed, front_and_rest}
 use Rattle.aero_verdict.proofs.Stops.{named_still}
 
 -- what holds of each element holds of the one at a place
-at_place : {X : Type 0} (P : X → Type 0) (xs : List X) (k : ℕ) (x : X) → All P xs → slice_get xs k ≡ Some x → P x
+pub at_place : {X : Type 0} (P : X → Type 0) (xs : List X) (k : ℕ) (x : X) → All P xs → slice_get xs k ≡ Some x → P x
 at_place P xs k x all at = subst P (get_or_from_slice_get xs k x x at) (all k x (slice_get_within xs k x at))
 
 -- what a mapped option was
@@ -94,6 +94,25 @@ actors_named tables labels events tabled names = λ k d within.
     let at : slice_get named k ≡ Some e = slice_get-map (λ (e : ℕ × Named). e.1) lines k ∙ ap (option_map (λ (e : ℕ × Named). e.1)) (slice_get-get_or lines k d within) in
     let number = number_of (tables_of named).threads e.thread in
     at_place IsName tables.threads number e.thread names (ap (λ (t : Tables). slice_get t.threads number) tabled.tables_are ∙ in_all named k e at)
+
+-- the actor of a block's event stands at its number in the block's table
+pub actor_listed : (tables : Tables) (labels : List (List ℕ)) (events : List (ℕ × Numbered)) → IsTabled tables labels events → (k : ℕ) (e : ℕ × Numbered) → slice_get events k ≡ Some e →
+    slice_get tables.threads e.1.thread ≡ Some (name_at tables.threads e.1.thread)
+actor_listed tables labels events tabled k e at =
+    let lines = lines_in tables labels events in
+    let named = map (λ (x : ℕ × Named). x.1) lines in
+    let told : ℕ × Named = line_in tables labels e in
+    let line_at : slice_get lines k ≡ Some told = slice_get-map (line_in tables labels) events k ∙ ap (option_map (line_in tables labels)) at in
+    let named_at : slice_get named k ≡ Some told.1 = slice_get-map (λ (x : ℕ × Named). x.1) lines k ∙ ap (option_map (λ (x : ℕ × Named). x.1)) line_at in
+    let again : Some e ≡ Some (numbered_line tables labels told) =
+    sym at ∙ ap (λ xs. slice_get xs k) tabled.numbers_are ∙ slice_get-map (numbered_line tables labels) lines k ∙ ap (option_map (numbered_line tables labels)) line_at in
+    let number : e.1.thread ≡ number_of tables.threads told.1.thread = ap (λ (x : ℕ × Numbered). x.1.thread) (same_inside e (numbered_line tables labels told) again) in
+    ap (slice_get tables.threads) number
+    ∙ ap (λ (t : Tables). slice_get t.threads (number_of t.threads told.1.thread)) tabled.tables_are
+    ∙ in_all named k told.1 named_at
+  where
+    same_inside : {A : Type 0} (a b : A) → Some a ≡ Some b → a ≡ b
+    same_inside a b same = cc
 
 -- who begins a block
 record Begins (o : Option Numbered) (t : ℕ) : Type 0 where

@@ -20,9 +20,9 @@ abbrev greatest_limits : Limits
 greatest_limits =
     record {
       bytes = 2 ^ 30;
-      lines = 2 ^ 24;
-      threads = 1024;
-      names = 2 ^ 20;
+      lines = 2 ^ 28;
+      threads = 2 ^ 16;
+      names = 2 ^ 26;
       some_bytes = lit< tt;
       most_bytes = lit≤ tt;
       some_lines = lit< tt;

@@ -2,32 +2,13 @@
 use Rattle.std.specs.Prelude.{◌≡◌, ◌<◌, ◌-◌, ◌^◌, ℕ, Bool, List, [], ◌∷◌, ◌++◌, length, Option, None}
 use Rattle.aero_model.specs.declared.numbered.Numbered.{Numbered}
 use Rattle.aero_model.specs.declared.numbered.What.{What}
-use Rattle.aero_model.specs.declared.numbered.What.TheVariants.{Begin, End, Exempt}
+use Rattle.aero_model.specs.Exempt.{IsJudgedAs, IsJudgedWhat}
 use Rattle.aero_model.specs.Shape.{shape_fault, IsWellFormed}
 use Rattle.aero_access.specs.StateWords.{event}
 use Rattle.aero_access.specs.Judgement.{IsTold}
 use Rattle.aero_shape.specs.declared.admission.Admitted.{Admitted}
 use Rattle.aero_shape.specs.declared.admission.Admitted.TheVariants.{Plain}
 use Rattle.aero_shape.specs.Admission.{admitted_as}
-
--- a begin without a label, an end, or an exempt one of either
-abbrev pub IsBare : What → Type 0
-IsBare (Begin None) = Unit {0}
-IsBare End = Unit {0}
-IsBare Exempt = Unit {0}
-IsBare _ = ⊥
-
--- what the operation is judged as: a begin or an end as a begin without a label, an end or an exempt one, any other as itself
-abbrev pub IsJudgedWhat : What → What → Type 0
-IsJudgedWhat (Begin label) judged = IsBare judged
-IsJudgedWhat End judged = IsBare judged
-IsJudgedWhat Exempt judged = IsBare judged
-IsJudgedWhat what judged = judged ≡ what
-
--- what the event that was read is judged as: an event of the same thread
-pub record IsJudgedAs (e judged : Numbered) : Type 0 where
-  pub thread : judged.thread ≡ e.thread
-  pub what : IsJudgedWhat e.what judged.what
 
 -- it stands for these events, and the next one is well-formed after them and is this
 pub record ComesAfter (stands : List Numbered → Type 0) (h : List Numbered) (e : Numbered) (admitted : Admitted) : Type 0 where

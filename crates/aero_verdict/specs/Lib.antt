@@ -5,6 +5,10 @@ pub mod Judging
 pub mod Known
 pub mod Kept
 pub mod Verdict
+pub mod Ordered
+pub mod InOrder
+pub mod Placed
+pub mod Actors
 pub mod Finding
 pub mod Parts
 pub mod Laws

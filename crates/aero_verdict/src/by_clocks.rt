@@ -6,7 +6,8 @@ ghost use Rattle.aero_model.specs.Shape.{IsWellFormed};
 ghost use Rattle.aero_access.specs.Standing.{StandsFor, Tells, closed_by};
 ghost use Rattle.aero_access.specs.StateWords.{event, IsIdle};
 ghost use Rattle.aero_shape.specs.declared.admission.Admitted.TheVariants.{IdleJoin};
-ghost use Rattle.aero_verdict.specs.Judging.{IsAdmitted, IsJudgedAs, IsJudgedWhat, IsToAct, ComesAfter, ActsAfter};
+ghost use Rattle.aero_model.specs.Exempt.{IsJudgedAs, IsJudgedWhat};
+ghost use Rattle.aero_verdict.specs.Judging.{IsAdmitted, IsToAct, ComesAfter, ActsAfter};
 
 use aero_access::clocks::{Clocks, Spent};
 use aero_end::end;

@@ -1,10 +1,11 @@
 //! The verdict on what the parts of a trace say.
-ghost use Rattle.std.specs.Prelude.{◌≡◌, ◌≢◌, ◌-◌, ℕ, List, Some, IsTrue, IfOk, IfSome, OnOk, OnErr};
+ghost use Rattle.std.specs.Prelude.{◌≡◌, ◌≢◌, ◌-◌, ℕ, true, false, List, Some, IsTrue, IfOk, IfSome, OnOk, OnErr};
 ghost use Rattle.aero_model.specs.Verdicts.{HasOwnFault};
 ghost use Rattle.aero_grammar.specs.Reading.{Reading, fault_within, is_own_fault};
 ghost use Rattle.aero_verdict.specs.Verdict.{Rules, under, IsVerdict, IsFaultless};
 ghost use Rattle.aero_verdict.specs.Kept.{CanBeTold, TellsStop};
-ghost use Rattle.aero_verdict.specs.Parts.{Stands, IsPartExpected, ComesNext, TellsPart};
+ghost use Rattle.aero_verdict.specs.Ordered.{is_faultless};
+ghost use Rattle.aero_verdict.specs.Parts.{Stands, StandsForAll, IsPartExpected, ComesNext, TellsPart};
 
 use crate::checker::{Checker, Stop};
 use crate::engine::Engine;
@@ -65,8 +66,9 @@ pub fn check_trace_by<E: Engine>(
     check_parts(alloc, &mut checker, parts, limits, except)
 }
 
-// The same where no event was admitted yet.
-fn check_parts<E: Engine>(
+// The same where no event was admitted yet. Where nothing is wrong, the checker stands for all events
+// afterwards.
+pub(crate) fn check_parts<E: Engine>(
     alloc: Global,
     checker: &mut Checker<E>,
     parts: &[Parsed],
@@ -76,6 +78,7 @@ fn check_parts<E: Engine>(
     requires { Stands E.stands_for (under limits.now except.now) parts.now 0 0 checker.old }
     ensures verdict { IfOk result (λ verdict. IsVerdict parts.now (under limits.now except.now) verdict) }
     ensures own_fault { IfOk result HasOwnFault }
+    ensures stands { IfOk result (λ verdict. is_faultless verdict ≡ true → StandsForAll (E.stands_for checker.new.engine) (under limits.now except.now) parts.now) }
 {
     // The lines of the parts so far. A number that a `u32` can't tell is past every limit.
     let mut lines = 0u32;
@@ -108,6 +111,7 @@ fn check_part<E: Engine>(
         ComesNext E.stands_for (under limits.now except.now) parts k lines checker.old part.now →
         TellsPart E.stands_for (under limits.now except.now) parts k lines checker.new part.now told) }
     ensures own_fault { IfOk result (λ told. IfSome told HasOwnFault) }
+    ensures wrong { IfOk result (λ told. IfSome told (λ verdict. is_faultless verdict ≡ false)) }
 {
     let most = limits.lines.saturating_sub(lines);
     let exempt = exempt_labels(alloc, &part.labels, except)?;
@@ -139,6 +143,7 @@ fn stopped_at<E: Engine>(
     requires { CanBeTold checker.now stop }
     ensures told { IfOk result (λ verdict. TellsStop checker.now line stop verdict) }
     ensures own_fault { IfOk result HasOwnFault }
+    ensures wrong { IfOk result (λ verdict. is_faultless verdict ≡ false) }
 {
     match stop {
         Stop::Refused(fault) => Ok(Verdict::IllFormed {

@@ -57,6 +57,19 @@ impl<E: Engine> Checker<E> {
         }
     }
 
+    // Its engine alone.
+    pub(crate) fn into_engine(self) -> E
+        ensures { result ≡ self.engine }
+    {
+        let Checker {
+            numbering: _,
+            shape: _,
+            engine,
+            blocks: _,
+        } = self;
+        engine
+    }
+
     // How many events were admitted.
     pub(crate) fn events(&self) -> u32
         ensures { result ≡ self.now.shape.admitted }

@@ -14,7 +14,8 @@ use std::alloc::Global;
 pub trait Engine: Drop {
     ghost use Rattle.std.specs.Prelude.{◌++◌, ◌∷◌, [], List, length, IfOk};
     ghost use Rattle.aero_model.specs.declared.numbered.Numbered.{Numbered};
-    ghost use Rattle.aero_verdict.specs.Judging.{IsAdmitted, IsJudgedAs, ComesAfter, Tells};
+    ghost use Rattle.aero_model.specs.Exempt.{IsJudgedAs};
+    ghost use Rattle.aero_verdict.specs.Judging.{IsAdmitted, ComesAfter, Tells};
 
     /// Whether it stands for these events.
     ghost stands_for: { Self → List Numbered → Type 0 };

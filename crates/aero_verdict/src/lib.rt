@@ -13,14 +13,20 @@
 //! ```
 #![tactic(auto)]
 
+mod actor;
 mod blocks;
 mod by_clocks;
 mod by_leads;
 mod check;
 mod checker;
 pub mod engine;
+mod in_order;
 mod known;
 pub mod laws;
 mod numbering;
+mod places;
+mod serial;
 
+pub use actor::actor_at;
 pub use check::{check_trace, check_trace_by};
+pub use serial::{check_trace_in_order, serial_order};

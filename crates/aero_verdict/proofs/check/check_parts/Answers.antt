@@ -3,7 +3,7 @@ use Rattle.std.proofs.lemmas.Option.{slice_get_read}
 use Rattle.aero_grammar.specs.Reading.{Reading}
 use Rattle.aero_verdict.specs.Parts.{greatest_number, ComesNext, Stands, TellsPart}
 use Rattle.aero_verdict.specs.Verdict.{under}
-use Rattle.aero_verdict.proofs.Parts.{too_many, faultless}
+use Rattle.aero_verdict.proofs.Parts.{too_many, faultless, stands_for_all}
 use Rattle.aero_verdict.proofs.check.check_parts.Goals as goal
 
 pub check_part-requires : goal.check_part-requires
@@ -42,3 +42,7 @@ returns-clause-verdict g c =
     let parts = c.args.parts.now in
     let rules = under c.args.limits.now c.args.except.now in
     c.faultless.ensures.verdict parts rules (faultless g.E.Engine.stands_for rules parts c.loop-part.part-index c.loop-part.lines c.loop-part.checker c.loop-part.invariant c.loop-part-test.false c.if-lines-limits.false)
+
+pub returns-clause-stands : goal.returns-clause-stands
+returns-clause-stands g c = λ good.
+    stands_for_all g.E.Engine.stands_for (under c.args.limits.now c.args.except.now) c.args.parts.now c.loop-part.part-index c.loop-part.lines c.loop-part.checker c.loop-part.invariant c.loop-part-test.false c.if-lines-limits.false
