@@ -1,12 +1,14 @@
 -- The definitions at values that are known from elsewhere.
-use Rattle.std.proofs.Common.{◌≡◌, [], ◌∷◌, ◌++◌, refl}
+use Rattle.std.proofs.Common.{◌≡◌, [], ◌∷◌, ◌++◌, refl, ap}
 use Rattle.std.specs.Fmt.{digits}
-use Rattle.std.specs.Prelude.{codes}
+use Rattle.std.specs.Prelude.{codes, flat_map, Vec}
+use Rattle.std.specs.Global.{Global}
+use Rattle.aero_model.specs.declared.verdict.Step.{Step}
 use Rattle.aero_model.specs.declared.verdict.LineFault.TheVariants as line_faults
 use Rattle.aero_model.specs.declared.verdict.ShapeFault.TheVariants as shape_faults
 use Rattle.aero_model.specs.declared.verdict.Verdict.TheVariants.{Serializable, Pending, Violation, Malformed, IllFormed}
-use Rattle.aero_model.specs.declared.verdict.Finding.TheVariants.{Judged, Broken, TooLarge}
-use Rattle.aero_report.specs.Texts.{source_line, summary_line, no_counts, counts_of, report}
+use Rattle.aero_model.specs.declared.verdict.Finding.TheVariants.{Judged, Ordered, Broken, TooLarge}
+use Rattle.aero_report.specs.Texts.{step_line, source_line, summary_line, no_counts, counts_of, report}
 
 broken : source_line (codes "n") (Broken 20) ≡ codes "n: broken after 20 bytes" ++ 10 ∷ []
 unfolding digits
@@ -32,6 +34,15 @@ violation : source_line (codes "n") (Judged (Violation 6 (codes "T1") 1)) ≡ co
 unfolding digits
 violation = refl
 
+no_steps : (steps : Vec Step Global) → steps.items ≡ [] → source_line (codes "n") (Ordered (Serializable 0 0) steps) ≡ codes "n: serializable (0 events, 0 blocks)" ++ 10 ∷ []
+unfolding digits
+no_steps steps is = ap (λ s. codes "n: serializable (0 events, 0 blocks)" ++ 10 ∷ flat_map step_line s) is
+
+two_steps : (steps : Vec Step Global) → steps.items ≡ (record { line = 2; thread = codes "T2" }) ∷ (record { line = 1; thread = codes "T1" }) ∷ []
+    → source_line (codes "n") (Ordered (Serializable 4 1) steps) ≡ codes "n: serializable (4 events, 1 blocks)" ++ 10 ∷ codes "  2 T2" ++ 10 ∷ codes "  1 T1" ++ 10 ∷ []
+unfolding digits
+two_steps steps is = ap (λ s. codes "n: serializable (4 events, 1 blocks)" ++ 10 ∷ flat_map step_line s) is
+
 malformed : source_line (codes "n") (Judged (Malformed 2 line_faults.BadParenthesis)) ≡ codes "n:2: malformed: BadParenthesis" ++ 10 ∷ []
 unfolding digits
 malformed = refl
@@ -46,6 +57,9 @@ no_sources = refl
 
 one_of_each : counts_of (Judged (Serializable 1 0) ∷ Judged (Pending 5 2 2) ∷ Judged (Violation 6 (codes "T1") 1) ∷ Broken 20 ∷ TooLarge ∷ []) ≡ record { serializable = 1; pending = 1; violations = 1; faults = 2 }
 one_of_each = refl
+
+one_of_each_in_order : (steps : Vec Step Global) → counts_of (Ordered (Serializable 0 0) steps ∷ Judged (Pending 5 2 2) ∷ Broken 20 ∷ []) ≡ record { serializable = 1; pending = 1; violations = 0; faults = 1 }
+one_of_each_in_order steps = refl
 
 one_broken : report ((codes "n", Broken 20) ∷ []) ≡ codes "n: broken after 20 bytes" ++ 10 ∷ codes "traces 1: serializable 0, open 0, violations 0, faults 1" ++ 10 ∷ []
 unfolding digits

@@ -6,8 +6,9 @@ use Rattle.aero_model.specs.declared.verdict.ShapeFault.{ShapeFault}
 use Rattle.aero_model.specs.declared.verdict.ShapeFault.TheVariants as shape_faults
 use Rattle.aero_model.specs.declared.verdict.Verdict.{Verdict}
 use Rattle.aero_model.specs.declared.verdict.Verdict.TheVariants.{Serializable, Pending, Violation, Malformed, IllFormed}
+use Rattle.aero_model.specs.declared.verdict.Step.{Step}
 use Rattle.aero_model.specs.declared.verdict.Finding.{Finding}
-use Rattle.aero_model.specs.declared.verdict.Finding.TheVariants.{Judged, Broken, TooLarge}
+use Rattle.aero_model.specs.declared.verdict.Finding.TheVariants.{Judged, Ordered, Broken, TooLarge}
 use Rattle.aero_model.specs.declared.verdict.Counts.{Counts}
 
 abbrev pub line_fault_name : LineFault → List ℕ
@@ -48,12 +49,24 @@ verdict_text (IllFormed line fault) = codes ":" ++ decimal line ++ codes ": ill-
 
 abbrev pub finding_text : Finding → List ℕ
 finding_text (Judged verdict) = verdict_text verdict
+finding_text (Ordered verdict steps) = verdict_text verdict
 finding_text (Broken bytes) = codes ": broken after " ++ decimal bytes ++ codes " bytes"
 finding_text TooLarge = codes ": too large"
 
--- the line of a source
+-- a transaction of a serial order: two blanks, the line of its first event, a blank, and its thread
+abbrev pub step_line : Step → List ℕ
+step_line step = codes "  " ++ decimal step.line ++ codes " " ++ step.thread ++ 10 ∷ []
+
+-- the lines of the transactions in order, where the finding has them
+abbrev pub step_lines : Finding → List ℕ
+step_lines (Ordered verdict steps) = flat_map step_line steps.items
+step_lines (Judged verdict) = []
+step_lines (Broken bytes) = []
+step_lines TooLarge = []
+
+-- the line of a source, and behind it those of its transactions in order
 abbrev pub source_line : List ℕ → Finding → List ℕ
-source_line name finding = name ++ finding_text finding ++ 10 ∷ []
+source_line name finding = (name ++ finding_text finding ++ 10 ∷ []) ++ step_lines finding
 
 -- the last line
 abbrev pub summary_line : Counts → List ℕ
@@ -76,6 +89,7 @@ verdict_counted counts (IllFormed line fault) = record counts { faults = counts.
 -- the counts with one more source: what couldn't be read whole is a fault
 abbrev pub counted : Counts → Finding → Counts
 counted counts (Judged verdict) = verdict_counted counts verdict
+counted counts (Ordered verdict steps) = verdict_counted counts verdict
 counted counts (Broken bytes) = record counts { faults = counts.faults + 1 }
 counted counts TooLarge = record counts { faults = counts.faults + 1 }
 

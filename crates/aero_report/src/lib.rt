@@ -1,7 +1,8 @@
 //! The texts of the report, and the call that writes them.
 //!
 //! `trace_text` makes the line of a source, with its newline: the source's name, then what was
-//! found of it. `summary_text` makes the last line, which counts what was found. `put` writes a text
+//! found of it; and behind it the lines of its transactions in order, where the finding has them.
+//! `summary_text` makes the last line, which counts what was found. `put` writes a text
 //! to a counting writer, and says how many bytes went out where a write failed. The lines stand byte
 //! by byte in `specs/Texts.antt`.
 //!

@@ -1,12 +1,13 @@
 //! The text of a finding.
-ghost use Rattle.std.specs.Prelude.{◌≡◌, ◌++◌, codes, decimal, IfOk, OnOk};
-ghost use Rattle.aero_report.specs.Texts.{line_fault_name, shape_fault_name, sizes_text, verdict_text, finding_text, source_line};
+ghost use Rattle.std.specs.Prelude.{◌≡◌, ◌++◌, codes, decimal, flat_map, IfOk, OnOk};
+ghost use Rattle.aero_report.specs.Texts.{line_fault_name, shape_fault_name, sizes_text, verdict_text, finding_text, step_line, step_lines, source_line};
 
-use aero_model::verdict::{Finding, LineFault, ShapeFault, Verdict};
+use aero_model::verdict::{Finding, LineFault, ShapeFault, Step, Verdict};
 use itoa::Buffer;
 use std::alloc::{AllocError, Global};
 
-/// The line of a source: its name as its bytes stand, what was found of it, and a newline.
+/// The line of a source: its name as its bytes stand, what was found of it, and a newline. Where
+/// that has the transactions in order, a line of each follows.
 ///
 /// Numbers are decimal, and lines count from 1. Fails only where memory runs out.
 pub fn trace_text(alloc: Global, name: &[u8], finding: &Finding) -> Result<Vec<u8>, AllocError>
@@ -15,6 +16,7 @@ pub fn trace_text(alloc: Global, name: &[u8], finding: &Finding) -> Result<Vec<u
     let mut text = Vec::from_slice(alloc, name)?;
     append_finding(&mut text, finding)?;
     text.push(b'\n')?;
+    append_steps_of(&mut text, finding)?;
     Ok(text)
 }
 
@@ -23,6 +25,7 @@ fn append_finding(text: &mut Vec<u8>, finding: &Finding) -> Result<(), AllocErro
 {
     match finding {
         Finding::Judged(verdict) => append_verdict(text, verdict),
+        Finding::Ordered(verdict, _) => append_verdict(text, verdict),
         Finding::Broken(bytes) => {
             text.extend_from_slice(b": broken after ")?;
             append_number(text, *bytes)?;
@@ -30,6 +33,37 @@ fn append_finding(text: &mut Vec<u8>, finding: &Finding) -> Result<(), AllocErro
         }
         Finding::TooLarge => text.extend_from_slice(b": too large"),
     }
+}
+
+fn append_steps_of(text: &mut Vec<u8>, finding: &Finding) -> Result<(), AllocError>
+    ensures { OnOk result (text.new.items ≡ text.old.items ++ step_lines finding.now) }
+{
+    match finding {
+        Finding::Ordered(_, steps) => append_steps(text, steps),
+        Finding::Judged(_) => Ok(()),
+        Finding::Broken(_) => Ok(()),
+        Finding::TooLarge => Ok(()),
+    }
+}
+
+fn append_steps(text: &mut Vec<u8>, steps: &[Step]) -> Result<(), AllocError>
+    ensures { OnOk result (text.new.items ≡ text.old.items ++ flat_map step_line steps.now) }
+{
+    for step in steps {
+        append_step(text, step.line, step.thread.bytes())?;
+    }
+    Ok(())
+}
+
+// The line of a transaction's first event, and its thread.
+fn append_step(text: &mut Vec<u8>, line: u32, thread: &[u8]) -> Result<(), AllocError>
+    ensures { OnOk result (text.new.items
+        ≡ text.old.items ++ (codes "  " ++ decimal line ++ codes " " ++ thread.now ++ codes "\n")) }
+{
+    append_count(text, b"  ", line)?;
+    text.extend_from_slice(b" ")?;
+    text.extend_from_slice(thread)?;
+    text.extend_from_slice(b"\n")
 }
 
 fn append_verdict(text: &mut Vec<u8>, verdict: &Verdict) -> Result<(), AllocError>
