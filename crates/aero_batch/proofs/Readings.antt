@@ -26,15 +26,15 @@ use Rattle.aero_intake.specs.Tracks.{decides}
 use Rattle.aero_batch.proofs.Retold.{retold, retold_there, retold_same, retold_elsewhere, with_pieces, block_tracked, still_arriving}
 use Rattle.aero_intake.proofs.Taken.{nothing_is_taken, piece_is_taken, blocks_with_last, nothing_has_come, piece_has_come, source_was_read}
 use Rattle.aero_intake.proofs.Tracked.{changed_there, changed_elsewhere, before_change, enough_asked, enough_dropped, settled_decide}
-use Rattle.aero_verdict.specs.Verdict.{Rules}
+use Rattle.aero_verdict.specs.Finding.{Terms}
 
 the_some : {A : Type 0} (x y : A) → Some x ≡ Some y → x ≡ y
 the_some x y p = cc p
 
 -- what became of the other sources stays
-ended_stays : (rules : Rules) (old now after : List Sighted) (place s : ℕ) (story : Story) → ((s : ℕ) → (place ≡ s → ⊥) → slice_get after s ≡ slice_get now s) → (place ≡ s → ⊥) →
-    HasEnded rules old now s story → HasEnded rules old after s story
-ended_stays rules old now after place s story others other has = record {
+ended_stays : (terms : Terms) (old now after : List Sighted) (place s : ℕ) (story : Story) → ((s : ℕ) → (place ≡ s → ⊥) → slice_get after s ≡ slice_get now s) → (place ≡ s → ⊥) →
+    HasEnded terms old now s story → HasEnded terms old after s story
+ended_stays terms old now after place s story others other has = record {
   before = has.before;
   after = has.after;
   ending = has.ending;
@@ -45,36 +45,36 @@ ended_stays rules old now after place s story others other has = record {
 }
 
 -- What is settled of the source that is being read decides, and so do all its blocks that were asked about.
-story_decides : (rules : Rules) (p : Progress) (tale : ℕ → Story) → AreTracked rules p.inquiry.open_ones tale p.tracks.items → has_decided rules p ≡ true →
-    decides rules.limits (map reading_of (tale p.read).blocks) ≡ true
-story_decides rules p tale tracked is = go (slice_get p.tracks.items p.read) refl is
+story_decides : (terms : Terms) (p : Progress) (tale : ℕ → Story) → AreTracked terms p.inquiry.open_ones tale p.tracks.items → has_decided terms p ≡ true →
+    decides terms.rules.limits (map reading_of (tale p.read).blocks) ≡ true
+story_decides terms p tale tracked is = go (slice_get p.tracks.items p.read) refl is
   where
-    go : (o : Option Track) → slice_get p.tracks.items p.read ≡ o → decided_there rules o ≡ true → decides rules.limits (map reading_of (tale p.read).blocks) ≡ true
+    go : (o : Option Track) → slice_get p.tracks.items p.read ≡ o → decided_there terms o ≡ true → decides terms.rules.limits (map reading_of (tale p.read).blocks) ≡ true
     go None at is = cc (is)
-    go (Some (Arriving readings)) at is = settled_decide rules p.inquiry.open_ones p.read (tale p.read) readings (tracked p.read (Arriving readings) at).0 is
+    go (Some (Arriving readings)) at is = settled_decide terms.rules p.inquiry.open_ones p.read (tale p.read) readings (tracked p.read (Arriving readings) at).0 is
     go (Some (Arrived bytes blocks readings)) at is = cc (is)
     go (Some (Checking bytes)) at is = cc (is)
     go (Some (Found bytes ending finding)) at is = cc (is)
 
 -- the next block is asked about, or what was read decides
-enough_wanted : (rules : Rules) (p : Progress) (tale : ℕ → Story) (cut : List (List ℕ)) (o : Option (List ℕ)) → AreTracked rules p.inquiry.open_ones tale p.tracks.items →
-    AreEnough rules (tale p.read).blocks cut → AreEnough rules ((tale p.read).blocks ++ option_to_list (wanted rules p o)) (cut ++ option_to_list o)
-enough_wanted rules p tale cut o tracked enough = go (has_decided rules p) refl
+enough_wanted : (terms : Terms) (p : Progress) (tale : ℕ → Story) (cut : List (List ℕ)) (o : Option (List ℕ)) → AreTracked terms p.inquiry.open_ones tale p.tracks.items →
+    AreEnough terms.rules (tale p.read).blocks cut → AreEnough terms.rules ((tale p.read).blocks ++ option_to_list (wanted terms p o)) (cut ++ option_to_list o)
+enough_wanted terms p tale cut o tracked enough = go (has_decided terms p) refl
   where
-    go : (b : Bool) → has_decided rules p ≡ b → AreEnough rules ((tale p.read).blocks ++ option_to_list (if b then None else o)) (cut ++ option_to_list o)
-    go true is = subst (λ bs. AreEnough rules bs (cut ++ option_to_list o)) (sym (append-nil (tale p.read).blocks))
-        (enough_dropped rules (tale p.read).blocks cut (option_to_list o) (story_decides rules p tale tracked is) enough)
-    go false is = enough_asked rules (tale p.read).blocks cut (option_to_list o) enough
+    go : (b : Bool) → has_decided terms p ≡ b → AreEnough terms.rules ((tale p.read).blocks ++ option_to_list (if b then None else o)) (cut ++ option_to_list o)
+    go true is = subst (λ bs. AreEnough terms.rules bs (cut ++ option_to_list o)) (sym (append-nil (tale p.read).blocks))
+        (enough_dropped terms.rules (tale p.read).blocks cut (option_to_list o) (story_decides terms p tale tracked is) enough)
+    go false is = enough_asked terms.rules (tale p.read).blocks cut (option_to_list o) enough
 
 block_count : (p : Progress) (o : Option (List ℕ)) (blocks : List (List ℕ)) → p.blocks ≡ length blocks → (with_block p o).blocks ≡ length (blocks ++ option_to_list o)
 block_count p None blocks is = is ∙ ap length (sym (append-nil blocks))
 block_count p (Some b) blocks is = omega (arith, is, length-append blocks (b ∷ []))
 
-pub piece_holds : (rules : Rules) (old now after : List Sighted) (p q : Progress) (tale : ℕ → Story) (before_read after_read : Seen) →
-    IsReadFrom now after p.read before_read after_read → TakesPiece rules before_read after_read p q → Holds rules old now p tale → (new : ℕ → Story) × Holds rules old after q new × ((s : ℕ) → s < p.read → new s ≡ tale s)
-piece_holds rules old now after p q tale before_read after_read from takes holds =
+pub piece_holds : (terms : Terms) (old now after : List Sighted) (p q : Progress) (tale : ℕ → Story) (before_read after_read : Seen) →
+    IsReadFrom now after p.read before_read after_read → TakesPiece terms before_read after_read p q → Holds terms old now p tale → (new : ℕ → Story) × Holds terms old after q new × ((s : ℕ) → s < p.read → new s ≡ tale s)
+piece_holds terms old now after p q tale before_read after_read from takes holds =
     let given = block_of p.intake.cutting takes.piece in
-    let o = wanted rules p given in
+    let o = wanted terms p given in
     let cut = holds.cut ++ option_to_list given in
     let pieces = (tale p.read).pieces ++ takes.piece ∷ [] in
     let story = with_pieces (tale p.read) pieces o in
@@ -82,25 +82,25 @@ piece_holds rules old now after p q tale before_read after_read from takes holds
     let there : new p.read ≡ story = retold_there tale p.read story in
     let there' : new q.read ≡ story = ap new takes.read ∙ there in
     let elsewhere : (s : ℕ) → (p.read ≡ s → ⊥) → new s ≡ tale s = λ s other. retold_elsewhere tale p.read s story other in
-    let tracked = block_tracked rules p tale pieces o holds.not_ended holds.tracked in (
+    let tracked = block_tracked terms p tale pieces o holds.not_ended holds.tracked in (
       new,
       record {
-        tracked = subst (λ (i : Inquired). AreTracked rules i.open_ones new q.tracks.items) (sym takes.inquiry)
-            (subst (λ ts. AreTracked rules (with_block p o).inquiry.open_ones new ts) (sym takes.tracks) tracked);
+        tracked = subst (λ (i : Inquired). AreTracked terms i.open_ones new q.tracks.items) (sym takes.inquiry)
+            (subst (λ ts. AreTracked terms (with_block p o).inquiry.open_ones new ts) (sym takes.tracks) tracked);
         ended = λ s below.
             let less : s < p.read = subst (λ r. s < r) takes.read below in
             let other : p.read ≡ s → ⊥ = λ e. omega (arith, less, e) in
-            subst (λ (x : Story). HasEnded rules old after s x) (sym (elsewhere s other)) (ended_stays rules old now after p.read s (tale s) from.others other (holds.ended s less));
+            subst (λ (x : Story). HasEnded terms old after s x) (sym (elsewhere s other)) (ended_stays terms old now after p.read s (tale s) from.others other (holds.ended s less));
         cut = cut;
         taken = subst (λ (x : Story). IsTaken q.intake x.pieces cut) (sym there')
             (subst (λ (i : Taking). IsTaken i pieces cut) (sym takes.intake)
             (piece_is_taken p.intake (tale p.read).pieces holds.cut takes.piece holds.taken));
-        enough = subst (λ (x : Story). AreEnough rules x.blocks cut) (sym there') (enough_wanted rules p tale holds.cut given holds.tracked holds.enough);
+        enough = subst (λ (x : Story). AreEnough terms.rules x.blocks cut) (sym there') (enough_wanted terms p tale holds.cut given holds.tracked holds.enough);
         come = subst (λ (x : Story). HaveComeFrom old after q.read x) (sym there') (subst (λ r. HaveComeFrom old after r story) (sym takes.read)
             (λ before last was is.
             let same : record { name = from.was.name; reader = after_read } ≡ last = the_some (record { name = from.was.name; reader = after_read }) last (sym from.is_there ∙ is) in
             let mid = holds.come before from.was was from.was_there in
-            let come = piece_has_come before.reader before_read after_read (tale p.read).pieces _ rules.limits.bytes p.intake.count takes.piece (subst (λ (x : Seen). HaveCome before.reader x (tale p.read).pieces) from.used mid) takes.comes in
+            let come = piece_has_come before.reader before_read after_read (tale p.read).pieces _ terms.rules.limits.bytes p.intake.count takes.piece (subst (λ (x : Seen). HaveCome before.reader x (tale p.read).pieces) from.used mid) takes.comes in
             subst (λ (x : Sighted). HaveCome before.reader x.reader pieces) same come));
         asked = takes.blocks ∙ (block_count p o (tale p.read).blocks holds.asked ∙ ap (λ (x : Story). length x.blocks) (sym there'));
         not_ended = ap (λ (x : Story). x.ending) there';
@@ -113,31 +113,31 @@ piece_holds rules old now after p q tale before_read after_read from takes holds
     )
 
 -- a source that was arriving has ended
-ended_track_fits : (rules : Rules) (qs : List Question) (s count blocks : ℕ) (ending : Ending) (i : Taking) (pieces cut all : List (List ℕ)) (readings : List Reading) →
-    IsTaken i pieces cut → count ≡ i.count → AreEnough rules all (cut ++ option_to_list (last_of i.cutting ending)) → blocks ≡ length all →
-    IsTracked rules qs s (record { pieces = pieces; blocks = all; ending = None }) (Arriving readings) →
-    IsTracked rules qs s (record { pieces = pieces; blocks = all; ending = Some ending }) (ended_track ending count blocks (Arriving readings))
-ended_track_fits rules qs s count blocks Whole i pieces cut all readings taken is_count enough is_blocks is = (
+ended_track_fits : (terms : Terms) (qs : List Question) (s count blocks : ℕ) (ending : Ending) (i : Taking) (pieces cut all : List (List ℕ)) (readings : List Reading) →
+    IsTaken i pieces cut → count ≡ i.count → AreEnough terms.rules all (cut ++ option_to_list (last_of i.cutting ending)) → blocks ≡ length all →
+    IsTracked terms qs s (record { pieces = pieces; blocks = all; ending = None }) (Arriving readings) →
+    IsTracked terms qs s (record { pieces = pieces; blocks = all; ending = Some ending }) (ended_track ending count blocks (Arriving readings))
+ended_track_fits terms qs s count blocks Whole i pieces cut all readings taken is_count enough is_blocks is = (
   is.0,
   is.1,
   record {
     ended = refl;
-    enough = subst (λ bs. AreEnough rules all bs) (blocks_with_last i pieces cut taken) enough;
+    enough = subst (λ bs. AreEnough terms.rules all bs) (blocks_with_last i pieces cut taken) enough;
     byte_count = is_count ∙ taken.count;
     block_count = is_blocks;
   },
 )
-ended_track_fits rules qs s count blocks Broken i pieces cut all readings taken is_count enough is_blocks is =
+ended_track_fits terms qs s count blocks Broken i pieces cut all readings taken is_count enough is_blocks is =
     (refl, is_count ∙ taken.count, merely (ap findings.Broken (is_count ∙ taken.count)))
-ended_track_fits rules qs s count blocks TooLarge i pieces cut all readings taken is_count enough is_blocks is =
+ended_track_fits terms qs s count blocks TooLarge i pieces cut all readings taken is_count enough is_blocks is =
     (refl, is_count ∙ taken.count, merely refl)
 
-ended_tracked : (rules : Rules) (p : Progress) (tale : ℕ → Story) (ending : Ending) (o : Option (List ℕ)) (all cut : List (List ℕ)) → AreEnough rules all (cut ++ option_to_list (last_of p.intake.cutting ending)) →
+ended_tracked : (terms : Terms) (p : Progress) (tale : ℕ → Story) (ending : Ending) (o : Option (List ℕ)) (all cut : List (List ℕ)) → AreEnough terms.rules all (cut ++ option_to_list (last_of p.intake.cutting ending)) →
     IsTaken p.intake (tale p.read).pieces cut → (with_block p o).blocks ≡ length all →
-    AreTracked rules (with_block p o).inquiry.open_ones (retold tale p.read (record { pieces = (tale p.read).pieces; blocks = all; ending = None })) p.tracks.items →
-    AreTracked rules (with_block p o).inquiry.open_ones (retold tale p.read (record { pieces = (tale p.read).pieces; blocks = all; ending = Some ending }))
+    AreTracked terms (with_block p o).inquiry.open_ones (retold tale p.read (record { pieces = (tale p.read).pieces; blocks = all; ending = None })) p.tracks.items →
+    AreTracked terms (with_block p o).inquiry.open_ones (retold tale p.read (record { pieces = (tale p.read).pieces; blocks = all; ending = Some ending }))
     (changed p.read (ended_track ending p.intake.count (with_block p o).blocks) p.tracks.items)
-ended_tracked rules p tale ending o all cut enough taken blocks tracked s t at =
+ended_tracked terms p tale ending o all cut enough taken blocks tracked s t at =
     let qs = (with_block p o).inquiry.open_ones in
     let f : Track → Track = ended_track ending p.intake.count (with_block p o).blocks in
     let mid : Story = record { pieces = (tale p.read).pieces; blocks = all; ending = None } in
@@ -146,29 +146,29 @@ ended_tracked rules p tale ending o all cut enough taken blocks tracked s t at =
       | inl same ↦
           (let at_place = subst (λ n. slice_get (changed n f p.tracks.items) s ≡ Some t) same at in
           let was = before_change f (slice_get p.tracks.items s) t (sym (changed_there s f p.tracks.items) ∙ at_place) in
-          let is = subst (λ x. IsTracked rules qs s x was.0) (retold_same tale p.read s mid same) (tracked s was.0 was.1) in
-          let arriving = still_arriving rules qs s mid was.0 refl is in
-          let fits = ended_track_fits rules qs s p.intake.count (with_block p o).blocks ending p.intake (tale p.read).pieces cut all arriving.0 taken refl enough blocks
-          (subst (λ x. IsTracked rules qs s mid x) {y = Arriving arriving.0} arriving.1 is) in
-          subst (λ x. IsTracked rules qs s x t) {x = story} {y = retold tale p.read story s} (sym (retold_same tale p.read s story same))
-          (subst (λ x. IsTracked rules qs s story x) {y = t} (sym (was.2 ∙ ap f {y = Arriving arriving.0} arriving.1)) fits))
+          let is = subst (λ x. IsTracked terms qs s x was.0) (retold_same tale p.read s mid same) (tracked s was.0 was.1) in
+          let arriving = still_arriving terms qs s mid was.0 refl is in
+          let fits = ended_track_fits terms qs s p.intake.count (with_block p o).blocks ending p.intake (tale p.read).pieces cut all arriving.0 taken refl enough blocks
+          (subst (λ x. IsTracked terms qs s mid x) {y = Arriving arriving.0} arriving.1 is) in
+          subst (λ x. IsTracked terms qs s x t) {x = story} {y = retold tale p.read story s} (sym (retold_same tale p.read s story same))
+          (subst (λ x. IsTracked terms qs s story x) {y = t} (sym (was.2 ∙ ap f {y = Arriving arriving.0} arriving.1)) fits))
       | inr other ↦
-          subst (λ x. IsTracked rules qs s x t) (retold_elsewhere tale p.read s mid other ∙ sym (retold_elsewhere tale p.read s story other))
+          subst (λ x. IsTracked terms qs s x t) (retold_elsewhere tale p.read s mid other ∙ sym (retold_elsewhere tale p.read s story other))
           (tracked s t (sym (changed_elsewhere p.read s f p.tracks.items other) ∙ at))
     ]
 
 -- the sources that have ended, the one that was being read among them
-ended_before : (rules : Rules) (old now after : List Sighted) (p q : Progress) (tale : ℕ → Story) (before_read after_read : Seen) (ending : Ending) (first : Sighted) (story : Story) (new : ℕ → Story) →
-    slice_get old p.read ≡ Some first → IsReadFrom now after p.read before_read after_read → Ends before_read after_read rules.limits.bytes p.intake.count ending →
-    Holds rules old now p tale → story.pieces ≡ (tale p.read).pieces → story.ending ≡ Some ending → new p.read ≡ story → ((s : ℕ) → (p.read ≡ s → ⊥) → new s ≡ tale s) →
-    (s : ℕ) → s < p.read + 1 → HasEnded rules old after s (new s)
-ended_before rules old now after p q tale before_read after_read ending first story new was from ends holds pieces is_ended there elsewhere s below =
+ended_before : (terms : Terms) (old now after : List Sighted) (p q : Progress) (tale : ℕ → Story) (before_read after_read : Seen) (ending : Ending) (first : Sighted) (story : Story) (new : ℕ → Story) →
+    slice_get old p.read ≡ Some first → IsReadFrom now after p.read before_read after_read → Ends before_read after_read terms.rules.limits.bytes p.intake.count ending →
+    Holds terms old now p tale → story.pieces ≡ (tale p.read).pieces → story.ending ≡ Some ending → new p.read ≡ story → ((s : ℕ) → (p.read ≡ s → ⊥) → new s ≡ tale s) →
+    (s : ℕ) → s < p.read + 1 → HasEnded terms old after s (new s)
+ended_before terms old now after p q tale before_read after_read ending first story new was from ends holds pieces is_ended there elsewhere s below =
     elim (cases_eq p.read s) [
       | inl same ↦
           (let mid = subst (λ (x : Seen). HaveCome first.reader x (tale p.read).pieces) from.used (holds.come first from.was was from.was_there) in
-          let read = source_was_read first.reader before_read after_read rules.limits.bytes p.intake (tale p.read).pieces holds.cut ending mid holds.taken ends in
-          subst (λ n. HasEnded rules old after n (new n)) same
-          (subst (λ (x : Story). HasEnded rules old after p.read x) (sym there)
+          let read = source_was_read first.reader before_read after_read terms.rules.limits.bytes p.intake (tale p.read).pieces holds.cut ending mid holds.taken ends in
+          subst (λ n. HasEnded terms old after n (new n)) same
+          (subst (λ (x : Story). HasEnded terms old after p.read x) (sym there)
           (record {
             before = first;
             after = record { name = from.was.name; reader = after_read };
@@ -176,19 +176,19 @@ ended_before rules old now after p q tale before_read after_read ending first st
             was = was;
             is = from.is_there;
             ended = is_ended;
-            read = subst (λ ps. WasRead first.reader after_read rules.limits.bytes (concat ps) ending) (sym pieces) read;
+            read = subst (λ ps. WasRead first.reader after_read terms.rules.limits.bytes (concat ps) ending) (sym pieces) read;
           })))
       | inr other ↦
           (let less : s < p.read = omega (arith, below, other) in
-          subst (λ (x : Story). HasEnded rules old after s x) (sym (elsewhere s other)) (ended_stays rules old now after p.read s (tale s) from.others other (holds.ended s less)))
+          subst (λ (x : Story). HasEnded terms old after s x) (sym (elsewhere s other)) (ended_stays terms old now after p.read s (tale s) from.others other (holds.ended s less)))
     ]
 
-pub ending_holds : (rules : Rules) (old now after : List Sighted) (p q : Progress) (tale : ℕ → Story) (before_read after_read : Seen) (ending : Ending) (first : Sighted) →
-    slice_get old p.read ≡ Some first → IsReadFrom now after p.read before_read after_read → Ends before_read after_read rules.limits.bytes p.intake.count ending → EndsSource rules ending p q →
-    Holds rules old now p tale → (new : ℕ → Story) × Holds rules old after q new × ((s : ℕ) → s < p.read → new s ≡ tale s)
-ending_holds rules old now after p q tale before_read after_read ending first was from ends is holds =
+pub ending_holds : (terms : Terms) (old now after : List Sighted) (p q : Progress) (tale : ℕ → Story) (before_read after_read : Seen) (ending : Ending) (first : Sighted) →
+    slice_get old p.read ≡ Some first → IsReadFrom now after p.read before_read after_read → Ends before_read after_read terms.rules.limits.bytes p.intake.count ending → EndsSource terms ending p q →
+    Holds terms old now p tale → (new : ℕ → Story) × Holds terms old after q new × ((s : ℕ) → s < p.read → new s ≡ tale s)
+ending_holds terms old now after p q tale before_read after_read ending first was from ends is holds =
     let given = last_of p.intake.cutting ending in
-    let o = wanted rules p given in
+    let o = wanted terms p given in
     let pieces = (tale p.read).pieces in
     let all = (tale p.read).blocks ++ option_to_list o in
     let mid : Story = with_pieces (tale p.read) pieces o in
@@ -197,7 +197,7 @@ ending_holds rules old now after p q tale before_read after_read ending first wa
     let new : ℕ → Story = retold tale p.read story in
     let there : new p.read ≡ story = retold_there tale p.read story in
     let elsewhere : (s : ℕ) → (p.read ≡ s → ⊥) → new s ≡ tale s = λ s other. retold_elsewhere tale p.read s story other in
-    let tracked = block_tracked rules p tale pieces o holds.not_ended holds.tracked in
+    let tracked = block_tracked terms p tale pieces o holds.not_ended holds.tracked in
     let blocks = block_count p o (tale p.read).blocks holds.asked in
     let qs = (with_block p o).inquiry.open_ones in
     let next_other : p.read ≡ q.read → ⊥ = λ e. omega (arith, e, is.read) in
@@ -205,13 +205,13 @@ ending_holds rules old now after p q tale before_read after_read ending first wa
     let next_known : new q.read ≡ nothing_known = elsewhere q.read next_other ∙ (holds.later q.read next_above).0 in (
       new,
       record {
-        tracked = subst (λ (i : Inquired). AreTracked rules i.open_ones new q.tracks.items) (sym is.inquiry)
-            (subst (λ ts. AreTracked rules qs new ts) (sym is.tracks)
-            (ended_tracked rules p tale ending o all holds.cut (enough_wanted rules p tale holds.cut given holds.tracked holds.enough) holds.taken blocks tracked));
-        ended = λ s below. ended_before rules old now after p q tale before_read after_read ending first story new was from ends holds refl refl there elsewhere s (omega (arith, below, is.read));
+        tracked = subst (λ (i : Inquired). AreTracked terms i.open_ones new q.tracks.items) (sym is.inquiry)
+            (subst (λ ts. AreTracked terms qs new ts) (sym is.tracks)
+            (ended_tracked terms p tale ending o all holds.cut (enough_wanted terms p tale holds.cut given holds.tracked holds.enough) holds.taken blocks tracked));
+        ended = λ s below. ended_before terms old now after p q tale before_read after_read ending first story new was from ends holds refl refl there elsewhere s (omega (arith, below, is.read));
         cut = [];
         taken = subst (λ (x : Story). IsTaken q.intake x.pieces []) (sym next_known) (subst (λ (i : Taking). IsTaken i [] []) (sym is.intake) nothing_is_taken);
-        enough = subst (λ (x : Story). AreEnough rules x.blocks []) (sym next_known) (inl refl);
+        enough = subst (λ (x : Story). AreEnough terms.rules x.blocks []) (sym next_known) (inl refl);
         come = subst (λ (x : Story). HaveComeFrom old after q.read x) (sym next_known)
             (λ before last at_old at_new.
             let same : before ≡ last = the_some before last (sym at_old ∙ (sym (holds.later q.read next_above).1 ∙ (sym (from.others q.read next_other) ∙ at_new))) in

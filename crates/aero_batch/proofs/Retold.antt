@@ -17,7 +17,7 @@ use Rattle.aero_batch.specs.Steps.{ChecksNext, SettlesNext, Settles, with_block,
 use Rattle.aero_intake.specs.Stories.{Story, AreEnough, IsTracked, AreTracked, changed}
 use Rattle.aero_intake.specs.Tracks.{IsReady, GivesReadings}
 use Rattle.aero_intake.proofs.Tracked.{changed_there, changed_elsewhere, before_change, value_goes, asked_other, asked_block, asked_check}
-use Rattle.aero_verdict.specs.Verdict.{Rules}
+use Rattle.aero_verdict.specs.Finding.{Terms}
 
 -- the stories with another one for the source at the place
 abbrev pub retold : (ℕ → Story) → ℕ → Story → ℕ → Story
@@ -33,14 +33,14 @@ pub retold_elsewhere : (tale : ℕ → Story) (place s : ℕ) (story : Story) �
 retold_elsewhere tale place s story other = ap (λ b. cond b story (tale s)) (ne_eqb place s other)
 
 -- a step that reads nothing keeps what holds of the reading
-pub without_reading : (rules : Rules) (old now : List Sighted) (p q : Progress) (tale : ℕ → Story) → q.read ≡ p.read → q.intake ≡ p.intake → q.blocks ≡ p.blocks →
-    AreTracked rules q.inquiry.open_ones tale q.tracks.items → Holds rules old now p tale → Holds rules old now q tale
-without_reading rules old now p q tale read intake blocks tracked holds = record {
+pub without_reading : (terms : Terms) (old now : List Sighted) (p q : Progress) (tale : ℕ → Story) → q.read ≡ p.read → q.intake ≡ p.intake → q.blocks ≡ p.blocks →
+    AreTracked terms q.inquiry.open_ones tale q.tracks.items → Holds terms old now p tale → Holds terms old now q tale
+without_reading terms old now p q tale read intake blocks tracked holds = record {
   tracked = tracked;
   ended = λ s below. holds.ended s (subst (λ r. s < r) read below);
   cut = holds.cut;
   taken = subst (λ r. IsTaken q.intake (tale r).pieces holds.cut) (sym read) (subst (λ (i : Taking). IsTaken i (tale p.read).pieces holds.cut) (sym intake) holds.taken);
-  enough = subst (λ r. AreEnough rules (tale r).blocks holds.cut) (sym read) holds.enough;
+  enough = subst (λ r. AreEnough terms.rules (tale r).blocks holds.cut) (sym read) holds.enough;
   come = subst (λ r. HaveComeFrom old now r (tale r)) (sym read) holds.come;
   asked = blocks ∙ (holds.asked ∙ ap (λ r. length (tale r).blocks) (sym read));
   not_ended = ap (λ r. (tale r).ending) read ∙ holds.not_ended;
@@ -48,70 +48,70 @@ without_reading rules old now p q tale read intake blocks tracked holds = record
 }
 
 -- Settling the oldest question keeps what is known of each source.
-pub settled_tracked : (rules : Rules) (tale : ℕ → Story) (qs : List Question) (asked : ℕ) (new : Inquired) (old_tracks new_tracks : List Track) →
-    Settles qs asked new old_tracks new_tracks → AreTracked rules qs tale old_tracks → AreTracked rules new.open_ones tale new_tracks
-settled_tracked rules tale [] asked new old_tracks new_tracks is tracked s t at =
-    subst (λ (i : Inquired). IsTracked rules i.open_ones s (tale s) t) (sym is.0)
+pub settled_tracked : (terms : Terms) (tale : ℕ → Story) (qs : List Question) (asked : ℕ) (new : Inquired) (old_tracks new_tracks : List Track) →
+    Settles qs asked new old_tracks new_tracks → AreTracked terms qs tale old_tracks → AreTracked terms new.open_ones tale new_tracks
+settled_tracked terms tale [] asked new old_tracks new_tracks is tracked s t at =
+    subst (λ (i : Inquired). IsTracked terms i.open_ones s (tale s) t) (sym is.0)
     (tracked s t (subst (λ ts. slice_get ts s ≡ Some t) is.1 at))
-settled_tracked rules tale (q ∷ rest) asked new old_tracks new_tracks is tracked s t at =
-    subst (λ (i : Inquired). IsTracked rules i.open_ones s (tale s) t) (sym is.0)
-    (value_goes rules tale q rest is.1.value old_tracks is.1.known tracked s t (subst (λ ts. slice_get ts s ≡ Some t) is.1.tracks at))
+settled_tracked terms tale (q ∷ rest) asked new old_tracks new_tracks is tracked s t at =
+    subst (λ (i : Inquired). IsTracked terms i.open_ones s (tale s) t) (sym is.0)
+    (value_goes terms tale q rest is.1.value old_tracks is.1.known tracked s t (subst (λ ts. slice_get ts s ≡ Some t) is.1.tracks at))
 
-pub settling_holds : (rules : Rules) (old now : List Sighted) (p q : Progress) (tale : ℕ → Story) → SettlesNext p q → Holds rules old now p tale → Holds rules old now q tale
-settling_holds rules old now p q tale is holds =
-    without_reading rules old now p q tale is.read is.intake is.blocks
-    (settled_tracked rules tale p.inquiry.open_ones p.inquiry.asked q.inquiry p.tracks.items q.tracks.items is.settles holds.tracked) holds
+pub settling_holds : (terms : Terms) (old now : List Sighted) (p q : Progress) (tale : ℕ → Story) → SettlesNext p q → Holds terms old now p tale → Holds terms old now q tale
+settling_holds terms old now p q tale is holds =
+    without_reading terms old now p q tale is.read is.intake is.blocks
+    (settled_tracked terms tale p.inquiry.open_ones p.inquiry.asked q.inquiry p.tracks.items q.tracks.items is.settles holds.tracked) holds
 
 -- the track at the place of what is known, once another stands there
-known_after : (rules : Rules) (qs more : List Question) (tale : ℕ → Story) (tracks : List Track) (place : ℕ) (before after : Track) → slice_get tracks place ≡ Some before →
-    IsTracked rules more place (tale place) after → ((s : ℕ) (t : Track) → (place ≡ s → ⊥) → IsTracked rules qs s (tale s) t → IsTracked rules more s (tale s) t) →
-    AreTracked rules qs tale tracks → AreTracked rules more tale (changed place (λ t. after) tracks)
-known_after rules qs more tale tracks place before after was there elsewhere tracked s t at =
+known_after : (terms : Terms) (qs more : List Question) (tale : ℕ → Story) (tracks : List Track) (place : ℕ) (before after : Track) → slice_get tracks place ≡ Some before →
+    IsTracked terms more place (tale place) after → ((s : ℕ) (t : Track) → (place ≡ s → ⊥) → IsTracked terms qs s (tale s) t → IsTracked terms more s (tale s) t) →
+    AreTracked terms qs tale tracks → AreTracked terms more tale (changed place (λ t. after) tracks)
+known_after terms qs more tale tracks place before after was there elsewhere tracked s t at =
     elim (cases_eq place s) [
       | inl same ↦
           (let at_place : slice_get (changed place (λ x. after) tracks) place ≡ Some t = subst (λ n. slice_get (changed place (λ x. after) tracks) n ≡ Some t) (sym same) at in
           let is = before_change (λ x. after) (slice_get tracks place) t (sym (changed_there place (λ x. after) tracks) ∙ at_place) in
-          subst (λ n. IsTracked rules more n (tale n) t) same (subst (λ x. IsTracked rules more place (tale place) x) (sym is.2) there))
+          subst (λ n. IsTracked terms more n (tale n) t) same (subst (λ x. IsTracked terms more place (tale place) x) (sym is.2) there))
       | inr other ↦
           elsewhere s t other (tracked s t (sym (changed_elsewhere place s (λ x. after) tracks other) ∙ at))
     ]
 
-check_tracked : (rules : Rules) (i : Inquired) (tale : ℕ → Story) (tracks : List Track) (place : ℕ) (before after : Track) (readings : Option (List Reading)) →
-    slice_get tracks place ≡ Some before → IsReady before → GivesReadings before after readings → AreTracked rules i.open_ones tale tracks →
-    AreTracked rules (with_check rules i place readings).open_ones tale (changed place (λ t. after) tracks)
-check_tracked rules i tale tracks place (Arriving rs) after readings was ready gives tracked = absurd ready
-check_tracked rules i tale tracks place (Checking bytes) after readings was ready gives tracked = absurd ready
-check_tracked rules i tale tracks place (Arrived bytes blocks rs) after readings was ready gives tracked =
-    subst (λ o. AreTracked rules (with_check rules i place o).open_ones tale (changed place (λ t. after) tracks)) (sym gives.0)
-    (known_after rules i.open_ones (i.open_ones ++ Check place rs rules.limits rules.labels ∷ []) tale tracks place (Arrived bytes blocks rs) after was
-    (subst (λ x. IsTracked rules (i.open_ones ++ Check place rs rules.limits rules.labels ∷ []) place (tale place) x) (sym gives.1)
-    (asked_check rules i.open_ones place bytes blocks (tale place) rs ready (tracked place (Arrived bytes blocks rs) was)))
-    (λ s t other. asked_other rules i.open_ones (Check place rs rules.limits rules.labels) s (tale s) t other) tracked)
-check_tracked rules i tale tracks place (Found bytes ending finding) after readings was ready gives tracked =
-    subst (λ o. AreTracked rules (with_check rules i place o).open_ones tale (changed place (λ t. after) tracks)) (sym gives.0)
-    (known_after rules i.open_ones i.open_ones tale tracks place (Found bytes ending finding) after was
-    (subst (λ x. IsTracked rules i.open_ones place (tale place) x) (sym gives.1) (tracked place (Found bytes ending finding) was))
+check_tracked : (terms : Terms) (i : Inquired) (tale : ℕ → Story) (tracks : List Track) (place : ℕ) (before after : Track) (readings : Option (List Reading)) →
+    slice_get tracks place ≡ Some before → IsReady before → GivesReadings before after readings → AreTracked terms i.open_ones tale tracks →
+    AreTracked terms (with_check terms i place readings).open_ones tale (changed place (λ t. after) tracks)
+check_tracked terms i tale tracks place (Arriving rs) after readings was ready gives tracked = absurd ready
+check_tracked terms i tale tracks place (Checking bytes) after readings was ready gives tracked = absurd ready
+check_tracked terms i tale tracks place (Arrived bytes blocks rs) after readings was ready gives tracked =
+    subst (λ o. AreTracked terms (with_check terms i place o).open_ones tale (changed place (λ t. after) tracks)) (sym gives.0)
+    (known_after terms i.open_ones (i.open_ones ++ Check place rs terms.rules.limits terms.rules.labels terms.order ∷ []) tale tracks place (Arrived bytes blocks rs) after was
+    (subst (λ x. IsTracked terms (i.open_ones ++ Check place rs terms.rules.limits terms.rules.labels terms.order ∷ []) place (tale place) x) (sym gives.1)
+    (asked_check terms i.open_ones place bytes blocks (tale place) rs ready (tracked place (Arrived bytes blocks rs) was)))
+    (λ s t other. asked_other terms i.open_ones (Check place rs terms.rules.limits terms.rules.labels terms.order) s (tale s) t other) tracked)
+check_tracked terms i tale tracks place (Found bytes ending finding) after readings was ready gives tracked =
+    subst (λ o. AreTracked terms (with_check terms i place o).open_ones tale (changed place (λ t. after) tracks)) (sym gives.0)
+    (known_after terms i.open_ones i.open_ones tale tracks place (Found bytes ending finding) after was
+    (subst (λ x. IsTracked terms i.open_ones place (tale place) x) (sym gives.1) (tracked place (Found bytes ending finding) was))
     (λ s t other is. is) tracked)
 
-pub checking_holds : (rules : Rules) (old now : List Sighted) (p q : Progress) (tale : ℕ → Story) → ChecksNext rules p q → Holds rules old now p tale → Holds rules old now q tale
-checking_holds rules old now p q tale is holds =
-    let tracked = check_tracked rules p.inquiry tale p.tracks.items p.checked is.before is.after is.readings is.was is.ready is.gives holds.tracked in
-    without_reading rules old now p q tale is.read is.intake is.blocks
-    (subst (λ (i : Inquired). AreTracked rules i.open_ones tale q.tracks.items) (sym is.inquiry)
-    (subst (λ ts. AreTracked rules (with_check rules p.inquiry p.checked is.readings).open_ones tale ts) (sym is.tracks) tracked)) holds
+pub checking_holds : (terms : Terms) (old now : List Sighted) (p q : Progress) (tale : ℕ → Story) → ChecksNext terms p q → Holds terms old now p tale → Holds terms old now q tale
+checking_holds terms old now p q tale is holds =
+    let tracked = check_tracked terms p.inquiry tale p.tracks.items p.checked is.before is.after is.readings is.was is.ready is.gives holds.tracked in
+    without_reading terms old now p q tale is.read is.intake is.blocks
+    (subst (λ (i : Inquired). AreTracked terms i.open_ones tale q.tracks.items) (sym is.inquiry)
+    (subst (λ ts. AreTracked terms (with_check terms p.inquiry p.checked is.readings).open_ones tale ts) (sym is.tracks) tracked)) holds
 
 -- a source that hasn't ended is still arriving
-pub still_arriving : (rules : Rules) (qs : List Question) (s : ℕ) (story : Story) (t : Track) → story.ending ≡ None → IsTracked rules qs s story t → (readings : List Reading) × (t ≡ Arriving readings)
-still_arriving rules qs s story (Arriving readings) none is = (readings, refl)
-still_arriving rules qs s story (Arrived bytes blocks readings) none is = absurd (clash none is.2.ended)
+pub still_arriving : (terms : Terms) (qs : List Question) (s : ℕ) (story : Story) (t : Track) → story.ending ≡ None → IsTracked terms qs s story t → (readings : List Reading) × (t ≡ Arriving readings)
+still_arriving terms qs s story (Arriving readings) none is = (readings, refl)
+still_arriving terms qs s story (Arrived bytes blocks readings) none is = absurd (clash none is.2.ended)
   where
     clash : {A : Type 0} {o : Option A} {x : A} → o ≡ None → o ≡ Some x → ⊥
     clash p q = cc (p, q)
-still_arriving rules qs s story (Checking bytes) none is = absurd (clash none is.1.ended)
+still_arriving terms qs s story (Checking bytes) none is = absurd (clash none is.1.ended)
   where
     clash : {A : Type 0} {o : Option A} {x : A} → o ≡ None → o ≡ Some x → ⊥
     clash p q = cc (p, q)
-still_arriving rules qs s story (Found bytes ending finding) none is = absurd (clash none is.0)
+still_arriving terms qs s story (Found bytes ending finding) none is = absurd (clash none is.0)
   where
     clash : {A : Type 0} {o : Option A} {x : A} → o ≡ None → o ≡ Some x → ⊥
     clash p q = cc (p, q)
@@ -121,36 +121,36 @@ abbrev pub with_pieces : Story → List (List ℕ) → Option (List ℕ) → Sto
 with_pieces story pieces o = record { pieces = pieces; blocks = story.blocks ++ option_to_list o; ending = None }
 
 -- asking about the next block, if there is one, keeps what is known of the sources
-pub block_tracked : (rules : Rules) (p : Progress) (tale : ℕ → Story) (pieces : List (List ℕ)) (o : Option (List ℕ)) → (tale p.read).ending ≡ None →
-    AreTracked rules p.inquiry.open_ones tale p.tracks.items →
-    AreTracked rules (with_block p o).inquiry.open_ones (retold tale p.read (with_pieces (tale p.read) pieces o)) p.tracks.items
-block_tracked rules p tale pieces None none tracked s t at =
+pub block_tracked : (terms : Terms) (p : Progress) (tale : ℕ → Story) (pieces : List (List ℕ)) (o : Option (List ℕ)) → (tale p.read).ending ≡ None →
+    AreTracked terms p.inquiry.open_ones tale p.tracks.items →
+    AreTracked terms (with_block p o).inquiry.open_ones (retold tale p.read (with_pieces (tale p.read) pieces o)) p.tracks.items
+block_tracked terms p tale pieces None none tracked s t at =
     elim (cases_eq p.read s) [
       | inl same ↦
           (let at_place = subst (λ n. slice_get p.tracks.items n ≡ Some t) (sym same) at in
           let is = tracked p.read t at_place in
-          let arriving = still_arriving rules p.inquiry.open_ones p.read (tale p.read) t none is in
-          let is_there = subst (λ x. IsTracked rules p.inquiry.open_ones p.read (tale p.read) x) arriving.1 is in
-          let new : IsTracked rules p.inquiry.open_ones p.read (with_pieces (tale p.read) pieces None) (Arriving arriving.0) =
+          let arriving = still_arriving terms p.inquiry.open_ones p.read (tale p.read) t none is in
+          let is_there = subst (λ x. IsTracked terms p.inquiry.open_ones p.read (tale p.read) x) arriving.1 is in
+          let new : IsTracked terms p.inquiry.open_ones p.read (with_pieces (tale p.read) pieces None) (Arriving arriving.0) =
           (is_there.0 ∙ sym (ap (λ bs. map reading_of bs) (append-nil (tale p.read).blocks)), is_there.1, refl) in
-          subst (λ x. IsTracked rules p.inquiry.open_ones s x t) (sym (retold_same tale p.read s (with_pieces (tale p.read) pieces None) same))
-          (subst (λ n. IsTracked rules p.inquiry.open_ones n (with_pieces (tale p.read) pieces None) t) same
-          (subst (λ x. IsTracked rules p.inquiry.open_ones p.read (with_pieces (tale p.read) pieces None) x) (sym arriving.1) new)))
+          subst (λ x. IsTracked terms p.inquiry.open_ones s x t) (sym (retold_same tale p.read s (with_pieces (tale p.read) pieces None) same))
+          (subst (λ n. IsTracked terms p.inquiry.open_ones n (with_pieces (tale p.read) pieces None) t) same
+          (subst (λ x. IsTracked terms p.inquiry.open_ones p.read (with_pieces (tale p.read) pieces None) x) (sym arriving.1) new)))
       | inr other ↦
-          subst (λ x. IsTracked rules p.inquiry.open_ones s x t) (sym (retold_elsewhere tale p.read s (with_pieces (tale p.read) pieces None) other)) (tracked s t at)
+          subst (λ x. IsTracked terms p.inquiry.open_ones s x t) (sym (retold_elsewhere tale p.read s (with_pieces (tale p.read) pieces None) other)) (tracked s t at)
     ]
-block_tracked rules p tale pieces (Some b) none tracked s t at =
+block_tracked terms p tale pieces (Some b) none tracked s t at =
     elim (cases_eq p.read s) [
       | inl same ↦
           (let at_place = subst (λ n. slice_get p.tracks.items n ≡ Some t) (sym same) at in
           let is = tracked p.read t at_place in
-          let arriving = still_arriving rules p.inquiry.open_ones p.read (tale p.read) t none is in
-          let is_there = subst (λ x. IsTracked rules p.inquiry.open_ones p.read (tale p.read) x) arriving.1 is in
-          let new = asked_block rules p.inquiry.open_ones p.read p.blocks b (tale p.read) pieces arriving.0 is_there in
-          subst (λ x. IsTracked rules (p.inquiry.open_ones ++ Parse p.read p.blocks b ∷ []) s x t) (sym (retold_same tale p.read s (with_pieces (tale p.read) pieces (Some b)) same))
-          (subst (λ n. IsTracked rules (p.inquiry.open_ones ++ Parse p.read p.blocks b ∷ []) n (with_pieces (tale p.read) pieces (Some b)) t) same
-          (subst (λ x. IsTracked rules (p.inquiry.open_ones ++ Parse p.read p.blocks b ∷ []) p.read (with_pieces (tale p.read) pieces (Some b)) x) (sym arriving.1) new)))
+          let arriving = still_arriving terms p.inquiry.open_ones p.read (tale p.read) t none is in
+          let is_there = subst (λ x. IsTracked terms p.inquiry.open_ones p.read (tale p.read) x) arriving.1 is in
+          let new = asked_block terms p.inquiry.open_ones p.read p.blocks b (tale p.read) pieces arriving.0 is_there in
+          subst (λ x. IsTracked terms (p.inquiry.open_ones ++ Parse p.read p.blocks b ∷ []) s x t) (sym (retold_same tale p.read s (with_pieces (tale p.read) pieces (Some b)) same))
+          (subst (λ n. IsTracked terms (p.inquiry.open_ones ++ Parse p.read p.blocks b ∷ []) n (with_pieces (tale p.read) pieces (Some b)) t) same
+          (subst (λ x. IsTracked terms (p.inquiry.open_ones ++ Parse p.read p.blocks b ∷ []) p.read (with_pieces (tale p.read) pieces (Some b)) x) (sym arriving.1) new)))
       | inr other ↦
-          subst (λ x. IsTracked rules (p.inquiry.open_ones ++ Parse p.read p.blocks b ∷ []) s x t) (sym (retold_elsewhere tale p.read s (with_pieces (tale p.read) pieces (Some b)) other))
-          (asked_other rules p.inquiry.open_ones (Parse p.read p.blocks b) s (tale s) t other (tracked s t at))
+          subst (λ x. IsTracked terms (p.inquiry.open_ones ++ Parse p.read p.blocks b ∷ []) s x t) (sym (retold_elsewhere tale p.read s (with_pieces (tale p.read) pieces (Some b)) other))
+          (asked_other terms p.inquiry.open_ones (Parse p.read p.blocks b) s (tale s) t other (tracked s t at))
     ]

@@ -29,7 +29,7 @@ use Rattle.aero_batch.proofs.Readings.{piece_holds, ending_holds}
 use Rattle.aero_intake.proofs.Taken.{nothing_is_taken, nothing_has_come}
 use Rattle.aero_batch.proofs.Retold.{settling_holds, checking_holds}
 use Rattle.aero_batch.proofs.Sums.{settling_counted, checking_counted, piece_counted, ending_counted}
-use Rattle.aero_verdict.specs.Verdict.{Rules}
+use Rattle.aero_verdict.specs.Finding.{Terms}
 
 the_some : {A : Type 0} (x y : A) → Some x ≡ Some y → x ≡ y
 the_some x y p = cc p
@@ -54,10 +54,10 @@ counts_more founds f =
     ap counts_of (map-append (λ x. x.finding) founds (f ∷ [])) ∙ fold-append counted no_counts (map (λ x. x.finding) founds) (f.finding ∷ [])
 
 -- the tracks that may be told are those of sources that have ended
-found_tells : (rules : Rules) (old now : List Sighted) (p : Progress) (tale : ℕ → Story) (place bytes : ℕ) (ending : Ending) (finding : Finding) → Holds rules old now p tale → place < p.read →
+found_tells : (terms : Terms) (old now : List Sighted) (p : Progress) (tale : ℕ → Story) (place bytes : ℕ) (ending : Ending) (finding : Finding) → Holds terms old now p tale → place < p.read →
     slice_get p.tracks.items place ≡ Some (tracks.Found bytes ending finding) → (name : List ℕ) → ((b : Sighted) → slice_get old place ≡ Some b → b.name ≡ name) →
-    Tells rules old place (tale place) (record { name = name; bytes = concat (tale place).pieces; ending = ending; finding = finding })
-found_tells rules old now p tale place bytes ending finding holds below at name named =
+    Tells terms old place (tale place) (record { name = name; bytes = concat (tale place).pieces; ending = ending; finding = finding })
+found_tells terms old now p tale place bytes ending finding holds below at name named =
     let is = holds.tracked place (tracks.Found bytes ending finding) at in
     let has = holds.ended place below in
     record {
@@ -70,9 +70,9 @@ found_tells rules old now p tale place bytes ending finding holds below at name 
     }
 
 -- what is told of the first sources was found of them
-found_first : (rules : Rules) (old now : List Sighted) (p : Progress) (tale : ℕ → Story) (founds : List Found) → Holds rules old now p tale → ((s : ℕ) (f : Found) → slice_get founds s ≡ Some f → Tells rules old s (tale s) f) →
-    length founds ≤ p.read → AreOfTheFirst rules old now founds
-found_first rules old now p tale founds holds tells few place f at =
+found_first : (terms : Terms) (old now : List Sighted) (p : Progress) (tale : ℕ → Story) (founds : List Found) → Holds terms old now p tale → ((s : ℕ) (f : Found) → slice_get founds s ≡ Some f → Tells terms old s (tale s) f) →
+    length founds ≤ p.read → AreOfTheFirst terms old now founds
+found_first terms old now p tale founds holds tells few place f at =
     let within = slice_get_within founds place f at in
     let below : place < p.read = omega (arith, within, few) in
     let has = holds.ended place below in
@@ -86,8 +86,8 @@ found_first rules old now p tale founds holds tells few place f at =
       is = has.is;
       found_of = record {
         name = t.name ∙ ap (λ (b : Sighted). b.name) same;
-        read = subst (λ e. WasRead has.before.reader has.after.reader rules.limits.bytes f.bytes e) ends
-            (subst (λ bs. WasRead has.before.reader has.after.reader rules.limits.bytes bs has.ending) (sym t.bytes) has.read);
+        read = subst (λ e. WasRead has.before.reader has.after.reader terms.rules.limits.bytes f.bytes e) ends
+            (subst (λ bs. WasRead has.before.reader has.after.reader terms.rules.limits.bytes bs has.ending) (sym t.bytes) has.read);
         finding = t.finding;
       };
     }
@@ -120,18 +120,18 @@ name_then (c ∷ old) (x ∷ now) (suc s) b names was named =
     name_then old now s b rest was named
 
 -- one more source is told
-pub told_stands : (rules : Rules) (old now : List Sighted) (before mid after : Seen) (p : Progress) (a b : Told) (bytes : ℕ) (ending : Ending) (finding : Finding) (name : List ℕ) →
+pub told_stands : (terms : Terms) (old now : List Sighted) (before mid after : Seen) (p : Progress) (a b : Told) (bytes : ℕ) (ending : Ending) (finding : Finding) (name : List ℕ) →
     vec_len a.endings < p.checked → slice_get p.tracks.items (vec_len a.endings) ≡ Some (tracks.Found bytes ending finding) →
     ((x : Sighted) → slice_get now (vec_len a.endings) ≡ Some x → x.name ≡ name) →
-    Took mid after (source_line name finding) → IsOneMore a b bytes ending finding → Stands rules old now before mid p a → Stands rules old now before after p b
-told_stands rules old now before mid after p a b bytes ending finding name below at named took more st =
+    Took mid after (source_line name finding) → IsOneMore a b bytes ending finding → Stands terms old now before mid p a → Stands terms old now before after p b
+told_stands terms old now before mid after p a b bytes ending finding name below at named took more st =
     let t = st.are_told in
     let place = vec_len a.endings in
     let same_place : place ≡ length st.founds = a.endings.ok.0 ∙ (ap length t.endings ∙ length-map st.founds ending_of) in
     let f : Found = record { name = name; bytes = concat (st.tale place).pieces; ending = ending; finding = finding } in
     let is = st.holds.tracked place (tracks.Found bytes ending finding) at in
     let read_below : place < p.read = omega (arith, below, st.counted.checked) in
-    let tells = found_tells rules old now p st.tale place bytes ending finding st.holds read_below at name (λ b was. name_then old now place b st.names was named) in
+    let tells = found_tells terms old now p st.tale place bytes ending finding st.holds read_below at name (λ b was. name_then old now place b st.names was named) in
     record {
       tale = st.tale;
       founds = st.founds ++ f ∷ [];
@@ -139,7 +139,7 @@ told_stands rules old now before mid after p a b bytes ending finding name below
       are_told = record {
         tells = λ s found there. elim (get_push st.founds f s found there) [
           | inl was ↦ t.tells s found was
-          | inr is ↦ subst (λ x. Tells rules old s (st.tale s) x) (sym is.1) (subst (λ n. Tells rules old n (st.tale n) f) (same_place ∙ sym is.0) tells)
+          | inr is ↦ subst (λ x. Tells terms old s (st.tale s) x) (sym is.1) (subst (λ n. Tells terms old n (st.tale n) f) (same_place ∙ sym is.0) tells)
         ];
         few = omega (arith, length_push st.founds f, below, same_place);
         took = subst (λ text. Took before after text) (sym (lines_more st.founds f)) (took_more before mid after (lines_of_all st.founds) (source_line name finding) t.took took);
@@ -154,14 +154,14 @@ told_stands rules old now before mid after p a b bytes ending finding name below
 
 -- the run stops: what stands, and why
 
-stopped : (rules : Rules) (old now now' : List Sighted) (before mid after : Seen) (p : Progress) (a : Told) (st : Stands rules old now before mid p a) (cause : Option Cause) →
+stopped : (terms : Terms) (old now now' : List Sighted) (before mid after : Seen) (p : Progress) (a : Told) (st : Stands terms old now before mid p a) (cause : Option Cause) →
     ((s : ℕ) → s < p.read → slice_get now' s ≡ slice_get now s) → map (λ x. x.name) now' ≡ map (λ x. x.name) now →
-    IsWritten rules old now' st.founds before after cause → WasRun rules old now' before after a.endings.items a.counts cause
-stopped rules old now now' before mid after p a st cause same names written = record {
+    IsWritten terms old now' st.founds before after cause → WasRun terms old now' before after a.endings.items a.counts cause
+stopped terms old now now' before mid after p a st cause same names written = record {
   founds = st.founds;
   found = λ place f at.
       let few : length st.founds ≤ p.read = omega (arith, st.are_told.few, st.counted.checked) in
-      let is = found_first rules old now p st.tale st.founds st.holds st.are_told.tells few place f at in
+      let is = found_first terms old now p st.tale st.founds st.holds st.are_told.tells few place f at in
       let within = slice_get_within st.founds place f at in
       record { before = is.before; after = is.after; was = is.was; is = same place (omega (arith, within, few)) ∙ is.is; found_of = is.found_of };
   names = names ∙ st.names;
@@ -170,15 +170,15 @@ stopped rules old now now' before mid after p a st cause same names written = re
   written = written;
 }
 
-pub memory_stops : (rules : Rules) (old now now' : List Sighted) (before mid after : Seen) (p : Progress) (a : Told) → Stands rules old now before mid p a →
+pub memory_stops : (terms : Terms) (old now now' : List Sighted) (before mid after : Seen) (p : Progress) (a : Told) → Stands terms old now before mid p a →
     ((s : ℕ) → s < p.read → slice_get now' s ≡ slice_get now s) → map (λ x. x.name) now' ≡ map (λ x. x.name) now → Took mid after [] →
-    WasRun rules old now' before after a.endings.items a.counts (Some Memory)
-memory_stops rules old now now' before mid after p a st same names took =
-    stopped rules old now now' before mid after p a st (Some Memory) same names (took_nothing before mid after (lines_of_all st.founds) st.are_told.took took)
+    WasRun terms old now' before after a.endings.items a.counts (Some Memory)
+memory_stops terms old now now' before mid after p a st same names took =
+    stopped terms old now now' before mid after p a st (Some Memory) same names (took_nothing before mid after (lines_of_all st.founds) st.are_told.took took)
 
-cut_off : (rules : Rules) (old now : List Sighted) (before mid after : Seen) (founds : List Found) (text : List ℕ) → IsNextText rules old now founds text → Took before mid (lines_of_all founds) → WasCut mid after text →
-    WasCutOff rules old now founds before after
-cut_off rules old now before mid after founds text next took cut = record {
+cut_off : (terms : Terms) (old now : List Sighted) (before mid after : Seen) (founds : List Found) (text : List ℕ) → IsNextText terms old now founds text → Took before mid (lines_of_all founds) → WasCut mid after text →
+    WasCutOff terms old now founds before after
+cut_off terms old now before mid after founds text next took cut = record {
   text = text;
   next = next;
   written = cut.written;
@@ -188,67 +188,67 @@ cut_off rules old now before mid after founds text next took cut = record {
 }
 
 -- a write of the next source's line failed
-pub line_stops : (rules : Rules) (old now : List Sighted) (before mid after : Seen) (p : Progress) (a : Told) (bytes : ℕ) (ending : Ending) (finding : Finding) (name : List ℕ) →
+pub line_stops : (terms : Terms) (old now : List Sighted) (before mid after : Seen) (p : Progress) (a : Told) (bytes : ℕ) (ending : Ending) (finding : Finding) (name : List ℕ) →
     vec_len a.endings < p.checked → slice_get p.tracks.items (vec_len a.endings) ≡ Some (tracks.Found bytes ending finding) →
-    ((x : Sighted) → slice_get now (vec_len a.endings) ≡ Some x → x.name ≡ name) → WasCut mid after (source_line name finding) → Stands rules old now before mid p a →
-    WasRun rules old now before after a.endings.items a.counts (Some Write)
-line_stops rules old now before mid after p a bytes ending finding name below at named cut st =
+    ((x : Sighted) → slice_get now (vec_len a.endings) ≡ Some x → x.name ≡ name) → WasCut mid after (source_line name finding) → Stands terms old now before mid p a →
+    WasRun terms old now before after a.endings.items a.counts (Some Write)
+line_stops terms old now before mid after p a bytes ending finding name below at named cut st =
     let t = st.are_told in
     let place = vec_len a.endings in
     let same_place : place ≡ length st.founds = a.endings.ok.0 ∙ (ap length t.endings ∙ length-map st.founds ending_of) in
     let f : Found = record { name = name; bytes = concat (st.tale place).pieces; ending = ending; finding = finding } in
     let read_below : place < p.read = omega (arith, below, st.counted.checked) in
-    let tells = found_tells rules old now p st.tale place bytes ending finding st.holds read_below at name (λ b was. name_then old now place b st.names was named) in
+    let tells = found_tells terms old now p st.tale place bytes ending finding st.holds read_below at name (λ b was. name_then old now place b st.names was named) in
     let has = st.holds.ended place read_below in
     let ends : has.ending ≡ ending = the_some has.ending ending (sym has.ended ∙ tells.ending) in
     let same : tells.before ≡ has.before = the_some tells.before has.before (sym tells.was ∙ has.was) in
-    let is : IsFoundAt rules old now place f = record {
+    let is : IsFoundAt terms old now place f = record {
       before = has.before;
       after = has.after;
       was = has.was;
       is = has.is;
       found_of = record {
         name = tells.name ∙ ap (λ (b : Sighted). b.name) same;
-        read = subst (λ e. WasRead has.before.reader has.after.reader rules.limits.bytes f.bytes e) ends has.read;
+        read = subst (λ e. WasRead has.before.reader has.after.reader terms.rules.limits.bytes f.bytes e) ends has.read;
         finding = tells.finding;
       };
     } in
-    stopped rules old now now before mid after p a st (Some Write) (λ s less. refl) refl
-    (cut_off rules old now before mid after st.founds (source_line name finding) (inl (f, subst (λ n. IsFoundAt rules old now n f) same_place is, refl)) t.took cut)
+    stopped terms old now now before mid after p a st (Some Write) (λ s less. refl) refl
+    (cut_off terms old now before mid after st.founds (source_line name finding) (inl (f, subst (λ n. IsFoundAt terms old now n f) same_place is, refl)) t.took cut)
 
 findings_told : (founds : List Found) → map (λ s. s.1) (map told founds) ≡ map (λ f. f.finding) founds
 findings_told [] = refl
 findings_told (f ∷ founds) = ap (λ fs. f.finding ∷ fs) (findings_told founds)
 
 -- all sources are told, and the summary is written, or not
-pub summary_stops : (rules : Rules) (old now : List Sighted) (before mid after : Seen) (p : Progress) (a : Told) → vec_len a.endings ≡ length old → Stands rules old now before mid p a →
-    (r : Result Unit Cause) → TellsText (summary_line a.counts) mid after r → (cause : Option Cause) → cause ≡ cause_of r → WasRun rules old now before after a.endings.items a.counts cause
-summary_stops rules old now before mid after p a all st r tells cause is = go r tells cause is
+pub summary_stops : (terms : Terms) (old now : List Sighted) (before mid after : Seen) (p : Progress) (a : Told) → vec_len a.endings ≡ length old → Stands terms old now before mid p a →
+    (r : Result Unit Cause) → TellsText (summary_line a.counts) mid after r → (cause : Option Cause) → cause ≡ cause_of r → WasRun terms old now before after a.endings.items a.counts cause
+summary_stops terms old now before mid after p a all st r tells cause is = go r tells cause is
   where
     told_all : length st.founds ≡ length old
     told_all = sym (a.endings.ok.0 ∙ (ap length st.are_told.endings ∙ length-map st.founds ending_of)) ∙ all
 
-    go : (r : Result Unit Cause) → TellsText (summary_line a.counts) mid after r → (cause : Option Cause) → cause ≡ cause_of r → WasRun rules old now before after a.endings.items a.counts cause
-    go (Ok u) tells cause is = subst (λ c. WasRun rules old now before after a.endings.items a.counts c) (sym is)
-        (stopped rules old now now before mid after p a st None (λ s less. refl) refl (
+    go : (r : Result Unit Cause) → TellsText (summary_line a.counts) mid after r → (cause : Option Cause) → cause ≡ cause_of r → WasRun terms old now before after a.endings.items a.counts cause
+    go (Ok u) tells cause is = subst (λ c. WasRun terms old now before after a.endings.items a.counts c) (sym is)
+        (stopped terms old now now before mid after p a st None (λ s less. refl) refl (
           told_all,
           subst (λ c. Took before after (lines_of_all st.founds ++ summary_line c)) (st.are_told.counts ∙ sym (ap counts_of (findings_told st.founds)))
               (took_more before mid after (lines_of_all st.founds) (summary_line a.counts) st.are_told.took tells),
         ))
-    go (Err Memory) tells cause is = subst (λ c. WasRun rules old now before after a.endings.items a.counts c) (sym is)
-        (memory_stops rules old now now before mid after p a st (λ s less. refl) refl tells)
-    go (Err Write) tells cause is = subst (λ c. WasRun rules old now before after a.endings.items a.counts c) (sym is)
-        (stopped rules old now now before mid after p a st (Some Write) (λ s less. refl) refl
-        (cut_off rules old now before mid after st.founds (summary_line (counts_of_all st.founds)) (inr (told_all, refl)) st.are_told.took
+    go (Err Memory) tells cause is = subst (λ c. WasRun terms old now before after a.endings.items a.counts c) (sym is)
+        (memory_stops terms old now now before mid after p a st (λ s less. refl) refl tells)
+    go (Err Write) tells cause is = subst (λ c. WasRun terms old now before after a.endings.items a.counts c) (sym is)
+        (stopped terms old now now before mid after p a st (Some Write) (λ s less. refl) refl
+        (cut_off terms old now before mid after st.founds (summary_line (counts_of_all st.founds)) (inr (told_all, refl)) st.are_told.took
         (subst (λ c. WasCut mid after (summary_line c)) st.are_told.counts tells)))
 
 -- what is told stays true where another source's story goes on
-still_told : (rules : Rules) (old : List Sighted) (before mid : Seen) (p q : Progress) (a : Told) (tale new : ℕ → Story) (founds : List Found) → p.checked ≤ p.read → p.checked ≤ q.checked →
-    ((s : ℕ) → s < p.read → new s ≡ tale s) → AreTold rules old before mid p a tale founds → AreTold rules old before mid q a new founds
-still_told rules old before mid p q a tale new founds below more same t = record {
+still_told : (terms : Terms) (old : List Sighted) (before mid : Seen) (p q : Progress) (a : Told) (tale new : ℕ → Story) (founds : List Found) → p.checked ≤ p.read → p.checked ≤ q.checked →
+    ((s : ℕ) → s < p.read → new s ≡ tale s) → AreTold terms old before mid p a tale founds → AreTold terms old before mid q a new founds
+still_told terms old before mid p q a tale new founds below more same t = record {
   tells = λ s f at.
       let within = slice_get_within founds s f at in
-      subst (λ (x : Story). Tells rules old s x f) (sym (same s (omega (arith, within, t.few, below)))) (t.tells s f at);
+      subst (λ (x : Story). Tells terms old s x f) (sym (same s (omega (arith, within, t.few, below)))) (t.tells s f at);
   few = omega (arith, t.few, more);
   took = t.took;
   endings = t.endings;
@@ -263,65 +263,65 @@ slice_get_some (x ∷ xs) zero less = (x, refl)
 slice_get_some (x ∷ xs) (suc i) less = slice_get_some xs i (omega (arith, less))
 
 -- One step keeps what holds.
-pub step_stands : (rules : Rules) (old now after : List Sighted) (before mid : Seen) (p q : Progress) (a : Told) → Steps rules now after p q → map (λ x. x.name) after ≡ map (λ x. x.name) now →
-    Stands rules old now before mid p a → Stands rules old after before mid q a
-step_stands rules old now after before mid p q a (inl is) names st = record {
+pub step_stands : (terms : Terms) (old now after : List Sighted) (before mid : Seen) (p q : Progress) (a : Told) → Steps terms now after p q → map (λ x. x.name) after ≡ map (λ x. x.name) now →
+    Stands terms old now before mid p a → Stands terms old after before mid q a
+step_stands terms old now after before mid p q a (inl is) names st = record {
   tale = st.tale;
   founds = st.founds;
-  holds = subst (λ l. Holds rules old l q st.tale) (sym is.0) (settling_holds rules old now p q st.tale is.1 st.holds);
-  are_told = still_told rules old before mid p q a st.tale st.tale st.founds st.counted.checked (omega (arith, is.1.checked)) (λ s less. refl) st.are_told;
-  counted = settling_counted rules (length old) p q is.1 st.counted;
+  holds = subst (λ l. Holds terms old l q st.tale) (sym is.0) (settling_holds terms old now p q st.tale is.1 st.holds);
+  are_told = still_told terms old before mid p q a st.tale st.tale st.founds st.counted.checked (omega (arith, is.1.checked)) (λ s less. refl) st.are_told;
+  counted = settling_counted terms (length old) p q is.1 st.counted;
   names = names ∙ st.names;
 }
-step_stands rules old now after before mid p q a (inr (inl is)) names st = record {
+step_stands terms old now after before mid p q a (inr (inl is)) names st = record {
   tale = st.tale;
   founds = st.founds;
-  holds = subst (λ l. Holds rules old l q st.tale) (sym is.0) (checking_holds rules old now p q st.tale is.3 st.holds);
-  are_told = still_told rules old before mid p q a st.tale st.tale st.founds st.counted.checked (omega (arith, is.3.checked)) (λ s less. refl) st.are_told;
-  counted = checking_counted rules (length old) p q is.1 is.2 is.3 st.counted;
+  holds = subst (λ l. Holds terms old l q st.tale) (sym is.0) (checking_holds terms old now p q st.tale is.3 st.holds);
+  are_told = still_told terms old before mid p q a st.tale st.tale st.founds st.counted.checked (omega (arith, is.3.checked)) (λ s less. refl) st.are_told;
+  counted = checking_counted terms (length old) p q is.1 is.2 is.3 st.counted;
   names = names ∙ st.names;
 }
-step_stands rules old now after before mid p q a (inr (inr is)) names st = go is.reads
+step_stands terms old now after before mid p q a (inr (inr is)) names st = go is.reads
   where
     same_length : length now ≡ length old
     same_length = sym (length-map now (λ x. x.name)) ∙ (ap length st.names ∙ length-map old (λ x. x.name))
 
-    go : ReadsOn rules is.before_read is.after_read p q → Stands rules old after before mid q a
+    go : ReadsOn terms is.before_read is.after_read p q → Stands terms old after before mid q a
     go (inl takes) =
-        let new = piece_holds rules old now after p q st.tale is.before_read is.after_read is.from takes st.holds in
+        let new = piece_holds terms old now after p q st.tale is.before_read is.after_read is.from takes st.holds in
         record {
           tale = new.0;
           founds = st.founds;
           holds = new.1;
-          are_told = still_told rules old before mid p q a st.tale new.0 st.founds st.counted.checked (omega (arith, takes.checked)) new.2 st.are_told;
-          counted = piece_counted rules (length old) p q is.before_read is.after_read is.may takes st.counted;
+          are_told = still_told terms old before mid p q a st.tale new.0 st.founds st.counted.checked (omega (arith, takes.checked)) new.2 st.are_told;
+          counted = piece_counted terms (length old) p q is.before_read is.after_read is.may takes st.counted;
           names = names ∙ st.names;
         }
     go (inr ends) =
         let within : p.read < length old = omega (arith, is.unread, same_length) in
         let first = slice_get_some old p.read within in
-        let new = ending_holds rules old now after p q st.tale is.before_read is.after_read ends.0 first.0 first.1 is.from ends.1 ends.2 st.holds in
+        let new = ending_holds terms old now after p q st.tale is.before_read is.after_read ends.0 first.0 first.1 is.from ends.1 ends.2 st.holds in
         record {
           tale = new.0;
           founds = st.founds;
           holds = new.1;
-          are_told = still_told rules old before mid p q a st.tale new.0 st.founds st.counted.checked (omega (arith, ends.2.checked)) new.2 st.are_told;
-          counted = ending_counted rules (length old) p q ends.0 within is.may ends.2 st.counted;
+          are_told = still_told terms old before mid p q a st.tale new.0 st.founds st.counted.checked (omega (arith, ends.2.checked)) new.2 st.are_told;
+          counted = ending_counted terms (length old) p q ends.0 within is.may ends.2 st.counted;
           names = names ∙ st.names;
         }
 
 -- Telling the next source
 
-module _ (rules : Rules) (now : List Sighted) (mid after : Seen) (p : Progress) (a b : Told) (name : List ℕ) (below : vec_len a.endings < p.checked)
+module _ (terms : Terms) (now : List Sighted) (mid after : Seen) (p : Progress) (a b : Told) (name : List ℕ) (below : vec_len a.endings < p.checked)
     (named : (x : Sighted) → slice_get now (vec_len a.endings) ≡ Some x → x.name ≡ name) where
   abbrev KeepsStanding : Result Bool Cause → Type 0
-  KeepsStanding r = IfOk r (λ is_told. is_told ≡ true → (old : List Sighted) (before : Seen) → Stands rules old now before mid p a → Stands rules old now before after p b)
+  KeepsStanding r = IfOk r (λ is_told. is_told ≡ true → (old : List Sighted) (before : Seen) → Stands terms old now before mid p a → Stands terms old now before after p b)
 
   abbrev Untouched : Result Bool Cause → Type 0
   Untouched r = IfOk r (λ is_told. is_told ≡ false → (after ≡ mid) × (b ≡ a))
 
   abbrev Stops : Result Bool Cause → Type 0
-  Stops r = IfErr r (λ cause. (old : List Sighted) (before : Seen) → Stands rules old now before mid p a → WasRun rules old now before after b.endings.items b.counts (Some cause))
+  Stops r = IfErr r (λ cause. (old : List Sighted) (before : Seen) → Stands terms old now before mid p a → WasRun terms old now before after b.endings.items b.counts (Some cause))
 
   abbrev Tellings : Result Bool Cause → Type 0
   Tellings r = KeepsStanding r × Untouched r × Stops r
@@ -332,19 +332,19 @@ module _ (rules : Rules) (now : List Sighted) (mid after : Seen) (p : Progress) 
   found_told : (bytes : ℕ) (ending : Ending) (finding : Finding) (r : Result Bool Cause) → slice_get p.tracks.items (vec_len a.endings) ≡ Some (tracks.Found bytes ending finding) →
       TellsNext name (tracks.Found bytes ending finding) mid after a b r → Tellings r
   found_told bytes ending finding (Ok true) at tells =
-      ((λ e old before st. told_stands rules old now before mid after p a b bytes ending finding name below at named tells.0 tells.1 st), (λ e. cc (e)), tt)
+      ((λ e old before st. told_stands terms old now before mid after p a b bytes ending finding name below at named tells.0 tells.1 st), (λ e. cc (e)), tt)
   found_told bytes ending finding (Ok false) at tells = absurd tells
   found_told bytes ending finding (Err Memory) at tells = (
     tt,
     tt,
-    λ old before st. subst (λ (t : Told). WasRun rules old now before after t.endings.items t.counts (Some Memory)) (sym tells.1)
-        (memory_stops rules old now now before mid after p a st (λ s less. refl) refl tells.0),
+    λ old before st. subst (λ (t : Told). WasRun terms old now before after t.endings.items t.counts (Some Memory)) (sym tells.1)
+        (memory_stops terms old now now before mid after p a st (λ s less. refl) refl tells.0),
   )
   found_told bytes ending finding (Err Write) at tells = (
     tt,
     tt,
-    λ old before st. subst (λ (t : Told). WasRun rules old now before after t.endings.items t.counts (Some Write)) (sym tells.1)
-        (line_stops rules old now before mid after p a bytes ending finding name below at named tells.0 st),
+    λ old before st. subst (λ (t : Told). WasRun terms old now before after t.endings.items t.counts (Some Write)) (sym tells.1)
+        (line_stops terms old now before mid after p a bytes ending finding name below at named tells.0 st),
   )
 
   pub telling : (track : Track) (r : Result Bool Cause) → slice_get p.tracks.items (vec_len a.endings) ≡ Some track → TellsNext name track mid after a b r → Tellings r
@@ -360,8 +360,8 @@ module _ (rules : Rules) (now : List Sighted) (mid after : Seen) (p : Progress) 
   telling (tracks.Checking bytes) (Err cause) at tells = absurd tells
 
 -- the numbers of what stands
-pub standing_numbers : (rules : Rules) (old now : List Sighted) (before mid : Seen) (p : Progress) (a : Told) → Stands rules old now before mid p a → HasNumbers rules (length old) p a
-standing_numbers rules old now before mid p a st =
+pub standing_numbers : (terms : Terms) (old now : List Sighted) (before mid : Seen) (p : Progress) (a : Told) → Stands terms old now before mid p a → HasNumbers terms (length old) p a
+standing_numbers terms old now before mid p a st =
     let same : vec_len a.endings ≡ length st.founds = a.endings.ok.0 ∙ (ap length st.are_told.endings ∙ length-map st.founds ending_of) in
     record {
       counted = st.counted;
@@ -376,8 +376,8 @@ get_replicate (suc n) zero x y at = sym (the_some x y at)
 get_replicate (suc n) (suc s) x y at = get_replicate n s x y at
 
 -- before the first step
-pub begun_stands : (rules : Rules) (old : List Sighted) (before : Seen) (p : Progress) (a : Told) → IsBegun rules (length old) p a → Stands rules old old before before p a
-begun_stands rules old before p a is =
+pub begun_stands : (terms : Terms) (old : List Sighted) (before : Seen) (p : Progress) (a : Told) → IsBegun terms (length old) p a → Stands terms old old before before p a
+begun_stands terms old before p a is =
     let start = is.start.1 in
     let count : p.intake.count ≡ 0 = ap (λ (i : Taking). i.count) start.intake in
     let asked : p.inquiry.asked ≡ 0 = ap (λ (i : Inquired). i.asked) start.inquiry in
@@ -388,7 +388,7 @@ begun_stands rules old before p a is =
       holds = record {
         tracked = λ s t at.
             let track : t ≡ tracks.Arriving [] = get_replicate (length old) s (tracks.Arriving []) t (subst (λ ts. slice_get ts s ≡ Some t) start.tracks at) in
-            subst (λ (i : Inquired). IsTracked rules i.open_ones s nothing_known t) (sym start.inquiry) (subst (λ x. IsTracked rules [] s nothing_known x) (sym track) (refl, refl, refl));
+            subst (λ (i : Inquired). IsTracked terms i.open_ones s nothing_known t) (sym start.inquiry) (subst (λ x. IsTracked terms [] s nothing_known x) (sym track) (refl, refl, refl));
         ended = λ s below. absurd (omega (arith, below, start.none_read));
         cut = [];
         taken = subst (λ (i : Taking). IsTaken i [] []) (sym start.intake) nothing_is_taken;
@@ -424,8 +424,8 @@ begun_stands rules old before p a is =
     }
 
 -- memory was refused before the first step
-pub refused_at_once : (rules : Rules) (old : List Sighted) (before : Seen) → WasRun rules old old before before [] no_counts (Some Memory)
-refused_at_once rules old before = record {
+pub refused_at_once : (terms : Terms) (old : List Sighted) (before : Seen) → WasRun terms old old before before [] no_counts (Some Memory)
+refused_at_once terms old before = record {
   founds = [];
   found = λ place f at. cc (at);
   names = refl;
@@ -435,15 +435,15 @@ refused_at_once rules old before = record {
 }
 
 -- at the end: all sources are told, and the summary is written, or not
-pub summary_done : (rules : Rules) (old now : List Sighted) (before mid after : Seen) (p : Progress) (a : Told) → vec_len a.endings ≡ length now → Stands rules old now before mid p a →
+pub summary_done : (terms : Terms) (old now : List Sighted) (before mid after : Seen) (p : Progress) (a : Told) → vec_len a.endings ≡ length now → Stands terms old now before mid p a →
     (r : Result Unit Cause) → TellsText (summary_line a.counts) mid after r →
-    OnOk r (WasRun rules old now before after a.endings.items a.counts None) × IfErr r (λ cause. WasRun rules old now before after a.endings.items a.counts (Some cause))
-summary_done rules old now before mid after p a all st r tells = go r (summary_stops rules old now before mid after p a told_all st r tells)
+    OnOk r (WasRun terms old now before after a.endings.items a.counts None) × IfErr r (λ cause. WasRun terms old now before after a.endings.items a.counts (Some cause))
+summary_done terms old now before mid after p a all st r tells = go r (summary_stops terms old now before mid after p a told_all st r tells)
   where
     told_all : vec_len a.endings ≡ length old
     told_all = all ∙ (sym (length-map now (λ x. x.name)) ∙ (ap length st.names ∙ length-map old (λ x. x.name)))
 
-    go : (r : Result Unit Cause) → ((cause : Option Cause) → cause ≡ cause_of r → WasRun rules old now before after a.endings.items a.counts cause) →
-        OnOk r (WasRun rules old now before after a.endings.items a.counts None) × IfErr r (λ cause. WasRun rules old now before after a.endings.items a.counts (Some cause))
+    go : (r : Result Unit Cause) → ((cause : Option Cause) → cause ≡ cause_of r → WasRun terms old now before after a.endings.items a.counts cause) →
+        OnOk r (WasRun terms old now before after a.endings.items a.counts None) × IfErr r (λ cause. WasRun terms old now before after a.endings.items a.counts (Some cause))
     go (Ok u) all = (all None refl, tt)
     go (Err cause) all = (tt, all (Some cause) refl)

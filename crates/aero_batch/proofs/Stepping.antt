@@ -13,7 +13,7 @@ use Rattle.aero_batch.specs.Steps.{EndsSource, with_block, wanted, last_of, ende
 use Rattle.aero_intake.specs.Stories.{changed, trace_of}
 use Rattle.aero_intake.specs.Tracks.{with_value}
 use Rattle.aero_intake.proofs.Tracked.{set_changed}
-use Rattle.aero_verdict.specs.Verdict.{Rules}
+use Rattle.aero_verdict.specs.Finding.{Terms}
 
 -- asking about a block changes the questions and the number of blocks alone
 
@@ -45,17 +45,17 @@ block_blocks : (p : Progress) (i : Taking) (o : Option (List ℕ)) → (with_blo
 block_blocks p i None = refl
 block_blocks p i (Some b) = refl
 
-pub ends_source : (rules : Rules) (ending : Ending) (p mid : Progress) (fresh taken : Taking) (given : Option (List ℕ)) (bytes : ℕ) (x y : Track) →
-    fresh ≡ nothing_taken → taken ≡ p.intake → bytes ≡ taken.count → given ≡ last_of taken.cutting ending → mid ≡ with_block (record p { intake = fresh }) (wanted rules p given) →
+pub ends_source : (terms : Terms) (ending : Ending) (p mid : Progress) (fresh taken : Taking) (given : Option (List ℕ)) (bytes : ℕ) (x y : Track) →
+    fresh ≡ nothing_taken → taken ≡ p.intake → bytes ≡ taken.count → given ≡ last_of taken.cutting ending → mid ≡ with_block (record p { intake = fresh }) (wanted terms p given) →
     slice_get mid.tracks.items mid.read ≡ Some x → y ≡ ended_track ending bytes mid.blocks x →
-    EndsSource rules ending p (record mid { tracks = with_item mid.tracks mid.read y; read = mid.read + 1; blocks = 0 })
-ends_source rules ending p mid fresh taken given bytes x y is_fresh is_taken count is_last is at ended =
+    EndsSource terms ending p (record mid { tracks = with_item mid.tracks mid.read y; read = mid.read + 1; blocks = 0 })
+ends_source terms ending p mid fresh taken given bytes x y is_fresh is_taken count is_last is at ended =
     let q : Progress = record p { intake = fresh } in
-    let last = wanted rules p given in
-    let block : last ≡ wanted rules p (last_of p.intake.cutting ending) = ap (wanted rules p) (is_last ∙ ap (λ (i : Taking). last_of i.cutting ending) is_taken) in
+    let last = wanted terms p given in
+    let block : last ≡ wanted terms p (last_of p.intake.cutting ending) = ap (wanted terms p) (is_last ∙ ap (λ (i : Taking). last_of i.cutting ending) is_taken) in
     let read_is : mid.read ≡ p.read = ap (λ (m : Progress). m.read) is ∙ block_read q last in
     let tracks_are : mid.tracks.items ≡ p.tracks.items = ap (λ (m : Progress). m.tracks.items) is ∙ ap (λ v. v.items) (block_tracks q last) in
-    let blocks_are : mid.blocks ≡ (with_block p (wanted rules p (last_of p.intake.cutting ending))).blocks =
+    let blocks_are : mid.blocks ≡ (with_block p (wanted terms p (last_of p.intake.cutting ending))).blocks =
     ap (λ (m : Progress). m.blocks) is ∙ (block_blocks p fresh last ∙ ap (λ o. (with_block p o).blocks) block) in
     let bytes_are : bytes ≡ p.intake.count = count ∙ ap (λ (i : Taking). i.count) is_taken in
     record {

@@ -16,7 +16,7 @@ use Rattle.aero_batch.specs.Steps.{ChecksNext, SettlesNext, TakesPiece, EndsSour
 use Rattle.aero_intake.specs.Stories.{trace_of}
 use Rattle.aero_intake.specs.Tracks.{with_value}
 use Rattle.aero_intake.proofs.Tracked.{changed_length}
-use Rattle.aero_verdict.specs.Verdict.{Rules}
+use Rattle.aero_verdict.specs.Finding.{Terms}
 
 pub record Fewer (qs : List Question) (asked : ℕ) (new : Inquired) (old_tracks new_tracks : List Track) : Type 0 where
   pub questions : length new.open_ones ≤ length qs
@@ -35,8 +35,8 @@ settled_fewer (q ∷ rest) asked new old_tracks new_tracks is =
       tracks = ap length is.1.tracks ∙ changed_length (trace_of q) (λ t. with_value t is.1.value) old_tracks;
     }
 
-pub settling_counted : (rules : Rules) (n : ℕ) (p q : Progress) → SettlesNext p q → Counted rules n p → Counted rules n q
-settling_counted rules n p q is c =
+pub settling_counted : (terms : Terms) (n : ℕ) (p q : Progress) → SettlesNext p q → Counted terms n p → Counted terms n q
+settling_counted terms n p q is c =
     let few = settled_fewer p.inquiry.open_ones p.inquiry.asked q.inquiry p.tracks.items q.tracks.items is.settles in
     let count : q.intake.count ≡ p.intake.count = ap (λ (i : Taking). i.count) is.intake in
     record {
@@ -58,13 +58,13 @@ pub record OneMore (i j : Inquired) (k : ℕ) : Type 0 where
   pub questions : length j.open_ones ≡ length i.open_ones + k
   pub more_asked : j.asked ≡ i.asked + k
 
-check_more : (rules : Rules) (i : Inquired) (place : ℕ) (o : Option (List Reading)) → (k : ℕ) × OneMore i (with_check rules i place o) k
-check_more rules i place None = (0, record { one = omega arith; questions = omega arith; more_asked = omega arith })
-check_more rules i place (Some rs) = (1, record { one = omega arith; questions = length_push i.open_ones (Check place rs rules.limits rules.labels); more_asked = refl })
+check_more : (terms : Terms) (i : Inquired) (place : ℕ) (o : Option (List Reading)) → (k : ℕ) × OneMore i (with_check terms i place o) k
+check_more terms i place None = (0, record { one = omega arith; questions = omega arith; more_asked = omega arith })
+check_more terms i place (Some rs) = (1, record { one = omega arith; questions = length_push i.open_ones (Check place rs terms.rules.limits terms.rules.labels terms.order); more_asked = refl })
 
-pub checking_counted : (rules : Rules) (n : ℕ) (p q : Progress) → p.checked < p.read → MayAsk p → ChecksNext rules p q → Counted rules n p → Counted rules n q
-checking_counted rules n p q below may is c =
-    let more = check_more rules p.inquiry p.checked is.readings in
+pub checking_counted : (terms : Terms) (n : ℕ) (p q : Progress) → p.checked < p.read → MayAsk p → ChecksNext terms p q → Counted terms n p → Counted terms n q
+checking_counted terms n p q below may is c =
+    let more = check_more terms p.inquiry p.checked is.readings in
     let k = more.0 in
     let m = more.1 in
     let count : q.intake.count ≡ p.intake.count = ap (λ (i : Taking). i.count) is.intake in
@@ -88,9 +88,9 @@ block_more : (p : Progress) (o : Option (List ℕ)) → (k : ℕ) × OneMore p.i
 block_more p None = (0, record { one = omega arith; questions = omega arith; more_asked = omega arith }, omega arith)
 block_more p (Some b) = (1, record { one = omega arith; questions = length_push p.inquiry.open_ones (Parse p.read p.blocks b); more_asked = refl }, refl)
 
-pub piece_counted : (rules : Rules) (n : ℕ) (p q : Progress) (before after : Seen) → MayAsk p → TakesPiece rules before after p q → Counted rules n p → Counted rules n q
-piece_counted rules n p q before after may is c =
-    let more = block_more p (wanted rules p (block_of p.intake.cutting is.piece)) in
+pub piece_counted : (terms : Terms) (n : ℕ) (p q : Progress) (before after : Seen) → MayAsk p → TakesPiece terms before after p q → Counted terms n p → Counted terms n q
+piece_counted terms n p q before after may is c =
+    let more = block_more p (wanted terms p (block_of p.intake.cutting is.piece)) in
     let k = more.0 in
     let m = more.1 in
     let count : q.intake.count ≡ p.intake.count + length is.piece = ap (λ (i : Taking). i.count) is.intake in
@@ -111,17 +111,17 @@ piece_counted rules n p q before after may is c =
       short = subst (λ m. m ≤ 2 ^ 20) (sym is.buffer) c.short;
     }
 
-pub ending_counted : (rules : Rules) (n : ℕ) (p q : Progress) (ending : Ending) → p.read < n → MayAsk p → EndsSource rules ending p q → Counted rules n p → Counted rules n q
-ending_counted rules n p q ending unread may is c =
-    let more = block_more p (wanted rules p (last_of p.intake.cutting ending)) in
+pub ending_counted : (terms : Terms) (n : ℕ) (p q : Progress) (ending : Ending) → p.read < n → MayAsk p → EndsSource terms ending p q → Counted terms n p → Counted terms n q
+ending_counted terms n p q ending unread may is c =
+    let more = block_more p (wanted terms p (last_of p.intake.cutting ending)) in
     let k = more.0 in
     let m = more.1 in
     let count : q.intake.count ≡ 0 = ap (λ (i : Taking). i.count) is.intake in
     let questions : length q.inquiry.open_ones ≡ length p.inquiry.open_ones + k = ap (λ (i : Inquired). length i.open_ones) is.inquiry ∙ m.questions in
     let more_asked : q.inquiry.asked ≡ p.inquiry.asked + k = ap (λ (i : Inquired). i.asked) is.inquiry ∙ m.more_asked in
-    let few : rules.limits.bytes ≤ 1073741824 = c.few_bytes in
+    let few : terms.rules.limits.bytes ≤ 1073741824 = c.few_bytes in
     record {
-      tracks = ap length is.tracks ∙ (changed_length p.read (ended_track ending p.intake.count ((with_block p (wanted rules p (last_of p.intake.cutting ending))).blocks)) p.tracks.items ∙ c.tracks);
+      tracks = ap length is.tracks ∙ (changed_length p.read (ended_track ending p.intake.count ((with_block p (wanted terms p (last_of p.intake.cutting ending))).blocks)) p.tracks.items ∙ c.tracks);
       few_sources = c.few_sources;
       read = omega (arith, unread, is.read);
       checked = omega (arith, c.checked, is.checked, is.read);
@@ -135,9 +135,9 @@ ending_counted rules n p q ending unread may is c =
     }
 
 -- there is always room for one more question's number
-pub may_ask : (rules : Rules) (n : ℕ) (p : Progress) → Counted rules n p → length p.inquiry.open_ones < 64 → MayAsk p
-may_ask rules n p c room =
-    let few : rules.limits.bytes ≤ 1073741824 = c.few_bytes in
+pub may_ask : (terms : Terms) (n : ℕ) (p : Progress) → Counted terms n p → length p.inquiry.open_ones < 64 → MayAsk p
+may_ask terms n p c room =
+    let few : terms.rules.limits.bytes ≤ 1073741824 = c.few_bytes in
     let asked : p.inquiry.asked < 18446744073709551615 = omega (arith, c.asked, c.read, c.few_sources, c.blocks, c.within, few, c.checked) in
     let blocks : p.blocks < 18446744073709551615 = omega (arith, c.blocks, c.within, few) in
     record { room = room; few = asked; few_blocks = blocks }

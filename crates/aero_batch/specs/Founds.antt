@@ -6,12 +6,11 @@ use Rattle.aero_model.specs.declared.verdict.Ending.{Ending}
 use Rattle.aero_model.specs.declared.verdict.Finding.{Finding}
 use Rattle.aero_model.specs.CallCounts.{Seen, seen_by}
 use Rattle.aero_report.specs.Texts.{source_line, source_lines, summary_line, counts_of, report}
-use Rattle.aero_verdict.specs.Finding.{IsFinding}
 use Rattle.aero_batch.specs.declared.outcome.Cause.{Cause}
 use Rattle.aero_batch.specs.declared.outcome.Cause.TheVariants.{Memory, Write}
 use Rattle.aero_intake.specs.declared.source.Source.{Source}
 use Rattle.aero_intake.specs.Source.{WasRead}
-use Rattle.aero_verdict.specs.Verdict.{Rules}
+use Rattle.aero_verdict.specs.Finding.{Terms, IsFinding}
 
 -- a source at a moment, as contracts see it: its name, and its reader
 pub record Sighted : Type 0 where
@@ -30,22 +29,22 @@ pub record Found : Type 0 where
   pub finding : Finding
 
 -- It has the source's name, its bytes came from the source's reader and ended so, and what is said of it is the finding on these bytes.
-pub record IsFoundOf (rules : Rules) (before after : Sighted) (found : Found) : Type 0 where
+pub record IsFoundOf (terms : Terms) (before after : Sighted) (found : Found) : Type 0 where
   pub name : found.name ≡ before.name
-  pub read : WasRead before.reader after.reader rules.limits.bytes found.bytes found.ending
-  pub finding : ∥ IsFinding found.bytes found.ending rules found.finding ∥₁
+  pub read : WasRead before.reader after.reader terms.rules.limits.bytes found.bytes found.ending
+  pub finding : ∥ IsFinding found.bytes found.ending terms found.finding ∥₁
 
 -- the source at the place was found to be that
-pub record IsFoundAt (rules : Rules) (old new : List Sighted) (place : ℕ) (found : Found) : Type 0 where
+pub record IsFoundAt (terms : Terms) (old new : List Sighted) (place : ℕ) (found : Found) : Type 0 where
   pub before : Sighted
   pub after : Sighted
   pub was : slice_get old place ≡ Some before
   pub is : slice_get new place ≡ Some after
-  pub found_of : IsFoundOf rules before after found
+  pub found_of : IsFoundOf terms before after found
 
 -- these are of the first sources, one for each, in their order
-abbrev pub AreOfTheFirst : Rules → List Sighted → List Sighted → List Found → Type 0
-AreOfTheFirst rules old new founds = (place : ℕ) (found : Found) → slice_get founds place ≡ Some found → IsFoundAt rules old new place found
+abbrev pub AreOfTheFirst : Terms → List Sighted → List Sighted → List Found → Type 0
+AreOfTheFirst terms old new founds = (place : ℕ) (found : Found) → slice_get founds place ≡ Some found → IsFoundAt terms old new place found
 
 -- a source's name and what is said of it, of which its line is made
 abbrev pub told : Found → List ℕ × Finding
@@ -67,31 +66,31 @@ pub record Took (before after : Seen) (text : List ℕ) : Type 0 where
   pub faults : after.faults ≡ before.faults
 
 -- the text that comes after those of the founds: that of the next source, or the summary where there is none
-abbrev pub IsNextText : Rules → List Sighted → List Sighted → List Found → List ℕ → Type 0
-IsNextText rules old new founds text =
-    ((found : Found) × IsFoundAt rules old new (length founds) found × (text ≡ source_line found.name found.finding))
+abbrev pub IsNextText : Terms → List Sighted → List Sighted → List Found → List ℕ → Type 0
+IsNextText terms old new founds text =
+    ((found : Found) × IsFoundAt terms old new (length founds) found × (text ≡ source_line found.name found.finding))
     ⊎ ((length founds ≡ length old) × (text ≡ summary_line (counts_of_all founds)))
 
 -- what the writer took is these lines and then a part of the next text, at which a write failed
-pub record WasCutOff (rules : Rules) (old new : List Sighted) (founds : List Found) (before after : Seen) : Type 0 where
+pub record WasCutOff (terms : Terms) (old new : List Sighted) (founds : List Found) (before after : Seen) : Type 0 where
   pub text : List ℕ
-  pub next : IsNextText rules old new founds text
+  pub next : IsNextText terms old new founds text
   pub written : ℕ
   pub part : written < length text
   pub went : Appends before.bytes after.bytes (lines_of_all founds ++ take written text)
   pub faults : after.faults ≡ before.faults + 1
 
 -- What was written. Without a refusal it is the report on all sources. Where memory was refused it is the lines of the founds alone, and where a write failed a part of the next text follows them.
-abbrev pub IsWritten : Rules → List Sighted → List Sighted → List Found → Seen → Seen → Option Cause → Type 0
-IsWritten rules old new founds before after None = (length founds ≡ length old) × Took before after (report (map told founds))
-IsWritten rules old new founds before after (Some Memory) = Took before after (lines_of_all founds)
-IsWritten rules old new founds before after (Some Write) = WasCutOff rules old new founds before after
+abbrev pub IsWritten : Terms → List Sighted → List Sighted → List Found → Seen → Seen → Option Cause → Type 0
+IsWritten terms old new founds before after None = (length founds ≡ length old) × Took before after (report (map told founds))
+IsWritten terms old new founds before after (Some Memory) = Took before after (lines_of_all founds)
+IsWritten terms old new founds before after (Some Write) = WasCutOff terms old new founds before after
 
 -- A run over these sources. It tells how many bytes came of each of the first ones, how they ended, and how many were found to be what, and wrote of these what is said of them.
-pub record WasRun (rules : Rules) (old new : List Sighted) (before after : Seen) (endings : List (ℕ × Ending)) (counts : Counts) (cause : Option Cause) : Type 0 where
+pub record WasRun (terms : Terms) (old new : List Sighted) (before after : Seen) (endings : List (ℕ × Ending)) (counts : Counts) (cause : Option Cause) : Type 0 where
   pub founds : List Found
-  pub found : AreOfTheFirst rules old new founds
+  pub found : AreOfTheFirst terms old new founds
   pub names : map (λ s. s.name) new ≡ map (λ s. s.name) old
   pub ended : endings ≡ map ending_of founds
   pub counted : counts ≡ counts_of_all founds
-  pub written : IsWritten rules old new founds before after cause
+  pub written : IsWritten terms old new founds before after cause

@@ -4,7 +4,6 @@ use Rattle.std.specs.List.{concat}
 use Rattle.aero_model.specs.declared.verdict.Ending.{Ending}
 use Rattle.aero_model.specs.CallCounts.{Seen}
 use Rattle.aero_report.specs.Texts.{no_counts}
-use Rattle.aero_verdict.specs.Finding.{IsFinding}
 use Rattle.aero_batch.specs.declared.progress.Progress.{Progress}
 use Rattle.aero_batch.specs.declared.told.Told.{Told}
 use Rattle.aero_batch.specs.Founds.{Sighted, Found, Took, ending_of, counts_of_all, lines_of_all}
@@ -13,64 +12,64 @@ use Rattle.aero_intake.specs.Source.{WasRead}
 use Rattle.aero_batch.specs.Steps.{IsStart}
 use Rattle.aero_batch.specs.Telling.{total}
 use Rattle.aero_intake.specs.Stories.{Story, AreEnough, AreTracked}
-use Rattle.aero_verdict.specs.Verdict.{Rules}
+use Rattle.aero_verdict.specs.Finding.{Terms, IsFinding}
 
 -- of a source that was not read yet
 abbrev pub nothing_known : Story
 nothing_known = record { pieces = []; blocks = []; ending = None }
 
 -- The source at place s has ended, and this is its story.
-pub record HasEnded (rules : Rules) (old now : List Sighted) (s : ℕ) (story : Story) : Type 0 where
+pub record HasEnded (terms : Terms) (old now : List Sighted) (s : ℕ) (story : Story) : Type 0 where
   pub before : Sighted
   pub after : Sighted
   pub ending : Ending
   pub was : slice_get old s ≡ Some before
   pub is : slice_get now s ≡ Some after
   pub ended : story.ending ≡ Some ending
-  pub read : WasRead before.reader after.reader rules.limits.bytes (concat story.pieces) ending
+  pub read : WasRead before.reader after.reader terms.rules.limits.bytes (concat story.pieces) ending
 
 -- The pieces of the story came from the source at place s.
 abbrev pub HaveComeFrom : List Sighted → List Sighted → ℕ → Story → Type 0
 HaveComeFrom old now s story = (before after : Sighted) → slice_get old s ≡ Some before → slice_get now s ≡ Some after → HaveCome before.reader after.reader story.pieces
 
 -- Each source has a story: it has ended, is being read, or was not read yet. What is known of each fits its story. Of the blocks that the source that is being read was cut into, enough were asked about.
-pub record Holds (rules : Rules) (old now : List Sighted) (p : Progress) (tale : ℕ → Story) : Type 0 where
-  pub tracked : AreTracked rules p.inquiry.open_ones tale p.tracks.items
-  pub ended : (s : ℕ) → s < p.read → HasEnded rules old now s (tale s)
+pub record Holds (terms : Terms) (old now : List Sighted) (p : Progress) (tale : ℕ → Story) : Type 0 where
+  pub tracked : AreTracked terms p.inquiry.open_ones tale p.tracks.items
+  pub ended : (s : ℕ) → s < p.read → HasEnded terms old now s (tale s)
   pub cut : List (List ℕ)
   pub taken : IsTaken p.intake (tale p.read).pieces cut
-  pub enough : AreEnough rules (tale p.read).blocks cut
+  pub enough : AreEnough terms.rules (tale p.read).blocks cut
   pub come : HaveComeFrom old now p.read (tale p.read)
   pub asked : p.blocks ≡ length (tale p.read).blocks
   pub not_ended : (tale p.read).ending ≡ None
   pub later : (s : ℕ) → p.read < s → (tale s ≡ nothing_known) × (slice_get now s ≡ slice_get old s)
 
 -- The numbers of a run over so many sources: there is always room for one more question's number, since a source has at most 2^30 + 2 questions on its blocks and one on its verdict.
-pub record Counted (rules : Rules) (sources : ℕ) (p : Progress) : Type 0 where
+pub record Counted (terms : Terms) (sources : ℕ) (p : Progress) : Type 0 where
   pub tracks : length p.tracks.items ≡ sources
   pub few_sources : sources ≤ 65536
   pub read : p.read ≤ sources
   pub checked : p.checked ≤ p.read
   pub open_few : length p.inquiry.open_ones ≤ 64
-  pub within : p.intake.count ≤ rules.limits.bytes + 1
-  pub few_bytes : rules.limits.bytes ≤ 2 ^ 30
+  pub within : p.intake.count ≤ terms.rules.limits.bytes + 1
+  pub few_bytes : terms.rules.limits.bytes ≤ 2 ^ 30
   pub blocks : p.blocks ≤ p.intake.count
   pub asked : p.inquiry.asked ≤ p.read * 1073741826 + p.blocks + p.checked
   pub some_room : 0 < vec_len p.buffer
   pub short : vec_len p.buffer ≤ 2 ^ 20
 
 -- what is told of a source fits its story
-pub record Tells (rules : Rules) (old : List Sighted) (s : ℕ) (story : Story) (found : Found) : Type 0 where
+pub record Tells (terms : Terms) (old : List Sighted) (s : ℕ) (story : Story) (found : Found) : Type 0 where
   pub before : Sighted
   pub was : slice_get old s ≡ Some before
   pub name : found.name ≡ before.name
   pub bytes : found.bytes ≡ concat story.pieces
   pub ending : story.ending ≡ Some found.ending
-  pub finding : ∥ IsFinding found.bytes found.ending rules found.finding ∥₁
+  pub finding : ∥ IsFinding found.bytes found.ending terms found.finding ∥₁
 
 -- The first sources were told, as many as there are founds, and nothing else was written.
-pub record AreTold (rules : Rules) (old : List Sighted) (before after : Seen) (p : Progress) (told : Told) (tale : ℕ → Story) (founds : List Found) : Type 0 where
-  pub tells : (s : ℕ) (found : Found) → slice_get founds s ≡ Some found → Tells rules old s (tale s) found
+pub record AreTold (terms : Terms) (old : List Sighted) (before after : Seen) (p : Progress) (told : Told) (tale : ℕ → Story) (founds : List Found) : Type 0 where
+  pub tells : (s : ℕ) (found : Found) → slice_get founds s ≡ Some found → Tells terms old s (tale s) found
   pub few : length founds ≤ p.checked
   pub took : Took before after (lines_of_all founds)
   pub endings : told.endings.items ≡ map ending_of founds
@@ -79,26 +78,26 @@ pub record AreTold (rules : Rules) (old : List Sighted) (before after : Seen) (p
   pub room : vec_capacity told.endings ≡ length old
 
 -- between two steps
-pub record Stands (rules : Rules) (old now : List Sighted) (before after : Seen) (p : Progress) (told : Told) : Type 0 where
+pub record Stands (terms : Terms) (old now : List Sighted) (before after : Seen) (p : Progress) (told : Told) : Type 0 where
   pub tale : ℕ → Story
   pub founds : List Found
-  pub holds : Holds rules old now p tale
-  pub are_told : AreTold rules old before after p told tale founds
-  pub counted : Counted rules (length old) p
+  pub holds : Holds terms old now p tale
+  pub are_told : AreTold terms old before after p told tale founds
+  pub counted : Counted terms (length old) p
   pub names : map (λ s. s.name) now ≡ map (λ s. s.name) old
 
 -- The numbers of a run, and of what was told in it, over so many sources.
-pub record HasNumbers (rules : Rules) (sources : ℕ) (p : Progress) (told : Told) : Type 0 where
-  pub counted : Counted rules sources p
+pub record HasNumbers (terms : Terms) (sources : ℕ) (p : Progress) (told : Told) : Type 0 where
+  pub counted : Counted terms sources p
   pub told_few : vec_len told.endings ≤ p.checked
   pub total_is : total told.counts ≡ vec_len told.endings
   pub room : vec_capacity told.endings ≡ sources
 
 -- before the first step
-pub record IsBegun (rules : Rules) (sources : ℕ) (p : Progress) (told : Told) : Type 0 where
+pub record IsBegun (terms : Terms) (sources : ℕ) (p : Progress) (told : Told) : Type 0 where
   pub start : (piece : ℕ) × IsStart piece sources p × (0 < piece) × (piece ≤ 2 ^ 20)
   pub few : sources ≤ 65536
-  pub few_bytes : rules.limits.bytes ≤ 2 ^ 30
+  pub few_bytes : terms.rules.limits.bytes ≤ 2 ^ 30
   pub endings : told.endings.items ≡ []
   pub counts : told.counts ≡ no_counts
   pub room : vec_capacity told.endings ≡ sources

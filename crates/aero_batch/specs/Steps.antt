@@ -16,7 +16,7 @@ use Rattle.aero_batch.specs.Inquiries.{Inquired, nothing_asked, with_question}
 use Rattle.aero_intake.specs.Intake.{nothing_taken, with_piece, Comes, Ends}
 use Rattle.aero_intake.specs.Tracks.{is_decided, with_arrival, IsReady, GivesReadings}
 use Rattle.aero_intake.specs.Stories.{changed, IsSettledWith}
-use Rattle.aero_verdict.specs.Verdict.{Rules}
+use Rattle.aero_verdict.specs.Finding.{Terms}
 
 -- before the first step
 pub record IsStart (piece sources : ℕ) (progress : Progress) : Type 0 where
@@ -40,16 +40,16 @@ with_block p None = p
 with_block p (Some block) = record p { inquiry = with_question p.inquiry (Parse p.read p.blocks block); blocks = p.blocks + 1 }
 
 -- whether what was read of the source that is being read decides
-abbrev pub decided_there : Rules → Option Track → Bool
-decided_there rules None = false
-decided_there rules (Some track) = is_decided rules.limits track
+abbrev pub decided_there : Terms → Option Track → Bool
+decided_there terms None = false
+decided_there terms (Some track) = is_decided terms.rules.limits track
 
-abbrev pub has_decided : Rules → Progress → Bool
-has_decided rules p = decided_there rules (slice_get p.tracks.items p.read)
+abbrev pub has_decided : Terms → Progress → Bool
+has_decided terms p = decided_there terms (slice_get p.tracks.items p.read)
 
 -- the block that is to be asked about: none, once what was read decides
-abbrev pub wanted : Rules → Progress → Option (List ℕ) → Option (List ℕ)
-wanted rules p block = if has_decided rules p then None else block
+abbrev pub wanted : Terms → Progress → Option (List ℕ) → Option (List ℕ)
+wanted terms p block = if has_decided terms p then None else block
 
 -- the last block of a source that is whole
 abbrev pub last_of : Cutting → Ending → Option (List ℕ)
@@ -64,9 +64,9 @@ ended_track endings.Broken bytes blocks t = Found bytes endings.Broken (findings
 ended_track endings.TooLarge bytes blocks t = Found bytes endings.TooLarge findings.TooLarge
 
 -- The source that was being read has ended so, and the next one is to be read.
-pub record EndsSource (rules : Rules) (ending : Ending) (old new : Progress) : Type 0 where
-  pub inquiry : new.inquiry ≡ (with_block old (wanted rules old (last_of old.intake.cutting ending))).inquiry
-  pub tracks : new.tracks.items ≡ changed old.read (ended_track ending old.intake.count ((with_block old (wanted rules old (last_of old.intake.cutting ending))).blocks)) old.tracks.items
+pub record EndsSource (terms : Terms) (ending : Ending) (old new : Progress) : Type 0 where
+  pub inquiry : new.inquiry ≡ (with_block old (wanted terms old (last_of old.intake.cutting ending))).inquiry
+  pub tracks : new.tracks.items ≡ changed old.read (ended_track ending old.intake.count ((with_block old (wanted terms old (last_of old.intake.cutting ending))).blocks)) old.tracks.items
   pub read : new.read ≡ old.read + 1
   pub checked : new.checked ≡ old.checked
   pub intake : new.intake ≡ nothing_taken
@@ -74,11 +74,11 @@ pub record EndsSource (rules : Rules) (ending : Ending) (old new : Progress) : T
   pub buffer : vec_len new.buffer ≡ vec_len old.buffer
 
 -- A piece came, and the block that it gave, if it gave one, is asked about, unless what was read decides.
-pub record TakesPiece (rules : Rules) (before after : Seen) (old new : Progress) : Type 0 where
+pub record TakesPiece (terms : Terms) (before after : Seen) (old new : Progress) : Type 0 where
   pub piece : List ℕ
-  pub comes : Comes before after (vec_len old.buffer) rules.limits.bytes old.intake.count piece
-  pub inquiry : new.inquiry ≡ (with_block old (wanted rules old (block_of old.intake.cutting piece))).inquiry
-  pub blocks : new.blocks ≡ (with_block old (wanted rules old (block_of old.intake.cutting piece))).blocks
+  pub comes : Comes before after (vec_len old.buffer) terms.rules.limits.bytes old.intake.count piece
+  pub inquiry : new.inquiry ≡ (with_block old (wanted terms old (block_of old.intake.cutting piece))).inquiry
+  pub blocks : new.blocks ≡ (with_block old (wanted terms old (block_of old.intake.cutting piece))).blocks
   pub intake : new.intake ≡ with_piece old.intake piece
   pub tracks : new.tracks.items ≡ old.tracks.items
   pub read : new.read ≡ old.read
@@ -86,18 +86,18 @@ pub record TakesPiece (rules : Rules) (before after : Seen) (old new : Progress)
   pub buffer : vec_len new.buffer ≡ vec_len old.buffer
 
 -- One step of reading: a piece comes, or the source ends.
-abbrev pub ReadsOn : Rules → Seen → Seen → Progress → Progress → Type 0
-ReadsOn rules before after old new =
-    TakesPiece rules before after old new
-    ⊎ ((ending : Ending) × Ends before after rules.limits.bytes old.intake.count ending × EndsSource rules ending old new)
+abbrev pub ReadsOn : Terms → Seen → Seen → Progress → Progress → Type 0
+ReadsOn terms before after old new =
+    TakesPiece terms before after old new
+    ⊎ ((ending : Ending) × Ends before after terms.rules.limits.bytes old.intake.count ending × EndsSource terms ending old new)
 
 -- the verdict is asked for on what the blocks of a source say
-abbrev pub with_check : Rules → Inquired → ℕ → Option (List Reading) → Inquired
-with_check rules i trace None = i
-with_check rules i trace (Some readings) = with_question i (Check trace readings rules.limits rules.labels)
+abbrev pub with_check : Terms → Inquired → ℕ → Option (List Reading) → Inquired
+with_check terms i trace None = i
+with_check terms i trace (Some readings) = with_question i (Check trace readings terms.rules.limits terms.rules.labels terms.order)
 
 -- The verdict on the next source is asked for, where it needs one.
-pub record ChecksNext (rules : Rules) (old new : Progress) : Type 0 where
+pub record ChecksNext (terms : Terms) (old new : Progress) : Type 0 where
   pub before : Track
   pub after : Track
   pub readings : Option (List Reading)
@@ -105,7 +105,7 @@ pub record ChecksNext (rules : Rules) (old new : Progress) : Type 0 where
   pub ready : IsReady before
   pub gives : GivesReadings before after readings
   pub tracks : new.tracks.items ≡ changed old.checked (λ t. after) old.tracks.items
-  pub inquiry : new.inquiry ≡ with_check rules old.inquiry old.checked readings
+  pub inquiry : new.inquiry ≡ with_check terms old.inquiry old.checked readings
   pub checked : new.checked ≡ old.checked + 1
   pub read : new.read ≡ old.read
   pub intake : new.intake ≡ old.intake
@@ -135,16 +135,16 @@ pub record IsReadFrom (now after : List Sighted) (place : ℕ) (before_read afte
   pub others : (s : ℕ) → (place ≡ s → ⊥) → slice_get after s ≡ slice_get now s
 
 -- A step of reading.
-pub record ReadsNext (rules : Rules) (now after : List Sighted) (old new : Progress) : Type 0 where
+pub record ReadsNext (terms : Terms) (now after : List Sighted) (old new : Progress) : Type 0 where
   pub before_read : Seen
   pub after_read : Seen
-  pub reads : ReadsOn rules before_read after_read old new
+  pub reads : ReadsOn terms before_read after_read old new
   pub from : IsReadFrom now after old.read before_read after_read
   pub may : MayAsk old
   pub unread : old.read < length now
 
 -- One step of a run: it asks for a verdict, reads, or settles.
-abbrev pub Steps : Rules → List Sighted → List Sighted → Progress → Progress → Type 0
-Steps rules now after old new =
+abbrev pub Steps : Terms → List Sighted → List Sighted → Progress → Progress → Type 0
+Steps terms now after old new =
     ((after ≡ now) × SettlesNext old new)
-    ⊎ (((after ≡ now) × (old.checked < old.read) × MayAsk old × ChecksNext rules old new) ⊎ ReadsNext rules now after old new)
+    ⊎ (((after ≡ now) × (old.checked < old.read) × MayAsk old × ChecksNext terms old new) ⊎ ReadsNext terms now after old new)

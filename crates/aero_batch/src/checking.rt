@@ -2,7 +2,7 @@
 ghost use Rattle.std.specs.Prelude.{◌≡◌, ◌<◌, ◌-◌, ◌^◌, length, vec_len, slice_get, IfOk, OnOk};
 ghost use Rattle.std.specs.Arc.{arc_value};
 ghost use Rattle.aero_batch.specs.Steps.{MayAsk, ChecksNext, SettlesNext, with_check};
-ghost use Rattle.aero_intake.specs.PlanRules.{rules_of};
+ghost use Rattle.aero_intake.specs.PlanTerms.{terms_of};
 ghost use Rattle.aero_intake.specs.Tracks.{IsReady, with_value};
 ghost use Rattle.aero_intake.specs.Stories.{changed};
 
@@ -27,7 +27,7 @@ pub fn check_next<H: Helpers, T: Wait>(
     requires may { MayAsk progress.old }
     requires unchecked { progress.old.checked < vec_len progress.old.tracks }
     requires ready { (t : Track) → slice_get progress.old.tracks.items progress.old.checked ≡ Some t → IsReady t }
-    ensures { OnOk result (ChecksNext (rules_of plan.now) progress.old progress.new) }
+    ensures { OnOk result (ChecksNext (terms_of plan.now) progress.old progress.new) }
 {
     let place = progress.checked;
     let readings = take_readings(&mut progress.tracks[place]);
@@ -55,7 +55,7 @@ fn ask_check<H: Helpers, T: Wait>(
 ) -> Result<(), AllocError>
     requires room { length inquiry.old.open_ones < 64 }
     requires few { inquiry.old.asked < 2 ^ 64 - 1 }
-    ensures { OnOk result (inquiry.new ≡ with_check (rules_of plan.now) inquiry.old trace readings) }
+    ensures { OnOk result (inquiry.new ≡ with_check (terms_of plan.now) inquiry.old trace readings) }
 {
     let Some(readings) = readings else {
         return Ok(());
@@ -70,13 +70,14 @@ fn check_question(
     trace: u64,
     readings: Readings,
 ) -> Result<Arc<Question, Global>, AllocError>
-    ensures { IfOk result (λ question. arc_value question ≡ Question.Check trace readings plan.now.limits plan.now.except) }
+    ensures { IfOk result (λ question. arc_value question ≡ Question.Check trace readings plan.now.limits plan.now.except plan.now.order) }
 {
     Question::Check {
         trace,
         parsed: readings.into_parts(),
         limits: plan.limits,
         except: plan.except.share()?,
+        order: plan.order,
     }
     .share(alloc)
 }

@@ -2,7 +2,7 @@
 ghost use Rattle.std.specs.Prelude.{◌≡◌, ◌<◌, ◌≤◌, ◌+◌, ◌^◌, length, vec_len, IfOk, IfSome, OnOk};
 ghost use Rattle.std.specs.Arc.{arc_value};
 ghost use Rattle.aero_model.specs.CallCounts.{seen_by};
-ghost use Rattle.aero_intake.specs.PlanRules.{rules_of};
+ghost use Rattle.aero_intake.specs.PlanTerms.{terms_of};
 ghost use Rattle.aero_batch.specs.Steps.{MayAsk, ReadsOn, EndsSource, with_block, wanted, last_of, ended_track};
 
 use crate::helpers::Helpers;
@@ -34,7 +34,7 @@ pub fn read_on<R: Read, H: Helpers, T: Wait>(
     requires room { 0 < vec_len progress.old.buffer }
     requires short { vec_len progress.old.buffer ≤ 2 ^ 20 }
     requires within { progress.old.intake.count ≤ plan.now.limits.bytes + 1 }
-    ensures { OnOk result (ReadsOn (rules_of plan.now) (seen_by R.remaining reader.old) (seen_by R.remaining reader.new) progress.old progress.new) }
+    ensures { OnOk result (ReadsOn (terms_of plan.now) (seen_by R.remaining reader.old) (seen_by R.remaining reader.new) progress.old progress.new) }
 {
     match progress
         .intake
@@ -58,7 +58,7 @@ fn ask_block<H: Helpers, T: Wait>(
     requires may { MayAsk progress.old }
     requires unread { progress.old.read < vec_len progress.old.tracks }
     requires short { IfSome block (λ bytes. length bytes ≤ 2 ^ 30) }
-    ensures { OnOk result (progress.new ≡ with_block progress.old (wanted (rules_of plan.now) progress.old block)) }
+    ensures { OnOk result (progress.new ≡ with_block progress.old (wanted (terms_of plan.now) progress.old block)) }
 {
     if is_decided(&progress.tracks[progress.read], &plan.limits) {
         return Ok(());
@@ -103,7 +103,7 @@ fn end_source<H: Helpers, T: Wait>(
 ) -> Result<(), AllocError>
     requires may { MayAsk progress.old }
     requires unread { progress.old.read < vec_len progress.old.tracks }
-    ensures { OnOk result (EndsSource (rules_of plan.now) ending progress.old progress.new) }
+    ensures { OnOk result (EndsSource (terms_of plan.now) ending progress.old progress.new) }
 {
     let intake = mem::replace(&mut progress.intake, Intake::new(alloc));
     let bytes = u64::from(intake.count());

@@ -2,7 +2,7 @@
 ghost use Rattle.std.specs.Prelude.{◌≡◌, ◌<◌, ◌≤◌, ◌+◌, ℕ, List, None, Some, true, false, length, map, vec_len, vec_capacity, [], IfOk, IfErr, OnOk};
 ghost use Rattle.aero_report.specs.Texts.{no_counts};
 ghost use Rattle.aero_model.specs.CallCounts.{Seen, seen_by};
-ghost use Rattle.aero_intake.specs.PlanRules.{rules_of};
+ghost use Rattle.aero_intake.specs.PlanTerms.{terms_of};
 ghost use Rattle.aero_batch.specs.Founds.{Sighted, sighted, WasRun};
 ghost use Rattle.aero_batch.specs.Holding.{HasNumbers, IsBegun, Stands};
 
@@ -40,7 +40,7 @@ pub fn run<R: Read, W: Write, G: Gate + Drop + 'static, T: Threads + Wait + Copy
     gate: Arc<G>,
 ) -> Outcome
     requires { length sources.old ≤ 65536 }
-    ensures ran { WasRun (rules_of plan.now) (map (sighted R.remaining) sources.old) (map (sighted R.remaining) sources.new)
+    ensures ran { WasRun (terms_of plan.now) (map (sighted R.remaining) sources.old) (map (sighted R.remaining) sources.new)
         (seen_by W.contents writer.old) (seen_by W.contents writer.new) result.endings.items result.counts result.cause }
     ensures all_settled { result.cause ≡ None → result.tally.asked ≡ result.tally.kept + result.tally.done_here }
     ensures tallied { result.tally.kept + result.tally.done_here ≤ result.tally.asked }
@@ -65,7 +65,7 @@ pub fn run_over<R: Read, W: Write, H: Helpers, T: Wait>(
     helpers: &mut H,
 ) -> Outcome
     requires { length sources.old ≤ 65536 }
-    ensures ran { WasRun (rules_of plan.now) (map (sighted R.remaining) sources.old) (map (sighted R.remaining) sources.new)
+    ensures ran { WasRun (terms_of plan.now) (map (sighted R.remaining) sources.old) (map (sighted R.remaining) sources.new)
         (seen_by W.contents writer.old) (seen_by W.contents writer.new) result.endings.items result.counts result.cause }
     ensures all_settled { result.cause ≡ None → result.tally.asked ≡ result.tally.kept + result.tally.done_here }
     ensures tallied { result.tally.kept + result.tally.done_here ≤ result.tally.asked }
@@ -98,7 +98,7 @@ fn begin(
     is_alone: bool,
 ) -> Result<(Progress, Told), AllocError>
     requires { sources ≤ 65536 }
-    ensures { IfOk result (λ begun. IsBegun (rules_of plan.now) sources begun.0 begun.1) }
+    ensures { IfOk result (λ begun. IsBegun (terms_of plan.now) sources begun.0 begun.1) }
 {
     let told = Told::new(alloc, sources)?;
     let progress = Progress::new(alloc, plan, sources, is_alone)?;
@@ -156,10 +156,10 @@ fn run_on<R: Read, W: Write, H: Helpers, T: Wait>(
     progress: &mut Progress,
     told: &mut Told,
 ) -> Result<(), Cause>
-    requires { IsBegun (rules_of around.now.plan.now) (length sources.old) progress.old told.old }
-    ensures done { OnOk result (WasRun (rules_of around.now.plan.now) (map (sighted R.remaining) sources.old) (map (sighted R.remaining) sources.new)
+    requires { IsBegun (terms_of around.now.plan.now) (length sources.old) progress.old told.old }
+    ensures done { OnOk result (WasRun (terms_of around.now.plan.now) (map (sighted R.remaining) sources.old) (map (sighted R.remaining) sources.new)
         (seen_by W.contents writer.old) (seen_by W.contents writer.new) told.new.endings.items told.new.counts None) }
-    ensures stopped { IfErr result (λ cause. WasRun (rules_of around.now.plan.now) (map (sighted R.remaining) sources.old) (map (sighted R.remaining) sources.new)
+    ensures stopped { IfErr result (λ cause. WasRun (terms_of around.now.plan.now) (map (sighted R.remaining) sources.old) (map (sighted R.remaining) sources.new)
         (seen_by W.contents writer.old) (seen_by W.contents writer.new) told.new.endings.items told.new.counts (Some cause)) }
     ensures settled { OnOk result (length progress.new.inquiry.open_ones ≡ 0) }
 {
@@ -181,11 +181,11 @@ fn advance<R: Read, W: Write, H: Helpers, T: Wait>(
     progress: &mut Progress,
     told: &mut Told,
 ) -> Result<bool, Cause>
-    requires { HasNumbers (rules_of around.now.plan.now) (length sources.old) progress.old told.old }
-    ensures stands { OnOk result ((old : List Sighted) (before : Seen) → Stands (rules_of around.now.plan.now) old (map (sighted R.remaining) sources.old) before (seen_by W.contents writer.old) progress.old told.old
-        → Stands (rules_of around.now.plan.now) old (map (sighted R.remaining) sources.new) before (seen_by W.contents writer.new) progress.new told.new) }
-    ensures stopped { IfErr result (λ cause. (old : List Sighted) (before : Seen) → Stands (rules_of around.now.plan.now) old (map (sighted R.remaining) sources.old) before (seen_by W.contents writer.old) progress.old told.old
-        → WasRun (rules_of around.now.plan.now) old (map (sighted R.remaining) sources.new) before (seen_by W.contents writer.new) told.new.endings.items told.new.counts (Some cause)) }
+    requires { HasNumbers (terms_of around.now.plan.now) (length sources.old) progress.old told.old }
+    ensures stands { OnOk result ((old : List Sighted) (before : Seen) → Stands (terms_of around.now.plan.now) old (map (sighted R.remaining) sources.old) before (seen_by W.contents writer.old) progress.old told.old
+        → Stands (terms_of around.now.plan.now) old (map (sighted R.remaining) sources.new) before (seen_by W.contents writer.new) progress.new told.new) }
+    ensures stopped { IfErr result (λ cause. (old : List Sighted) (before : Seen) → Stands (terms_of around.now.plan.now) old (map (sighted R.remaining) sources.old) before (seen_by W.contents writer.old) progress.old told.old
+        → WasRun (terms_of around.now.plan.now) old (map (sighted R.remaining) sources.new) before (seen_by W.contents writer.new) told.new.endings.items told.new.counts (Some cause)) }
     ensures all_told { IfOk result (λ is_done. is_done ≡ true → vec_len told.new.endings ≡ length sources.new) }
     ensures all_settled { IfOk result (λ is_done. is_done ≡ true → length progress.new.inquiry.open_ones ≡ 0) }
 {
@@ -218,12 +218,12 @@ fn tell_ready<R: Read, W: Write>(
     writer: &mut Counting<W>,
     told: &mut Told,
 ) -> Result<bool, Cause>
-    requires { HasNumbers (rules_of plan.now) (length sources.now) progress.now told.old }
-    ensures stands { IfOk result (λ is_told. is_told ≡ true → (old : List Sighted) (before : Seen) → Stands (rules_of plan.now) old (map (sighted R.remaining) sources.now) before (seen_by W.contents writer.old) progress.now told.old
-        → Stands (rules_of plan.now) old (map (sighted R.remaining) sources.now) before (seen_by W.contents writer.new) progress.now told.new) }
+    requires { HasNumbers (terms_of plan.now) (length sources.now) progress.now told.old }
+    ensures stands { IfOk result (λ is_told. is_told ≡ true → (old : List Sighted) (before : Seen) → Stands (terms_of plan.now) old (map (sighted R.remaining) sources.now) before (seen_by W.contents writer.old) progress.now told.old
+        → Stands (terms_of plan.now) old (map (sighted R.remaining) sources.now) before (seen_by W.contents writer.new) progress.now told.new) }
     ensures unchanged { IfOk result (λ is_told. is_told ≡ false → (seen_by W.contents writer.new ≡ seen_by W.contents writer.old) × (told.new ≡ told.old)) }
-    ensures stopped { IfErr result (λ cause. (old : List Sighted) (before : Seen) → Stands (rules_of plan.now) old (map (sighted R.remaining) sources.now) before (seen_by W.contents writer.old) progress.now told.old
-        → WasRun (rules_of plan.now) old (map (sighted R.remaining) sources.now) before (seen_by W.contents writer.new) told.new.endings.items told.new.counts (Some cause)) }
+    ensures stopped { IfErr result (λ cause. (old : List Sighted) (before : Seen) → Stands (terms_of plan.now) old (map (sighted R.remaining) sources.now) before (seen_by W.contents writer.old) progress.now told.old
+        → WasRun (terms_of plan.now) old (map (sighted R.remaining) sources.now) before (seen_by W.contents writer.new) told.new.endings.items told.new.counts (Some cause)) }
 {
     let place = told.endings.len();
     if place >= progress.checked {

@@ -3,7 +3,7 @@ ghost use Rattle.std.specs.Prelude.{◌≡◌, ◌<◌, ◌≤◌, ℕ, length, 
 ghost use Rattle.aero_model.specs.CallCounts.{seen_by};
 ghost use Rattle.aero_batch.specs.Founds.{sighted};
 ghost use Rattle.aero_batch.specs.Holding.{Counted};
-ghost use Rattle.aero_intake.specs.PlanRules.{rules_of};
+ghost use Rattle.aero_intake.specs.PlanTerms.{terms_of};
 ghost use Rattle.aero_batch.specs.Steps.{Steps};
 
 use crate::checking::{check_next, settle_next};
@@ -28,8 +28,8 @@ pub fn step<R: Read, H: Helpers, T: Wait>(
     helpers: &mut H,
     progress: &mut Progress,
 ) -> Result<(), AllocError>
-    requires { Counted (rules_of plan.now) (length sources.old) progress.old }
-    ensures steps { OnOk result (Steps (rules_of plan.now) (map (sighted R.remaining) sources.old) (map (sighted R.remaining) sources.new) progress.old progress.new) }
+    requires { Counted (terms_of plan.now) (length sources.old) progress.old }
+    ensures steps { OnOk result (Steps (terms_of plan.now) (map (sighted R.remaining) sources.old) (map (sighted R.remaining) sources.new) progress.old progress.new) }
     ensures names { map (λ s. s.name) (map (sighted R.remaining) sources.new) ≡ map (λ s. s.name) (map (sighted R.remaining) sources.old) }
     ensures others { (s : ℕ) → (progress.old.read ≡ s → ⊥) → slice_get (map (sighted R.remaining) sources.new) s ≡ slice_get (map (sighted R.remaining) sources.old) s }
 {
@@ -47,8 +47,8 @@ fn step_on<R: Read, H: Helpers, T: Wait>(
     progress: &mut Progress,
     is_answered: bool,
 ) -> Result<(), AllocError>
-    requires { Counted (rules_of plan.now) (length sources.old) progress.old }
-    ensures steps { OnOk result (Steps (rules_of plan.now) (map (sighted R.remaining) sources.old) (map (sighted R.remaining) sources.new) progress.old progress.new) }
+    requires { Counted (terms_of plan.now) (length sources.old) progress.old }
+    ensures steps { OnOk result (Steps (terms_of plan.now) (map (sighted R.remaining) sources.old) (map (sighted R.remaining) sources.new) progress.old progress.new) }
     ensures names { map (λ s. s.name) (map (sighted R.remaining) sources.new) ≡ map (λ s. s.name) (map (sighted R.remaining) sources.old) }
     ensures others { (s : ℕ) → (progress.old.read ≡ s → ⊥) → slice_get (map (sighted R.remaining) sources.new) s ≡ slice_get (map (sighted R.remaining) sources.old) s }
 {

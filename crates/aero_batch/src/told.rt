@@ -1,7 +1,7 @@
 //! What was told so far of the sources, and telling it.
 ghost use Rattle.std.specs.Prelude.{◌≡◌, ◌<◌, ◌≤◌, ◌+◌, ◌++◌, ◌∷◌, [], vec_len, vec_capacity, Ok, Err, IfOk, IfErr, OnOk};
 ghost use Rattle.aero_model.specs.CallCounts.{seen_by};
-ghost use Rattle.aero_report.specs.Texts.{no_counts, counted, summary_line};
+ghost use Rattle.aero_report.specs.Texts.{no_counts, counted, verdict_counted, summary_line};
 ghost use Rattle.aero_batch.specs.Telling.{TellsNext, TellsText, HasRoom, total};
 
 use crate::outcome::Cause;
@@ -100,11 +100,27 @@ fn with_finding(counts: &Counts, finding: &Finding) -> Counts
     ensures counts { result ≡ counted counts.now finding.now }
     ensures total { total result ≡ total counts.now + 1 }
 {
-    let mut counts = *counts;
     match finding {
-        Finding::Judged(Verdict::Serializable { .. }) => counts.serializable += 1,
-        Finding::Judged(Verdict::Pending { .. }) => counts.pending += 1,
-        Finding::Judged(Verdict::Violation { .. }) => counts.violations += 1,
+        Finding::Judged(verdict) => with_verdict(counts, verdict),
+        Finding::Ordered(verdict, _) => with_verdict(counts, verdict),
+        Finding::Broken(_) | Finding::TooLarge => Counts {
+            faults: counts.faults + 1,
+            ..*counts
+        },
+    }
+}
+
+// The counts with one more verdict.
+fn with_verdict(counts: &Counts, verdict: &Verdict) -> Counts
+    requires { total counts.now < 65536 }
+    ensures counts { result ≡ verdict_counted counts.now verdict.now }
+    ensures total { total result ≡ total counts.now + 1 }
+{
+    let mut counts = *counts;
+    match verdict {
+        Verdict::Serializable { .. } => counts.serializable += 1,
+        Verdict::Pending { .. } => counts.pending += 1,
+        Verdict::Violation { .. } => counts.violations += 1,
         _ => counts.faults += 1,
     }
     counts

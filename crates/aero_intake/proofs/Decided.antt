@@ -14,7 +14,7 @@ use Rattle.aero_verdict.proofs.Readings.{after_faulty, after_faultless}
 use Rattle.aero_verdict.specs.Verdict.{Rules}
 use Rattle.aero_intake.specs.Laws.{FirstBlocksDecide}
 use Rattle.aero_intake.specs.Tracks.{decides}
-use Rattle.aero_intake.proofs.Judged.{one_read, same_verdict}
+use Rattle.aero_intake.proofs.Judged.{one_read, counted_alike}
 
 -- lines count from 1
 
@@ -93,11 +93,9 @@ front_counts rules front more is =
     rw joined (counts_alike rules.limits.lines w.events w.lines w.fault v is (blocks_above more))
 
 pub first_blocks_decide : FirstBlocksDecide
-first_blocks_decide front more rules verdict is =
+first_blocks_decide front more rules is =
     let alike = front_counts rules front more is in
-    let fronts = map reading_of front in
-    let all = map reading_of (front ++ more) in
-    (same_verdict rules fronts all alike.events alike.fault verdict, same_verdict rules all fronts (sym alike.events) (sym alike.fault) verdict)
+    counted_alike rules (map reading_of front) (map reading_of (front ++ more)) alike.events alike.fault
 
 -- more blocks decide where the first ones do
 

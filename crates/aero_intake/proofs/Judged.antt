@@ -1,11 +1,14 @@
--- The blocks of a text have its verdicts.
+-- The blocks of a text have its verdicts and its serial order.
 use Rattle.std.proofs.Common.{◌≡◌, ℕ, suc, ◌+◌, true, List, [], ◌∷◌, Option, Some, None, refl, sym, ◌∙◌, ap, subst, arith}
 use Rattle.std.proofs.lemmas.List.{append-nil}
 use Rattle.std.specs.Prelude.{map, option_map, slice_get, length}
 use Rattle.std.specs.List.{concat}
 use Rattle.aero_model.specs.declared.numbered.Numbered.{Numbered}
 use Rattle.aero_model.specs.declared.verdict.LineFault.{LineFault}
+use Rattle.aero_model.specs.declared.verdict.Finding.{Finding}
+use Rattle.aero_model.specs.declared.verdict.Finding.TheVariants.{Judged, Ordered, Broken, TooLarge}
 use Rattle.aero_model.specs.declared.verdict.ShapeFault.{ShapeFault}
+use Rattle.aero_model.specs.declared.verdict.Step.{Step}
 use Rattle.aero_model.specs.declared.verdict.Verdict.{Verdict}
 use Rattle.aero_model.specs.declared.verdict.Verdict.TheVariants.{Serializable, Pending, Violation, Malformed, IllFormed}
 use Rattle.aero_model.specs.Blocks.{Block, opens, transaction}
@@ -13,14 +16,17 @@ use Rattle.aero_model.specs.Cycle.{HasTellingCycle, IsClosing, IsOpener}
 use Rattle.aero_model.specs.Exempt.{judged_trace, marked_trace}
 use Rattle.aero_model.specs.Named.{Named}
 use Rattle.aero_model.specs.Numbering.{tables_of, trace_of}
+use Rattle.aero_model.specs.Serial.{IsSerialOrder}
 use Rattle.aero_model.specs.Shape.{IsLawful, fault_at}
 use Rattle.aero_model.specs.BlockCounts.{block_count, open_count}
 use Rattle.aero_grammar.specs.Reading.{Reading, reading_of, whole_reading, events_within, malformed_line}
 use Rattle.aero_grammar.proofs.Joined.{reading_of-cap, reading_of-concat}
 use Rattle.aero_lines.specs.Cutting.{nothing_yet, blocks_from}
 use Rattle.aero_lines.proofs.Runs.{blocks_are_the_text}
+use Rattle.aero_verdict.specs.Finding.{Terms, IsTraceFinding}
+use Rattle.aero_verdict.specs.Ordered.{step_at, AreStepsInOrder}
 use Rattle.aero_verdict.specs.Verdict.{Rules, IsVerdict, IsViolation, IsIllFormed, IsMalformed, IsFaultless, IsClean, BeginsOnLine}
-use Rattle.aero_intake.specs.Laws.{BlocksJudgeAsTheText}
+use Rattle.aero_intake.specs.Laws.{AreJudgedAlike, BlocksJudgeAsTheText}
 
 -- what the blocks say, one after the other, is what the text says
 pub blocks_read : (pieces : List (List ℕ)) → whole_reading (map reading_of (blocks_from nothing_yet pieces)) ≡ reading_of (concat pieces)
@@ -39,7 +45,7 @@ one_read r = go r.events r.lines r.fault
         ap (λ es. record { events = es; lines = lines + 0; fault = None }) (append-nil events) ∙ ap (λ n. record { events = events; lines = n; fault = None }) none
     go events lines (Some f) = refl
 
--- a verdict speaks of parts through the events that count and the malformed line
+-- a verdict, and the serial order, speak of parts through the events that count and the malformed line
 module _ (rules : Rules) (parts others : List Reading) (same : events_within rules.limits.lines (whole_reading parts) ≡ events_within rules.limits.lines (whole_reading others))
     (same_fault : malformed_line rules.limits.lines (whole_reading parts) ≡ malformed_line rules.limits.lines (whole_reading others)) where
   abbrev counted : List Reading → List (ℕ × Named)
@@ -120,12 +126,40 @@ module _ (rules : Rules) (parts others : List Reading) (same : events_within rul
   same_verdict (Malformed line fault) is = malformed line fault is
   same_verdict (IllFormed line fault) is = ill_formed line fault is
 
--- the verdicts on what a text says are those on what its blocks say
+  pub same_order : (steps : List Step) → AreStepsInOrder parts rules steps → AreStepsInOrder others rules steps
+  same_order steps is = (
+    is.0,
+    subst (λ es. IsSerialOrder (trace es) is.0) same is.1,
+    subst (λ es. steps ≡ map (step_at es) is.0) same is.2,
+  )
+
+pub counted_alike : (rules : Rules) (parts others : List Reading) → events_within rules.limits.lines (whole_reading parts) ≡ events_within rules.limits.lines (whole_reading others) →
+    malformed_line rules.limits.lines (whole_reading parts) ≡ malformed_line rules.limits.lines (whole_reading others) → AreJudgedAlike parts others rules
+counted_alike rules parts others same same_fault =
+    record {
+      verdicts = λ verdict. (same_verdict rules parts others same same_fault verdict, same_verdict rules others parts (sym same) (sym same_fault) verdict);
+      orders = λ steps. (same_order rules parts others same same_fault steps, same_order rules others parts (sym same) (sym same_fault) steps);
+    }
+
+pub alike_back : (rules : Rules) (parts others : List Reading) → AreJudgedAlike parts others rules → AreJudgedAlike others parts rules
+alike_back rules parts others alike =
+    record {
+      verdicts = λ verdict. ((alike.verdicts verdict).1, (alike.verdicts verdict).0);
+      orders = λ steps. ((alike.orders steps).1, (alike.orders steps).0);
+    }
+
+-- what is judged alike has the same findings
+pub same_finding : (terms : Terms) (parts others : List Reading) (f : Finding) → AreJudgedAlike parts others terms.rules →
+    IsTraceFinding parts terms f → IsTraceFinding others terms f
+same_finding terms parts others (Judged verdict) alike is = ((alike.verdicts verdict).0 is.0, is.1)
+same_finding terms parts others (Ordered verdict steps) alike is = ((alike.verdicts verdict).0 is.0, is.1, (alike.orders steps.items).0 is.2)
+same_finding terms parts others (Broken bytes) alike is = absurd is
+same_finding terms parts others TooLarge alike is = absurd is
+
+-- what a text says is judged as what its blocks say
 pub judged_alike : BlocksJudgeAsTheText
-judged_alike pieces rules verdict =
+judged_alike pieces rules =
     let parts = map reading_of (blocks_from nothing_yet pieces) in
     let text = reading_of (concat pieces) in
     let same : whole_reading parts ≡ whole_reading (text ∷ []) = blocks_read pieces ∙ sym (one_read text) in
-    let events = ap (events_within rules.limits.lines) same in
-    let fault = ap (malformed_line rules.limits.lines) same in
-    (same_verdict rules parts (text ∷ []) events fault verdict, same_verdict rules (text ∷ []) parts (sym events) (sym fault) verdict)
+    counted_alike rules parts (text ∷ []) (ap (events_within rules.limits.lines) same) (ap (malformed_line rules.limits.lines) same)

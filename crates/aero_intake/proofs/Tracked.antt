@@ -1,6 +1,6 @@
 -- Asking and settling questions keep what is known of each source.
 use Rattle.std.proofs.Common.{◌≡◌, ℕ, zero, suc, ◌≤◌, List, [], ◌∷◌, ◌++◌, map, length, slice_get, slice_set, Option, Some, None, refl, sym, ◌∙◌, ap, ap₂, subst, append_assoc, inl, inr, arith}
-use Rattle.std.specs.Prelude.{All, true, option_map, if◌then◌else◌}
+use Rattle.std.specs.Prelude.{All, Bool, true, option_map, if◌then◌else◌}
 use Rattle.std.specs.List.{concat}
 use Rattle.std.proofs.Math.Logic.{∥∥₁_elim}
 use Rattle.std.proofs.lemmas.Bool.{cases_eq, eq-eqb, ne_eqb}
@@ -9,24 +9,24 @@ use Rattle.std.proofs.lemmas.List.{append-nil, map-append, length-append, length
 use Rattle.std.proofs.lemmas.List.Elements.{All-head, All-cons, All-nil}
 use Rattle.aero_model.specs.declared.limits.Limits.{Limits}
 use Rattle.aero_model.specs.declared.verdict.Ending.TheVariants as endings
+use Rattle.aero_model.specs.declared.verdict.Finding.{Finding}
 use Rattle.aero_model.specs.declared.verdict.Finding.TheVariants as findings
-use Rattle.aero_model.specs.declared.verdict.Verdict.{Verdict}
 use Rattle.aero_grammar.specs.Reading.{Reading, reading_of}
 use Rattle.aero_lines.specs.Cutting.{nothing_yet, blocks_from}
 use Rattle.aero_pieces.specs.declared.question.Question.{Question}
 use Rattle.aero_pieces.specs.declared.question.Question.TheVariants.{Parse, Check}
 use Rattle.aero_pieces.specs.declared.answer.Value.{Value}
-use Rattle.aero_pieces.specs.declared.answer.Value.TheVariants.{Parsed, Judged}
+use Rattle.aero_pieces.specs.declared.answer.Value.TheVariants.{Parsed, Judged, Ordered}
 use Rattle.aero_pieces.specs.Values.{IsValueOf}
-use Rattle.aero_verdict.specs.Finding.{IsFinding}
-use Rattle.aero_verdict.specs.Verdict.{Rules, under, IsVerdict}
+use Rattle.aero_verdict.specs.Finding.{Terms, asking, IsFinding, IsTraceFinding}
+use Rattle.aero_verdict.specs.Verdict.{Rules}
 use Rattle.aero_intake.specs.declared.track.Track.{Track}
 use Rattle.aero_intake.specs.declared.track.Track.TheVariants.{Arriving, Arrived, Checking, Found}
 use Rattle.aero_intake.specs.Stories.{Story, Asked, AreEnough, own_block, own_check, blocks_asked, checks_asked, HasArrived, AreSettled, IsTracked, AreTracked, changed, trace_of}
-use Rattle.aero_intake.specs.Tracks.{decides, with_value}
+use Rattle.aero_intake.specs.Tracks.{decides, with_finding, with_value}
 use Rattle.aero_intake.proofs.Decided.{first_blocks_decide, more_decide}
-use Rattle.aero_intake.proofs.Judged.{judged_alike}
-use Rattle.aero_intake.proofs.Values.{parsed_value, not_judged, not_parsed}
+use Rattle.aero_intake.proofs.Judged.{judged_alike, alike_back, same_finding}
+use Rattle.aero_intake.proofs.Values.{parsed_value, not_judged, not_ordered, not_parsed}
 
 -- what is asked of the sources
 
@@ -35,14 +35,14 @@ own_block-same s trace number bytes same = ap (λ b. if b then bytes ∷ [] else
 
 pub own_block-other : (s : ℕ) (q : Question) → (trace_of q ≡ s → ⊥) → own_block s q ≡ []
 own_block-other s (Parse trace number bytes) other = ap (λ b. if b then bytes ∷ [] else []) (ne_eqb trace s other)
-own_block-other s (Check trace parts limits labels) other = refl
+own_block-other s (Check trace parts limits labels order) other = refl
 
-own_check-same : (s trace : ℕ) (parts : List Reading) (limits : Limits) (labels : List (List ℕ)) → trace ≡ s → own_check s (Check trace parts limits labels) ≡ record { parts = parts; rules = under limits labels } ∷ []
-own_check-same s trace parts limits labels same = ap (λ b. if b then record { parts = parts; rules = under limits labels } ∷ [] else []) (eq-eqb trace s same)
+own_check-same : (s trace : ℕ) (parts : List Reading) (limits : Limits) (labels : List (List ℕ)) (order : Bool) → trace ≡ s → own_check s (Check trace parts limits labels order) ≡ record { parts = parts; terms = asking limits labels order } ∷ []
+own_check-same s trace parts limits labels order same = ap (λ b. if b then record { parts = parts; terms = asking limits labels order } ∷ [] else []) (eq-eqb trace s same)
 
 pub own_check-other : (s : ℕ) (q : Question) → (trace_of q ≡ s → ⊥) → own_check s q ≡ []
 own_check-other s (Parse trace number bytes) other = refl
-own_check-other s (Check trace parts limits labels) other = ap (λ b. if b then record { parts = parts; rules = under limits labels } ∷ [] else []) (ne_eqb trace s other)
+own_check-other s (Check trace parts limits labels order) other = ap (λ b. if b then record { parts = parts; terms = asking limits labels order } ∷ [] else []) (ne_eqb trace s other)
 
 blocks_asked-more : (s : ℕ) (qs : List Question) (q : Question) → blocks_asked s (qs ++ q ∷ []) ≡ blocks_asked s qs ++ own_block s q
 blocks_asked-more s [] q = append-nil (own_block s q)
@@ -83,23 +83,23 @@ nil_right (x ∷ xs) ys is = cc
 -- settling
 
 -- what is known of a source of which nothing is settled
-settled_other : (rules : Rules) (q : Question) (rest : List Question) (s : ℕ) (story : Story) (t : Track) → own_block s q ≡ [] → own_check s q ≡ [] →
-    IsTracked rules (q ∷ rest) s story t → IsTracked rules rest s story t
-settled_other rules q rest s story (Arriving readings) no_block no_check is = (
+settled_other : (terms : Terms) (q : Question) (rest : List Question) (s : ℕ) (story : Story) (t : Track) → own_block s q ≡ [] → own_check s q ≡ [] →
+    IsTracked terms (q ∷ rest) s story t → IsTracked terms rest s story t
+settled_other terms q rest s story (Arriving readings) no_block no_check is = (
   subst (λ bs. readings ++ map reading_of (bs ++ blocks_asked s rest) ≡ map reading_of story.blocks) no_block is.0,
   subst (λ cs. cs ++ checks_asked s rest ≡ []) no_check is.1,
   is.2,
 )
-settled_other rules q rest s story (Arrived bytes blocks readings) no_block no_check is = (
+settled_other terms q rest s story (Arrived bytes blocks readings) no_block no_check is = (
   subst (λ bs. readings ++ map reading_of (bs ++ blocks_asked s rest) ≡ map reading_of story.blocks) no_block is.0,
   subst (λ cs. cs ++ checks_asked s rest ≡ []) no_check is.1,
   is.2,
 )
-settled_other rules q rest s story (Checking bytes) no_block no_check is = (
-  subst (λ cs. All (λ a. a ≡ record { parts = map reading_of story.blocks; rules = rules }) (cs ++ checks_asked s rest)) no_check is.0,
+settled_other terms q rest s story (Checking bytes) no_block no_check is = (
+  subst (λ cs. All (λ a. a ≡ record { parts = map reading_of story.blocks; terms = terms }) (cs ++ checks_asked s rest)) no_check is.0,
   is.1,
 )
-settled_other rules q rest s story (Found bytes ending finding) no_block no_check is = is
+settled_other terms q rest s story (Found bytes ending finding) no_block no_check is = is
 
 -- the block that is settled goes from those that are asked about to those that are read
 part_settled : (story : Story) (rest : List Question) (s trace number : ℕ) (bytes : List ℕ) (readings : List Reading) (r : Reading) → trace ≡ s → r ≡ reading_of bytes →
@@ -109,12 +109,17 @@ part_settled story rest s trace number bytes readings r same is before =
     ∙ (ap (λ x. readings ++ (x ∷ map reading_of (blocks_asked s rest))) is
     ∙ (sym (ap (λ bs. readings ++ map reading_of (bs ++ blocks_asked s rest)) (own_block-same s trace number bytes same)) ∙ before))
 
--- the blocks that were asked about have the verdict of all
-enough_judged : (rules : Rules) (asked all : List (List ℕ)) (w : Verdict) → AreEnough rules asked all → IsVerdict (map reading_of asked) rules w → IsVerdict (map reading_of all) rules w
-enough_judged rules asked all w (inl same) is = subst (λ bs. IsVerdict (map reading_of bs) rules w) same is
-enough_judged rules asked all w (inr alike) is =
-    let first = (first_blocks_decide alike.front alike.rest rules w alike.decided).1 (subst (λ bs. IsVerdict (map reading_of bs) rules w) alike.asked_are is) in
-    subst (λ bs. IsVerdict (map reading_of bs) rules w) (sym alike.all_are) ((first_blocks_decide alike.front alike.others rules w alike.decided).0 first)
+-- what is found of the blocks that were asked about is found of all
+enough_found : (terms : Terms) (asked all : List (List ℕ)) (f : Finding) → AreEnough terms.rules asked all →
+    IsTraceFinding (map reading_of asked) terms f → IsTraceFinding (map reading_of all) terms f
+enough_found terms asked all f (inl same) is = subst (λ bs. IsTraceFinding (map reading_of bs) terms f) same is
+enough_found terms asked all f (inr alike) is =
+    let front = map reading_of alike.front in
+    let asked_parts = map reading_of (alike.front ++ alike.rest) in
+    let asked_alike = alike_back terms.rules front asked_parts (first_blocks_decide alike.front alike.rest terms.rules alike.decided) in
+    let first = same_finding terms asked_parts front f asked_alike (subst (λ bs. IsTraceFinding (map reading_of bs) terms f) alike.asked_are is) in
+    let all_alike = first_blocks_decide alike.front alike.others terms.rules alike.decided in
+    subst (λ bs. IsTraceFinding (map reading_of bs) terms f) (sym alike.all_are) (same_finding terms front (map reading_of (alike.front ++ alike.others)) f all_alike first)
 
 -- one more block is asked about, or none
 pub enough_asked : (rules : Rules) (asked all more : List (List ℕ)) → AreEnough rules asked all → AreEnough rules (asked ++ more) (all ++ more)
@@ -147,52 +152,63 @@ enough_dropped rules asked all more decided (inr alike) = inr (record {
   decided = alike.decided;
 })
 
-verdict_found : (rules : Rules) (story : Story) (bytes : ℕ) (parts : List Reading) (asked : Rules) (w : Verdict) →
-    ◌≡◌ {A = Asked} (record { parts = parts; rules = asked }) (record { parts = map reading_of story.blocks; rules = rules }) →
-    HasArrived rules story bytes (length story.blocks) → ∥ IsVerdict parts asked w ∥₁ → ∥ IsFinding (concat story.pieces) endings.Whole rules (findings.Judged w) ∥₁
-verdict_found rules story bytes parts asked w same has known =
-    let there : ∥ IsVerdict (map reading_of story.blocks) rules w ∥₁ = subst (λ (a : Asked). ∥ IsVerdict a.parts a.rules w ∥₁) same known in
-    ∥∥₁_elim there squash₁ (λ v. merely (w, (judged_alike story.pieces rules w).0 (enough_judged rules story.blocks (blocks_from nothing_yet story.pieces) w has.enough v), refl))
+trace_found : (terms : Terms) (story : Story) (bytes : ℕ) (parts : List Reading) (asked : Terms) (f : Finding) →
+    ◌≡◌ {A = Asked} (record { parts = parts; terms = asked }) (record { parts = map reading_of story.blocks; terms = terms }) →
+    HasArrived terms.rules story bytes (length story.blocks) → ∥ IsTraceFinding parts asked f ∥₁ → ∥ IsFinding (concat story.pieces) endings.Whole terms f ∥₁
+trace_found terms story bytes parts asked f same has known =
+    let there : ∥ IsTraceFinding (map reading_of story.blocks) terms f ∥₁ = subst (λ (a : Asked). ∥ IsTraceFinding a.parts a.terms f ∥₁) same known in
+    let all = blocks_from nothing_yet story.pieces in
+    let alike = judged_alike story.pieces terms.rules in
+    ∥∥₁_elim there squash₁ (λ found. merely (same_finding terms (map reading_of all) (reading_of (concat story.pieces) ∷ []) f alike (enough_found terms story.blocks all f has.enough found)))
+
+-- what is known of the source whose trace was checked
+settled_check : (terms : Terms) (trace : ℕ) (parts : List Reading) (limits : Limits) (labels : List (List ℕ)) (order : Bool) (rest : List Question) (s : ℕ) (story : Story) (t : Track) (f : Finding) →
+    trace ≡ s → ∥ IsTraceFinding parts (asking limits labels order) f ∥₁ → IsTracked terms (Check trace parts limits labels order ∷ rest) s story t → IsTracked terms rest s story (with_finding t f)
+settled_check terms trace parts limits labels order rest s story (Arriving readings) f same known is =
+    (is.0, nil_right (own_check s (Check trace parts limits labels order)) (checks_asked s rest) is.1, is.2)
+settled_check terms trace parts limits labels order rest s story (Arrived n blocks readings) f same known is =
+    (is.0, nil_right (own_check s (Check trace parts limits labels order)) (checks_asked s rest) is.1, is.2)
+settled_check terms trace parts limits labels order rest s story (Checking n) f same known is =
+    let all = subst (λ cs. All (λ a. a ≡ record { parts = map reading_of story.blocks; terms = terms }) (cs ++ checks_asked s rest)) (own_check-same s trace parts limits labels order same) is.0 in
+    let first = All-head (λ a. a ≡ record { parts = map reading_of story.blocks; terms = terms }) (record { parts = parts; terms = asking limits labels order }) (checks_asked s rest) all in
+    (is.1.ended, is.1.byte_count, trace_found terms story n parts (asking limits labels order) f first is.1 known)
+settled_check terms trace parts limits labels order rest s story (Found n ending finding) f same known is = is
 
 -- what is known of the source of which a question is settled
-settled_own : (rules : Rules) (q : Question) (rest : List Question) (s : ℕ) (story : Story) (t : Track) (v : Value) → trace_of q ≡ s → IsValueOf q v →
-    IsTracked rules (q ∷ rest) s story t → IsTracked rules rest s story (with_value t v)
-settled_own rules (Parse trace number bytes) rest s story (Arriving readings) (Parsed r) same known is =
+settled_own : (terms : Terms) (q : Question) (rest : List Question) (s : ℕ) (story : Story) (t : Track) (v : Value) → trace_of q ≡ s → IsValueOf q v →
+    IsTracked terms (q ∷ rest) s story t → IsTracked terms rest s story (with_value t v)
+settled_own terms (Parse trace number bytes) rest s story (Arriving readings) (Parsed r) same known is =
     (part_settled story rest s trace number bytes readings r same (parsed_value trace number bytes r known) is.0, is.1, is.2)
-settled_own rules (Parse trace number bytes) rest s story (Arrived n blocks readings) (Parsed r) same known is =
+settled_own terms (Parse trace number bytes) rest s story (Arrived n blocks readings) (Parsed r) same known is =
     (part_settled story rest s trace number bytes readings r same (parsed_value trace number bytes r known) is.0, is.1, is.2)
-settled_own rules (Parse trace number bytes) rest s story (Checking n) (Parsed r) same known is = is
-settled_own rules (Parse trace number bytes) rest s story (Found n ending finding) (Parsed r) same known is = is
-settled_own rules (Parse trace number bytes) rest s story t (Judged w) same known is = absurd (not_judged trace number bytes w known)
-settled_own rules (Check trace parts limits labels) rest s story t (Parsed r) same known is = absurd (not_parsed trace parts limits labels r known)
-settled_own rules (Check trace parts limits labels) rest s story (Arriving readings) (Judged w) same known is =
-    (is.0, nil_right (own_check s (Check trace parts limits labels)) (checks_asked s rest) is.1, is.2)
-settled_own rules (Check trace parts limits labels) rest s story (Arrived n blocks readings) (Judged w) same known is =
-    (is.0, nil_right (own_check s (Check trace parts limits labels)) (checks_asked s rest) is.1, is.2)
-settled_own rules (Check trace parts limits labels) rest s story (Checking n) (Judged w) same known is =
-    let all = subst (λ cs. All (λ a. a ≡ record { parts = map reading_of story.blocks; rules = rules }) (cs ++ checks_asked s rest)) (own_check-same s trace parts limits labels same) is.0 in
-    let first = All-head (λ a. a ≡ record { parts = map reading_of story.blocks; rules = rules }) (record { parts = parts; rules = under limits labels }) (checks_asked s rest) all in
-    (is.1.ended, is.1.byte_count, verdict_found rules story n parts (under limits labels) w first is.1 known)
-settled_own rules (Check trace parts limits labels) rest s story (Found n ending finding) (Judged w) same known is = is
+settled_own terms (Parse trace number bytes) rest s story (Checking n) (Parsed r) same known is = is
+settled_own terms (Parse trace number bytes) rest s story (Found n ending finding) (Parsed r) same known is = is
+settled_own terms (Parse trace number bytes) rest s story t (Judged w) same known is = absurd (not_judged trace number bytes w known)
+settled_own terms (Parse trace number bytes) rest s story t (Ordered w steps) same known is = absurd (not_ordered trace number bytes w steps known)
+settled_own terms (Check trace parts limits labels order) rest s story t (Parsed r) same known is = absurd (not_parsed trace parts limits labels order r known)
+settled_own terms (Check trace parts limits labels order) rest s story t (Judged w) same known is =
+    settled_check terms trace parts limits labels order rest s story t (findings.Judged w) same known is
+settled_own terms (Check trace parts limits labels order) rest s story t (Ordered w steps) same known is =
+    settled_check terms trace parts limits labels order rest s story t (findings.Ordered w steps) same known is
 
-pub value_goes : (rules : Rules) (tale : ℕ → Story) (q : Question) (rest : List Question) (v : Value) (tracks : List Track) → IsValueOf q v →
-    AreTracked rules (q ∷ rest) tale tracks → AreTracked rules rest tale (changed (trace_of q) (λ x. with_value x v) tracks)
-value_goes rules tale q rest v tracks known tracked s t at =
+pub value_goes : (terms : Terms) (tale : ℕ → Story) (q : Question) (rest : List Question) (v : Value) (tracks : List Track) → IsValueOf q v →
+    AreTracked terms (q ∷ rest) tale tracks → AreTracked terms rest tale (changed (trace_of q) (λ x. with_value x v) tracks)
+value_goes terms tale q rest v tracks known tracked s t at =
     elim (cases_eq (trace_of q) s) [
       | inl same ↦
           (let at_place = subst (λ p. slice_get (changed p (λ x. with_value x v) tracks) s ≡ Some t) same at in
           let was = before_change (λ x. with_value x v) (slice_get tracks s) t (sym (changed_there s (λ x. with_value x v) tracks) ∙ at_place) in
-          subst (λ x. IsTracked rules rest s (tale s) x) (sym was.2) (settled_own rules q rest s (tale s) was.0 v same known (tracked s was.0 was.1)))
+          subst (λ x. IsTracked terms rest s (tale s) x) (sym was.2) (settled_own terms q rest s (tale s) was.0 v same known (tracked s was.0 was.1)))
       | inr other ↦
-          settled_other rules q rest s (tale s) t (own_block-other s q other) (own_check-other s q other)
+          settled_other terms q rest s (tale s) t (own_block-other s q other) (own_check-other s q other)
           (tracked s t (sym (changed_elsewhere (trace_of q) s (λ x. with_value x v) tracks other) ∙ at))
     ]
 
 -- asking
 
-pub asked_other : (rules : Rules) (qs : List Question) (q : Question) (s : ℕ) (story : Story) (t : Track) → (trace_of q ≡ s → ⊥) →
-    IsTracked rules qs s story t → IsTracked rules (qs ++ q ∷ []) s story t
-asked_other rules qs q s story t other is = go t is
+pub asked_other : (terms : Terms) (qs : List Question) (q : Question) (s : ℕ) (story : Story) (t : Track) → (trace_of q ≡ s → ⊥) →
+    IsTracked terms qs s story t → IsTracked terms (qs ++ q ∷ []) s story t
+asked_other terms qs q s story t other is = go t is
   where
     blocks : blocks_asked s (qs ++ q ∷ []) ≡ blocks_asked s qs
     blocks = blocks_asked-more s qs q ∙ (ap (λ bs. blocks_asked s qs ++ bs) (own_block-other s q other) ∙ append-nil (blocks_asked s qs))
@@ -200,17 +216,17 @@ asked_other rules qs q s story t other is = go t is
     checks : checks_asked s (qs ++ q ∷ []) ≡ checks_asked s qs
     checks = checks_asked-more s qs q ∙ (ap (λ cs. checks_asked s qs ++ cs) (own_check-other s q other) ∙ append-nil (checks_asked s qs))
 
-    go : (t : Track) → IsTracked rules qs s story t → IsTracked rules (qs ++ q ∷ []) s story t
+    go : (t : Track) → IsTracked terms qs s story t → IsTracked terms (qs ++ q ∷ []) s story t
     go (Arriving readings) is = (subst (λ bs. readings ++ map reading_of bs ≡ map reading_of story.blocks) (sym blocks) is.0, checks ∙ is.1, is.2)
     go (Arrived n k readings) is = (subst (λ bs. readings ++ map reading_of bs ≡ map reading_of story.blocks) (sym blocks) is.0, checks ∙ is.1, is.2)
-    go (Checking n) is = (subst (λ cs. All (λ a. a ≡ record { parts = map reading_of story.blocks; rules = rules }) cs) (sym checks) is.0, is.1)
+    go (Checking n) is = (subst (λ cs. All (λ a. a ≡ record { parts = map reading_of story.blocks; terms = terms }) cs) (sym checks) is.0, is.1)
     go (Found n ending finding) is = is
 
 -- one more block of a source that hasn't ended is asked about
-pub asked_block : (rules : Rules) (qs : List Question) (s number : ℕ) (block : List ℕ) (story : Story) (pieces : List (List ℕ)) (readings : List Reading) →
-    IsTracked rules qs s story (Arriving readings) →
-    IsTracked rules (qs ++ Parse s number block ∷ []) s (record { pieces = pieces; blocks = story.blocks ++ block ∷ []; ending = None }) (Arriving readings)
-asked_block rules qs s number block story pieces readings is = (
+pub asked_block : (terms : Terms) (qs : List Question) (s number : ℕ) (block : List ℕ) (story : Story) (pieces : List (List ℕ)) (readings : List Reading) →
+    IsTracked terms qs s story (Arriving readings) →
+    IsTracked terms (qs ++ Parse s number block ∷ []) s (record { pieces = pieces; blocks = story.blocks ++ block ∷ []; ending = None }) (Arriving readings)
+asked_block terms qs s number block story pieces readings is = (
   ap (λ bs. readings ++ map reading_of bs) (blocks_asked-more s qs (Parse s number block) ∙ ap (λ bs. blocks_asked s qs ++ bs) (own_block-same s s number block refl))
       ∙ (ap (λ rs. readings ++ rs) (map-append reading_of (blocks_asked s qs) (block ∷ []))
       ∙ (sym (append_assoc readings (map reading_of (blocks_asked s qs)) (reading_of block ∷ []))
@@ -234,15 +250,15 @@ no_blocks_left readings rs blocks (b ∷ bs) is same =
     absurd (omega (arith, lengths, same, length-append readings (reading_of b ∷ map reading_of bs), length-map blocks reading_of))
 
 -- the verdict on a whole source is asked for once all its blocks are read
-pub asked_check : (rules : Rules) (qs : List Question) (s bytes blocks : ℕ) (story : Story) (readings : List Reading) → length readings ≡ blocks →
-    IsTracked rules qs s story (Arrived bytes blocks readings) → IsTracked rules (qs ++ Check s readings rules.limits rules.labels ∷ []) s story (Checking bytes)
-asked_check rules qs s bytes blocks story readings ready is =
+pub asked_check : (terms : Terms) (qs : List Question) (s bytes blocks : ℕ) (story : Story) (readings : List Reading) → length readings ≡ blocks →
+    IsTracked terms qs s story (Arrived bytes blocks readings) → IsTracked terms (qs ++ Check s readings terms.rules.limits terms.rules.labels terms.order ∷ []) s story (Checking bytes)
+asked_check terms qs s bytes blocks story readings ready is =
     let all_read = no_blocks_left readings [] story.blocks (blocks_asked s qs) is.0 (ready ∙ is.2.block_count) in
-    let one : checks_asked s (qs ++ Check s readings rules.limits rules.labels ∷ []) ≡ record { parts = readings; rules = rules } ∷ [] =
-    checks_asked-more s qs (Check s readings rules.limits rules.labels) ∙ ap₂ (λ xs ys. xs ++ ys) is.1 (own_check-same s s readings rules.limits rules.labels refl) in (
-      subst (λ cs. All (λ a. a ≡ record { parts = map reading_of story.blocks; rules = rules }) cs) (sym one)
-          (All-cons (λ a. a ≡ record { parts = map reading_of story.blocks; rules = rules }) (record { parts = readings; rules = rules }) []
-          (ap (λ rs. record { parts = rs; rules = rules }) all_read) (All-nil (λ a. a ≡ record { parts = map reading_of story.blocks; rules = rules }))),
+    let one : checks_asked s (qs ++ Check s readings terms.rules.limits terms.rules.labels terms.order ∷ []) ≡ record { parts = readings; terms = terms } ∷ [] =
+    checks_asked-more s qs (Check s readings terms.rules.limits terms.rules.labels terms.order) ∙ ap₂ (λ xs ys. xs ++ ys) is.1 (own_check-same s s readings terms.rules.limits terms.rules.labels terms.order refl) in (
+      subst (λ cs. All (λ a. a ≡ record { parts = map reading_of story.blocks; terms = terms }) cs) (sym one)
+          (All-cons (λ a. a ≡ record { parts = map reading_of story.blocks; terms = terms }) (record { parts = readings; terms = terms }) []
+          (ap (λ rs. record { parts = rs; terms = terms }) all_read) (All-nil (λ a. a ≡ record { parts = map reading_of story.blocks; terms = terms }))),
       record { ended = is.2.ended; enough = is.2.enough; byte_count = is.2.byte_count; block_count = refl },
     )
 

@@ -1,12 +1,14 @@
 -- The value of a question, where its kind is known.
-use Rattle.std.proofs.Common.{◌≡◌, ℕ, List}
+use Rattle.std.proofs.Common.{◌≡◌, ℕ, Bool, List}
+use Rattle.std.specs.Global.{Vec}
 use Rattle.std.proofs.Math.Logic.{∥∥₁_elim}
 use Rattle.std.specs.Coded.{Coded, Coded-set, codes}
 use Rattle.aero_model.specs.declared.limits.Limits.{Limits}
+use Rattle.aero_model.specs.declared.verdict.Step.{Step}
 use Rattle.aero_model.specs.declared.verdict.Verdict.{Verdict}
 use Rattle.aero_grammar.specs.Reading.{Reading, reading_of}
 use Rattle.aero_pieces.specs.declared.question.Question.TheVariants.{Parse, Check}
-use Rattle.aero_pieces.specs.declared.answer.Value.TheVariants.{Parsed, Judged}
+use Rattle.aero_pieces.specs.declared.answer.Value.TheVariants.{Parsed, Judged, Ordered}
 use Rattle.aero_pieces.specs.Values.{IsValueOf}
 
 reading_code : Coded Reading
@@ -19,6 +21,9 @@ parsed_value trace number bytes parsed is = ∥∥₁_elim is (Coded-set reading
 pub not_judged : (trace number : ℕ) (bytes : List ℕ) (verdict : Verdict) → IsValueOf (Parse trace number bytes) (Judged verdict) → ⊥
 not_judged trace number bytes verdict is = ∥∥₁_elim is (λ x y. absurd x) (λ e. e)
 
+pub not_ordered : (trace number : ℕ) (bytes : List ℕ) (verdict : Verdict) (steps : Vec Step) → IsValueOf (Parse trace number bytes) (Ordered verdict steps) → ⊥
+not_ordered trace number bytes verdict steps is = ∥∥₁_elim is (λ x y. absurd x) (λ e. e)
+
 -- and the question on a trace by a verdict
-pub not_parsed : (trace : ℕ) (parts : List Reading) (limits : Limits) (labels : List (List ℕ)) (parsed : Reading) → IsValueOf (Check trace parts limits labels) (Parsed parsed) → ⊥
-not_parsed trace parts limits labels parsed is = ∥∥₁_elim is (λ x y. absurd x) (λ e. e)
+pub not_parsed : (trace : ℕ) (parts : List Reading) (limits : Limits) (labels : List (List ℕ)) (order : Bool) (parsed : Reading) → IsValueOf (Check trace parts limits labels order) (Parsed parsed) → ⊥
+not_parsed trace parts limits labels order parsed is = ∥∥₁_elim is (λ x y. absurd x) (λ e. e)

@@ -1,6 +1,6 @@
 pub mod Intake
 pub mod Laws
-pub mod PlanRules
+pub mod PlanTerms
 pub mod Plans
 pub mod Source
 pub mod Stories

@@ -9,8 +9,8 @@ use Rattle.aero_pieces.specs.declared.question.Question.{Question}
 use Rattle.aero_pieces.specs.declared.question.Question.TheVariants.{Parse, Check}
 use Rattle.aero_pieces.specs.declared.answer.Value.{Value}
 use Rattle.aero_pieces.specs.Values.{IsValueOf}
-use Rattle.aero_verdict.specs.Finding.{IsFinding}
-use Rattle.aero_verdict.specs.Verdict.{Rules, under}
+use Rattle.aero_verdict.specs.Finding.{Terms, asking, IsFinding}
+use Rattle.aero_verdict.specs.Verdict.{Rules}
 use Rattle.aero_intake.specs.declared.track.Track.{Track}
 use Rattle.aero_intake.specs.declared.track.Track.TheVariants.{Arriving, Arrived, Checking, Found}
 use Rattle.aero_intake.specs.Tracks.{decides, with_value}
@@ -24,12 +24,12 @@ pub record Story : Type 0 where
 -- what a question on a trace says of it
 pub record Asked : Type 0 where
   pub parts : List Reading
-  pub rules : Rules
+  pub terms : Terms
 
 -- the block that a question is about, where it is of the source
 abbrev pub own_block : ℕ → Question → List (List ℕ)
 own_block s (Parse trace number bytes) = if trace == s then bytes ∷ [] else []
-own_block s (Check trace parts limits labels) = []
+own_block s (Check trace parts limits labels order) = []
 
 -- the blocks of the source that are asked about, in order
 abbrev pub blocks_asked : ℕ → List Question → List (List ℕ)
@@ -38,7 +38,7 @@ blocks_asked s (q ∷ more) = own_block s q ++ blocks_asked s more
 
 abbrev pub own_check : ℕ → Question → List Asked
 own_check s (Parse trace number bytes) = []
-own_check s (Check trace parts limits labels) = if trace == s then record { parts = parts; rules = under limits labels } ∷ [] else []
+own_check s (Check trace parts limits labels order) = if trace == s then record { parts = parts; terms = asking limits labels order } ∷ [] else []
 
 abbrev pub checks_asked : ℕ → List Question → List Asked
 checks_asked s [] = []
@@ -69,21 +69,21 @@ abbrev pub AreSettled : Story → List Question → ℕ → List Reading → Typ
 AreSettled story qs s readings = readings ++ map reading_of (blocks_asked s qs) ≡ map reading_of story.blocks
 
 -- The track of source s fits the story.
-abbrev pub IsTracked : Rules → List Question → ℕ → Story → Track → Type 0
-IsTracked rules qs s story (Arriving readings) = AreSettled story qs s readings × (checks_asked s qs ≡ []) × (story.ending ≡ None)
-IsTracked rules qs s story (Arrived bytes blocks readings) = AreSettled story qs s readings × (checks_asked s qs ≡ []) × HasArrived rules story bytes blocks
-IsTracked rules qs s story (Checking bytes) =
-    All (λ a. a ≡ record { parts = map reading_of story.blocks; rules = rules }) (checks_asked s qs) × HasArrived rules story bytes (length story.blocks)
-IsTracked rules qs s story (Found bytes ending finding) =
-    (story.ending ≡ Some ending) × (bytes ≡ length (concat story.pieces)) × ∥ IsFinding (concat story.pieces) ending rules finding ∥₁
+abbrev pub IsTracked : Terms → List Question → ℕ → Story → Track → Type 0
+IsTracked terms qs s story (Arriving readings) = AreSettled story qs s readings × (checks_asked s qs ≡ []) × (story.ending ≡ None)
+IsTracked terms qs s story (Arrived bytes blocks readings) = AreSettled story qs s readings × (checks_asked s qs ≡ []) × HasArrived terms.rules story bytes blocks
+IsTracked terms qs s story (Checking bytes) =
+    All (λ a. a ≡ record { parts = map reading_of story.blocks; terms = terms }) (checks_asked s qs) × HasArrived terms.rules story bytes (length story.blocks)
+IsTracked terms qs s story (Found bytes ending finding) =
+    (story.ending ≡ Some ending) × (bytes ≡ length (concat story.pieces)) × ∥ IsFinding (concat story.pieces) ending terms finding ∥₁
 
-abbrev pub AreTracked : Rules → List Question → (ℕ → Story) → List Track → Type 0
-AreTracked rules qs tale tracks = (s : ℕ) (t : Track) → slice_get tracks s ≡ Some t → IsTracked rules qs s (tale s) t
+abbrev pub AreTracked : Terms → List Question → (ℕ → Story) → List Track → Type 0
+AreTracked terms qs tale tracks = (s : ℕ) (t : Track) → slice_get tracks s ≡ Some t → IsTracked terms qs s (tale s) t
 
 -- the number of the trace that a question is about
 abbrev pub trace_of : Question → ℕ
 trace_of (Parse trace number bytes) = trace
-trace_of (Check trace parts limits labels) = trace
+trace_of (Check trace parts limits labels order) = trace
 
 -- the list with another element at the place, if it has one there
 abbrev pub changed : {A : Type 0} → ℕ → (A → A) → List A → List A

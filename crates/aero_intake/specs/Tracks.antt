@@ -2,11 +2,11 @@
 use Rattle.std.specs.Prelude.{◌≡◌, ℕ, Bool, false, is_some, List, [], ◌∷◌, ◌++◌, length, Option, Some, None, ⊤}
 use Rattle.aero_model.specs.declared.limits.Limits.{Limits}
 use Rattle.aero_model.specs.declared.verdict.Ending.TheVariants as endings
+use Rattle.aero_model.specs.declared.verdict.Finding.{Finding}
 use Rattle.aero_model.specs.declared.verdict.Finding.TheVariants as findings
-use Rattle.aero_model.specs.declared.verdict.Verdict.{Verdict}
 use Rattle.aero_grammar.specs.Reading.{Reading, whole_reading, malformed_line}
 use Rattle.aero_pieces.specs.declared.answer.Value.{Value}
-use Rattle.aero_pieces.specs.declared.answer.Value.TheVariants.{Parsed, Judged}
+use Rattle.aero_pieces.specs.declared.answer.Value.TheVariants.{Parsed, Judged, Ordered}
 use Rattle.aero_intake.specs.declared.track.Track.{Track}
 use Rattle.aero_intake.specs.declared.track.Track.TheVariants.{Arriving, Arrived, Checking, Found}
 
@@ -26,16 +26,17 @@ with_part (Arrived bytes blocks readings) r = Arrived bytes blocks (readings ++ 
 with_part (Checking bytes) r = Checking bytes
 with_part (Found bytes ending finding) r = Found bytes ending finding
 
--- the track with the verdict on its source
-abbrev pub with_verdict : Track → Verdict → Track
-with_verdict (Arriving readings) v = Arriving readings
-with_verdict (Arrived bytes blocks readings) v = Arrived bytes blocks readings
-with_verdict (Checking bytes) v = Found bytes endings.Whole (findings.Judged v)
-with_verdict (Found bytes ending finding) v = Found bytes ending finding
+-- the track with what is found of its source
+abbrev pub with_finding : Track → Finding → Track
+with_finding (Arriving readings) f = Arriving readings
+with_finding (Arrived bytes blocks readings) f = Arrived bytes blocks readings
+with_finding (Checking bytes) f = Found bytes endings.Whole f
+with_finding (Found bytes ending finding) f = Found bytes ending finding
 
 abbrev pub with_value : Track → Value → Track
 with_value track (Parsed r) = with_part track r
-with_value track (Judged v) = with_verdict track v
+with_value track (Judged verdict) = with_finding track (findings.Judged verdict)
+with_value track (Ordered verdict steps) = with_finding track (findings.Ordered verdict steps)
 
 -- the track of a source that came whole
 abbrev pub with_arrival : Track → ℕ → ℕ → Track

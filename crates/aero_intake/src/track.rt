@@ -1,10 +1,10 @@
 //! What is known of a source while it is worked on.
 ghost use Rattle.std.specs.Prelude.{◌≡◌, ◌++◌, ◌∷◌, [], length, OnOk, MatchOption, ◌↔◌, IsTrue};
-ghost use Rattle.aero_intake.specs.Tracks.{with_part, with_verdict, with_value, with_arrival, decides, is_decided, IsReady, GivesReadings};
+ghost use Rattle.aero_intake.specs.Tracks.{with_part, with_finding, with_value, with_arrival, decides, is_decided, IsReady, GivesReadings};
 
 use aero_grammar::parsed::Parsed;
 use aero_model::limits::Limits;
-use aero_model::verdict::{Ending, Finding, Verdict};
+use aero_model::verdict::{Ending, Finding};
 use aero_pieces::answer::Value;
 use aero_pieces::question::Parts;
 use std::alloc::{AllocError, Global};
@@ -115,7 +115,11 @@ pub fn take_value(track: &mut Track, value: Value) -> Result<(), AllocError>
     match value {
         Value::Parsed(part) => take_part(track, part),
         Value::Judged(verdict) => {
-            take_verdict(track, verdict);
+            take_finding(track, Finding::Judged(verdict));
+            Ok(())
+        }
+        Value::Ordered(verdict, steps) => {
+            take_finding(track, Finding::Ordered(verdict, steps));
             Ok(())
         }
     }
@@ -131,8 +135,8 @@ fn take_part(track: &mut Track, part: Parsed) -> Result<(), AllocError>
     }
 }
 
-fn take_verdict(track: &mut Track, verdict: Verdict)
-    ensures { track.new ≡ with_verdict track.old verdict }
+fn take_finding(track: &mut Track, finding: Finding)
+    ensures { track.new ≡ with_finding track.old finding }
 {
     let bytes = match track {
         Track::Checking { bytes } => *bytes,
@@ -141,7 +145,7 @@ fn take_verdict(track: &mut Track, verdict: Verdict)
     *track = Track::Found {
         bytes,
         ending: Ending::Whole,
-        finding: Finding::Judged(verdict),
+        finding,
     };
 }
 

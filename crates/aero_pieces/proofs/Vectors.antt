@@ -1,5 +1,5 @@
 -- The definitions at values that are known from elsewhere.
-use Rattle.std.proofs.Common.{◌≢◌, ℕ, zero, suc, ◌<◌, ◌^◌, [], ◌∷◌, Some, None, inr, refl, sym, ◌∙◌, arith, lit<, lit≤}
+use Rattle.std.proofs.Common.{◌≢◌, zero, suc, ◌^◌, false, [], ◌∷◌, Some, None, inr, refl, sym, ◌∙◌, arith, lit<, lit≤}
 use Rattle.std.specs.Prelude.{codes}
 use Rattle.aero_model.specs.declared.limits.Limits.{Limits}
 use Rattle.aero_model.specs.declared.event.Op.TheVariants.{Read}
@@ -26,9 +26,9 @@ abbrev greatest : Limits
 greatest =
     record {
       bytes = 2 ^ 30;
-      lines = 2 ^ 24;
-      threads = 1024;
-      names = 2 ^ 20;
+      lines = 2 ^ 28;
+      threads = 2 ^ 16;
+      names = 2 ^ 26;
       some_bytes = lit< tt;
       most_bytes = lit≤ tt;
       some_lines = lit< tt;
@@ -39,15 +39,18 @@ greatest =
       most_names = lit≤ tt;
     }
 
-value_of_check : IsValueOf (Check 0 (reading ∷ []) greatest []) (Judged (Serializable 1 0))
+value_of_check : IsValueOf (Check 0 (reading ∷ []) greatest [] false) (Judged (Serializable 1 0))
 value_of_check =
-    ∣ record {
-      clean = record { lawful = below_suc _ 0 (none_below _) refl; no_cycle = none_of_two _ _ (lit≤ tt) };
-      no_fault = refl;
-      events_are = refl;
-      blocks_are = refl;
-      open_are = refl;
-    } ∣₁
+    ∣ (
+      record {
+        clean = record { lawful = below_suc _ 0 (none_below _) refl; no_cycle = none_of_two _ _ (lit≤ tt) };
+        no_fault = refl;
+        events_are = refl;
+        blocks_are = refl;
+        open_are = refl;
+      },
+      refl,
+    ) ∣₁
 
 -- The window is 1: the second question isn't asked. The queue has room for two jobs, and the only worker takes the first.
 asked_and_posted : (q p : Question) →

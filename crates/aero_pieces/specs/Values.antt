@@ -1,16 +1,18 @@
 -- The value of a question.
 use Rattle.std.specs.Prelude.{◌≡◌}
+use Rattle.aero_model.specs.declared.verdict.Finding.TheVariants as findings
 use Rattle.aero_pieces.specs.declared.question.Question.{Question}
 use Rattle.aero_pieces.specs.declared.question.Question.TheVariants.{Parse, Check}
 use Rattle.aero_pieces.specs.declared.answer.Value.{Value}
-use Rattle.aero_pieces.specs.declared.answer.Value.TheVariants.{Parsed, Judged}
+use Rattle.aero_pieces.specs.declared.answer.Value.TheVariants.{Parsed, Judged, Ordered}
 use Rattle.aero_grammar.specs.Reading.{reading_of}
-use Rattle.aero_verdict.specs.Verdict.{under, IsVerdict}
+use Rattle.aero_verdict.specs.Finding.{asking, IsTraceFinding}
 
--- what a block says, or the verdict on what the blocks of a trace say
+-- what a block says, or what is found of the trace that the blocks hold
 abbrev pub ValueFits : Question → Value → Type 0
 ValueFits (Parse trace number bytes) (Parsed parsed) = parsed ≡ reading_of bytes
-ValueFits (Check trace parts limits labels) (Judged verdict) = IsVerdict parts (under limits labels) verdict
+ValueFits (Check trace parts limits labels order) (Judged verdict) = IsTraceFinding parts (asking limits labels order) (findings.Judged verdict)
+ValueFits (Check trace parts limits labels order) (Ordered verdict steps) = IsTraceFinding parts (asking limits labels order) (findings.Ordered verdict steps)
 ValueFits _ _ = ⊥
 
 -- the same as a mere fact: what shows the verdict isn't kept

@@ -1,13 +1,15 @@
 //! Answers, each with its question.
-ghost use Rattle.std.specs.Prelude.{◌≡◌, IfOk};
+ghost use Rattle.std.specs.Prelude.{◌≡◌, ℕ, IfOk};
 ghost use Rattle.std.specs.Arc.{arc_value};
 ghost use Rattle.aero_pieces.specs.Values.{IsValueOf};
 
 use crate::question::Question;
 use aero_grammar::block::parse_block;
 use aero_grammar::parsed::Parsed;
-use aero_model::verdict::Verdict;
-use aero_verdict::check_trace;
+use aero_model::except::Except;
+use aero_model::limits::Limits;
+use aero_model::verdict::{Step, Verdict};
+use aero_verdict::{check_trace, check_trace_in_order};
 use std::alloc::{AllocError, Global};
 use std::marker::Model;
 use std::sync::Arc;
@@ -19,6 +21,9 @@ pub enum Value {
     Parsed(Parsed),
     /// The verdict on the trace.
     Judged(Verdict),
+    /// The verdict, which is `Serializable`, and the transactions in the serial order. It is given
+    /// exactly where the order is asked for and the verdict is `Serializable`.
+    Ordered(Verdict, Vec<Step>),
 }
 
 /// A question with its value. `Question::answer` alone makes one.
@@ -50,11 +55,9 @@ impl Question {
                 parsed,
                 limits,
                 except,
+                order,
                 ..
-            } => {
-                let verdict = check_trace(alloc, parsed.get(), limits, except.get())?;
-                Ok(Value::Judged(verdict))
-            }
+            } => check(alloc, parsed.get(), limits, except.get(), *order),
         }
     }
 
@@ -68,6 +71,28 @@ impl Question {
             question: Arc::try_clone(question)?,
             value,
         })
+    }
+}
+
+// The verdict on the trace that the parts hold, and, where `order` is true and the trace is
+// serializable, its transactions in the serial order.
+fn check(
+    alloc: Global,
+    parts: &[Parsed],
+    limits: &Limits,
+    except: &Except,
+    order: bool,
+) -> Result<Value, AllocError>
+    ensures { IfOk result (λ value. (trace : ℕ) → IsValueOf (Question.Check trace parts.now limits.now except.now order) value) }
+{
+    if !order {
+        let verdict = check_trace(alloc, parts, limits, except)?;
+        return Ok(Value::Judged(verdict));
+    }
+    let (verdict, steps) = check_trace_in_order(alloc, parts, limits, except)?;
+    match steps {
+        Some(steps) => Ok(Value::Ordered(verdict, steps)),
+        None => Ok(Value::Judged(verdict)),
     }
 }
 

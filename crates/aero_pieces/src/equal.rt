@@ -33,14 +33,17 @@ pub fn same(a: &Question, b: &Question) -> bool
             parsed,
             limits,
             except,
+            order,
         } => match b {
             Question::Check {
                 trace: other_trace,
                 parsed: other_parsed,
                 limits: other_limits,
                 except: other_except,
+                order: other_order,
             } => {
                 *trace == *other_trace
+                    && *order == *other_order
                     && are_same_limits(limits, other_limits)
                     && except.get().has_same_labels(other_except.get())
                     && are_same_parts(parsed.get(), other_parsed.get())

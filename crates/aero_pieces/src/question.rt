@@ -90,12 +90,14 @@ pub enum Question {
         bytes: Bytes,
     },
     /// What is the verdict on it under these limits, where its blocks say this, and those that
-    /// begin with one of these labels are no transactions?
+    /// begin with one of these labels are no transactions? And, where `order` is true and it is
+    /// serializable, what is the serial order of its transactions?
     Check {
         trace: u64,
         parsed: Parts,
         limits: Limits,
         except: SharedExcept,
+        order: bool,
     },
 }
 

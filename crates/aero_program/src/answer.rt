@@ -29,9 +29,9 @@ use std::thread::Threads;
 /// Does what the words ask for, and gives the exit status.
 ///
 /// Where they ask for traces to be judged, it judges the files, or standard input where there are
-/// none, in which blocks with the labels that they give are no transactions, writes the report to
-/// standard output and flushes it, and then writes the notes on the sources to standard error. Help
-/// goes to standard output, which is flushed; why there is nothing to judge, and why the program
+/// none, in which blocks with the labels that they give are no transactions, writes the report, with
+/// the serial orders where they ask for those, to standard output and flushes it, and then writes the
+/// notes on the sources to standard error. Help goes to standard output, which is flushed; why there is nothing to judge, and why the program
 /// fails, goes to standard error. Where standard error takes nothing, the status still tells. A read,
 /// a write or a flush that is interrupted is tried again.
 pub fn answer<
@@ -74,7 +74,7 @@ fn judge<
     output: &mut Output<O>,
     errors: &mut Counting<E>,
 ) -> u8
-    ensures { Judges config.except.items (map string_bytes config.files.items) (S.remaining stdin) (shown_by O.contents output.old) (shown_by O.contents output.new)
+    ensures { Judges config.except.items config.order (map string_bytes config.files.items) (S.remaining stdin) (shown_by O.contents output.old) (shown_by O.contents output.new)
         (seen_by E.contents errors.old) (seen_by E.contents errors.new) result }
 {
     let Ok((plan, words)) = config.into_plan(alloc) else {

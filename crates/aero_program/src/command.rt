@@ -10,14 +10,15 @@ use aero_model::name::Name;
 use std::alloc::{AllocError, Global};
 
 /// What a command line asks for: 1 to 16 workers, reads of 1 to 1,048,576 bytes, at most 65,536
-/// files, and at most 64 labels of blocks that are no transactions, both in the order of the words.
-/// No files at all means standard input.
+/// files, and at most 64 labels of blocks that are no transactions, both in the order of the words,
+/// and whether the serial order is asked for. No files at all means standard input.
 #[derive(Drop)]
 pub struct Config {
     pub workers: u32,
     pub piece: u32,
     pub files: Vec<String>,
     pub except: Vec<Name>,
+    pub order: bool,
     ghost some_workers: { 0 < workers },
     ghost most_workers: { workers ≤ 16 },
     ghost some_piece: { 0 < piece },
@@ -34,11 +35,13 @@ impl Config {
         ensures piece { IfOk result (λ made. made.0.piece ≡ self.piece) }
         ensures limits { IfOk result (λ made. AreGreatest made.0.limits) }
         ensures except { IfOk result (λ made. made.0.except ≡ self.except.items) }
+        ensures order { IfOk result (λ made. made.0.order ≡ self.order) }
         ensures files { IfOk result (λ made. made.1 ≡ self.files) }
     {
         let except = Except::new(self.except).unwrap();
         let shared = SharedExcept::new(alloc, except)?;
-        let plan = Plan::new(self.workers, self.piece, Limits::greatest(), shared).unwrap();
+        let limits = Limits::greatest();
+        let plan = Plan::new(self.workers, self.piece, limits, shared, self.order).unwrap();
         Ok((plan, self.files))
     }
 }

@@ -1,4 +1,4 @@
--- A command to which four arguments are added is the command line of the program.
+-- A command to which five arguments are added is the command line of the program.
 use Rattle.std.proofs.Common.{◌≡◌, ◌∙◌, ◌++◌, ◌^◌, ap, ℕ, false, List, [], ◌∷◌, refl, codes}
 use Rattle.std.proofs.lemmas.List.Elements.{All-push, All-nil}
 use Rattle.clap.specs.Facts.{args_of, groups_of}
@@ -28,26 +28,28 @@ no_global : (old new : Command) (a : Arg) → AddsArg old a new → (out-Command
     → (out-Command new).has_globals ≡ false
 no_global old new a added none own = rw (added.globals, none, own.global) refl
 
-pub four_arguments : (start one two three four : Command) (workers piece except files : Arg)
+pub five_arguments : (start one two three four five : Command) (workers piece except order files : Arg)
     → args_of start ≡ [] → groups_of start ≡ [] → (out-Command start).has_globals ≡ false
-    → AddsArg start workers one → AddsArg one piece two → AddsArg two except three → AddsArg three files four
+    → AddsArg start workers one → AddsArg one piece two → AddsArg two except three → AddsArg three order four → AddsArg four files five
     → IsNumberOption workers (codes "workers") 16 → IsNumberOption piece (codes "piece") (2 ^ 20)
-    → except.id.now ≡ codes "except" → files.id.now ≡ codes "files" → IsOwn workers → IsOwn piece → IsOwn except → IsOwn files
-    → IsCommandLine four
-four_arguments start one two three four workers piece except files none no_groups globals first second third fourth is_workers is_piece is_except is_files own own2 own3 own4 =
+    → except.id.now ≡ codes "except" → order.id.now ≡ codes "order" → files.id.now ≡ codes "files" → IsOwn workers → IsOwn piece → IsOwn except → IsOwn order → IsOwn files
+    → IsCommandLine five
+five_arguments start one two three four five workers piece except order files none no_groups globals first second third fourth fifth is_workers is_piece is_except is_order is_files own own2 own3 own4 own5 =
     record {
       workers = first.arg;
       piece = second.arg;
       except = third.arg;
-      files = fourth.arg;
-      args = fourth.args ∙ ap (λ l. l ++ fourth.arg ∷ []) (third.args ∙ ap (λ l. l ++ third.arg ∷ []) (second.args ∙ ap (λ l. l ++ second.arg ∷ []) (first.args ∙ ap (λ l. l ++ first.arg ∷ []) none)));
+      order = fourth.arg;
+      files = fifth.arg;
+      args = fifth.args ∙ ap (λ l. l ++ fifth.arg ∷ []) (fourth.args ∙ ap (λ l. l ++ fourth.arg ∷ []) (third.args ∙ ap (λ l. l ++ third.arg ∷ []) (second.args ∙ ap (λ l. l ++ second.arg ∷ []) (first.args ∙ ap (λ l. l ++ first.arg ∷ []) none))));
       workers_option = same_option start one workers (codes "workers") 16 first is_workers;
       piece_option = same_option one two piece (codes "piece") (2 ^ 20) second is_piece;
       except_id = ap (λ x. x.now) third.rules.id ∙ is_except;
-      files_id = ap (λ x. x.now) fourth.rules.id ∙ is_files;
-      groups = fourth.groups ∙ (third.groups ∙ (second.groups ∙ (first.groups ∙ no_groups)));
-      no_groups = names_none three four files fourth (names_none two three except third (names_none one two piece second (names_none start one workers first start_none own) own2) own3) own4;
-      globals = no_global three four files fourth (no_global two three except third (no_global one two piece second (no_global start one workers first globals own) own2) own3) own4;
+      order_id = ap (λ x. x.now) fourth.rules.id ∙ is_order;
+      files_id = ap (λ x. x.now) fifth.rules.id ∙ is_files;
+      groups = fifth.groups ∙ (fourth.groups ∙ (third.groups ∙ (second.groups ∙ (first.groups ∙ no_groups))));
+      no_groups = names_none four five files fifth (names_none three four order fourth (names_none two three except third (names_none one two piece second (names_none start one workers first start_none own) own2) own3) own4) own5;
+      globals = no_global four five files fifth (no_global three four order fourth (no_global two three except third (no_global one two piece second (no_global start one workers first globals own) own2) own3) own4) own5;
     }
   where
     start_none : NamesNoGroup start

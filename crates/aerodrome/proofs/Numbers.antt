@@ -44,24 +44,25 @@ initial a = slice_index a.id.now 0
 
 -- the place of the argument of the program whose name begins so
 abbrev place_by : ℕ → ℕ
-place_by first = if first == 119 then 0 else if first == 112 then 1 else if first == 101 then 2 else 3
+place_by first = if first == 119 then 0 else if first == 112 then 1 else if first == 101 then 2 else if first == 111 then 3 else 4
 
-place_of : (a b c d : Arg) → initial a ≡ 119 → initial b ≡ 112 → initial c ≡ 101 → initial d ≡ 102
-    → (j : ℕ) (e : Arg) → j < 4 → place_by (initial (slice_index_or (a ∷ b ∷ c ∷ d ∷ []) j e)) ≡ j
-place_of a b c d ia ib ic id zero e lt = ap place_by ia
-place_of a b c d ia ib ic id (suc zero) e lt = ap place_by ib
-place_of a b c d ia ib ic id (suc (suc zero)) e lt = ap place_by ic
-place_of a b c d ia ib ic id (suc (suc (suc zero))) e lt = ap place_by id
-place_of a b c d ia ib ic id (suc (suc (suc (suc j)))) e lt = absurd (omega arith)
+place_of : (a b c d f : Arg) → initial a ≡ 119 → initial b ≡ 112 → initial c ≡ 101 → initial d ≡ 111 → initial f ≡ 102
+    → (j : ℕ) (e : Arg) → j < 5 → place_by (initial (slice_index_or (a ∷ b ∷ c ∷ d ∷ f ∷ []) j e)) ≡ j
+place_of a b c d f ia ib ic id ig zero e lt = ap place_by ia
+place_of a b c d f ia ib ic id ig (suc zero) e lt = ap place_by ib
+place_of a b c d f ia ib ic id ig (suc (suc zero)) e lt = ap place_by ic
+place_of a b c d f ia ib ic id ig (suc (suc (suc zero))) e lt = ap place_by id
+place_of a b c d f ia ib ic id ig (suc (suc (suc (suc zero)))) e lt = ap place_by ig
+place_of a b c d f ia ib ic id ig (suc (suc (suc (suc (suc j))))) e lt = absurd (omega arith)
 
 -- what is read of an option of the command line is within its range
 option_within : (line : Command) (m : ArgMatches) (p : IsParsedFrom line m) (known : IsCommandLine line)
-    → (k : ℕ) (a : Arg) (name : List ℕ) (first most : ℕ) → k < 4
+    → (k : ℕ) (a : Arg) (name : List ℕ) (first most : ℕ) → k < 5
     → slice_index_or (args_of line) k a ≡ a → IsNumberOption a name most → slice_index name 0 ≡ first
     → (first ≡ 0 → ⊥) → (first ≡ 104 → ⊥) → (first ≡ 118 → ⊥)
     → ReadsWithin (found_of m) name most
 option_within line m p known k a name first most ltk at option start not0 not104 not118 text read =
-    let size : length (args_of line) ≡ 4 = ap length known.args in
+    let size : length (args_of line) ≡ 5 = ap length known.args in
     let begins : slice_index a.id.now 0 ≡ first = ap (λ (t : List ℕ). slice_index t 0) option.id ∙ start in
     let parser : (slice_index_or (args_of line) k a).value_parser ≡ Some (vp.Signed (pos 1) (pos most)) = rw at option.parser in
     let id : (slice_index_or (args_of line) k a).id.now ≡ name = rw at option.id in
@@ -69,11 +70,12 @@ option_within line m p known k a name first most ltk at option start not0 not104
     → bytes_eq (slice_index_or (args_of line) j e).id.now (slice_index_or (args_of line) k a).id.now ≡ true → j ≡ k =
     λ j e lt same.
     let ids = (bytes_eq-Decides (slice_index_or (args_of line) j e).id.now (slice_index_or (args_of line) k a).id.now).0 same in
-    let place : (i : ℕ) (f : Arg) → i < 4 → place_by (initial (slice_index_or (known.workers ∷ known.piece ∷ known.except ∷ known.files ∷ []) i f)) ≡ i =
-    place_of known.workers known.piece known.except known.files
+    let place : (i : ℕ) (f : Arg) → i < 5 → place_by (initial (slice_index_or (known.workers ∷ known.piece ∷ known.except ∷ known.order ∷ known.files ∷ []) i f)) ≡ i =
+    place_of known.workers known.piece known.except known.order known.files
     (ap (λ (t : List ℕ). slice_index t 0) known.workers_option.id)
     (ap (λ (t : List ℕ). slice_index t 0) known.piece_option.id)
     (ap (λ (t : List ℕ). slice_index t 0) known.except_id)
+    (ap (λ (t : List ℕ). slice_index t 0) known.order_id)
     (ap (λ (t : List ℕ). slice_index t 0) known.files_id) in
     sym (place j e (omega arith))
     ∙ (ap place_by (subst (λ (l : List Arg). initial (slice_index_or l j e) ≡ initial (slice_index_or l k a)) known.args

@@ -18,16 +18,18 @@ pub record IsNumberOption (option : Arg) (name : List ℕ) (most : ℕ) : Type 0
   pub id : option.id.now ≡ name
   pub parser : option.value_parser ≡ Some (vp.Signed (pos 1) (pos most))
 
--- the command line of the program: two options with numbers, the labels, and the files
+-- the command line of the program: two options with numbers, the labels, the flag for the serial order, and the files
 pub record IsCommandLine (line : Command) : Type 0 where
   pub workers : Arg
   pub piece : Arg
   pub except : Arg
+  pub order : Arg
   pub files : Arg
-  pub args : args_of line ≡ workers ∷ piece ∷ except ∷ files ∷ []
+  pub args : args_of line ≡ workers ∷ piece ∷ except ∷ order ∷ files ∷ []
   pub workers_option : IsNumberOption workers (codes "workers") 16
   pub piece_option : IsNumberOption piece (codes "piece") (2 ^ 20)
   pub except_id : except.id.now ≡ codes "except"
+  pub order_id : order.id.now ≡ codes "order"
   pub files_id : files.id.now ≡ codes "files"
   pub groups : groups_of line ≡ []
   pub no_groups : NamesNoGroup line

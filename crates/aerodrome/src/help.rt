@@ -46,6 +46,14 @@ pub const EXCEPT: &str = "Blocks that begin with begin(LABEL) are no transaction
 for up to 64 labels, each 1 to 255 bytes without `|` and control
 characters; a label that begins with - as --except=LABEL";
 
+pub const ORDER: &str = "Under each serializable trace stand its transactions in a serial order";
+
+pub const LONG_ORDER: &str = "Under the line of a serializable trace stand its transactions (blocks,
+and events outside them) in an order in which they could have run one
+after the other: for each, two spaces, the line of its first event, a
+space, its thread. Each time the one whose first event is earliest
+comes next, of those before which nothing is left that must come first";
+
 pub const FILES: &str = "The traces to judge, in this order, at most 65536. Without a FILE it
 is standard input, which the report calls `-`. As a FILE, `-` is a
 path like any other; each word after `--` is a FILE";
@@ -54,7 +62,8 @@ pub const REPORT: &str =
     "The report, on standard output: a line for each trace, in order, and one on
 all of them. NAME is the FILE's word, byte by byte.
   NAME: serializable (E events, B blocks)
-      All B blocks have ended, and behave as if each had run alone.
+      All B blocks have ended, and behave as if each had run alone. With
+      --order a line for each transaction follows, in a serial order.
   NAME: no violation, K blocks open (E events, B blocks)
       No violation so far; K of the B blocks have no end in the trace.
   NAME: violation at line L: block of THREAD from line M
@@ -65,10 +74,10 @@ all of them. NAME is the FILE's word, byte by byte.
       Line L is the first that is neither blank nor an event: TooLong (over
       4096 bytes), BadByte (a control character), NoOperation, EmptyThread,
       UnknownOperation, BadParenthesis, MissingTarget, NameTooLong (over 255
-      bytes), TooManyLines (over 16777216).
+      bytes), TooManyLines (over 268435456).
   NAME:L: ill-formed: FAULT
       The event on line L is the first that can't stand there: TooManyThreads
-      (over 1024), TooManyNames (over 1048576 variables, or locks),
+      (over 65536), TooManyNames (over 67108864 variables, or locks),
       ThreadJoined (the thread had been joined), LockHeldByOther, LockNotHeld,
       ForkSelf, ForkStarted (the forked thread had acted, been forked or been
       joined), JoinSelf, EndWithoutBegin.

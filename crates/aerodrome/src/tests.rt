@@ -57,7 +57,7 @@ fn the_words_that_are_taken(rt: HostRuntime) {
 
 #[test]
 fn the_words_that_are_refused(rt: HostRuntime) -> Result<(), Fail> {
-    let rows: [&[&str]; 16] = [
+    let rows: [&[&str]; 18] = [
         &["--workers", "0"],
         &["--workers", "17"],
         &["--workers", "4294967312"],
@@ -71,6 +71,8 @@ fn the_words_that_are_refused(rt: HostRuntime) -> Result<(), Fail> {
         &["--piece", "1", "--piece", "1"],
         &["--except"],
         &["--except", "a", "--except"],
+        &["--order", "--order"],
+        &["--order=yes"],
         &["--nothing"],
         &["-x"],
         &["--nothing", "--help"],
@@ -101,6 +103,8 @@ fn the_help_says_all_and_the_version_is_told(rt: HostRuntime) -> Result<(), Fail
         "[default: 65536]",
         "--except <LABEL>",
         "64 labels",
+        "--order",
+        "Each time the one whose first event is earliest",
         "[FILE]...",
         "65536",
         "NAME: serializable (E events, B blocks)",
@@ -162,6 +166,22 @@ fn files_are_counted(rt: HostRuntime) -> Result<(), Fail> {
     words.push(String::from_str(alloc, "b")?)?;
     assert!(rt; matches!(settle_words(alloc, &words), Err(Refused::Help(_))));
     Ok(())
+}
+
+// Expects the serial order to be asked for, or not.
+fn expect_order(rt: &(impl Abort + AllocGlobal), words: &[&str], order: bool) {
+    match settled(rt.alloc(), words) {
+        Err(refused) => assert!(rt; false, "{refused:?}"),
+        Ok(config) => assert_eq!(rt; config.order, order),
+    }
+}
+
+#[test]
+fn the_serial_order_is_asked_for_by_a_flag(rt: HostRuntime) {
+    expect_order(&rt, &[], false);
+    expect_order(&rt, &["--order"], true);
+    expect_order(&rt, &["a", "--order", "--workers", "1"], true);
+    expect_order(&rt, &["--", "--order"], false);
 }
 
 // Expects these labels, in this order.

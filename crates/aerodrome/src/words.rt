@@ -56,6 +56,11 @@ fn command_line<'a>(alloc: Global) -> Result<Command<'a>, AllocError>
         .value_name("LABEL")
         .action(ArgAction::Append)
         .help(help::EXCEPT);
+    let order = Arg::new(alloc, "order")
+        .long("order")
+        .action(ArgAction::SetTrue)
+        .help(help::ORDER)
+        .long_help(help::LONG_ORDER);
     let files = Arg::new(alloc, "files")
         .value_name("FILE")
         .action(ArgAction::Append)
@@ -70,6 +75,7 @@ fn command_line<'a>(alloc: Global) -> Result<Command<'a>, AllocError>
         .arg(workers)?
         .arg(piece)?
         .arg(except)?
+        .arg(order)?
         .arg(files)
 }
 
@@ -130,6 +136,7 @@ fn settle(alloc: Global, matches: &ArgMatches<'_>) -> Result<Config, Refused>
         piece,
         files,
         except,
+        order: matches.get_flag("order"),
     })
 }
 

@@ -5,17 +5,17 @@ use Rattle.aero_batch.specs.Founds.{sighted}
 use Rattle.aero_batch.specs.Holding.{IsBegun}
 use Rattle.aero_batch.proofs.Standing.{begun_stands, summary_done}
 use Rattle.aero_batch.proofs.run.run_on.Goals as goal
-use Rattle.aero_intake.specs.PlanRules.{rules_of}
+use Rattle.aero_intake.specs.PlanTerms.{terms_of}
 
 pub steps-init : goal.steps-init
 steps-init g c =
     let old = map (sighted g.R.Read.remaining) c.args.sources.now in
-    begun_stands (rules_of c.args.around.now.plan.now) old (seen_by g.W.Write.contents c.args.writer.now) c.args.progress.now c.args.told.now
-    (subst (λ n. IsBegun (rules_of c.args.around.now.plan.now) n c.args.progress.now c.args.told.now) (sym (length-map c.args.sources.now (sighted g.R.Read.remaining))) c.requires)
+    begun_stands (terms_of c.args.around.now.plan.now) old (seen_by g.W.Write.contents c.args.writer.now) c.args.progress.now c.args.told.now
+    (subst (λ n. IsBegun (terms_of c.args.around.now.plan.now) n c.args.progress.now c.args.told.now) (sym (length-map c.args.sources.now (sighted g.R.Read.remaining))) c.requires)
 
 pub returns-then-branch-clause-done : goal.returns-then-branch-clause-done
 returns-then-branch-clause-done g c =
-    let rules = (rules_of c.args.around.now.plan.now) in
+    let terms = (terms_of c.args.around.now.plan.now) in
     let old = map (sighted g.R.Read.remaining) c.args.sources.now in
     let now = map (sighted g.R.Read.remaining) c.advance.new.sources in
     let before = seen_by g.W.Write.contents c.args.writer.now in
@@ -23,11 +23,11 @@ returns-then-branch-clause-done g c =
     let after = seen_by g.W.Write.contents c.tell_summary.new.writer in
     let st = c.in_ok-advance.ensures.stands old before c.steps.invariant in
     let all = c.in_ok-advance.ensures.all_told c.if-branch.true ∙ sym (length-map c.advance.new.sources (sighted g.R.Read.remaining)) in
-    (summary_done rules old now before mid after c.advance.new.progress c.advance.new.told all st c.tell_summary.result c.tell_summary.ensures).0
+    (summary_done terms old now before mid after c.advance.new.progress c.advance.new.told all st c.tell_summary.result c.tell_summary.ensures).0
 
 pub returns-then-branch-clause-stopped : goal.returns-then-branch-clause-stopped
 returns-then-branch-clause-stopped g c =
-    let rules = (rules_of c.args.around.now.plan.now) in
+    let terms = (terms_of c.args.around.now.plan.now) in
     let old = map (sighted g.R.Read.remaining) c.args.sources.now in
     let now = map (sighted g.R.Read.remaining) c.advance.new.sources in
     let before = seen_by g.W.Write.contents c.args.writer.now in
@@ -35,4 +35,4 @@ returns-then-branch-clause-stopped g c =
     let after = seen_by g.W.Write.contents c.tell_summary.new.writer in
     let st = c.in_ok-advance.ensures.stands old before c.steps.invariant in
     let all = c.in_ok-advance.ensures.all_told c.if-branch.true ∙ sym (length-map c.advance.new.sources (sighted g.R.Read.remaining)) in
-    (summary_done rules old now before mid after c.advance.new.progress c.advance.new.told all st c.tell_summary.result c.tell_summary.ensures).1
+    (summary_done terms old now before mid after c.advance.new.progress c.advance.new.told all st c.tell_summary.result c.tell_summary.ensures).1

@@ -1,9 +1,9 @@
-use Rattle.std.proofs.Common.{◌≡◌, ◌≤◌, ◌^◌, ◌∙◌, ap, sym, subst, inl, inr, map, string_bytes, length, arith, refl, is_err}
+use Rattle.std.proofs.Common.{◌≡◌, ◌≤◌, ◌^◌, ◌∙◌, ap, ap₂, sym, subst, inl, inr, map, string_bytes, length, arith, refl, is_err}
 use Rattle.std.proofs.lemmas.List.{with_items_is}
 use Rattle.aero_model.specs.CallCounts.{seen_by}
 use Rattle.std.specs.Vec.{vec_len}
-use Rattle.aero_verdict.specs.Verdict.{under}
-use Rattle.aero_intake.specs.PlanRules.{rules_of}
+use Rattle.aero_verdict.specs.Finding.{asking}
+use Rattle.aero_intake.specs.PlanTerms.{terms_of}
 use Rattle.aero_program.specs.Inputs.{bytes_left, standing_of}
 use Rattle.aero_program.specs.Sightings.{source_sightings}
 use Rattle.aero_program.specs.Retries.{tried_by}
@@ -19,13 +19,13 @@ returns g c =
     subst (λ w. source_sightings (map string_bytes c.in-Ok.words.items) given ≡ source_sightings (map string_bytes w.items) given) c.in-Ok.ensures.files refl in
     let files_are : source_sightings (map string_bytes c.deref.result.now) given ≡ source_sightings (map string_bytes c.args.config.files.items) given =
     ap (λ l. source_sightings (map string_bytes l) given) c.deref.ensures.value ∙ words_are in
-    inl (judged (λ input. bytes_left (standing_of g.S.Read.remaining input)) c.args.config.except.items (map string_bytes c.args.config.files.items) (g.S.Read.remaining c.args.stdin)
+    inl (judged (λ input. bytes_left (standing_of g.S.Read.remaining input)) c.args.config.except.items c.args.config.order (map string_bytes c.args.config.files.items) (g.S.Read.remaining c.args.stdin)
     c.in-Ok.plan.limits c.in-Ok-sources_of.sources.items c.deref_mut.result.now c.run-outcome.new.sources _
     (shown_by g.O.Write.contents c.args.output.now)
     (record { writer = seen_by (λ w. g.O.Write.contents (tried_by w)) c.run-outcome.new.writer; unflushed = c.args.output.now.unflushed.number })
     (shown_by g.O.Write.contents c.flush-flushed.new.self)
-    c.run-outcome.result.endings.items c.run-outcome.result.counts c.run-outcome.result.cause (is_err c.flush-flushed.result) c.status_after-end.result _ _ c.finish.result (rules_of c.in-Ok.plan)
-    (ap (under c.in-Ok.plan.limits) c.in-Ok.ensures.except) c.in-Ok.ensures.limits
+    c.run-outcome.result.endings.items c.run-outcome.result.counts c.run-outcome.result.cause (is_err c.flush-flushed.result) c.status_after-end.result _ _ c.finish.result (terms_of c.in-Ok.plan)
+    (ap₂ (asking c.in-Ok.plan.limits) c.in-Ok.ensures.except c.in-Ok.ensures.order) c.in-Ok.ensures.limits
     (◌∙◌ {b = source_sightings (map string_bytes c.deref.result.now) (g.S.Read.remaining c.args.stdin)} c.in-Ok-sources_of.ensures.sighted files_are)
     c.deref_mut.ensures.value (with_items_is c.in-Ok-sources_of.sources c.run-outcome.new.sources kept)
     c.run-outcome.ensures.ran refl
