@@ -34,6 +34,9 @@ const CLOSED_BY_AN_END: &str = "T1|begin/T2|begin/T2|w(y)/T1|w(x)/T2|r(x)/T1|r(y
 
 const ONE_BLOCK: &str = "T1|begin/T1|w(x)/T1|r(x)/T1|w(x)/T1|end";
 
+// A block that reads what another thread writes after the block's begin, and so comes after it.
+const WRITTEN_BETWEEN: &str = "T1|begin/T2|w(x)/T1|r(x)/T1|end";
+
 const FITS: &str =
     "n: serializable (1 events, 0 blocks)/traces 1: serializable 1, open 0, violations 0, faults 0/";
 
@@ -49,6 +52,10 @@ const REPORT_OF_THREE: &str =
 // What is written of the sources a and b, each with one block.
 const REPORT_OF_TWO: &str =
     "a: serializable (5 events, 1 blocks)/b: serializable (5 events, 1 blocks)/traces 2: serializable 2, open 0, violations 0, faults 0/";
+
+// What is written of the sources a and b, each with the block that comes after a later event, and their orders.
+const ORDER_OF_TWO: &str =
+    "a: serializable (4 events, 1 blocks)/  2 T2/  1 T1/b: serializable (4 events, 1 blocks)/  2 T2/  1 T1/traces 2: serializable 2, open 0, violations 0, faults 0/";
 
 fn lines_of(alloc: Global, text: &str) -> Result<Vec<u8>, AllocError> {
     let mut bytes = text.as_bytes().to_vec(alloc)?;
@@ -124,11 +131,12 @@ fn expect_text<T: Abort + AllocGlobal + Threads + Wait + Copy + Send + 'static>(
     Ok(())
 }
 
-// Whether the text has this line where these labels are listed, whoever helps.
+// Whether what is written of the text begins so, where these labels are listed and its order is asked for or
+// not, whoever helps.
 fn has_line<T: AllocGlobal + Threads + Wait + Copy + Send + 'static>(
     rt: &T,
     text: &[u8],
-    labels: &str,
+    (labels, order): (&str, bool),
     line: &str,
 ) -> Result<bool, Fail> {
     let start = lines_of(rt.alloc(), line)?;
@@ -136,7 +144,7 @@ fn has_line<T: AllocGlobal + Threads + Wait + Copy + Send + 'static>(
         let mut sources = Vec::new(rt.alloc());
         sources.push(source_of(rt.alloc(), "n", text)?)?;
         let mut writer = Counting::new(Vec::new(rt.alloc()));
-        let plan = plan_by(rt.alloc(), who, Limits::greatest(), 7, labels)?;
+        let plan = plan_by(rt.alloc(), who, Limits::greatest(), 7, (labels, order))?;
         let outcome = run_planned(*rt, who, &mut sources, &mut writer, &plan)?;
         if outcome.cause.is_some() || !writer.into_inner().as_slice().starts_with(&start) {
             return Ok(false);
@@ -174,7 +182,65 @@ fn a_text_has_its_line_by_the_labels(rt: HostRuntime) -> Result<(), Fail> {
     ];
     for (text, labels, line) in rows {
         let text = lines_of(rt.alloc(), text)?;
-        assert!(rt; has_line(&rt, &text, labels, line)?);
+        assert!(rt; has_line(&rt, &text, (labels, false), line)?);
+    }
+    Ok(())
+}
+
+// Behind the line of a serializable trace stand its transactions in order, and behind any other none.
+#[test]
+fn a_text_has_its_steps_where_its_order_is_asked_for(rt: HostRuntime) -> Result<(), Fail> {
+    let rows = [
+        ("", "", "n: serializable (0 events, 0 blocks)/traces 1: "),
+        (
+            ONE_BLOCK,
+            "",
+            "n: serializable (5 events, 1 blocks)/  1 T1/traces 1: ",
+        ),
+        (
+            "T1|w(x)/T2|r(x)",
+            "",
+            "n: serializable (2 events, 0 blocks)/  1 T1/  2 T2/traces 1: ",
+        ),
+        (
+            WRITTEN_BETWEEN,
+            "",
+            "n: serializable (4 events, 1 blocks)/  2 T2/  1 T1/traces 1: ",
+        ),
+        (
+            "T3|w(a)//T1|begin/T2|w(a)/T1|r(a)/T1|end",
+            "",
+            "n: serializable (5 events, 1 blocks)/  1 T3/  4 T2/  3 T1/traces 1: ",
+        ),
+        (
+            "T1|begin(a)/T1|begin(b)/T2|w(x)/T1|r(x)/T1|end/T1|end",
+            "a",
+            "n: serializable (6 events, 1 blocks)/  1 T1/  3 T2/  2 T1/  6 T1/traces 1: ",
+        ),
+        (
+            "T1|begin/T2|w(x)/T1|r(x)",
+            "",
+            "n: no violation, 1 blocks open (3 events, 1 blocks)/traces 1: ",
+        ),
+        (
+            CROSSED,
+            "",
+            "n: violation at line 6: block of T1 from line 1/traces 1: ",
+        ),
+        (
+            "T1|w(x)/T1|r()",
+            "",
+            "n:2: malformed: MissingTarget/traces 1: ",
+        ),
+        (
+            "T1|w(x)/T1|end",
+            "",
+            "n:2: ill-formed: EndWithoutBegin/traces 1: ",
+        ),
+    ];
+    for (text, labels, start) in rows {
+        let text = lines_of(rt.alloc(), text)?;
+        assert!(rt; has_line(&rt, &text, (labels, true), start)?);
     }
     Ok(())
 }
@@ -358,13 +424,14 @@ fn a_source_ends_whole_too_large_or_broken(rt: HostRuntime) -> Result<(), Fail> 
     Ok(())
 }
 
-// Sources with these names and one text, and a writer that fails at one call once it has taken so
-// many bytes. What is written follows, how the sources ended whose lines it has whole, how many of
+// Sources with these names and one text, whose order is asked for or not, and a writer that fails at one call
+// once it has taken so many bytes. What is written follows, how the sources ended whose lines it has whole, how many of
 // them are serializable, and why the run stopped.
 #[derive(Drop)]
 struct Row<'a> {
     names: &'a [&'a str],
     text: &'a str,
+    order: bool,
     room: usize,
     written: &'a str,
     endings: &'a [(u64, Ending)],
@@ -387,14 +454,8 @@ fn expect_row<T: Abort + AllocGlobal + Threads + Wait + Copy + Send + 'static>(
         left: row.room,
         has_failed: false,
     });
-    let outcome = run_by(
-        *rt,
-        who,
-        &mut sources,
-        &mut writer,
-        Limits::greatest(),
-        piece,
-    )?;
+    let plan = plan_by(rt.alloc(), who, Limits::greatest(), piece, ("", row.order))?;
+    let outcome = run_planned(*rt, who, &mut sources, &mut writer, &plan)?;
     let written = lines_of(rt.alloc(), row.written)?;
     assert_eq!(rt; writer.into_inner().taken, written);
     assert_eq!(rt; outcome.endings.as_slice(), row.endings);
@@ -411,6 +472,7 @@ fn what_was_written_whole_is_told(rt: HostRuntime) -> Result<(), Fail> {
         Row {
             names: &["n"],
             text: CROSSED,
+            order: false,
             room: 10,
             written: "n: violati",
             endings: &[],
@@ -420,6 +482,7 @@ fn what_was_written_whole_is_told(rt: HostRuntime) -> Result<(), Fail> {
         Row {
             names: &["a", "b"],
             text: "",
+            order: false,
             room: 40,
             written: "a: serializable (0 events, 0 blocks)/b: ",
             endings: &[(0, Ending::Whole)],
@@ -429,6 +492,7 @@ fn what_was_written_whole_is_told(rt: HostRuntime) -> Result<(), Fail> {
         Row {
             names: &["a"],
             text: "",
+            order: false,
             room: 40,
             written: "a: serializable (0 events, 0 blocks)/tra",
             endings: &[(0, Ending::Whole)],
@@ -438,6 +502,7 @@ fn what_was_written_whole_is_told(rt: HostRuntime) -> Result<(), Fail> {
         Row {
             names: &["n", "n"],
             text: ONE_BLOCK,
+            order: false,
             room: 1000,
             written: "n: serializable (5 events, 1 blocks)/n: serializable (5 events, 1 blocks)/traces 2: serializable 2, open 0, violations 0, faults 0/",
             endings: &[(39, Ending::Whole), (39, Ending::Whole)],
@@ -445,8 +510,30 @@ fn what_was_written_whole_is_told(rt: HostRuntime) -> Result<(), Fail> {
             cause: None,
         },
         Row {
+            names: &["a", "b"],
+            text: WRITTEN_BETWEEN,
+            order: true,
+            room: 1000,
+            written: ORDER_OF_TWO,
+            endings: &[(31, Ending::Whole), (31, Ending::Whole)],
+            serializable: 2,
+            cause: None,
+        },
+        // The line of the verdict is out, and its steps aren't, so the source isn't told.
+        Row {
+            names: &["n"],
+            text: WRITTEN_BETWEEN,
+            order: true,
+            room: 41,
+            written: "n: serializable (4 events, 1 blocks)/  2 ",
+            endings: &[],
+            serializable: 0,
+            cause: Some(Cause::Write),
+        },
+        Row {
             names: &[],
             text: "",
+            order: false,
             room: 1000,
             written: "traces 0: serializable 0, open 0, violations 0, faults 0/",
             endings: &[],
@@ -509,11 +596,29 @@ fn the_report_is_the_same_whoever_helps(rt: HostRuntime) -> Result<(), Fail> {
     ];
     for habit in habits {
         expect_three(&rt, Who::Helped(habit))?;
+        assert!(rt; has_order_of_two(&rt, Who::Helped(habit))?);
     }
     for who in EVERYBODY {
         expect_three(&rt, who)?;
+        assert!(rt; has_order_of_two(&rt, who)?);
     }
     Ok(())
+}
+
+// Two sources whose order is asked for, in pieces of one byte.
+fn has_order_of_two<T: AllocGlobal + Threads + Wait + Copy + Send + 'static>(
+    rt: &T,
+    who: Who,
+) -> Result<bool, Fail> {
+    let text = lines_of(rt.alloc(), WRITTEN_BETWEEN)?;
+    let mut sources = Vec::new(rt.alloc());
+    sources.push(source_of(rt.alloc(), "a", text.as_slice())?)?;
+    sources.push(source_of(rt.alloc(), "b", text.as_slice())?)?;
+    let mut writer = Counting::new(Vec::new(rt.alloc()));
+    let plan = plan_by(rt.alloc(), who, Limits::greatest(), 1, ("", true))?;
+    let outcome = run_planned(*rt, who, &mut sources, &mut writer, &plan)?;
+    let report = lines_of(rt.alloc(), ORDER_OF_TWO)?;
+    Ok(outcome.cause.is_none() && writer.into_inner().as_slice() == report.as_slice())
 }
 
 // What is written of two sources of which the second gives its text once the first is told: until then it gives so many

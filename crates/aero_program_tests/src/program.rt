@@ -245,7 +245,7 @@ fn is_answered<R: AllocGlobal + Threads + Wait + Copy + Drop + Send + 'static, F
     out.as_slice() == wanted.0 && err.as_slice() == wanted.1 && status == wanted.2
 }
 
-fn config_of(alloc: Global, file: Option<&str>) -> Result<Config, Fail> {
+fn config_of(alloc: Global, file: Option<&str>, order: bool) -> Result<Config, Fail> {
     let mut files = Vec::new(alloc);
     if let Some(file) = file {
         files.push(String::from_str(alloc, file)?)?;
@@ -255,6 +255,7 @@ fn config_of(alloc: Global, file: Option<&str>) -> Result<Config, Fail> {
         piece: 1,
         except: Vec::new(alloc),
         files,
+        order,
     })
 }
 
@@ -427,7 +428,73 @@ fn what_is_asked_for_is_judged(rt: HostRuntime) -> Result<(), Fail> {
         ),
     ];
     for (file, text, damage, wanted) in rows {
-        let config = config_of(rt.alloc(), file)?;
+        let config = config_of(rt.alloc(), file, false)?;
+        assert!(rt; is_answered(rt, &rt, Ok(config), text, &damage, wanted));
+    }
+    Ok(())
+}
+
+// Where the order is asked for, the transactions of a serializable trace stand behind its line, and those of no
+// other.
+#[test]
+fn an_order_that_is_asked_for_is_told(rt: HostRuntime) -> Result<(), Fail> {
+    let rows: [(&'static [u8], Damage, Wanted); 5] = [
+        (
+            b"T1|begin\nT2|w(x)\nT1|r(x)\nT1|end\n",
+            SOUND,
+            (
+                b"-: serializable (4 events, 1 blocks)\n  2 T2\n  1 T1\n\
+                    traces 1: serializable 1, open 0, violations 0, faults 0\n",
+                b"",
+                0,
+            ),
+        ),
+        (
+            b"",
+            SOUND,
+            (
+                b"-: serializable (0 events, 0 blocks)\n\
+                    traces 1: serializable 1, open 0, violations 0, faults 0\n",
+                b"",
+                0,
+            ),
+        ),
+        (
+            b"T1|begin\nT1|w(x)\nT2|w(x)\nT1|r(x)\n",
+            SOUND,
+            (
+                b"-: violation at line 4: block of T1 from line 1\n\
+                    traces 1: serializable 0, open 0, violations 1, faults 0\n",
+                b"",
+                1,
+            ),
+        ),
+        (
+            b"T1|begin\nT2|w(x)\nT1|r(x)\n",
+            SOUND,
+            (
+                b"-: no violation, 1 blocks open (3 events, 1 blocks)\n\
+                    traces 1: serializable 0, open 1, violations 0, faults 0\n",
+                b"",
+                0,
+            ),
+        ),
+        (
+            b"T1|begin\nT2|w(x)\nT1|r(x)\nT1|end\n",
+            Damage {
+                room: 46,
+                writes: EVER,
+                ..SOUND
+            },
+            (
+                b"-: serializable (4 events, 1 blocks)\n  2 T2\n  ",
+                b"aerodrome: write failed\n",
+                4,
+            ),
+        ),
+    ];
+    for (text, damage, wanted) in rows {
+        let config = config_of(rt.alloc(), None, true)?;
         assert!(rt; is_answered(rt, &rt, Ok(config), text, &damage, wanted));
     }
     Ok(())
@@ -566,7 +633,7 @@ fn interrupted_calls_are_made_again(rt: HostRuntime) -> Result<(), Fail> {
         ),
     ];
     for (text, damage, wanted) in rows {
-        let config = config_of(rt.alloc(), None)?;
+        let config = config_of(rt.alloc(), None, false)?;
         assert!(rt; is_answered(rt, &rt, Ok(config), text, &damage, wanted));
     }
     Ok(())
@@ -605,7 +672,7 @@ fn a_file_is_opened_and_read_as_standard_input_is(rt: HostRuntime) -> Result<(),
         (3, 0, 1, broken),
     ];
     for (times, open_failures, read_failures, wanted) in rows {
-        let config = config_of(rt.alloc(), Some("f"))?;
+        let config = config_of(rt.alloc(), Some("f"), false)?;
         let shelf = Shelf::new(WRITE, times, open_failures, read_failures);
         assert!(rt; is_answered(rt, &shelf, Ok(config), b"", &SOUND, wanted));
     }

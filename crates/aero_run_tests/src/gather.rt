@@ -58,7 +58,7 @@ fn event_of(alloc: Global, value: &Value) -> Result<String, Fail> {
             let (_, event) = parsed.events[0];
             Ok(format!(in alloc; "{:?}", event.what)?)
         }
-        Value::Judged(_) => Err("a verdict".into()),
+        Value::Judged(_) | Value::Ordered(..) => Err("a verdict".into()),
     }
 }
 

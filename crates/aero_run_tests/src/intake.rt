@@ -149,16 +149,17 @@ fn a_source_comes_in_pieces_until_it_ends(rt: HostRuntime) -> Result<(), Fail> {
 #[test]
 fn a_plan_is_within_its_bounds(rt: HostRuntime) -> Result<(), Fail> {
     let rows = [
-        (16, 1_048_576, true),
-        (1, 1, true),
-        (0, 1, false),
-        (17, 1, false),
-        (1, 0, false),
-        (1, 1_048_577, false),
+        (16, 1_048_576, false, true),
+        (1, 1, false, true),
+        (16, 1_048_576, true, true),
+        (0, 1, false, false),
+        (17, 1, true, false),
+        (1, 0, false, false),
+        (1, 1_048_577, true, false),
     ];
-    for (workers, piece, is_plan) in rows {
+    for (workers, piece, order, is_plan) in rows {
         let labels = listed(rt.alloc(), "a").ok_or("labels")?;
-        let plan = Plan::new(workers, piece, Limits::greatest(), labels);
+        let plan = Plan::new(workers, piece, Limits::greatest(), labels, order);
         assert!(rt; plan.is_some() == is_plan, "{workers} {piece}");
     }
     Ok(())

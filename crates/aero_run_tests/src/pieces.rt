@@ -2,7 +2,7 @@ use crate::except::listed;
 use aero_grammar::block::parse_block;
 use aero_model::limits::Limits;
 use aero_model::numbered::What;
-use aero_model::verdict::Verdict;
+use aero_model::verdict::{Step, Verdict};
 use aero_pieces::answer::{Answer, Value};
 use aero_pieces::question::{Bytes, Parts, Question};
 use aero_pieces::same;
@@ -26,13 +26,15 @@ fn block_question(alloc: Global, trace: u64, number: u64, block: &str) -> Result
     })
 }
 
-// The verdict on a trace, whose blocks stand between `;`, where these labels are listed.
+// The verdict on a trace, whose blocks stand between `;`, where these labels are listed, and its order
+// if that is asked for.
 fn trace_question(
     alloc: Global,
     trace: u64,
     limits: Limits,
     labels: &str,
     blocks: &str,
+    order: bool,
 ) -> Result<Question, Fail> {
     let mut parts = Vec::new(alloc);
     for block in blocks.split(';') {
@@ -43,6 +45,7 @@ fn trace_question(
         parsed: Parts::new(parts),
         limits,
         except: listed(alloc, labels).ok_or("labels")?,
+        order,
     })
 }
 
@@ -59,7 +62,7 @@ fn is_read(value: &Value) -> bool {
                 && parsed.threads.name(event.thread) == Some(b"T1".as_slice())
                 && parsed.variables.name(0) == Some(b"x".as_slice())
         }
-        Value::Judged(_) => false,
+        Value::Judged(_) | Value::Ordered(..) => false,
     }
 }
 
@@ -82,12 +85,74 @@ fn a_question_is_answered_by_its_value(rt: HostRuntime) -> Result<(), Fail> {
     assert!(rt; same(answer.question(), &question) && is_read(answer.value()));
     assert!(rt; is_read(&answer.into_value()));
 
-    let question = trace_question(alloc, 0, Limits::greatest(), "", "T1|r(x)")?.share(alloc)?;
+    let question = trace_question(alloc, 0, Limits::greatest(), "", "T1|r(x)", false)?.share(
+        alloc,
+    )?;
     assert!(rt; is_serializable(Question::answer(&question, alloc)?.into_value(), 1));
 
     let block = "T1|begin(a)/T1|end";
-    let question = trace_question(alloc, 0, Limits::greatest(), "a", block)?.share(alloc)?;
+    let question = trace_question(alloc, 0, Limits::greatest(), "a", block, false)?.share(alloc)?;
     assert!(rt; is_serializable(Question::answer(&question, alloc)?.into_value(), 2));
+    Ok(())
+}
+
+fn push_step(alloc: Global, words: &mut String, step: &Step) -> Result<(), Fail> {
+    let line = step.line;
+    let thread = str::from_utf8(step.thread.bytes())?;
+    let word = format!(in alloc; "{line} {thread}/")?;
+    words.push_str(&word)?;
+    Ok(())
+}
+
+fn steps_of(alloc: Global, steps: &[Step]) -> Result<String, Fail> {
+    let mut words = String::new(alloc);
+    for step in steps {
+        push_step(alloc, &mut words, step)?;
+    }
+    Ok(words)
+}
+
+// The order that goes with the verdict, or else what the value is.
+fn order_in(alloc: Global, value: &Value) -> Result<String, Fail> {
+    match value {
+        Value::Ordered(Verdict::Serializable { .. }, steps) => steps_of(alloc, steps),
+        Value::Ordered(..) => Ok(String::from_str(alloc, "an order of another verdict")?),
+        Value::Judged(_) => Ok(String::from_str(alloc, "a verdict")?),
+        Value::Parsed(_) => Ok(String::from_str(alloc, "a block")?),
+    }
+}
+
+fn order_told(alloc: Global, blocks: &str, order: bool) -> Result<String, Fail> {
+    let question = trace_question(alloc, 0, Limits::greatest(), "a", blocks, order)?;
+    let answer = Question::answer(&question.share(alloc)?, alloc)?;
+    order_in(alloc, answer.value())
+}
+
+#[test]
+fn the_order_of_a_serializable_trace_is_given_where_it_is_asked_for(
+    rt: HostRuntime,
+) -> Result<(), Fail> {
+    let rows = [
+        ("", true, ""),
+        ("", false, "a verdict"),
+        ("T1|begin/T2|w(x);T1|r(x)/T1|end", true, "2 T2/1 T1/"),
+        ("T1|begin/T2|w(x);T1|r(x)/T1|end", false, "a verdict"),
+        (
+            "T1|begin(a)/T2|w(x);T1|r(x)/T1|end",
+            true,
+            "1 T1/2 T2/3 T1/4 T1/",
+        ),
+        ("T1|begin/T2|w(x);T1|r(x)", true, "a verdict"),
+        ("T1|begin/T1|w(x);T2|w(x)/T1|r(x)", true, "a verdict"),
+        ("T1|w(x);T1", true, "a verdict"),
+        ("T1|w(x);T1|end", true, "a verdict"),
+    ];
+    for (blocks, order, wanted) in rows {
+        assert!(rt;
+            order_told(rt.alloc(), blocks, order)?.as_str() == wanted,
+            "{blocks}"
+        );
+    }
     Ok(())
 }
 
@@ -138,35 +203,41 @@ fn traces_with_the_same_parts_are_the_same_question(rt: HostRuntime) -> Result<(
         (one, 0, most, "T1|acq(l)///", false),
     ];
     for (blocks, trace, limits, other_blocks, is_same) in rows {
-        let check = trace_question(alloc, 0, most, "a", blocks)?;
-        let other = trace_question(alloc, trace, limits, "a", other_blocks)?;
+        let check = trace_question(alloc, 0, most, "a", blocks, false)?;
+        let other = trace_question(alloc, trace, limits, "a", other_blocks, false)?;
         let both = (same(&check, &other), same(&other, &check));
         assert!(rt; both == (is_same, is_same), "{blocks:?} {other_blocks:?}");
     }
-    let check = trace_question(alloc, 0, most, "a", two)?;
+    let check = trace_question(alloc, 0, most, "a", two, false)?;
     assert!(rt; !same(&check, &block_question(alloc, 0, 0, "T1|r(x)")?));
     Ok(())
 }
 
 #[test]
-fn traces_with_the_same_labels_are_the_same_question(rt: HostRuntime) -> Result<(), Fail> {
+fn traces_with_the_same_labels_and_order_are_the_same_question(
+    rt: HostRuntime,
+) -> Result<(), Fail> {
     let alloc = rt.alloc();
     let most = Limits::greatest();
-    let check = trace_question(alloc, 0, most, "a b", "T1|begin(a)")?;
-    // the labels that are listed, the block, and whether it is the same as the first
+    let check = trace_question(alloc, 0, most, "a b", "T1|begin(a)", false)?;
+    // the labels that are listed, the block, whether its order is asked for, and whether it is the same
+    // as the first
     let rows = [
-        ("a b", "T1|begin(a)", true),
-        ("a b", "T1|begin(b)", false),
-        ("a b", "T1|begin", false),
-        ("b a", "T1|begin(a)", false),
-        ("a", "T1|begin(a)", false),
-        ("a b c", "T1|begin(a)", false),
-        ("", "T1|begin(a)", false),
+        ("a b", "T1|begin(a)", false, true),
+        ("a b", "T1|begin(a)", true, false),
+        ("a b", "T1|begin(b)", false, false),
+        ("a b", "T1|begin", false, false),
+        ("b a", "T1|begin(a)", false, false),
+        ("a", "T1|begin(a)", false, false),
+        ("a b c", "T1|begin(a)", false, false),
+        ("", "T1|begin(a)", false, false),
     ];
-    for (labels, block, is_same) in rows {
-        let other = trace_question(alloc, 0, most, labels, block)?;
+    for (labels, block, order, is_same) in rows {
+        let other = trace_question(alloc, 0, most, labels, block, order)?;
         let both = (same(&check, &other), same(&other, &check));
         assert!(rt; both == (is_same, is_same));
     }
+    let ordered = trace_question(alloc, 0, most, "a b", "T1|begin(a)", true)?;
+    assert!(rt; same(&ordered, &ordered));
     Ok(())
 }

@@ -3,7 +3,7 @@ ghost use Rattle.std.specs.Prelude.{◌≡◌, ◌≤◌, IfOk, Some};
 
 use aero_model::counting::Counting;
 use aero_model::name::Name;
-use aero_model::verdict::{Counts, Finding, LineFault as Line, ShapeFault as Shape, Verdict};
+use aero_model::verdict::{Counts, Finding, LineFault as Line, ShapeFault as Shape, Step, Verdict};
 use aero_report::{Cut, put, summary_text, trace_text};
 use std::alloc::Global;
 use std::io;
@@ -110,6 +110,52 @@ fn put_stops_where_a_write_first_fails_or_takes_nothing(rt: HostRuntime) -> Resu
 fn expect_line(rt: &impl Abort, alloc: Global, finding: Finding, line: &str) -> Result<(), Fail> {
     let text = trace_text(alloc, b"n", &finding)?;
     assert!(rt; text.as_slice() == line.as_bytes(), "{line:?}");
+    Ok(())
+}
+
+fn step(alloc: Global, line: u32, thread: &str) -> Result<Step, Fail> {
+    let thread = Name::read(alloc, thread.as_bytes())?;
+    Ok(Step { line, thread })
+}
+
+// A serializable trace with transactions in order, each by its line and its thread.
+fn ordered(
+    alloc: Global,
+    (events, blocks): (u32, u32),
+    order: &[(u32, &str)],
+) -> Result<Finding, Fail> {
+    let mut steps = Vec::new(alloc);
+    for (line, thread) in order {
+        steps.push(step(alloc, *line, thread)?)?;
+    }
+    Ok(Finding::Ordered(Verdict::Serializable { events, blocks }, steps))
+}
+
+// The transactions in order have a line each behind that of the verdict.
+#[test]
+fn each_step_has_its_line(rt: HostRuntime) -> Result<(), Fail> {
+    let rows: [((u32, u32), &[(u32, &str)], &str); 4] = [
+        ((0, 0), &[], "n: serializable (0 events, 0 blocks)\n"),
+        (
+            (1, 0),
+            &[(4, "a thread")],
+            "n: serializable (1 events, 0 blocks)\n  4 a thread\n",
+        ),
+        (
+            (4, 1),
+            &[(2, "T2"), (1, "T1")],
+            "n: serializable (4 events, 1 blocks)\n  2 T2\n  1 T1\n",
+        ),
+        (
+            (2, 0),
+            &[(1, "T1"), (268_435_456, "T1")],
+            "n: serializable (2 events, 0 blocks)\n  1 T1\n  268435456 T1\n",
+        ),
+    ];
+    for (sizes, order, line) in rows {
+        let finding = ordered(rt.alloc(), sizes, order)?;
+        expect_line(&rt, rt.alloc(), finding, line)?;
+    }
     Ok(())
 }
 

@@ -58,6 +58,7 @@ fn trace_question(alloc: Global) -> Option<Arc<Question>> {
         parsed: parts_of(alloc, value).ok()?,
         limits: Limits::greatest(),
         except: listed(alloc, "")?,
+        order: false,
     };
     question.share(alloc).ok()
 }

@@ -4,7 +4,7 @@ use aero_leads::leads::Leads;
 use std::test::Fail;
 
 #[derive(Clone, Copy)]
-enum Event {
+pub(crate) enum Event {
     Begin,
     End,
     Read(u32),
@@ -20,7 +20,7 @@ fn digit(byte: u8) -> u32 {
 }
 
 // The event of this line, as `0|w(1)`, where threads, variables and locks are digits, and its thread.
-fn event_of(line: &[u8]) -> Option<(u32, Event)> {
+pub(crate) fn event_of(line: &[u8]) -> Option<(u32, Event)> {
     let [thread, b'|', what @ ..] = line else {
         return None;
     };

@@ -1,9 +1,9 @@
-//! Tests of the crates that read and judge one trace: names, lines, events, clocks and verdicts.
+//! Tests of the crates that read and judge one trace: names, lines, events, clocks, serial orders and verdicts.
 //!
 //! A crate with tests is proved twice, with them and without, so they stand here, above all of the
 //! crates, and each is proved once. A module has the tests of the crate that it is named for, most of
-//! them as tables of texts, and `replaced` compares verdicts of generated traces. It has nothing for
-//! other crates.
+//! them as tables of texts; `serial` has those of serial orders and of who made an event, and `replaced`
+//! compares verdicts of generated traces. It has nothing for other crates.
 #![tactic(auto)]
 
 #[cfg(test)]
@@ -21,7 +21,11 @@ mod model;
 #[cfg(test)]
 mod names;
 #[cfg(test)]
+mod order;
+#[cfg(test)]
 mod replaced;
+#[cfg(test)]
+mod serial;
 #[cfg(test)]
 mod shape;
 #[cfg(test)]

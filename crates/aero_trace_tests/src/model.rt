@@ -48,7 +48,7 @@ fn are_made(numbers: [u32; 4]) -> bool {
 
 #[test]
 fn limits_are_made_up_to_the_greatest(rt: HostRuntime) {
-    let most: [u32; 4] = [1 << 30, 1 << 24, 1024, 1 << 20];
+    let most: [u32; 4] = [1 << 30, 1 << 28, 65_536, 1 << 26];
     assert!(rt; Limits::new(most[0], most[1], most[2], most[3]) == Some(Limits::greatest()));
     for at in 0..4usize {
         for wrong in [0, most[at] + 1] {

@@ -36,7 +36,7 @@ pub(crate) fn parts_of(alloc: Global, row: &str) -> Result<Vec<Parsed>, Fail> {
 }
 
 // A verdict in words: its variant, and its numbers and names in the order of their fields.
-fn words_of(alloc: Global, verdict: &Verdict) -> Result<String, Fail> {
+pub(crate) fn words_of(alloc: Global, verdict: &Verdict) -> Result<String, Fail> {
     Ok(match verdict {
         Verdict::Serializable { events, blocks } => {
             format!(in alloc; "serializable {events} {blocks}")?
@@ -572,7 +572,7 @@ fn many_blocks_and_many_threads(rt: HostRuntime) -> Result<(), Fail> {
     )?;
     let rows = [
         (1024, "serializable 3072 1024"),
-        (1025, "ill-formed 3073 TooManyThreads"),
+        (1025, "serializable 3075 1025"),
     ];
     for (threads, wanted) in rows {
         let mut row = String::new(alloc);

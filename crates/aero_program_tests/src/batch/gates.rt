@@ -106,7 +106,7 @@ impl Gate for TwoAtOnce {
 
 fn plan_with(alloc: Global, workers: u32, piece: u32) -> Result<Plan, Fail> {
     let except = listed(alloc, "").ok_or("labels")?;
-    match Plan::new(workers, piece, Limits::greatest(), except) {
+    match Plan::new(workers, piece, Limits::greatest(), except, false) {
         Some(plan) => Ok(plan),
         None => Err("no such plan".into()),
     }

@@ -26,7 +26,7 @@ pub(crate) enum Who {
     Crew(u32),
 }
 
-// Runs over at most nine sources, with no label listed.
+// Runs over at most nine sources, with no label listed, and asks for no order.
 pub(crate) fn run_by<R: Read, W: Write, T: AllocGlobal + Threads + Wait + Copy + Send + 'static>(
     rt: T,
     who: Who,
@@ -35,24 +35,25 @@ pub(crate) fn run_by<R: Read, W: Write, T: AllocGlobal + Threads + Wait + Copy +
     limits: Limits,
     piece: u32,
 ) -> Result<Outcome, Fail> {
-    let plan = plan_by(rt.alloc(), who, limits, piece, "")?;
+    let plan = plan_by(rt.alloc(), who, limits, piece, ("", false))?;
     run_planned(rt, who, sources, writer, &plan)
 }
 
-// The plan of a run by these, where these labels are listed, between which a space stands.
+// The plan of a run by these, where these labels are listed, between which a space stands, and the order
+// is asked for or not.
 pub(crate) fn plan_by(
     alloc: Global,
     who: Who,
     limits: Limits,
     piece: u32,
-    labels: &str,
+    (labels, order): (&str, bool),
 ) -> Result<Plan, Fail> {
     let workers = match who {
         Who::Crew(workers) => workers,
         Who::Alone | Who::Helped(_) => 1,
     };
     let except = listed(alloc, labels).ok_or("labels")?;
-    match Plan::new(workers, piece, limits, except) {
+    match Plan::new(workers, piece, limits, except, order) {
         Some(plan) => Ok(plan),
         None => Err("no such plan".into()),
     }
