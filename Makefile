@@ -14,7 +14,7 @@ bin/aerodrome: $(SOURCES)
 	mkdir -p bin
 	cp crates/aerodrome/out/aerodrome bin/aerodrome
 
-# `rt ci`, and then the cases of tests/ on the program that it built.
+# `rt ci`, and then the cases and the check of printed orders in tests/ on the program that it built.
 test:
 	tests/all
 
