@@ -31,9 +31,9 @@ use std::thread::Threads;
 /// Where they ask for traces to be judged, it judges the files, or standard input where there are
 /// none, in which blocks with the labels that they give are no transactions, writes the report, with
 /// the serial orders where they ask for those, to standard output and flushes it, and then writes the
-/// notes on the sources to standard error. Help goes to standard output, which is flushed; why there is nothing to judge, and why the program
-/// fails, goes to standard error. Where standard error takes nothing, the status still tells. A read,
-/// a write or a flush that is interrupted is tried again.
+/// notes on the sources to standard error. Help goes to standard output, which is flushed; why there
+/// is nothing to judge, and why the program fails, goes to standard error. Where standard error takes
+/// nothing, the status still tells. A read, a write or a flush that is interrupted is tried again.
 pub fn answer<
     S: Read + Drop,
     F: Files + Drop,
