@@ -58,7 +58,20 @@ pub(crate) fn forget(led: &mut Led, t: u32)
     ensures { (v : ℕ) → followers led.new v ≡ (if v == t then [] else followers led.old v) }
 {
     if (t as usize) < led.lists.len() {
-        led.lists[t as usize].threads.clear();
+        empty(&mut led.lists[t as usize].threads);
+    }
+}
+
+// How many places a list keeps for the next block.
+const MOST_KEPT: usize = 64;
+
+// No threads, and no more memory than for a few.
+fn empty(threads: &mut Vec<u32>)
+    ensures { threads.new.items ≡ [] }
+{
+    threads.clear();
+    if threads.capacity() > MOST_KEPT {
+        threads.shrink_to_fit();
     }
 }
 
