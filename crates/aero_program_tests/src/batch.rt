@@ -594,26 +594,27 @@ fn the_report_is_the_same_whoever_helps(rt: HostRuntime) -> Result<(), Fail> {
         Habit::Leaves,
         Habit::Refuses,
     ];
+    let text = lines_of(rt.alloc(), WRITTEN_BETWEEN)?;
     for habit in habits {
         expect_three(&rt, Who::Helped(habit))?;
-        assert!(rt; has_order_of_two(&rt, Who::Helped(habit))?);
+        assert!(rt; has_order_of_two(&rt, &text, Who::Helped(habit))?);
     }
     for who in EVERYBODY {
         expect_three(&rt, who)?;
-        assert!(rt; has_order_of_two(&rt, who)?);
+        assert!(rt; has_order_of_two(&rt, &text, who)?);
     }
     Ok(())
 }
 
-// Two sources whose order is asked for, in pieces of one byte.
+// Two sources with this text whose order is asked for, in pieces of one byte.
 fn has_order_of_two<T: AllocGlobal + Threads + Wait + Copy + Send + 'static>(
     rt: &T,
+    text: &[u8],
     who: Who,
 ) -> Result<bool, Fail> {
-    let text = lines_of(rt.alloc(), WRITTEN_BETWEEN)?;
     let mut sources = Vec::new(rt.alloc());
-    sources.push(source_of(rt.alloc(), "a", text.as_slice())?)?;
-    sources.push(source_of(rt.alloc(), "b", text.as_slice())?)?;
+    sources.push(source_of(rt.alloc(), "a", text)?)?;
+    sources.push(source_of(rt.alloc(), "b", text)?)?;
     let mut writer = Counting::new(Vec::new(rt.alloc()));
     let plan = plan_by(rt.alloc(), who, Limits::greatest(), 1, ("", true))?;
     let outcome = run_planned(*rt, who, &mut sources, &mut writer, &plan)?;
