@@ -12,7 +12,7 @@
 //! ```text
 //! let plan = Plan::new(4, 65_536, Limits::greatest()).ok_or("no such plan")?;
 //! let reader = Counting::new(b"T1|begin\nT1|w(x)\nT1|end\n".as_slice());
-//! let mut sources = [Source { name: b"a".to_vec(alloc)?, reader }];
+//! let mut sources = [Source { name: b"a".to_vec(alloc)?, reader, may_wait: false }];
 //! let mut writer = Counting::new(Vec::new(alloc));
 //! let gate = Arc::new(alloc, NoGate)?;
 //! let outcome = run(rt, alloc, &mut sources, &mut writer, &plan, gate);

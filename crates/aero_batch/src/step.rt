@@ -18,8 +18,8 @@ use std::io::Read;
 use std::sync::Wait;
 
 /// One step: the verdict on a source is asked for, or a piece is read, or, where the oldest question has
-/// its answer, the window is full or nothing is left to read, that question is settled. So what is
-/// known of a source is told before the next read. An `AllocError` says that memory was refused.
+/// its answer, the window is full, the next read is the first of a source that may wait, or nothing is left
+/// to read, that question is settled. So what is known of a source is told before the next read. An `AllocError` says that memory was refused.
 pub fn step<R: Read, H: Helpers, T: Wait>(
     rt: &T,
     alloc: Global,
@@ -60,7 +60,15 @@ fn step_on<R: Read, H: Helpers, T: Wait>(
     }
     if !is_answered && progress.read < sources.len() {
         let source = &mut sources[progress.read];
-        return read_on(rt, alloc, plan, &mut source.reader, helpers, progress);
+        if !is_held_back(source, progress) {
+            return read_on(rt, alloc, plan, &mut source.reader, helpers, progress);
+        }
     }
     settle_next(rt, helpers, progress)
+}
+
+// Whether the next read is the first of a source that may wait, while questions on those before it are
+// open: what they say is told first.
+fn is_held_back<R>(source: &Source<R>, progress: &Progress) -> bool {
+    source.may_wait && progress.intake.count() == 0 && !progress.inquiry.is_settled()
 }

@@ -34,7 +34,7 @@ fn append_notes<S: Read + Drop, R: Files + Drop>(
 ) -> Result<(), AllocError>
     ensures { OnOk result (text.new.items ≡ text.old.items ++ note (noted_of source)) }
 {
-    let Source { name, reader } = source;
+    let Source { name, reader, .. } = source;
     let input = reader.into_inner();
     append_mark(text, &name, input.has_mark())?;
     append_reason(text, &name, input.reason())

@@ -10,10 +10,11 @@ use aero_batch::source::Source;
 use aero_model::counting::Counting;
 use std::alloc::{AllocError, Global};
 use std::io::Read;
+use std::path::Path;
 use std::rt::Files;
 
 /// Standard input, named `-`, where there are no words, and else the file of each word, named as
-/// its word. No file is touched yet.
+/// its word. No file is opened yet, and what is no plain file, a pipe say, is taken for one that may wait.
 pub fn sources_of<'a, S: Read + Drop, R: Files + Drop>(
     alloc: Global,
     files: &'a R,
@@ -32,6 +33,7 @@ pub fn sources_of<'a, S: Read + Drop, R: Files + Drop>(
     sources.push(Source {
         name: Vec::from_slice(alloc, b"-")?,
         reader: Counting::new(Input::standard(stdin)),
+        may_wait: true,
     })?;
     Ok(sources)
 }
@@ -66,5 +68,6 @@ fn file_of<'a, S: Read + Drop, R: Files + Drop>(
     Ok(Source {
         name: Vec::from_slice(alloc, word.as_bytes())?,
         reader: Counting::new(Input::path(alloc, files, word.as_str())?),
+        may_wait: !Path::new(word.as_str()).is_file(files),
     })
 }

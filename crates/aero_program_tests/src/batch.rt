@@ -85,6 +85,7 @@ fn source_of<R: Drop>(alloc: Global, name: &str, reader: R) -> Result<Source<R>,
     Ok(Source {
         name: name.as_bytes().to_vec(alloc)?,
         reader: Counting::new(reader),
+        may_wait: false,
     })
 }
 
