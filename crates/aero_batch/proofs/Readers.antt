@@ -12,7 +12,7 @@ use Rattle.aero_intake.specs.Stories.{changed}
 
 module _ {R : Type 0} (known : R → Option (List ℕ)) (sources : List (Source R)) (place : ℕ) (x : Source R) (reader : Counting R) (at : slice_get sources place ≡ Some x) where
   abbrev used : Source R
-  used = record { name = x.name; reader = reader }
+  used = record x { reader = reader }
 
   set_is : slice_set sources place used ≡ changed place (λ s. used) sources
   set_is = set_changed sources place x used (λ s. used) at refl
@@ -37,7 +37,7 @@ module _ {R : Type 0} (known : R → Option (List ℕ)) (sources : List (Source 
   }
 
 pub names_stay : {R : Type 0} (known : R → Option (List ℕ)) (sources : List (Source R)) (place : ℕ) (x : Source R) (reader : Counting R) → slice_get sources place ≡ Some x →
-    map (λ s. s.name) (map (sighted known) (slice_set sources place (record { name = x.name; reader = reader }))) ≡ map (λ s. s.name) (map (sighted known) sources)
+    map (λ s. s.name) (map (sighted known) (slice_set sources place (record x { reader = reader }))) ≡ map (λ s. s.name) (map (sighted known) sources)
 names_stay known [] place x reader at = refl
 names_stay known (c ∷ more) zero x reader at =
     let same : c ≡ x = cc at in

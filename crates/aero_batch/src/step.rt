@@ -58,17 +58,19 @@ fn step_on<R: Read, H: Helpers, T: Wait>(
     if progress.checked < progress.read && is_ready(&progress.tracks[progress.checked]) {
         return check_next(rt, alloc, plan, helpers, progress);
     }
-    if !is_answered && progress.read < sources.len() {
+    let is_settled_first = is_answered || is_held_back(sources, progress);
+    if !is_settled_first && progress.read < sources.len() {
         let source = &mut sources[progress.read];
-        if !is_held_back(source, progress) {
-            return read_on(rt, alloc, plan, &mut source.reader, helpers, progress);
-        }
+        return read_on(rt, alloc, plan, &mut source.reader, helpers, progress);
     }
     settle_next(rt, helpers, progress)
 }
 
 // Whether the next read is the first of a source that may wait, while questions on those before it are
 // open: what they say is told first.
-fn is_held_back<R>(source: &Source<R>, progress: &Progress) -> bool {
+fn is_held_back<R>(sources: &[Source<R>], progress: &Progress) -> bool {
+    let Some(source) = sources.get(progress.read) else {
+        return false;
+    };
     source.may_wait && progress.intake.count() == 0 && !progress.inquiry.is_settled()
 }
