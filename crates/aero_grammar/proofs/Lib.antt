@@ -1,3 +1,4 @@
+pub mod Clean
 pub mod Events
 pub mod Fields
 pub mod Joined

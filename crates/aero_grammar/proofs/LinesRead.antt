@@ -14,16 +14,21 @@ use Rattle.aero_grammar.specs.Reading.{Reading, after_lines, followed_by, whole_
 use Rattle.aero_grammar.proofs.Joined.{reading, followed_by_assoc, followed_by_nothing}
 
 -- no byte before the place n is 10
-EndsNowhere : ℕ → List ℕ → Type 0
+pub EndsNowhere : ℕ → List ℕ → Type 0
 EndsNowhere n text = (k : ℕ) → k < n → get_or text k 0 ≡ 10 → ⊥
 
-EndsNowhere-tail : (n x : ℕ) (text : List ℕ) → EndsNowhere (suc n) (x ∷ text) → EndsNowhere n text
+pub EndsNowhere-tail : (n x : ℕ) (text : List ℕ) → EndsNowhere (suc n) (x ∷ text) → EndsNowhere n text
 unfolding EndsNowhere
 EndsNowhere-tail n x text none k lt = none (suc k) (omega (arith, lt))
 
-head_stays : (n x : ℕ) (text : List ℕ) → EndsNowhere (suc n) (x ∷ text) → (x == 10) ≡ false
+pub head_stays : (n x : ℕ) (text : List ℕ) → EndsNowhere (suc n) (x ∷ text) → (x == 10) ≡ false
 unfolding EndsNowhere
 head_stays n x text none = ne_eqb x 10 (none 0 (omega arith))
+
+-- a search that found none below n says so
+pub ends_nowhere : (n : ℕ) (text : List ℕ) → Nowhere (Passes (is_byte 10) text) 0 n → EndsNowhere n text
+unfolding EndsNowhere
+ends_nowhere n text none k lt is = none k (omega arith) lt (eq-eqb (get_or text k 0) 10 is)
 
 -- the text is cut at its first byte 10
 split_at_end : (n : ℕ) (text : List ℕ) → n < length text → EndsNowhere n text → get_or text n 0 ≡ 10 →

@@ -1,5 +1,5 @@
 -- What a line says. A line comes without the byte 10 that ends it.
-use Rattle.std.specs.Prelude.{◌≡◌, ℕ, ◌-◌, ◌==◌, nat_lt, Bool, not, ◌&&◌, ◌||◌, if◌then◌else◌, List, length, take, drop, slice_index, bytes_eq, codes, Option, Some, None, Result, Ok, Err, ◌<◌, ◌⊎◌}
+use Rattle.std.specs.Prelude.{◌≡◌, ℕ, ◌-◌, ◌==◌, nat_lt, Bool, false, not, ◌&&◌, ◌||◌, if◌then◌else◌, List, length, take, drop, slice_index, bytes_eq, codes, Option, Some, None, Result, Ok, Err, ◌<◌, ◌⊎◌}
 use Rattle.std.specs.List.{list_any, list_all, prefix_len, suffix_len, before_first, after_first}
 use Rattle.std.specs.Str.Lines.{strip_carriage_return}
 use Rattle.aero_model.specs.declared.event.Op.{Op}
@@ -7,7 +7,7 @@ use Rattle.aero_model.specs.declared.event.Op.TheVariants.{Read, Write, Acquire,
 use Rattle.aero_model.specs.declared.verdict.LineFault.{LineFault}
 use Rattle.aero_model.specs.declared.verdict.LineFault.TheVariants.{TooLong, BadByte, NoOperation, EmptyThread, UnknownOperation, BadParenthesis, MissingTarget, NameTooLong, Memory}
 use Rattle.aero_model.specs.Exempt.{label_of}
-use Rattle.aero_model.specs.Lines.{is_too_long}
+use Rattle.aero_model.specs.Lines.{is_line_end, is_too_long}
 use Rattle.aero_model.specs.Named.{Named, stands_alone}
 use Rattle.aero_model.specs.Names.{is_bad_byte, most_name_bytes, most_inline_bytes}
 
@@ -26,6 +26,10 @@ is_parenthesis b = b == 40
 
 abbrev pub is_blank : ℕ → Bool
 is_blank b = (b == 32) || (b == 9)
+
+-- a byte that is bad and ends no line
+abbrev pub is_unfit : ℕ → Bool
+is_unfit b = if is_line_end b then false else is_bad_byte b
 
 -- the bytes without the spaces and tabs at both ends
 abbrev pub trimmed : List ℕ → List ℕ

@@ -1,10 +1,14 @@
 //! What a block of lines says.
-ghost use Rattle.std.specs.Prelude.{◌≡◌, ◌<◌, ◌≤◌, ◌^◌, ◌∷◌, length, IfOk, OnErr};
+ghost use Rattle.std.specs.Prelude.{◌≡◌, ◌<◌, ◌≤◌, ◌^◌, ◌∷◌, length, false, IfOk, OnErr};
+ghost use Rattle.std.specs.List.{list_any};
 ghost use Rattle.aero_model.specs.Lines.{lines_of};
+ghost use Rattle.aero_model.specs.Names.{is_bad_byte};
+ghost use Rattle.aero_grammar.specs.Meaning.{is_unfit};
 ghost use Rattle.aero_grammar.specs.Lists.{lists_in, labels_in};
 ghost use Rattle.aero_grammar.specs.Reading.{reading_of};
 ghost use Rattle.aero_grammar.specs.Tabled.{lines_in, IsBlock};
 
+use crate::bytes::has_clean_lines;
 use crate::line::words_of;
 use crate::parsed::Parsed;
 use crate::tables::Tables;
@@ -29,12 +33,13 @@ pub fn parse_block(alloc: Global, bytes: &[u8]) -> Result<Parsed, AllocError>
     let mut tables = Tables::new(alloc);
     let mut events = Vec::new(alloc);
     let mut lines = 0;
+    let is_clean = has_clean_lines(bytes);
     let mut rest = bytes;
     'lines: while !rest.is_empty() {
         let (line, behind) = first_line(rest);
         rest = behind;
         lines += 1;
-        match words_of(line) {
+        match words_of(line, is_clean) {
             Ok(None) => {}
             Ok(Some(words)) => events.push((lines, tables.number(words)?))?,
             Err(fault) => return Ok(parsed(tables, events, lines, Some((lines, fault)))),
@@ -77,6 +82,8 @@ fn first_line(text: &[u8]) -> (&[u8], &[u8])
     requires { 0 < length text.now }
     ensures lines { lines_of text.now ≡ result.0.now ∷ lines_of result.1.now }
     ensures shorter { length result.1.now < length text.now }
+    ensures good { list_any is_unfit text.now ≡ false → list_any is_bad_byte result.0.now ≡ false }
+    ensures fit { list_any is_unfit text.now ≡ false → list_any is_unfit result.1.now ≡ false }
 {
     match memchr(b'\n', text) {
         Some(end) => (&text[..end], &text[end + 1..]),

@@ -1,9 +1,9 @@
 // Parts of a line's bytes.
-ghost use Rattle.std.specs.Prelude.{◌≡◌, ◌-◌, ◌≤◌, ◌==◌, length, take, drop, is_some, IfSome};
+ghost use Rattle.std.specs.Prelude.{◌≡◌, ◌-◌, ◌≤◌, ◌==◌, length, take, drop, is_some, IfSome, IsTrue, true, false};
 ghost use Rattle.std.specs.List.{list_any, list_all, prefix_len, suffix_len, position_or_len};
 ghost use Rattle.std.specs.Str.Lines.{strip_carriage_return};
 ghost use Rattle.aero_model.specs.Names.{is_bad_byte as is_bad};
-ghost use Rattle.aero_grammar.specs.Meaning.{is_bar, is_blank as is_blank_byte, trimmed as trimmed_bytes, thread_field, operation_field};
+ghost use Rattle.aero_grammar.specs.Meaning.{is_bar, is_unfit, is_blank as is_blank_byte, trimmed as trimmed_bytes, thread_field, operation_field};
 
 use aero_model::bytes::is_bad_byte;
 
@@ -28,6 +28,35 @@ pub fn has_bad_byte(text: &[u8]) -> bool
         bad |= is_bad_byte(*byte);
     }
     bad
+}
+
+// Whether a byte of the text is bad. Where it is known that none is, none is looked at.
+#[inline(always)]
+pub fn is_bad_text(text: &[u8], is_clean: bool) -> bool
+    requires { is_clean ≡ true → list_any is_bad text.now ≡ false }
+    ensures { result ≡ list_any is_bad text.now }
+{
+    !is_clean && has_bad_byte(text)
+}
+
+// Whether no byte of the block is bad but those that end lines. It looks at every byte, since many are
+// then tested at once.
+pub fn has_clean_lines(block: &[u8]) -> bool
+    ensures { IsTrue result → list_any is_unfit block.now ≡ false }
+{
+    let mut unfit = false;
+    for byte in block {
+        unfit |= is_unfit_byte(*byte);
+    }
+    !unfit
+}
+
+// Without a branch, so that many bytes can be tested at once.
+#[inline(always)]
+fn is_unfit_byte(byte: u8) -> bool
+    ensures { result ≡ is_unfit byte }
+{
+    (byte < 9) | ((byte > 10) & (byte < 32)) | (byte == 127)
 }
 
 // A space or a tab.

@@ -1,8 +1,11 @@
 //! What one line says.
+ghost use Rattle.std.specs.Prelude.{◌≡◌, true, false};
+ghost use Rattle.std.specs.List.{list_any};
+ghost use Rattle.aero_model.specs.Names.{is_bad_byte};
 ghost use Rattle.aero_grammar.specs.Meaning.{TellsMeaning, meaning};
 ghost use Rattle.aero_grammar.specs.Words.{ReadsMeaning};
 
-use crate::bytes::{fields, has_bad_byte, is_all_blank, without_return};
+use crate::bytes::{fields, is_all_blank, is_bad_text, without_return};
 use crate::operation::parse_operation;
 use crate::words::{Words, event_of};
 use aero_model::bytes::MOST_LINE_BYTES;
@@ -33,23 +36,25 @@ use std::alloc::Global;
 pub fn parse_line(alloc: Global, line: &[u8]) -> Result<Option<Event>, LineFault>
     ensures { TellsMeaning result (meaning line.now) }
 {
-    match words_of(line) {
+    match words_of(line, false) {
         Ok(None) => Ok(None),
         Ok(Some(words)) => event_of(alloc, words).map(Some),
         Err(fault) => Err(fault),
     }
 }
 
-// The words of one line, with no name copied.
+// The words of one line, with no name copied. Where it is known that none of its bytes is bad, none is
+// looked at for that.
 #[inline(always)]
-pub fn words_of(line: &[u8]) -> Result<Option<Words<'_>>, LineFault>
+pub(crate) fn words_of(line: &[u8], is_clean: bool) -> Result<Option<Words<'_>>, LineFault>
+    requires { is_clean ≡ true → list_any is_bad_byte line.now ≡ false }
     ensures { ReadsMeaning result (meaning line.now) }
 {
     if line.len() > MOST_LINE_BYTES {
         return Err(LineFault::TooLong);
     }
     let text = without_return(line);
-    if has_bad_byte(text) {
+    if is_bad_text(text, is_clean) {
         return Err(LineFault::BadByte);
     }
     if is_all_blank(text) {

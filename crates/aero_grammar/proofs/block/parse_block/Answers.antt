@@ -20,6 +20,7 @@ lines-init c = record {
   tabled = tabled_as _ _ _ _ _ _ c.new-tables.ensures.none c.new-tables.ensures.unlabelled c.new-events.ensures.items nothing_tabled;
   names = names_as _ _ _ _ c.new-tables.ensures.none c.new-tables.ensures.unlabelled no_names;
   counted = omega arith;
+  fit = c.has_clean_lines-is_clean.ensures;
   room = room_within (c.new-tables.result) (2 ^ 32 - 1) (2 * length c.args.bytes.now) (omega (arith, c.requires)) c.new-tables.ensures.room;
 }
 
@@ -33,8 +34,12 @@ lines-preserved-in-Ok-None c =
       tabled = c.lines.invariant.tabled;
       names = c.lines.invariant.names;
       room = room_within c.lines.tables (2 * length c.lines.rest.now) (2 * length c.first_line.result.1.now) (omega (arith, c.first_line.ensures.shorter)) c.lines.invariant.room;
+      fit = λ clean. c.first_line.ensures.fit (c.lines.invariant.fit clean);
       counted = omega (arith, c.lines.invariant.counted, c.first_line.ensures.shorter);
     }
+
+pub words_of-requires : goal.words_of-requires
+words_of-requires c = λ clean. c.first_line.ensures.good (c.lines.invariant.fit clean)
 
 pub number-requires-clause-event : goal.number-requires-clause-event
 number-requires-clause-event c =
@@ -67,6 +72,7 @@ lines-preserved c =
       tabled = tabled_as _ _ _ _ _ _ tables_are labels_are events_are (tabled_pushed tables labels events c.lines.invariant.tabled n e event.has_target);
       names = names_as _ _ _ _ tables_are labels_are (names_added tables labels e event c.lines.invariant.names);
       room = room_left c.lines.tables c.number.new.self (2 * length c.lines.rest.now) (2 * length c.first_line.result.1.now) 2 (omega (arith, c.first_line.ensures.shorter)) c.lines.invariant.room c.in_ok-number-in-Ok-Some.ensures.grown;
+      fit = λ clean. c.first_line.ensures.fit (c.lines.invariant.fit clean);
       counted = omega (arith, c.lines.invariant.counted, c.first_line.ensures.shorter);
     }
 

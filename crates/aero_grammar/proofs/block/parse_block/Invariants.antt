@@ -1,4 +1,6 @@
-use Rattle.std.proofs.Common.{◌≡◌, ◌≤◌, ◌+◌, ◌*◌, None, length}
+use Rattle.std.proofs.Common.{◌≡◌, ◌≤◌, ◌+◌, ◌*◌, None, length, true, false}
+use Rattle.std.specs.List.{list_any}
+use Rattle.aero_grammar.specs.Meaning.{is_unfit}
 use Rattle.aero_grammar.specs.Lists.{lists_in, labels_in, HasRoom}
 use Rattle.aero_grammar.specs.Reading.{followed_by, reading_of}
 use Rattle.aero_grammar.specs.Tabled.{lines_in, IsTabled, AreNames}
@@ -10,6 +12,7 @@ invariant-lines l = record {
   tabled : IsTabled (lists_in l.tables) (labels_in l.tables) l.events.items;
   names : AreNames (lists_in l.tables) (labels_in l.tables);
   room : HasRoom l.tables (2 * length l.rest);
+  fit : l.is_clean ≡ true → list_any is_unfit l.rest ≡ false;
   counted : l.lines + length l.rest ≤ length l.bytes;
 }
 
