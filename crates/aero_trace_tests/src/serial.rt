@@ -71,7 +71,7 @@ const ORDERED: [Row; 12] = [
     ("", "+//+", "", "serializable 0 0/"),
     (
         "",
-        "T1|w(x)/T2|r(x)/+",
+        "T1|w(x)|5/T2|r(x)|6/+",
         "1/2/",
         "serializable 2 0/1 T1/2 T2/",
     ),
@@ -135,12 +135,24 @@ const ORDERED: [Row; 12] = [
 ];
 
 // Open blocks have an order, if there is no cycle, and it isn't told with the verdict.
-const NOT_TOLD: [Row; 8] = [
+const NOT_TOLD: [Row; 11] = [
     ("", "T1|begin/T1|w(x)/+", "1/", "pending 2 1 1"),
     ("", "T1|begin/T2|w(x)/T1|r(x)/+", "2/1/", "pending 3 1 1"),
     (
         "",
+        "T1|begin/T2|begin/T1|w(x)/T2|w(y)/T1|r(y)/+",
+        "2/1/",
+        "pending 5 2 2",
+    ),
+    (
+        "",
         "T1|begin/T2|begin/T1|r(x)/T2|r(y)/T1|w(y)/T2|w(x)/+",
+        "none",
+        "pending 6 2 2",
+    ),
+    (
+        "",
+        "T1|begin/T2|begin/T2|w(y)/T1|w(x)/T2|r(x)/T1|r(y)/+",
         "none",
         "pending 6 2 2",
     ),
@@ -150,6 +162,7 @@ const NOT_TOLD: [Row; 8] = [
         "none",
         "violation 6 T1 1",
     ),
+    ("", "T1|r()/+", "none", "malformed 1 MissingTarget"),
     ("", "T1|w(x)/T+", "none", "malformed 2 NoOperation"),
     ("", "T1|begin/T+T1|end/+", "none", "malformed 2 NoOperation"),
     (
