@@ -11,13 +11,13 @@ use Rattle.aero_model.proofs.Depths.{AtOpening, AtClosing, AtOther, step}
 use Rattle.aero_model.proofs.Ends.{in_cases, begun, begin_in, deep_in}
 use Rattle.aero_model.proofs.Begins.{blocks_rise, last_in_open}
 use Rattle.aero_access.specs.declared.slot.Slot.{Slot}
-use Rattle.aero_access.specs.Slots.{is_read_of, is_write_of, of_slot, last_of}
+use Rattle.aero_access.specs.Slots.{of_slot, last_of}
 use Rattle.aero_access.proofs.LastEvents.{is_last, last_covers}
-use Rattle.aero_order.specs.Kept.{IsKept, AreReads, is_looked_at, Keeps, with_reader, looked_back, edges_to}
+use Rattle.aero_order.specs.Kept.{IsKept, AreReadsAfter, is_looked_at, Keeps, looked_back, AreLinked}
 use Rattle.aero_order.specs.Numbering.{IsNumbered}
 use Rattle.aero_order.specs.Numbers.{AreFirsts, HasNumber, AreEdges}
 use Rattle.aero_order.proofs.Growing.{firsts_begun, firsts_kept, number_more, number_kept, number_new, edges_more}
-use Rattle.aero_order.proofs.Keeping.{sources, keeps_step}
+use Rattle.aero_order.proofs.Keeping.{are_sources, keeps_step}
 
 -- whether an event that follows these is in a block that has begun
 abbrev pub is_inside : List Numbered → Numbered → Bool
@@ -97,14 +97,14 @@ module _ (trace : List Numbered) (e : Numbered) (firsts : List ℕ) (edges : Lis
   -- the event is added, and its transaction has the number v
   pub record Added (longer : List ℕ) (v : ℕ) : Type 0 where
     pub numbered : AreFirsts (trace ++ e ∷ []) longer
-    pub linked : AreEdges (trace ++ e ∷ []) longer (edges ++ edges_to v (looked_back kept reads own_last e))
-    pub noted : Keeps (trace ++ e ∷ []) longer (λ s. if of_slot s e then Some v else kept s) (λ x. if is_read_of x e.what then with_reader (reads x) v else if is_write_of x e.what then [] else reads x) (λ u. if e.thread == u then Some v else own_last u)
+    pub linked : (longest : List (ℕ × ℕ)) → AreLinked edges v (looked_back kept reads own_last e) longest → AreEdges (trace ++ e ∷ []) longer longest
+    pub noted : (reads_after : ℕ → List ℕ) → AreReadsAfter e.what v reads reads_after → Keeps (trace ++ e ∷ []) longer (λ s. if of_slot s e then Some v else kept s) reads_after (λ u. if e.thread == u then Some v else own_last u)
 
   added : (longer : List ℕ) (v : ℕ) → AreFirsts (trace ++ e ∷ []) longer → ((x : Transaction) (u : ℕ) → HasNumber trace firsts x u → HasNumber (trace ++ e ∷ []) longer x u) → HasNumber (trace ++ e ∷ []) longer (transaction (trace ++ e ∷ []) (length trace)) v → Added longer v
   added longer v f keep new = record {
     numbered = f;
-    linked = edges_more trace e firsts longer edges v _ keep new (sources trace firsts kept reads own_last keeps e longer v keep new f) leads;
-    noted = keeps_step trace firsts kept reads own_last keeps e longer v keep new;
+    linked = λ longest l. edges_more trace e firsts longer edges longest v _ keep new (are_sources trace firsts kept reads own_last keeps e longer v keep new f) l leads;
+    noted = λ reads_after after. keeps_step trace firsts kept reads own_last keeps e longer v keep new reads_after after;
   }
 
   known_number : (v : ℕ) → own_last e.thread ≡ Some v → (i : ℕ) × (last_of (λ f. f.thread == e.thread) trace (length trace) ≡ Some i) × HasNumber trace firsts (transaction trace i) v
@@ -145,9 +145,9 @@ module _ (trace : List Numbered) (e : Numbered) (firsts : List ℕ) (edges : Lis
   add_event false i None k longer v (q, r) = subst (λ xs. Added xs v) (sym r) (subst (Added (firsts ++ length trace ∷ [])) (sym q) (add_new (sym i)))
 
 -- what is kept may be given by other functions
-pub keeps_as : (trace : List Numbered) (firsts : List ℕ) (kept kept' : Slot → Option ℕ) (reads reads' : ℕ → List ℕ) (own own' : ℕ → Option ℕ) → Keeps trace firsts kept reads own → ((s : Slot) → is_looked_at s ≡ true → kept' s ≡ kept s) → ((x : ℕ) → reads' x ≡ reads x) → ((t : ℕ) → own' t ≡ own t) → Keeps trace firsts kept' reads' own'
-keeps_as trace firsts kept kept' reads reads' own own' k same_kept same_reads same_own = record {
+pub keeps_as : (trace : List Numbered) (firsts : List ℕ) (kept kept' : Slot → Option ℕ) (reads : ℕ → List ℕ) (own own' : ℕ → Option ℕ) → Keeps trace firsts kept reads own → ((s : Slot) → is_looked_at s ≡ true → kept' s ≡ kept s) → ((t : ℕ) → own' t ≡ own t) → Keeps trace firsts kept' reads own'
+keeps_as trace firsts kept kept' reads own own' k same_kept same_own = record {
   slots = λ s part. subst (IsKept trace firsts _) (sym (same_kept s part)) (k.slots s part);
-  read = λ x. subst (AreReads trace firsts x) (sym (same_reads x)) (k.read x);
+  read = k.read;
   owns = λ t. subst (IsKept trace firsts _) (sym (same_own t)) (k.owns t);
 }

@@ -1,9 +1,9 @@
 -- One more event: the numbers of the transactions and the edges between them.
-use Rattle.std.proofs.Common.{◌≡◌, ◌≢◌, ◌⊎◌, ℕ, zero, suc, ◌<◌, ◌==◌, Bool, List, [], ◌∷◌, ◌++◌, length, map, Some, inl, inr, refl, sym, ◌∙◌, ap, subst, le_refl, arith}
+use Rattle.std.proofs.Common.{◌≡◌, ◌≢◌, ◌⊎◌, ℕ, zero, suc, ◌<◌, ◌==◌, Bool, List, [], ◌∷◌, ◌++◌, length, Some, inl, inr, refl, sym, ◌∙◌, ap, subst, le_refl, arith}
 use Rattle.std.specs.Prelude.{slice_get, Contains}
 use Rattle.std.proofs.lemmas.Bool.{cases_eq}
 use Rattle.std.proofs.lemmas.List.{length_push}
-use Rattle.std.proofs.lemmas.List.Elements.{Contains-append_left, Contains-append_right, Contains-append_cases, Contains-push}
+use Rattle.std.proofs.lemmas.List.Elements.{Contains-append_left, Contains-push}
 use Rattle.std.proofs.lemmas.Option.{slice_get_within}
 use Rattle.aero_model.specs.declared.numbered.Numbered.{Numbered}
 use Rattle.aero_model.specs.Blocks.{Transaction, transaction}
@@ -14,6 +14,7 @@ use Rattle.aero_model.proofs.SerialOrders.{at_push}
 use Rattle.aero_access.specs.declared.slot.Slot.TheVariants.{OfThread, LastWrite, LastRelease}
 use Rattle.aero_access.specs.Slots.{of_slot, last_of}
 use Rattle.aero_access.proofs.LastEvents.{last_same}
+use Rattle.aero_order.specs.Kept.{AreLinked}
 use Rattle.aero_order.specs.Near.{Near, own, read, write, write_after_read, acquire, join}
 use Rattle.aero_order.specs.Numbers.{AreFirsts, HasNumber, AreEdges}
 use Rattle.aero_order.proofs.Chains.{near_conflict}
@@ -133,50 +134,35 @@ module _ (trace : List Numbered) (e : Numbered) where
         conflict = conflict_same n trace more agree d.from d.to w c;
       }
 
-  -- the event's edges come from the transactions of those near it
-  pub record AreSources (firsts sources : List ℕ) : Type 0 where
-    pub sound : (u : ℕ) → Contains sources u → (i : ℕ) × Near more i n × (transaction more i ≢ transaction more n) × HasNumber more firsts (transaction more i) u
-    pub near : (i : ℕ) → Near more i n → transaction more i ≢ transaction more n → (u : ℕ) × HasNumber more firsts (transaction more i) u × Contains sources u
+  -- the event's edges to the number v come from the transactions of those near it
+  pub record AreSources (firsts : List ℕ) (v : ℕ) (sources : List ℕ) : Type 0 where
+    pub sound : (u : ℕ) → Contains sources u → u ≢ v → (i : ℕ) × Near more i n × (transaction more i ≢ transaction more n) × HasNumber more firsts (transaction more i) u
+    pub near : (i : ℕ) → Near more i n → transaction more i ≢ transaction more n → (u : ℕ) × HasNumber more firsts (transaction more i) u × Contains sources u × (u ≢ v)
 
-  -- edges from the sources to the number v
-  abbrev pub into : ℕ → List ℕ → List (ℕ × ℕ)
-  into v sources = map (λ u. (u, v)) sources
-
-  in_into : (v : ℕ) (sources : List ℕ) (u : ℕ) → Contains sources u → Contains (into v sources) (u, v)
-  in_into v [] u (k, l, q) = absurd (omega arith)
-  in_into v (s ∷ ss) u (zero, l, q) = (zero, omega arith, ap (λ w. (w, v)) q)
-  in_into v (s ∷ ss) u (suc k, l, q) = let c = in_into v ss u (k, omega arith, q) in (suc c.0, omega (arith, c.1), c.2)
-
-  from_into : (v : ℕ) (sources : List ℕ) (d : ℕ × ℕ) → Contains (into v sources) d → Contains sources d.0 × (d.1 ≡ v)
-  from_into v [] d (k, l, q) = absurd (omega arith)
-  from_into v (s ∷ ss) d (zero, l, q) = ((zero, omega arith, ap (λ (p : ℕ × ℕ). p.0) q), sym (ap (λ (p : ℕ × ℕ). p.1) q))
-  from_into v (s ∷ ss) d (suc k, l, q) = let r = from_into v ss d (k, omega arith, q) in let c = r.0 in ((suc c.0, omega (arith, c.1), c.2), r.1)
-
-  pub edges_more : (firsts longer : List ℕ) (edges : List (ℕ × ℕ)) (v : ℕ) (sources : List ℕ) → ((x : Transaction) (u : ℕ) → HasNumber trace firsts x u → HasNumber more longer x u) → HasNumber more longer (transaction more n) v → AreSources longer sources → AreEdges trace firsts edges → AreEdges more longer (edges ++ into v sources)
-  edges_more firsts longer edges v sources keeps at_v s old = record { sound = sound; near = near }
+  pub edges_more : (firsts longer : List ℕ) (edges longest : List (ℕ × ℕ)) (v : ℕ) (sources : List ℕ) → ((x : Transaction) (u : ℕ) → HasNumber trace firsts x u → HasNumber more longer x u) → HasNumber more longer (transaction more n) v → AreSources longer v sources → AreLinked edges v sources longest → AreEdges trace firsts edges → AreEdges more longer longest
+  edges_more firsts longer edges longest v sources keeps at_v s linked old = record { sound = sound; near = near }
     where
       within : (i j : ℕ) → Near more i j → j < suc n
       within i j d = let c = near_conflict more i j d in omega (arith, slice_get_within more j c.second c.second_at, length_more)
 
-      sound : (u w : ℕ) → Contains (edges ++ into v sources) (u, w) → (x y : Transaction) × HasNumber more longer x u × HasNumber more longer y w × Edge more (length more) x y
-      sound u w c = elim (Contains-append_cases edges (into v sources) (u, w) c) [
+      sound : (u w : ℕ) → Contains longest (u, w) → (x y : Transaction) × HasNumber more longer x u × HasNumber more longer y w × Edge more (length more) x y
+      sound u w c = elim (linked.only u w c) [
         | inl o ↦ (let r = old.sound u w o in (r.0, r.1, keeps r.0 u r.2, keeps r.1 w r.3, edge_more r.0 r.1 r.4))
-        | inr o ↦
-            let p = from_into v sources (u, w) o in
-            let r = s.sound u p.0 in
+        | inr p ↦
+            let r = s.sound u p.0 p.1 in
             let d : Edge more (length more) (transaction more r.0) (transaction more n) =
             record { apart = r.2; from = r.0; from_in = refl; to = n; to_in = refl; within = omega (arith, length_more); conflict = near_conflict more r.0 n r.1 } in
-            (transaction more r.0, transaction more n, r.3, subst (HasNumber more longer (transaction more n)) (sym p.1) at_v, d)
+            (transaction more r.0, transaction more n, r.3, subst (HasNumber more longer (transaction more n)) (sym p.2) at_v, d)
       ]
 
-      near : (i j : ℕ) → Near more i j → transaction more i ≢ transaction more j → (u w : ℕ) × HasNumber more longer (transaction more i) u × HasNumber more longer (transaction more j) w × Contains (edges ++ into v sources) (u, w)
+      near : (i j : ℕ) → Near more i j → transaction more i ≢ transaction more j → (u w : ℕ) × HasNumber more longer (transaction more i) u × HasNumber more longer (transaction more j) w × Contains longest (u, w)
       near i j d apart = elim (cases_eq j n) [
         | inl q ↦
             let r = s.near i (subst (Near more i) q d) (λ o. apart (o ∙ ap (transaction more) (sym q))) in
-            (r.0, v, r.1, subst (λ k. HasNumber more longer (transaction more k) v) (sym q) at_v, Contains-append_right edges (into v sources) (r.0, v) (in_into v sources r.0 r.2))
+            (r.0, v, r.1, subst (λ k. HasNumber more longer (transaction more k) v) (sym q) at_v, linked.each r.0 r.2 r.3)
         | inr other ↦
             let less : j < n = omega (arith, within i j d) in
             let before = (near_conflict more i j d).earlier in
             let r = old.near i j (near_same n more trace (agree_back n trace more agree) i j less d) (λ o. apart (sym (same i (omega arith)) ∙ o ∙ same j less)) in
-            (r.0, r.1, subst (λ x. HasNumber more longer x r.0) (same i (omega arith)) (keeps (transaction trace i) r.0 r.2), subst (λ x. HasNumber more longer x r.1) (same j less) (keeps (transaction trace j) r.1 r.3), Contains-append_left edges (into v sources) (r.0, r.1) r.4)
+            (r.0, r.1, subst (λ x. HasNumber more longer x r.0) (same i (omega arith)) (keeps (transaction trace i) r.0 r.2), subst (λ x. HasNumber more longer x r.1) (same j less) (keeps (transaction trace j) r.1 r.3), linked.stay (r.0, r.1) r.4)
       ]

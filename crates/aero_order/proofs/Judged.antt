@@ -1,15 +1,17 @@
 -- An event as it is judged looks back as the one that was read, and is kept as it.
 use Rattle.std.proofs.Common.{◌≡◌, ℕ, ◌==◌, ◌&&◌, ◌||◌, ◌++◌, List, Option, None, refl, sym, ◌∙◌, ap, ap₂}
 use Rattle.std.specs.Option.{option_to_list}
+use Rattle.std.proofs.lemmas.Bool.{eq-eqb}
 use Rattle.aero_model.specs.declared.numbered.Numbered.{Numbered}
 use Rattle.aero_model.specs.declared.numbered.What.{What}
-use Rattle.aero_model.specs.declared.numbered.What.TheVariants.{Begin, End, Exempt}
+use Rattle.aero_model.specs.declared.numbered.What.TheVariants.{Begin, End, Exempt, Read, Write}
 use Rattle.aero_model.specs.Exempt.{IsBare, IsJudgedWhat, IsJudgedAs}
 use Rattle.aero_model.specs.Shape.{is_fork_of, is_release_of}
 use Rattle.aero_access.specs.declared.slot.Slot.{Slot}
 use Rattle.aero_access.specs.declared.slot.Slot.TheVariants.{OfThread, LastWrite, LastRead, LastRelease}
 use Rattle.aero_access.specs.Slots.{is_read_of, is_write_of, of_slot}
-use Rattle.aero_order.specs.Kept.{looked_at, looked_back}
+use Rattle.aero_access.proofs.LastEvents.{read_is, write_is}
+use Rattle.aero_order.specs.Kept.{AreReadsAfter, looked_at, looked_back}
 
 bare_same : {X : Type 0} (f : What → X) → ((label : Option ℕ) → f (Begin label) ≡ f Exempt) → f End ≡ f Exempt → (judged : What) → IsBare judged → f judged ≡ f Exempt
 bare_same f begins ends (Begin None) is = begins None
@@ -41,3 +43,16 @@ module _ (e judged : Numbered) (is : IsJudgedAs e judged) where
   looks_same kept reads own_last =
       ap₂ (λ t us. option_to_list (kept (OfThread t)) ++ us) is.thread
       (what_same (looked_at kept reads own_last) (λ label. refl) refl e.what judged.what is.what)
+
+  pub reads_same : (v : ℕ) (old new : ℕ → List ℕ) → AreReadsAfter e.what v old new → AreReadsAfter judged.what v old new
+  reads_same v old new after = record {
+    read = λ x is. after.read x (read_back x is);
+    write = λ x is. after.write x (write_back x is);
+    other = λ x no_read no_write. after.other x (λ is. no_read (read_is x judged.what (read_same x ∙ ap (is_read_of x) is ∙ eq-eqb x x refl))) (λ is. no_write (write_is x judged.what (write_same x ∙ ap (is_write_of x) is ∙ eq-eqb x x refl)));
+  }
+    where
+      read_back : (x : ℕ) → judged.what ≡ Read x → e.what ≡ Read x
+      read_back x is = read_is x e.what (sym (read_same x) ∙ ap (is_read_of x) is ∙ eq-eqb x x refl)
+
+      write_back : (x : ℕ) → judged.what ≡ Write x → e.what ≡ Write x
+      write_back x is = write_is x e.what (sym (write_same x) ∙ ap (is_write_of x) is ∙ eq-eqb x x refl)

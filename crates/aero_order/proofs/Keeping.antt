@@ -1,8 +1,7 @@
 -- What is kept after one more event, whose transaction has the number v.
-use Rattle.std.proofs.Common.{◌≡◌, ◌≢◌, ◌⊎◌, ℕ, zero, suc, ◌<◌, ◌==◌, not, Bool, true, false, List, [], ◌∷◌, ◌++◌, length, Option, Some, None, inl, inr, refl, sym, ◌∙◌, ap, subst, le_refl, arith}
+use Rattle.std.proofs.Common.{◌≡◌, ◌≢◌, ◌⊎◌, ℕ, suc, ◌<◌, ◌==◌, Bool, true, false, List, [], ◌∷◌, ◌++◌, length, Option, Some, None, inl, inr, refl, sym, ◌∙◌, ap, subst, le_refl, arith}
 use Rattle.std.specs.Prelude.{slice_get, Contains, if◌then◌else◌}
-use Rattle.std.specs.List.{filter}
-use Rattle.std.proofs.lemmas.Bool.{cases_Bool, cases_eq, cases_order, ne_eqb, eq-eqb, cond-true, cond-false, not_from_false, not-true, both_ways}
+use Rattle.std.proofs.lemmas.Bool.{cases_Bool, cases_eq, cases_order, eq-eqb, cond-true, cond-false, both_ways}
 use Rattle.std.proofs.lemmas.List.{length_push}
 use Rattle.std.proofs.lemmas.Option.{same_Some}
 use Rattle.aero_model.specs.declared.numbered.Numbered.{Numbered}
@@ -13,34 +12,12 @@ use Rattle.aero_model.proofs.Ready.{one_first}
 use Rattle.aero_access.specs.declared.slot.Slot.{Slot}
 use Rattle.aero_access.specs.Slots.{is_read_of, is_write_of, of_slot, last_of}
 use Rattle.aero_access.proofs.LastEvents.{read_is, write_is, is_last, last_same, last_new, last_kept}
-use Rattle.aero_order.specs.Kept.{IsKept, AreReads, Keeps, with_reader}
+use Rattle.aero_order.specs.Kept.{IsKept, AreReads, AreReadsAfter, Keeps}
 use Rattle.aero_order.specs.Near.{NoWriteBetween, Near}
 use Rattle.aero_order.specs.Numbers.{AreFirsts, HasNumber, AreEdges}
 use Rattle.aero_order.proofs.Chains.{near_conflict}
 use Rattle.aero_order.proofs.Growing.{AreSources}
 use Rattle.aero_order.proofs.Candidates.{numbers, numbers_near, near_numbers}
-use Rattle.aero_order.proofs.Readers.{reader_stands, readers_stay, reader_cases}
-
-in_filter : (p : ℕ → Bool) (xs : List ℕ) (u : ℕ) → Contains xs u → p u ≡ true → Contains (filter p xs) u
-in_filter p [] u (k, l, e) t = absurd (omega arith)
-in_filter p (x ∷ xs) u (zero, l, e) t = subst (λ ys. Contains ys u) (sym (cond-true (p x) (x ∷ filter p xs) (filter p xs) (ap p e ∙ t))) (zero, omega arith, e)
-in_filter p (x ∷ xs) u (suc k, l, e) t =
-    let c = in_filter p xs u (k, omega arith, e) t in
-    elim (cases_Bool (p x)) [
-      | inl q ↦ subst (λ ys. Contains ys u) (sym (cond-true (p x) (x ∷ filter p xs) (filter p xs) q)) (suc c.0, omega (arith, c.1), c.2)
-      | inr q ↦ subst (λ ys. Contains ys u) (sym (cond-false (p x) (x ∷ filter p xs) (filter p xs) q)) c
-    ]
-
-from_filter : (p : ℕ → Bool) (xs : List ℕ) (u : ℕ) → Contains (filter p xs) u → Contains xs u × (p u ≡ true)
-from_filter p [] u (k, l, e) = absurd (omega arith)
-from_filter p (x ∷ xs) u c = elim (cases_Bool (p x)) [
-  | inl q ↦ here q (subst (λ ys. Contains ys u) (cond-true (p x) (x ∷ filter p xs) (filter p xs) q) c) (from_filter p xs u)
-  | inr q ↦ (let r = from_filter p xs u (subst (λ ys. Contains ys u) (cond-false (p x) (x ∷ filter p xs) (filter p xs) q) c) in let d = r.0 in ((suc d.0, omega (arith, d.1), d.2), r.1))
-]
-  where
-    here : p x ≡ true → Contains (x ∷ filter p xs) u → (Contains (filter p xs) u → Contains xs u × (p u ≡ true)) → Contains (x ∷ xs) u × (p u ≡ true)
-    here q (zero, l, e) rest = ((zero, omega arith, e), ap p (sym e) ∙ q)
-    here q (suc k, l, e) rest = let r = rest (k, omega arith, e) in let d = r.0 in ((suc d.0, omega (arith, d.1), d.2), r.1)
 
 -- a transaction has one number
 one_number : (trace : List Numbered) (firsts : List ℕ) (x : Transaction) (u v : ℕ) → AreFirsts trace firsts → HasNumber trace firsts x u → HasNumber trace firsts x v → u ≡ v
@@ -76,29 +53,24 @@ module _ (trace : List Numbered) (firsts : List ℕ) (kept : Slot → Option ℕ
   number_of : (i u : ℕ) → i < n → HasNumber trace firsts (transaction trace i) u → HasNumber more longer (transaction more i) u
   number_of i u l h = subst (λ x. HasNumber more longer x u) (transaction_same n trace more agree i l) (keep (transaction trace i) u h)
 
-  abbrev is_other : ℕ → Bool
-  is_other u = not (u == v)
-
   -- the numbers that the event looks back to, but its own, are its sources
-  pub sources : AreFirsts more longer → AreSources trace e longer (filter is_other (numbers trace firsts kept reads own_last keeps e e.what))
-  sources f = record { sound = sound; near = near }
+  pub are_sources : AreFirsts more longer → AreSources trace e longer v (numbers trace firsts kept reads own_last keeps e e.what)
+  are_sources f = record { sound = sound; near = near }
     where
       candidates : List ℕ
       candidates = numbers trace firsts kept reads own_last keeps e e.what
 
-      sound : (u : ℕ) → Contains (filter is_other candidates) u → (i : ℕ) × Near more i n × (transaction more i ≢ transaction more n) × HasNumber more longer (transaction more i) u
-      sound u c =
-          let p = from_filter is_other candidates u c in
-          let r = numbers_near trace firsts kept reads own_last keeps e u p.0 in
+      sound : (u : ℕ) → Contains candidates u → u ≢ v → (i : ℕ) × Near more i n × (transaction more i ≢ transaction more n) × HasNumber more longer (transaction more i) u
+      sound u c other =
+          let r = numbers_near trace firsts kept reads own_last keeps e u c in
           let h = number_of r.0 u ((near_conflict more r.0 n (r.1).0).earlier) (r.1).1 in
-          (r.0, (r.1).0, (λ q. both_ways (u == v) (not-true (u == v) p.1) (eq-eqb u v (one_number more longer (transaction more n) u v f (subst (λ x. HasNumber more longer x u) q h) new))), h)
+          (r.0, (r.1).0, (λ q. other (one_number more longer (transaction more n) u v f (subst (λ x. HasNumber more longer x u) q h) new)), h)
 
-      near : (i : ℕ) → Near more i n → transaction more i ≢ transaction more n → (u : ℕ) × HasNumber more longer (transaction more i) u × Contains (filter is_other candidates) u
+      near : (i : ℕ) → Near more i n → transaction more i ≢ transaction more n → (u : ℕ) × HasNumber more longer (transaction more i) u × Contains candidates u × (u ≢ v)
       near i d apart =
           let r = near_numbers trace firsts kept reads own_last keeps e i d in
           let h = number_of i r.0 ((near_conflict more i n d).earlier) r.1 in
-          let other : is_other r.0 ≡ true = not_from_false (r.0 == v) (ne_eqb r.0 v (λ q. apart (one_transaction more longer (transaction more i) (transaction more n) v (subst (HasNumber more longer (transaction more i)) q h) new))) in
-          (r.0, h, in_filter is_other candidates r.0 r.2 other)
+          (r.0, h, r.2, λ q. apart (one_transaction more longer (transaction more i) (transaction more n) v (subst (HasNumber more longer (transaction more i)) q h) new))
 
   -- what is kept then
   abbrev kept_after : Slot → Option ℕ
@@ -106,9 +78,6 @@ module _ (trace : List Numbered) (firsts : List ℕ) (kept : Slot → Option ℕ
 
   abbrev own_after : ℕ → Option ℕ
   own_after u = if e.thread == u then Some v else own_last u
-
-  abbrev reads_after : ℕ → List ℕ
-  reads_after x = if is_read_of x e.what then with_reader (reads x) v else if is_write_of x e.what then [] else reads x
 
   kept_old : (test : Numbered → Bool) (o : Option ℕ) → IsKept trace firsts (last_of test trace n) o → IsKept more longer (last_of test trace n) o
   kept_old test o k = go (last_of test trace n) refl o k
@@ -128,16 +97,6 @@ module _ (trace : List Numbered) (firsts : List ℕ) (kept : Slot → Option ℕ
         subst (λ l. IsKept more longer l (if test e then Some v else o)) (last_same test n trace more agree ∙ sym (last_kept test more n e (at_end trace) f))
         (subst (IsKept more longer (last_of test trace n)) (sym (cond-false (test e) (Some v) o f)) (kept_old test o k))
   ])
-
-  -- the reads, by what the event is
-  reads_read : (x : ℕ) → is_read_of x e.what ≡ true → reads_after x ≡ with_reader (reads x) v
-  reads_read x t = cond-true (is_read_of x e.what) _ _ t
-
-  reads_write : (x : ℕ) → is_read_of x e.what ≡ false → is_write_of x e.what ≡ true → reads_after x ≡ []
-  reads_write x f t = cond-false (is_read_of x e.what) _ _ f ∙ cond-true (is_write_of x e.what) _ _ t
-
-  reads_other : (x : ℕ) → is_read_of x e.what ≡ false → is_write_of x e.what ≡ false → reads_after x ≡ reads x
-  reads_other x f g = cond-false (is_read_of x e.what) _ _ f ∙ cond-false (is_write_of x e.what) _ _ g
 
   no_write_old : (x i : ℕ) → NoWriteBetween more x i (length more) → NoWriteBetween trace x i n
   no_write_old x i none k f l m at = none k f l (omega (arith, length_more)) (sym (agree.same k m) ∙ at)
@@ -159,58 +118,66 @@ module _ (trace : List Numbered) (firsts : List ℕ) (kept : Slot → Option ℕ
       let r = (keeps.read x).only u c in
       (r.0, r.1, omega (arith, length_more, r.2), sym (agree.same r.0 r.2) ∙ r.3, r.4, no_write_new x r.0 r.5 other, number_of r.0 u r.2 r.6)
 
+  not_read : (x : ℕ) → is_read_of x e.what ≡ false → e.what ≢ Read x
+  not_read x f is = both_ways (is_read_of x e.what) f (ap (is_read_of x) is ∙ eq-eqb x x refl)
+
+  not_write : (x : ℕ) → is_write_of x e.what ≡ false → e.what ≢ Write x
+  not_write x f is = both_ways (is_write_of x e.what) f (ap (is_write_of x) is ∙ eq-eqb x x refl)
+
   read_no_write : (x : ℕ) → e.what ≡ Read x → e.what ≢ Write x
   read_no_write x is is' = cc
 
-  reads_step : (x : ℕ) → AreReads more longer x (reads_after x)
-  reads_step x = go (cases_Bool (is_read_of x e.what)) (cases_Bool (is_write_of x e.what))
-    where
-      past : (i : ℕ) (d : Numbered) → i < n → slice_get more i ≡ Some d → d.what ≡ Read x → NoWriteBetween more x i (length more) → (u : ℕ) × HasNumber more longer (transaction more i) u × Contains (reads x) u
-      past i d l at is none = let r = (keeps.read x).all i d l (agree.same i l ∙ at) is (no_write_old x i none) in (r.0, number_of i r.0 l r.1, r.2)
+  module _ (reads_after : ℕ → List ℕ) (after : AreReadsAfter e.what v reads reads_after) where
+    reads_step : (x : ℕ) → AreReads more longer x (reads_after x)
+    reads_step x = go (cases_Bool (is_read_of x e.what)) (cases_Bool (is_write_of x e.what))
+      where
+        past : (i : ℕ) (d : Numbered) → i < n → slice_get more i ≡ Some d → d.what ≡ Read x → NoWriteBetween more x i (length more) → (u : ℕ) × HasNumber more longer (transaction more i) u × Contains (reads x) u
+        past i d l at is none = let r = (keeps.read x).all i d l (agree.same i l ∙ at) is (no_write_old x i none) in (r.0, number_of i r.0 l r.1, r.2)
 
-      here : (i : ℕ) (d : Numbered) → i < length more → i ≢ n → i < n
-      here i d l other = omega (arith, length_more)
+        here : (i : ℕ) (d : Numbered) → i < length more → i ≢ n → i < n
+        here i d l other = omega (arith, length_more)
 
-      this : (i : ℕ) (d : Numbered) → i ≡ n → slice_get more i ≡ Some d → d ≡ e
-      this i d q at = same_Some d e (sym at ∙ ap (slice_get more) q ∙ at_end trace)
+        this : (i : ℕ) (d : Numbered) → i ≡ n → slice_get more i ≡ Some d → d ≡ e
+        this i d q at = same_Some d e (sym at ∙ ap (slice_get more) q ∙ at_end trace)
 
-      go : (is_read_of x e.what ≡ true) ⊎ (is_read_of x e.what ≡ false) → (is_write_of x e.what ≡ true) ⊎ (is_write_of x e.what ≡ false) → AreReads more longer x (reads_after x)
-      go (inl t) _ =
-          let is_read = read_is x e.what t in
-          subst (AreReads more longer x) (sym (reads_read x t)) record {
-            all = λ i d l at is none. elim (cases_eq i n) [
-              | inl q ↦ (v, subst (λ k. HasNumber more longer (transaction more k) v) (sym q) new, reader_stands (reads x) v)
-              | inr o ↦ (let r = past i d (here i d l o) at is none in (r.0, r.1, readers_stay (reads x) v r.0 r.2))
-            ];
-            only = λ u c. elim (reader_cases (reads x) v u c) [
-              | inl old ↦ old_read x u (read_no_write x is_read) old
-              | inr q ↦ (n, e, omega (arith, length_more), at_end trace, is_read, no_write_here x, subst (HasNumber more longer (transaction more n)) q new)
-            ];
-          }
-      go (inr f) (inl t) =
-          let is_write = write_is x e.what t in
-          subst (AreReads more longer x) (sym (reads_write x f t)) record {
-            all = λ i d l at is none. elim (cases_eq i n) [
-              | inl q ↦ (let same = ap (λ (g : Numbered). g.what) (this i d q at) in let what : Read x ≡ Write x = sym is ∙ same ∙ is_write in absurd (cc))
-              | inr o ↦ absurd (none n e (here i d l o) (omega (arith, length_more)) (at_end trace) is_write)
-            ];
-            only = λ u c. absurd (omega (arith, c.1));
-          }
-      go (inr f) (inr g) =
-          subst (AreReads more longer x) (sym (reads_other x f g)) record {
-            all = λ i d l at is none. elim (cases_eq i n) [
-              | inl q ↦ (let same = ap (λ (w : Numbered). w.what) (sym (this i d q at)) in absurd (both_ways (is_read_of x e.what) f (ap (is_read_of x) (same ∙ is) ∙ eq-eqb x x refl)))
-              | inr o ↦ past i d (here i d l o) at is none
-            ];
-            only = λ u c. old_read x u (λ is. both_ways (is_write_of x e.what) g (ap (is_write_of x) is ∙ eq-eqb x x refl)) c;
-          }
+        go : (is_read_of x e.what ≡ true) ⊎ (is_read_of x e.what ≡ false) → (is_write_of x e.what ≡ true) ⊎ (is_write_of x e.what ≡ false) → AreReads more longer x (reads_after x)
+        go (inl t) _ =
+            let is_read = read_is x e.what t in
+            let with = after.read x is_read in
+            record {
+              all = λ i d l at is none. elim (cases_eq i n) [
+                | inl q ↦ (v, subst (λ k. HasNumber more longer (transaction more k) v) (sym q) new, with.one)
+                | inr o ↦ (let r = past i d (here i d l o) at is none in (r.0, r.1, with.stay r.0 r.2))
+              ];
+              only = λ u c. elim (with.only u c) [
+                | inl old ↦ old_read x u (read_no_write x is_read) old
+                | inr q ↦ (n, e, omega (arith, length_more), at_end trace, is_read, no_write_here x, subst (HasNumber more longer (transaction more n)) (sym q) new)
+              ];
+            }
+        go (inr f) (inl t) =
+            let is_write = write_is x e.what t in
+            subst (AreReads more longer x) (sym (after.write x is_write)) record {
+              all = λ i d l at is none. elim (cases_eq i n) [
+                | inl q ↦ (let same = ap (λ (g : Numbered). g.what) (this i d q at) in let what : Read x ≡ Write x = sym is ∙ same ∙ is_write in absurd (cc))
+                | inr o ↦ absurd (none n e (here i d l o) (omega (arith, length_more)) (at_end trace) is_write)
+              ];
+              only = λ u c. absurd (omega (arith, c.1));
+            }
+        go (inr f) (inr g) =
+            subst (AreReads more longer x) (sym (after.other x (not_read x f) (not_write x g))) record {
+              all = λ i d l at is none. elim (cases_eq i n) [
+                | inl q ↦ (let same = ap (λ (w : Numbered). w.what) (sym (this i d q at)) in absurd (not_read x f (same ∙ is)))
+                | inr o ↦ past i d (here i d l o) at is none
+              ];
+              only = λ u c. old_read x u (not_write x g) c;
+            }
 
-  pub keeps_step : Keeps more longer kept_after reads_after own_after
-  keeps_step = record {
-    slots = λ s part. kept_step (of_slot s) (kept s) (keeps.slots s part);
-    read = reads_step;
-    owns = λ u. kept_step (λ f. f.thread == u) (own_last u) (keeps.owns u);
-  }
+    pub keeps_step : Keeps more longer kept_after reads_after own_after
+    keeps_step = record {
+      slots = λ s part. kept_step (of_slot s) (kept s) (keeps.slots s part);
+      read = reads_step;
+      owns = λ u. kept_step (λ f. f.thread == u) (own_last u) (keeps.owns u);
+    }
 
 -- before the first event
 pub firsts_nil : AreFirsts [] []

@@ -10,7 +10,6 @@ pub mod Tallies
 pub mod Growing
 pub mod Lengths
 pub mod Candidates
-pub mod Readers
 pub mod Linked
 pub mod Keeping
 pub mod Judged

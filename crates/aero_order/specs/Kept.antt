@@ -1,7 +1,6 @@
 -- What is kept of a trace: the numbers of the transactions of last events, and of reads since the last write.
-use Rattle.std.specs.Prelude.{◌≡◌, ℕ, ◌<◌, ◌-◌, ◌==◌, ◌&&◌, ◌||◌, ◌++◌, not, Bool, true, false, if◌then◌else◌, List, [], ◌∷◌, length, map, Option, Some, None, slice_get, Contains}
-use Rattle.std.specs.List.{filter}
-use Rattle.std.specs.Option.{option_to_list, option_map_or}
+use Rattle.std.specs.Prelude.{◌≡◌, ◌≢◌, ◌⊎◌, ℕ, ◌<◌, ◌==◌, ◌++◌, Bool, true, false, List, [], length, Option, Some, None, slice_get, Contains}
+use Rattle.std.specs.Option.{option_to_list}
 use Rattle.aero_model.specs.declared.numbered.Numbered.{Numbered}
 use Rattle.aero_model.specs.declared.numbered.What.{What}
 use Rattle.aero_model.specs.declared.numbered.What.TheVariants.{Read, Write, Acquire, Join}
@@ -23,13 +22,17 @@ pub record AreReads (trace : List Numbered) (firsts : List ℕ) (x : ℕ) (us : 
   pub all : (i : ℕ) (d : Numbered) → i < length trace → slice_get trace i ≡ Some d → d.what ≡ Read x → NoWriteBetween trace x i (length trace) → (u : ℕ) × HasNumber trace firsts (transaction trace i) u × Contains us u
   pub only : (u : ℕ) → Contains us u → (i : ℕ) × (d : Numbered) × (i < length trace) × (slice_get trace i ≡ Some d) × (d.what ≡ Read x) × NoWriteBetween trace x i (length trace) × HasNumber trace firsts (transaction trace i) u
 
--- whether the last of the numbers is this one
-abbrev pub is_last : ℕ → List ℕ → Bool
-is_last u us = option_map_or (λ last. last == u) (slice_get us (length us - 1)) false
+-- the numbers with this one: those of before, and it
+pub record AreReadersWith (old : List ℕ) (u : ℕ) (new : List ℕ) : Type 0 where
+  pub stay : (w : ℕ) → Contains old w → Contains new w
+  pub one : Contains new u
+  pub only : (w : ℕ) → Contains new w → Contains old w ⊎ (w ≡ u)
 
--- the numbers with a reader more: as they are where it stands last
-abbrev pub with_reader : List ℕ → ℕ → List ℕ
-with_reader us u = if is_last u us then us else us ++ u ∷ []
+-- the reads of each variable since its last write, once the transaction with the number v has done this
+pub record AreReadsAfter (what : What) (v : ℕ) (old new : ℕ → List ℕ) : Type 0 where
+  pub read : (x : ℕ) → what ≡ Read x → AreReadersWith (old x) v (new x)
+  pub write : (x : ℕ) → what ≡ Write x → new x ≡ []
+  pub other : (x : ℕ) → what ≢ Read x → what ≢ Write x → new x ≡ old x
 
 -- whether the slot is looked back to: reads are kept in lists instead
 abbrev pub is_looked_at : Slot → Bool
@@ -54,19 +57,8 @@ looked_at kept reads own_last _ = []
 abbrev pub looked_back : (Slot → Option ℕ) → (ℕ → List ℕ) → (ℕ → Option ℕ) → Numbered → List ℕ
 looked_back kept reads own_last e = option_to_list (kept (OfThread e.thread)) ++ looked_at kept reads own_last e.what
 
--- an edge to v from each of these numbers but v
-abbrev pub edges_to : ℕ → List ℕ → List (ℕ × ℕ)
-edges_to v us = map (λ u. (u, v)) (filter (λ u. not (u == v)) us)
-
--- whether the last of the edges leads from u to v
-abbrev pub is_last_edge : ℕ → ℕ → List (ℕ × ℕ) → Bool
-is_last_edge u v edges = option_map_or (λ last. (last.0 == u) && (last.1 == v)) (slice_get edges (length edges - 1)) false
-
--- the edges with one from u to v more: as they are where u is v, or where it stands last
-abbrev pub with_edge : List (ℕ × ℕ) → ℕ → ℕ → List (ℕ × ℕ)
-with_edge edges v u = if (u == v) || is_last_edge u v edges then edges else edges ++ (u, v) ∷ []
-
--- with an edge to v from each of these numbers
-abbrev pub with_edges : List (ℕ × ℕ) → ℕ → List ℕ → List (ℕ × ℕ)
-with_edges edges v [] = edges
-with_edges edges v (u ∷ us) = with_edges (with_edge edges v u) v us
+-- the edges with one to v from each of these numbers but v: those of before, and these
+pub record AreLinked (old : List (ℕ × ℕ)) (v : ℕ) (us : List ℕ) (new : List (ℕ × ℕ)) : Type 0 where
+  pub stay : (d : ℕ × ℕ) → Contains old d → Contains new d
+  pub each : (u : ℕ) → Contains us u → u ≢ v → Contains new (u, v)
+  pub only : (u w : ℕ) → Contains new (u, w) → Contains old (u, w) ⊎ (Contains us u × (u ≢ v) × (w ≡ v))

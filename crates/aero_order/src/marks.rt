@@ -1,11 +1,11 @@
 //! What is kept of the events so far: the numbers of the transactions of last events, and of reads
 //! since the last write. Threads, variables and locks go by numbers from 0.
-ghost use Rattle.std.specs.Prelude.{◌≡◌, ◌++◌, ◌∷◌, ◌==◌, ◌<◌, ℕ, [], Some, None, if◌then◌else◌, vec_len, OnOk};
+ghost use Rattle.std.specs.Prelude.{◌≡◌, ◌≢◌, ◌↔◌, ◌-◌, ◌==◌, ◌<◌, ℕ, [], length, slice_get, Some, None, if◌then◌else◌, vec_len, IsTrue, OnOk};
 ghost use Rattle.std.specs.Option.{option_to_list};
 ghost use Rattle.aero_access.specs.declared.slot.Slot.TheVariants.{OfThread};
-ghost use Rattle.aero_access.specs.Slots.{is_read_of, is_write_of, of_slot};
+ghost use Rattle.aero_access.specs.Slots.{is_write_of, of_slot};
 ghost use Rattle.aero_model.specs.Shape.{is_release_of};
-ghost use Rattle.aero_order.specs.Kept.{is_last, with_reader, is_last_edge, with_edges};
+ghost use Rattle.aero_order.specs.Kept.{AreReadersWith, AreReadsAfter, AreLinked};
 ghost use Rattle.aero_order.specs.MarkWords.{mark_at, reads_at};
 
 use aero_model::numbered::{Numbered, What};
@@ -19,7 +19,7 @@ pub struct Readings {
 
 impl Readings {
     fn ends_with(&self, number: u32) -> bool
-        ensures { result ≡ is_last number self.now.numbers.items }
+        ensures { IsTrue result ↔ (slice_get self.now.numbers.items (length self.now.numbers.items - 1) ≡ Some number) }
     {
         match self.numbers.last() {
             Some(last) => *last == number,
@@ -29,7 +29,7 @@ impl Readings {
 
     // A transaction that reads again stands there already.
     fn add(&mut self, number: u32) -> Result<(), AllocError>
-        ensures { OnOk result (self.new.numbers.items ≡ with_reader self.old.numbers.items number) }
+        ensures { OnOk result (AreReadersWith self.old.numbers.items number self.new.numbers.items) }
     {
         if self.ends_with(number) {
             return Ok(());
@@ -85,14 +85,14 @@ impl Marks {
 
     /// Adds edges to `number` from the numbers that the event looks back to; one that stands last isn't
     /// put there again.
-    #[tactic(auto, using(crate::proofs::Linked::with_edges_append))]
+    #[tactic(auto, using(crate::proofs::Linked::linked_append))]
     pub fn look_back(
         &self,
         event: &Numbered,
         number: u32,
         edges: &mut Vec<(u32, u32)>,
     ) -> Result<(), AllocError>
-        ensures { OnOk result (edges.new.items ≡ with_edges edges.old.items number (looked_back (kept_of self.now) (reads_of self.now) (own_of self.now) event.now)) }
+        ensures { OnOk result (AreLinked edges.old.items number (looked_back (kept_of self.now) (reads_of self.now) (own_of self.now) event.now) edges.new.items) }
     {
         link(edges, mark(&self.last, event.thread), number)?;
         match event.what {
@@ -110,7 +110,7 @@ impl Marks {
     /// Keeps the number of the event.
     pub fn note(&mut self, event: &Numbered, number: u32) -> Result<(), AllocError>
         ensures slots { OnOk result ((s : Slot) → is_looked_at s ≡ true → kept_of self.new s ≡ (if of_slot s event.now then Some number else kept_of self.old s)) }
-        ensures reads { OnOk result ((x : ℕ) → reads_of self.new x ≡ (if is_read_of x event.now.what then with_reader (reads_of self.old x) number else if is_write_of x event.now.what then [] else reads_of self.old x)) }
+        ensures reads { OnOk result (AreReadsAfter event.now.what number (reads_of self.old) (reads_of self.new)) }
         ensures own { OnOk result ((t : ℕ) → own_of self.new t ≡ (if event.now.thread == t then Some number else own_of self.old t)) }
     {
         put(&mut self.own, event.thread, number)?;
@@ -168,14 +168,16 @@ fn reach(reads: &mut Vec<Readings>, x: u32) -> Result<(), AllocError>
 }
 
 fn add_read(reads: &mut Vec<Readings>, x: u32, number: u32) -> Result<(), AllocError>
-    ensures { OnOk result ((y : ℕ) → reads_at reads.new.items y ≡ (if y == x then with_reader (reads_at reads.old.items y) number else reads_at reads.old.items y)) }
+    ensures one { OnOk result (AreReadersWith (reads_at reads.old.items x) number (reads_at reads.new.items x)) }
+    ensures others { OnOk result ((y : ℕ) → y ≢ x → reads_at reads.new.items y ≡ reads_at reads.old.items y) }
 {
     reach(reads, x)?;
     reads[x as usize].add(number)
 }
 
 fn forget_reads(reads: &mut [Readings], x: u32)
-    ensures { (y : ℕ) → reads_at reads.new y ≡ (if y == x then [] else reads_at reads.old y) }
+    ensures one { reads_at reads.new x ≡ [] }
+    ensures others { (y : ℕ) → y ≢ x → reads_at reads.new y ≡ reads_at reads.old y }
 {
     let at = x as usize;
     if at < reads.len() {
@@ -213,7 +215,7 @@ fn note_release(releases: &mut Vec<Option<u32>>, what: What, number: u32) -> Res
 }
 
 fn note_reads(reads: &mut Vec<Readings>, what: What, number: u32) -> Result<(), AllocError>
-    ensures { OnOk result ((x : ℕ) → reads_at reads.new.items x ≡ (if is_read_of x what then with_reader (reads_at reads.old.items x) number else if is_write_of x what then [] else reads_at reads.old.items x)) }
+    ensures { OnOk result (AreReadsAfter what number (reads_at reads.old.items) (reads_at reads.new.items)) }
 {
     match what {
         What::Read(x) => add_read(reads, x, number),
@@ -226,7 +228,7 @@ fn note_reads(reads: &mut Vec<Readings>, what: What, number: u32) -> Result<(), 
 }
 
 fn ends_with(edges: &[(u32, u32)], from: u32, to: u32) -> bool
-    ensures { result ≡ is_last_edge from to edges.now }
+    ensures { IsTrue result ↔ (slice_get edges.now (length edges.now - 1) ≡ Some (from, to)) }
 {
     match edges.last() {
         Some(last) => last.0 == from && last.1 == to,
@@ -236,7 +238,7 @@ fn ends_with(edges: &[(u32, u32)], from: u32, to: u32) -> bool
 
 // An edge from the number, if there is one, and it is another. What stands last isn't put there again.
 fn link(edges: &mut Vec<(u32, u32)>, from: Option<u32>, number: u32) -> Result<(), AllocError>
-    ensures { OnOk result (edges.new.items ≡ with_edges edges.old.items number (option_to_list from)) }
+    ensures { OnOk result (AreLinked edges.old.items number (option_to_list from) edges.new.items) }
 {
     if let Some(u) = from
         && u != number
@@ -248,7 +250,7 @@ fn link(edges: &mut Vec<(u32, u32)>, from: Option<u32>, number: u32) -> Result<(
 }
 
 fn link_all(edges: &mut Vec<(u32, u32)>, from: &[u32], number: u32) -> Result<(), AllocError>
-    ensures { OnOk result (edges.new.items ≡ with_edges edges.old.items number from.now) }
+    ensures { OnOk result (AreLinked edges.old.items number from.now edges.new.items) }
 {
     for u in from {
         link(edges, Some(*u), number)?;

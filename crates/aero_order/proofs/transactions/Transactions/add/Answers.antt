@@ -1,15 +1,13 @@
-use Rattle.std.proofs.Common.{◌≡◌, ◌++◌, ◌∷◌, ◌==◌, [], length, None, Some, Result, Ok, Err, if◌then◌else◌, sym, ◌∙◌, ap, ap₂, subst, arith}
+use Rattle.std.proofs.Common.{◌≡◌, ◌++◌, ◌∷◌, ◌==◌, [], length, None, Some, Result, Ok, Err, if◌then◌else◌, sym, ◌∙◌, ap, subst, arith}
 use Rattle.std.specs.Prelude.{nat_lt, OnOk}
 use Rattle.std.proofs.lemmas.Bool.{cond-true, cond-false}
 use Rattle.std.proofs.lemmas.List.{length_push}
 use Rattle.aero_model.specs.Blocks.{depth}
-use Rattle.aero_order.specs.Kept.{with_reader, with_edges}
+use Rattle.aero_order.specs.Kept.{AreLinked}
 use Rattle.aero_order.specs.MarkWords.{kept_of, reads_of, own_of}
 use Rattle.aero_order.specs.Numbering.{IsNumbered}
-use Rattle.aero_order.specs.Numbers.{AreEdges}
 use Rattle.aero_order.proofs.Adding.{is_inside, add_event, keeps_as}
-use Rattle.aero_order.proofs.Judged.{read_same, write_same, slot_same, looks_same}
-use Rattle.aero_order.proofs.Linked.{edges_listed}
+use Rattle.aero_order.proofs.Judged.{slot_same, looks_same, reads_same}
 use Rattle.aero_order.proofs.transactions.Transactions.add.Goals as goal
 use Rattle.aero_order.proofs.transactions.Transactions.add.Goals.{then-inside, else-inside}
 
@@ -35,13 +33,13 @@ returns-clause-stands c = on_ok _ _ _ _ c.note.result (λ slots reads own trace 
     let v = c.in_ok-number.number in
     let numbered = subst (λ n. IsNumbered c.if-inside.known n old.firsts.items longer v) stands.events c.in_ok-number.ensures.numbered in
     let a = add_event trace judged old.firsts.items old.edges.items (kept_of old.marks) (reads_of old.marks) (own_of old.marks) stands.firsts stands.edges stands.keeps c.args.inside inside c.if-inside.known known longer v numbered in
-    let linked = c.in_ok-look_back.ensures ∙ ap (with_edges old.edges.items v) (sym (looks_same e judged is (kept_of old.marks) (reads_of old.marks) (own_of old.marks))) in
+    let linked = subst (λ us. AreLinked old.edges.items v us c.look_back.new.edges.items) (sym (looks_same e judged is (kept_of old.marks) (reads_of old.marks) (own_of old.marks))) c.in_ok-look_back.ensures in
     record {
       events = omega (arith, stands.events, length_push trace judged);
       firsts = a.numbered;
-      edges = subst (AreEdges (trace ++ judged ∷ []) longer) (sym linked) (edges_listed (trace ++ judged ∷ []) longer old.edges.items v _ a.linked);
-      keeps = keeps_as (trace ++ judged ∷ []) longer _ (kept_of c.note.new.self) _ (reads_of c.note.new.self) _ (own_of c.note.new.self) a.noted
+      edges = a.linked _ linked;
+      keeps = keeps_as (trace ++ judged ∷ []) longer _ (kept_of c.note.new.self) (reads_of c.note.new.self) _ (own_of c.note.new.self)
+          (a.noted (reads_of c.note.new.self) (reads_same e judged is v (reads_of old.marks) (reads_of c.note.new.self) reads))
           (λ s part. slots s part ∙ ap (λ b. if b then Some v else kept_of old.marks s) (sym (slot_same e judged is s)))
-          (λ x. reads x ∙ ap₂ (λ b d. if b then with_reader (reads_of old.marks x) v else if d then [] else reads_of old.marks x) (sym (read_same e judged is x)) (sym (write_same e judged is x)))
           (λ t. own t ∙ ap (λ u. if u == t then Some v else own_of old.marks t) (sym is.thread));
     }) c.note.ensures.slots c.note.ensures.reads c.note.ensures.own
