@@ -13,9 +13,9 @@
 //! ```
 #![tactic(auto)]
 
-pub mod free;
+mod free;
 pub mod laws;
-pub mod lookup;
-pub mod marks;
+mod lookup;
+mod marks;
 pub mod order;
 pub mod transactions;
