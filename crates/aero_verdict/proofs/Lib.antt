@@ -14,5 +14,6 @@ pub mod Parts
 pub mod OneVerdict
 pub mod Faultless
 pub mod OnLines
+pub mod Starts
 pub mod Found
 pub mod Vectors

@@ -5,7 +5,7 @@ ghost use Rattle.aero_grammar.specs.Reading.{whole_reading};
 ghost use Rattle.aero_grammar.specs.Words.{IsName};
 ghost use Rattle.aero_verdict.specs.Ordered.{line_at, step_at};
 ghost use Rattle.aero_verdict.specs.Parts.{AreCountable};
-ghost use Rattle.aero_verdict.specs.Placed.{starts_from, IsAt};
+ghost use Rattle.aero_verdict.specs.Placed.{AreStarts, IsAt};
 
 use aero_grammar::parsed::Parsed;
 use aero_model::name::{Name, NameFault};
@@ -73,7 +73,7 @@ fn named(alloc: Global, bytes: &[u8]) -> Result<Name, AllocError>
 // What stands before each part.
 fn starts_of(alloc: Global, parts: &[Parsed]) -> Result<Vec<Start>, AllocError>
     requires { AreCountable parts.now }
-    ensures { IfOk result (λ starts. starts.items ≡ starts_from 0 0 parts.now) }
+    ensures { IfOk result (λ starts. AreStarts parts.now starts.items) }
 {
     let mut starts = Vec::with_capacity(alloc, parts.len())?;
     let mut events = 0u32;
@@ -89,7 +89,7 @@ fn starts_of(alloc: Global, parts: &[Parsed]) -> Result<Vec<Start>, AllocError>
 // The line of the event at this place, and its thread's name.
 fn event_at<'a>(parts: &'a [Parsed], starts: &[Start], place: u32) -> (u32, &'a [u8])
     requires countable { AreCountable parts.now }
-    requires starts { starts.now ≡ starts_from 0 0 parts.now }
+    requires starts { AreStarts parts.now starts.now }
     requires within { place < length (whole_reading parts.now).events }
     ensures { IsAt (whole_reading parts.now).events place result.0 result.1.now }
 {

@@ -1,10 +1,10 @@
-use Rattle.std.proofs.Common.{◌≡◌, ◌+◌, ◌<◌, ◌^◌, ℕ, Some, length, refl, sym, ◌∙◌, ap, ap₂, subst, arith}
+use Rattle.std.proofs.Common.{◌≡◌, ◌+◌, ◌<◌, ◌^◌, Some, length, refl, sym, ◌∙◌, ap, subst, arith}
 use Rattle.std.specs.Prelude.{slice_get}
 use Rattle.std.proofs.lemmas.Option.{slice_get_read}
 use Rattle.aero_model.specs.Numbering.{Tables}
 use Rattle.aero_grammar.specs.Reading.{Reading}
 use Rattle.aero_verdict.proofs.KnownLines.{lines_long}
-use Rattle.aero_verdict.proofs.Found.{Started, none_started, few_events, few_lines, next_started, all_started}
+use Rattle.aero_verdict.proofs.Starts.{Started, none_started, few_events, few_lines, next_started, all_started}
 use Rattle.aero_verdict.proofs.places.starts_of.Goals as goal
 
 pub loop-part-init : goal.loop-part-init

@@ -1,4 +1,4 @@
-use Rattle.aero_verdict.proofs.Found.{Started}
+use Rattle.aero_verdict.proofs.Starts.{Started}
 use Rattle.aero_verdict.proofs.places.starts_of.Given as goal
 
 abbrev pub invariant-loop-part : goal.invariant-loop-part
