@@ -23,6 +23,7 @@ pub mod engine;
 mod in_order;
 mod known;
 pub mod laws;
+mod named;
 mod numbering;
 mod places;
 mod serial;

@@ -1,8 +1,9 @@
 //! The numbers of names: threads, variables and locks each for themselves, in order of first
 //! appearance, and no more of each than the limits allow.
 use crate::known::{BlockNames, Known, number_known};
+use crate::named::named;
 use aero_model::limits::Limits;
-use aero_model::name::{Name, NameFault};
+use aero_model::name::Name;
 use aero_model::numbered::{Numbered, What};
 use aero_model::verdict::ShapeFault;
 use aero_names::names::Names;
@@ -47,11 +48,7 @@ impl Numbering {
         let Some(bytes) = self.threads.name(t) else {
             unreachable!();
         };
-        match Name::read(alloc, bytes) {
-            Ok(name) => Ok(name),
-            Err(NameFault::Memory) => Err(AllocError),
-            Err(NameFault::Empty | NameFault::TooLong | NameFault::BadByte) => unreachable!(),
-        }
+        named(alloc, bytes)
     }
 
     // The event by its numbers in the trace, without a label, of which new names get the next. It comes by its numbers

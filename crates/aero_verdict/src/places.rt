@@ -2,13 +2,12 @@
 ghost use Rattle.std.specs.Prelude.{◌≡◌, ◌<◌, ◌≤◌, length, map, IfOk, All};
 ghost use Rattle.std.specs.List.Sorted.{IsNonDecreasingBy, IsPartitionPoint};
 ghost use Rattle.aero_grammar.specs.Reading.{whole_reading};
-ghost use Rattle.aero_grammar.specs.Words.{IsName};
 ghost use Rattle.aero_verdict.specs.Ordered.{line_at, step_at};
 ghost use Rattle.aero_verdict.specs.Parts.{AreCountable};
 ghost use Rattle.aero_verdict.specs.Placed.{AreStarts, IsAt};
 
+use crate::named::named;
 use aero_grammar::parsed::Parsed;
-use aero_model::name::{Name, NameFault};
 use aero_model::verdict::Step;
 use std::alloc::{AllocError, Global};
 
@@ -56,18 +55,6 @@ pub(crate) fn steps_at(
         steps.push(Step { line, thread })?;
     }
     Ok(steps)
-}
-
-// The name with these bytes. An error says that memory was refused to it.
-fn named(alloc: Global, bytes: &[u8]) -> Result<Name, AllocError>
-    requires { IsName bytes.now }
-    ensures { IfOk result (λ name. name ≡ bytes.now) }
-{
-    match Name::read(alloc, bytes) {
-        Ok(name) => Ok(name),
-        Err(NameFault::Memory) => Err(AllocError),
-        Err(NameFault::Empty | NameFault::TooLong | NameFault::BadByte) => unreachable!(),
-    }
 }
 
 // What stands before each part.
