@@ -18,7 +18,7 @@ use Rattle.aero_order.specs.declared.transactions.Transactions.{Transactions}
 use Rattle.aero_order.specs.Standing.{StandsFor}
 use Rattle.aero_verdict.specs.Ordered.{is_faultless}
 use Rattle.aero_verdict.specs.Parts.{StandsForAll}
-use Rattle.aero_verdict.specs.Verdict.{Rules, events_of, counted_events, read_trace, checked_trace, IsClean, IsVerdict}
+use Rattle.aero_verdict.specs.Verdict.{Rules, events_of, read_trace, checked_trace, IsClean, IsVerdict}
 use Rattle.aero_verdict.proofs.Judged.{judged_well}
 use Rattle.aero_verdict.proofs.OneVerdict.{one_verdict}
 use Rattle.aero_verdict.proofs.Readings.{trace_length}

@@ -1,12 +1,11 @@
 -- The name of a thread that is told: a thread that begins a block is the actor of an event, whose name stands at its number.
 use Rattle.std.proofs.Common.{◌≡◌, ℕ, zero, suc, ◌+◌, ◌<◌, ◌==◌, true, List, [], ◌∷◌, get_or, take, drop, map, Option, Some, None, refl, sym, ◌∙◌, ap, subst, arith}
-use Rattle.std.specs.Prelude.{slice_get, option_map, All, bytes_eq, fold}
+use Rattle.std.specs.Prelude.{slice_get, option_map, All, bytes_eq}
 use Rattle.std.specs.List.{list_any}
 use Rattle.std.proofs.lemmas.Bool.{and_parts, eqb-true}
-use Rattle.std.proofs.lemmas.List.Elements.{All-map}
 use Rattle.std.proofs.lemmas.Option.{slice_get-map, slice_get_within, slice_get-get_or, get_or_from_slice_get}
 use Rattle.aero_model.specs.declared.numbered.Numbered.{Numbered}
-use Rattle.aero_model.specs.Blocks.{is_begin, by_thread, opens, blocks, depth}
+use Rattle.aero_model.specs.Blocks.{is_begin, by_thread, blocks, depth}
 use Rattle.aero_model.specs.Exempt.{Marked, judged, marked}
 use Rattle.aero_model.specs.Named.{Named}
 use Rattle.aero_model.specs.Numbering.{Tables, tables_of, number_of, thread_target}
@@ -14,7 +13,6 @@ use Rattle.aero_model.specs.Shape.{IsWellFormed}
 use Rattle.aero_model.proofs.Exempt.{judged_at}
 use Rattle.aero_grammar.specs.Tabled.{name_at, line_in, lines_in, numbered_line, IsTabled}
 use Rattle.aero_grammar.specs.Words.{IsName}
-use Rattle.aero_names.specs.Numbers.{with_event}
 use Rattle.aero_names.proofs.Fronts.{Extends, tables_pushed, tables_extended}
 use Rattle.aero_names.proofs.Listings.{number_of-place}
 use Rattle.aero_names.proofs.NewNames.{still_has_name, number_stays}
@@ -23,7 +21,6 @@ use Rattle.aero_verdict.specs.declared.checker.Stop.{Stop}
 use Rattle.aero_verdict.specs.declared.checker.Stop.TheVariants.{Refused, Closed}
 use Rattle.aero_verdict.specs.Begun.{begin_line}
 use Rattle.aero_verdict.specs.Kept.{names_of, marked_in, judged_in, LastBegins, HasNamedActor, CanBeTold, StopsIn}
-use Rattle.aero_verdict.specs.Limited.{IsNamedThread}
 use Rattle.aero_verdict.specs.Verdict.{Rules}
 use Rattle.aero_verdict.proofs.Judged.{read_so_far, judged_well}
 use Rattle.aero_verdict.proofs.Openers.{opener_number}

@@ -1,4 +1,4 @@
-use Rattle.std.proofs.Common.{◌≤◌, leb, rules}
+use Rattle.std.proofs.Common.{leb, rules}
 use Rattle.std.proofs.lemmas.Bool.{leb-true, leb-false}
 use Rattle.std.proofs.lemmas.List.Sorted.{IsPartitionPoint-from_clause, IsPartitionedBy-leb}
 use Rattle.aero_verdict.specs.declared.places.Start.{Start}

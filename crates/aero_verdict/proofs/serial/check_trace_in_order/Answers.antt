@@ -1,4 +1,4 @@
-use Rattle.std.proofs.Common.{◌≡◌, ◌<◌, ℕ, true, false, List, length, map, Option, Some, None, refl, sym, ◌∙◌, ap, ap₂, subst}
+use Rattle.std.proofs.Common.{◌≡◌, ◌<◌, true, false, List, length, map, sym, ◌∙◌, ap, ap₂, subst}
 use Rattle.std.specs.Prelude.{All, is_some}
 use Rattle.aero_model.specs.declared.verdict.Verdict.{Verdict}
 use Rattle.aero_model.specs.declared.verdict.Verdict.TheVariants.{Serializable, Pending, Violation, Malformed, IllFormed}

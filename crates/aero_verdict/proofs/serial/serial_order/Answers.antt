@@ -1,4 +1,4 @@
-use Rattle.std.proofs.Common.{◌≡◌, ◌<◌, ℕ, Bool, true, false, length, map, refl, sym, ◌∙◌, ap, ap₂, subst}
+use Rattle.std.proofs.Common.{◌≡◌, ◌<◌, Bool, true, false, length, map, refl, sym, ◌∙◌, ap, ap₂, subst}
 use Rattle.std.specs.Prelude.{All, IsTrue, is_some}
 use Rattle.aero_model.specs.declared.verdict.Verdict.TheVariants.{Serializable}
 use Rattle.aero_grammar.specs.Reading.{whole_reading}
