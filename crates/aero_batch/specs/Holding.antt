@@ -1,5 +1,5 @@
 -- What holds of a run between two steps.
-use Rattle.std.specs.Prelude.{◌≡◌, ℕ, ◌+◌, ◌*◌, ◌<◌, ◌≤◌, ◌^◌, List, [], map, length, slice_get, Some, None, vec_len, vec_capacity}
+use Rattle.std.specs.Prelude.{◌≡◌, ℕ, ◌+◌, ◌*◌, ◌<◌, ◌≤◌, ◌^◌, List, [], ◌++◌, map, length, slice_get, Option, Some, None, vec_len, vec_capacity}
 use Rattle.std.specs.List.{concat}
 use Rattle.aero_model.specs.declared.verdict.Ending.{Ending}
 use Rattle.aero_model.specs.CallCounts.{Seen}
@@ -28,18 +28,24 @@ pub record HasEnded (terms : Terms) (old now : List Sighted) (s : ℕ) (story : 
   pub ended : story.ending ≡ Some ending
   pub read : WasRead before.reader after.reader terms.rules.limits.bytes (concat story.pieces) ending
 
--- The pieces of the story came from the source at place s.
-abbrev pub HaveComeFrom : List Sighted → List Sighted → ℕ → Story → Type 0
-HaveComeFrom old now s story = (before after : Sighted) → slice_get old s ≡ Some before → slice_get now s ≡ Some after → HaveCome before.reader after.reader story.pieces
+-- These bytes have come from a reader, and it has ended so, if it has.
+abbrev pub HasCome : (before after : Seen) (limit : ℕ) (bytes : List ℕ) → Option Ending → Type 0
+HasCome before after limit bytes None = HaveCome before after bytes
+HasCome before after limit bytes (Some ending) = WasRead before after limit bytes ending
 
--- Each source has a story: it has ended, is being read, or was not read yet. What is known of each fits its story. Of the blocks that the source that is being read was cut into, enough were asked about.
+-- The same of the source at place s.
+abbrev pub HasComeFrom : Terms → List Sighted → List Sighted → ℕ → List ℕ → Option Ending → Type 0
+HasComeFrom terms old now s bytes ending =
+    (before after : Sighted) → slice_get old s ≡ Some before → slice_get now s ≡ Some after → HasCome before.reader after.reader terms.rules.limits.bytes bytes ending
+
+-- Each source has a story: it has ended, is being read, or was not read yet. What is known of each fits its story. Of the blocks that the source that is being read was cut into, enough were asked about. The pieces that were cut and what is held have come from it, and its reading has ended so, if it has.
 pub record Holds (terms : Terms) (old now : List Sighted) (p : Progress) (tale : ℕ → Story) : Type 0 where
   pub tracked : AreTracked terms p.inquiry.open_ones tale p.tracks.items
   pub ended : (s : ℕ) → s < p.read → HasEnded terms old now s (tale s)
   pub cut : List (List ℕ)
   pub taken : IsTaken p.intake (tale p.read).pieces cut
   pub enough : AreEnough terms.rules (tale p.read).blocks cut
-  pub come : HaveComeFrom old now p.read (tale p.read)
+  pub come : HasComeFrom terms old now p.read (concat (tale p.read).pieces ++ p.intake.held) p.ended
   pub asked : p.blocks ≡ length (tale p.read).blocks
   pub not_ended : (tale p.read).ending ≡ None
   pub later : (s : ℕ) → p.read < s → (tale s ≡ nothing_known) × (slice_get now s ≡ slice_get old s)
@@ -53,10 +59,8 @@ pub record Counted (terms : Terms) (sources : ℕ) (p : Progress) : Type 0 where
   pub open_few : length p.inquiry.open_ones ≤ 64
   pub within : p.intake.count ≤ terms.rules.limits.bytes + 1
   pub few_bytes : terms.rules.limits.bytes ≤ 2 ^ 30
-  pub blocks : p.blocks ≤ p.intake.count
+  pub blocks : p.blocks + length p.intake.held ≤ p.intake.count
   pub asked : p.inquiry.asked ≤ p.read * 1073741826 + p.blocks + p.checked
-  pub some_room : 0 < vec_len p.buffer
-  pub short : vec_len p.buffer ≤ 2 ^ 20
 
 -- what is told of a source fits its story
 pub record Tells (terms : Terms) (old : List Sighted) (s : ℕ) (story : Story) (found : Found) : Type 0 where
@@ -95,7 +99,7 @@ pub record HasNumbers (terms : Terms) (sources : ℕ) (p : Progress) (told : Tol
 
 -- before the first step
 pub record IsBegun (terms : Terms) (sources : ℕ) (p : Progress) (told : Told) : Type 0 where
-  pub start : (piece : ℕ) × IsStart piece sources p × (0 < piece) × (piece ≤ 2 ^ 20)
+  pub start : IsStart sources p
   pub few : sources ≤ 65536
   pub few_bytes : terms.rules.limits.bytes ≤ 2 ^ 30
   pub endings : told.endings.items ≡ []

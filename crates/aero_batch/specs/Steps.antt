@@ -13,20 +13,20 @@ use Rattle.aero_intake.specs.declared.track.Track.{Track}
 use Rattle.aero_intake.specs.declared.track.Track.TheVariants.{Arriving, Found}
 use Rattle.aero_batch.specs.Founds.{Sighted}
 use Rattle.aero_batch.specs.Inquiries.{Inquired, nothing_asked, with_question}
-use Rattle.aero_intake.specs.Intake.{nothing_taken, with_piece, Comes, Ends}
+use Rattle.aero_intake.specs.Intake.{nothing_taken, with_piece, with_cut, Comes, Ends}
 use Rattle.aero_intake.specs.Tracks.{is_decided, with_arrival, IsReady, GivesReadings}
 use Rattle.aero_intake.specs.Stories.{changed, IsSettledWith}
 use Rattle.aero_verdict.specs.Finding.{Terms}
 
 -- before the first step
-pub record IsStart (piece sources : ℕ) (progress : Progress) : Type 0 where
+pub record IsStart (sources : ℕ) (progress : Progress) : Type 0 where
   pub inquiry : progress.inquiry ≡ nothing_asked
   pub tracks : progress.tracks.items ≡ replicate sources (Arriving [])
   pub none_read : progress.read ≡ 0
   pub none_checked : progress.checked ≡ 0
   pub intake : progress.intake ≡ nothing_taken
   pub no_blocks : progress.blocks ≡ 0
-  pub buffer : vec_len progress.buffer ≡ piece
+  pub reading : progress.ended ≡ None
 
 -- one more question may be asked
 pub record MayAsk (progress : Progress) : Type 0 where
@@ -71,25 +71,48 @@ pub record EndsSource (terms : Terms) (ending : Ending) (old new : Progress) : T
   pub checked : new.checked ≡ old.checked
   pub intake : new.intake ≡ nothing_taken
   pub blocks : new.blocks ≡ 0
-  pub buffer : vec_len new.buffer ≡ vec_len old.buffer
+  pub reading : new.ended ≡ None
 
--- A piece came, and the block that it gave, if it gave one, is asked about, unless what was read decides.
+-- A piece came, by a read of at most so many bytes, and is held.
 pub record TakesPiece (terms : Terms) (before after : Seen) (old new : Progress) : Type 0 where
   pub piece : List ℕ
-  pub comes : Comes before after (vec_len old.buffer) terms.rules.limits.bytes old.intake.count piece
-  pub inquiry : new.inquiry ≡ (with_block old (wanted terms old (block_of old.intake.cutting piece))).inquiry
-  pub blocks : new.blocks ≡ (with_block old (wanted terms old (block_of old.intake.cutting piece))).blocks
-  pub intake : new.intake ≡ with_piece old.intake piece
+  pub most : ℕ
+  pub comes : Comes before after most terms.rules.limits.bytes old.intake.count piece
+  pub new_is : new ≡ record old { intake = with_piece old.intake piece }
+
+-- The reading has ended, and what came stays.
+pub record NotesEnding (terms : Terms) (before after : Seen) (old new : Progress) : Type 0 where
+  pub ending : Ending
+  pub ends : Ends before after terms.rules.limits.bytes old.intake.count ending
+  pub new_is : new ≡ record old { ended = Some ending }
+
+-- The reader is used, unless as many bytes have come as may.
+abbrev pub ReadsPiece : Terms → Seen → Seen → Progress → Progress → Type 0
+ReadsPiece terms before after old new = TakesPiece terms before after old new ⊎ NotesEnding terms before after old new
+
+-- What is held is cut, and the block that it gives, if it gives one, is asked about, unless what was read decides.
+pub record CutsHeld (terms : Terms) (old new : Progress) : Type 0 where
+  pub some : 0 < length old.intake.held
+  pub inquiry : new.inquiry ≡ (with_block old (wanted terms old (block_of old.intake.cutting old.intake.held))).inquiry
+  pub blocks : new.blocks ≡ (with_block old (wanted terms old (block_of old.intake.cutting old.intake.held))).blocks
+  pub intake : new.intake ≡ with_cut old.intake
   pub tracks : new.tracks.items ≡ old.tracks.items
   pub read : new.read ≡ old.read
   pub checked : new.checked ≡ old.checked
-  pub buffer : vec_len new.buffer ≡ vec_len old.buffer
+  pub ended : new.ended ≡ old.ended
 
--- One step of reading: a piece comes, or the source ends.
+-- The reading of the source has ended so, all that came is cut, and the next source is to be read.
+pub record PassesOn (terms : Terms) (old new : Progress) : Type 0 where
+  pub ending : Ending
+  pub ended : old.ended ≡ Some ending
+  pub all_cut : length old.intake.held ≡ 0
+  pub ends : EndsSource terms ending old new
+
+-- One step of reading: the reader is used while the reading has not ended; or what is held is cut; or the source is passed on from.
 abbrev pub ReadsOn : Terms → Seen → Seen → Progress → Progress → Type 0
 ReadsOn terms before after old new =
-    TakesPiece terms before after old new
-    ⊎ ((ending : Ending) × Ends before after terms.rules.limits.bytes old.intake.count ending × EndsSource terms ending old new)
+    ((old.ended ≡ None) × ReadsPiece terms before after old new)
+    ⊎ (((after ≡ before) × CutsHeld terms old new) ⊎ ((after ≡ before) × PassesOn terms old new))
 
 -- the verdict is asked for on what the blocks of a source say
 abbrev pub with_check : Terms → Inquired → ℕ → Option (List Reading) → Inquired
@@ -110,7 +133,7 @@ pub record ChecksNext (terms : Terms) (old new : Progress) : Type 0 where
   pub read : new.read ≡ old.read
   pub intake : new.intake ≡ old.intake
   pub blocks : new.blocks ≡ old.blocks
-  pub buffer : vec_len new.buffer ≡ vec_len old.buffer
+  pub ended : new.ended ≡ old.ended
 
 -- The value of the oldest open question, if there is one, goes to the track of its source.
 abbrev pub Settles : List Question → ℕ → Inquired → List Track → List Track → Type 0
@@ -124,7 +147,7 @@ pub record SettlesNext (old new : Progress) : Type 0 where
   pub checked : new.checked ≡ old.checked
   pub intake : new.intake ≡ old.intake
   pub blocks : new.blocks ≡ old.blocks
-  pub buffer : vec_len new.buffer ≡ vec_len old.buffer
+  pub ended : new.ended ≡ old.ended
 
 -- The reader of one source was used, and nothing else was done to the sources.
 pub record IsReadFrom (now after : List Sighted) (place : ℕ) (before_read after_read : Seen) : Type 0 where

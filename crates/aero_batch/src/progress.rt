@@ -6,6 +6,7 @@ use crate::inquiry::Inquiry;
 use aero_intake::intake::Intake;
 use aero_intake::plan::Plan;
 use aero_intake::track::{Readings, Track};
+use aero_model::verdict::Ending;
 use std::alloc::{AllocError, Global};
 
 /// How far a run is. The sources are read one after the other, and their verdicts are asked for in
@@ -22,8 +23,8 @@ pub struct Progress {
     /// The source that is being read, and how many of its blocks were asked about.
     pub intake: Intake,
     pub blocks: u64,
-    /// Room for one piece.
-    pub buffer: Vec<u8>,
+    /// How its reading has ended, where it has: what is held is still to be cut then.
+    pub ended: Option<Ending>,
 }
 
 impl Progress {
@@ -34,16 +35,16 @@ impl Progress {
         sources: usize,
         is_alone: bool,
     ) -> Result<Progress, AllocError>
-        ensures { IfOk result (IsStart plan.now.piece sources) }
+        ensures { IfOk result (IsStart sources) }
     {
         Ok(Progress {
             inquiry: Inquiry::new(alloc, is_alone)?,
             tracks: new_tracks(alloc, sources)?,
             read: 0,
             checked: 0,
-            intake: Intake::new(alloc),
+            intake: Intake::new(alloc, plan.piece)?,
             blocks: 0,
-            buffer: vec![in alloc; 0u8; plan.piece as usize]?,
+            ended: None,
         })
     }
 }

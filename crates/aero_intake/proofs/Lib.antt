@@ -1,4 +1,5 @@
 pub mod Decided
+mod Filled
 pub mod Judged
 pub mod Taken
 pub mod Tracked

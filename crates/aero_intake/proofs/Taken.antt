@@ -10,7 +10,7 @@ use Rattle.aero_model.specs.declared.verdict.Ending.TheVariants.{Whole, Broken, 
 use Rattle.aero_model.specs.CallCounts.{Seen}
 use Rattle.aero_lines.specs.Cutting.{Cutting, nothing_yet, fed, block_of, last_block, blocks_from}
 use Rattle.aero_intake.specs.Source.{WasRead}
-use Rattle.aero_intake.specs.Intake.{Taking, nothing_taken, with_piece, fed_all, blocks_so_far, IsTaken, HaveCome, Comes, Ends}
+use Rattle.aero_intake.specs.Intake.{Taking, nothing_taken, with_piece, with_cut, fed_all, blocks_so_far, IsTaken, HaveCome, Ends}
 
 fed_all-more : (c : Cutting) (pieces : List (List ℕ)) (piece : List ℕ) → fed_all c (pieces ++ piece ∷ []) ≡ fed (fed_all c pieces) piece
 fed_all-more c [] piece = refl
@@ -36,13 +36,25 @@ concat-more (first ∷ pieces) piece = ap (λ bs. first ++ bs) (concat-more piec
 pub nothing_is_taken : IsTaken nothing_taken [] []
 nothing_is_taken = record { cutting = refl; given = refl; count = refl }
 
--- a piece comes, and gives its block
-pub piece_is_taken : (i : Taking) (pieces blocks : List (List ℕ)) (piece : List ℕ) → IsTaken i pieces blocks →
-    IsTaken (with_piece i piece) (pieces ++ piece ∷ []) (blocks ++ option_to_list (block_of i.cutting piece))
-piece_is_taken i pieces blocks piece is = record {
-  cutting = ap (λ c. fed c piece) is.cutting ∙ sym (fed_all-more nothing_yet pieces piece);
-  given = ap₂ (λ bs c. bs ++ option_to_list (block_of c piece)) is.given is.cutting ∙ sym (blocks_so_far-more nothing_yet pieces piece);
-  count = ap (λ n. n + length piece) is.count ∙ (sym (length-append (concat pieces) piece) ∙ sym (ap length (concat-more pieces piece)));
+-- a piece comes, and is held
+pub piece_is_held : (i : Taking) (pieces blocks : List (List ℕ)) (piece : List ℕ) → IsTaken i pieces blocks → IsTaken (with_piece i piece) pieces blocks
+piece_is_held i pieces blocks piece is = record {
+  cutting = is.cutting;
+  given = is.given;
+  count = ap (λ n. n + length piece) is.count ∙ (sym (length-append (concat pieces ++ i.held) piece) ∙ ap length (append_assoc (concat pieces) i.held piece));
+}
+
+-- what was cut and what is held are the same bytes once what is held is cut
+pub cut_bytes : (pieces : List (List ℕ)) (held : List ℕ) → concat (pieces ++ held ∷ []) ++ [] ≡ concat pieces ++ held
+cut_bytes pieces held = append-nil (concat (pieces ++ held ∷ [])) ∙ concat-more pieces held
+
+-- what is held is cut, and gives its block
+pub held_is_cut : (i : Taking) (pieces blocks : List (List ℕ)) → IsTaken i pieces blocks →
+    IsTaken (with_cut i) (pieces ++ i.held ∷ []) (blocks ++ option_to_list (block_of i.cutting i.held))
+held_is_cut i pieces blocks is = record {
+  cutting = ap (λ c. fed c i.held) is.cutting ∙ sym (fed_all-more nothing_yet pieces i.held);
+  given = ap₂ (λ bs c. bs ++ option_to_list (block_of c i.held)) is.given is.cutting ∙ sym (blocks_so_far-more nothing_yet pieces i.held);
+  count = is.count ∙ sym (ap length (cut_bytes pieces i.held));
 }
 
 -- the text ends
@@ -53,34 +65,33 @@ blocks_with_last i pieces blocks is =
 pub nothing_has_come : (seen : Seen) → HaveCome seen seen []
 nothing_has_come seen = record { came = Consumes-nil seen.bytes; quiet = record { faults = refl; ends = refl } }
 
-pub piece_has_come : (before mid after : Seen) (pieces : List (List ℕ)) (room limit count : ℕ) (piece : List ℕ) →
-    HaveCome before mid pieces → Comes mid after room limit count piece → HaveCome before after (pieces ++ piece ∷ [])
-piece_has_come before mid after pieces room limit count piece have comes = record {
-  came = subst (λ bytes. Consumes before.bytes after.bytes bytes) (sym (concat-more pieces piece)) (Consumes-trans before.bytes mid.bytes after.bytes (concat pieces) piece have.came comes.came);
-  quiet = record { faults = comes.quiet.faults ∙ have.quiet.faults; ends = comes.quiet.ends ∙ have.quiet.ends };
+pub more_has_come : (before mid after : Seen) (bytes more : List ℕ) → HaveCome before mid bytes → HaveCome mid after more → HaveCome before after (bytes ++ more)
+more_has_come before mid after bytes more have then = record {
+  came = Consumes-trans before.bytes mid.bytes after.bytes bytes more have.came then.came;
+  quiet = record { faults = then.quiet.faults ∙ have.quiet.faults; ends = then.quiet.ends ∙ have.quiet.ends };
 }
 
 -- what was read of a source that has ended
-pub source_was_read : (before mid after : Seen) (limit : ℕ) (i : Taking) (pieces blocks : List (List ℕ)) (ending : Ending) →
-    HaveCome before mid pieces → IsTaken i pieces blocks → Ends mid after limit i.count ending → WasRead before after limit (concat pieces) ending
-source_was_read before mid after limit i pieces blocks Whole have is ends = record {
-  came = subst (λ bytes. Consumes before.bytes after.bytes bytes) (append-nil (concat pieces)) (Consumes-trans before.bytes mid.bytes after.bytes (concat pieces) [] have.came ends.0.came);
+pub source_was_read : (before mid after : Seen) (limit count : ℕ) (bytes : List ℕ) (ending : Ending) →
+    HaveCome before mid bytes → count ≡ length bytes → Ends mid after limit count ending → WasRead before after limit bytes ending
+source_was_read before mid after limit count bytes Whole have is ends = record {
+  came = subst (λ bs. Consumes before.bytes after.bytes bs) (append-nil bytes) (Consumes-trans before.bytes mid.bytes after.bytes bytes [] have.came ends.0.came);
   faults = omega (arith, ends.0.faults, have.quiet.faults);
   ends = omega (arith, ends.0.ends, have.quiet.ends);
-  fits = subst (λ n. n ≤ limit) is.count ends.1;
+  fits = subst (λ n. n ≤ limit) is ends.1;
   rest = ends.0.rest;
 }
-source_was_read before mid after limit i pieces blocks Broken have is ends = record {
-  came = subst (λ bytes. Consumes before.bytes after.bytes bytes) (append-nil (concat pieces)) (Consumes-trans before.bytes mid.bytes after.bytes (concat pieces) [] have.came ends.0.came);
+source_was_read before mid after limit count bytes Broken have is ends = record {
+  came = subst (λ bs. Consumes before.bytes after.bytes bs) (append-nil bytes) (Consumes-trans before.bytes mid.bytes after.bytes bytes [] have.came ends.0.came);
   faults = omega (arith, ends.0.faults, have.quiet.faults);
   ends = omega (arith, ends.0.ends, have.quiet.ends);
-  fits = subst (λ n. n ≤ limit) is.count ends.1;
+  fits = subst (λ n. n ≤ limit) is ends.1;
   rest = tt;
 }
-source_was_read before mid after limit i pieces blocks TooLarge have is ends = record {
-  came = subst (λ (s : Seen). Consumes before.bytes s.bytes (concat pieces)) (sym ends.0) have.came;
+source_was_read before mid after limit count bytes TooLarge have is ends = record {
+  came = subst (λ (s : Seen). Consumes before.bytes s.bytes bytes) (sym ends.0) have.came;
   faults = omega (arith, ap (λ (s : Seen). s.faults) ends.0, have.quiet.faults);
   ends = omega (arith, ap (λ (s : Seen). s.ends) ends.0, have.quiet.ends);
-  fits = sym is.count ∙ ends.1;
+  fits = sym is ∙ ends.1;
   rest = tt;
 }

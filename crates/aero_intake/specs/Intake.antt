@@ -1,28 +1,32 @@
 -- A source that is being read and cut.
-use Rattle.std.specs.Prelude.{◌≡◌, ℕ, ◌+◌, ◌<◌, ◌≤◌, List, [], ◌∷◌, ◌++◌, length, option_to_list, IfSome}
+use Rattle.std.specs.Prelude.{◌≡◌, ℕ, zero, suc, ◌+◌, ◌<◌, ◌≤◌, List, [], ◌∷◌, ◌++◌, length, take, option_to_list, Result, Ok, Err}
 use Rattle.std.specs.List.{concat}
 use Rattle.std.specs.Io.KnownBytes.{Consumes}
 use Rattle.aero_model.specs.declared.verdict.Ending.{Ending}
-use Rattle.aero_model.specs.declared.verdict.Ending.TheVariants.{TooLarge}
+use Rattle.aero_model.specs.declared.verdict.Ending.TheVariants.{Whole, Broken, TooLarge}
 use Rattle.aero_model.specs.CallCounts.{Seen}
-use Rattle.aero_model.specs.Lines.{most_line_bytes}
 use Rattle.aero_lines.specs.Cutting.{Cutting, nothing_yet, fed, block_of}
 use Rattle.aero_intake.specs.Source.{WasRead, IsQuiet}
 use Rattle.aero_intake.specs.declared.intake.Taken.{Taken}
 use Rattle.aero_intake.specs.declared.intake.Taken.TheVariants.{Piece, Ended}
 
--- where the cutting stands, and how many bytes have come
+-- where the cutting stands, the bytes that came and aren't cut yet, and how many have come in all
 pub record Taking : Type 0 where
   pub cutting : Cutting
+  pub held : List ℕ
   pub count : ℕ
 
 -- before the first piece
 abbrev pub nothing_taken : Taking
-nothing_taken = record { cutting = nothing_yet; count = 0 }
+nothing_taken = record { cutting = nothing_yet; held = []; count = 0 }
 
--- with one piece more
+-- with one piece more, which is held
 abbrev pub with_piece : Taking → List ℕ → Taking
-with_piece i piece = record { cutting = fed i.cutting piece; count = i.count + length piece }
+with_piece i piece = record { cutting = i.cutting; held = i.held ++ piece; count = i.count + length piece }
+
+-- with all that was held fed to the cutting
+abbrev pub with_cut : Taking → Taking
+with_cut i = record { cutting = fed i.cutting i.held; held = []; count = i.count }
 
 -- what a cutting becomes with these pieces, one after the other
 abbrev pub fed_all : Cutting → List (List ℕ) → Cutting
@@ -34,23 +38,22 @@ abbrev pub blocks_so_far : Cutting → List (List ℕ) → List (List ℕ)
 blocks_so_far c [] = []
 blocks_so_far c (piece ∷ pieces) = option_to_list (block_of c piece) ++ blocks_so_far (fed c piece) pieces
 
--- These pieces came, one after the other, and gave these blocks.
+-- These pieces were cut, one after the other, and gave these blocks, and what is held came after them.
 pub record IsTaken (i : Taking) (pieces blocks : List (List ℕ)) : Type 0 where
   pub cutting : i.cutting ≡ fed_all nothing_yet pieces
   pub given : blocks ≡ blocks_so_far nothing_yet pieces
-  pub count : i.count ≡ length (concat pieces)
+  pub count : i.count ≡ length (concat pieces ++ i.held)
 
--- The pieces came from the reader, and no read failed or found the end.
-pub record HaveCome (before after : Seen) (pieces : List (List ℕ)) : Type 0 where
-  pub came : Consumes before.bytes after.bytes (concat pieces)
+-- These bytes came from the reader, and no read failed or found the end.
+pub record HaveCome (before after : Seen) (bytes : List ℕ) : Type 0 where
+  pub came : Consumes before.bytes after.bytes bytes
   pub quiet : IsQuiet before after
 
--- One read gave this piece, of at least one byte, and of no more than there was room for or than the limit and one byte.
-pub record Comes (before after : Seen) (room limit count : ℕ) (piece : List ℕ) : Type 0 where
-  pub came : Consumes before.bytes after.bytes piece
-  pub quiet : IsQuiet before after
+-- One read gave this piece, of at least one byte, and of no more than it may ask for or than the limit and one byte.
+pub record Comes (before after : Seen) (most limit count : ℕ) (piece : List ℕ) : Type 0 where
+  pub come : HaveCome before after piece
   pub some : 0 < length piece
-  pub few : length piece ≤ room
+  pub few : length piece ≤ most
   pub within : count + length piece ≤ limit + 1
 
 -- The source has ended once so many bytes had come: by a read that gave nothing, or, where it is too large, without a read.
@@ -58,8 +61,18 @@ abbrev pub Ends : (before after : Seen) (limit count : ℕ) → Ending → Type 
 Ends before after limit count TooLarge = (after ≡ before) × (count ≡ limit + 1)
 Ends before after limit count ending = WasRead before after limit [] ending × (count ≤ limit)
 
--- One step: a piece is fed to the cutting and gives its block, which is little longer than there was room for a piece. Or the source has ended, and what came stays.
-abbrev pub Takes : (before after : Seen) (room limit : ℕ) (old new : Taking) → Taken → Type 0
-Takes before after room limit old new (Piece block) =
-    (piece : List ℕ) × Comes before after room limit old.count piece × (block ≡ block_of old.cutting piece) × IfSome block (λ bytes. length bytes ≤ most_line_bytes + room) × (new ≡ with_piece old piece)
-Takes before after room limit old new (Ended ending) = Ends before after limit old.count ending × (new ≡ old)
+-- One step: a piece comes, and is held. Or the source has ended, and what came stays.
+abbrev pub Takes : (before after : Seen) (most limit : ℕ) (old new : Taking) → Taken → Type 0
+Takes before after most limit old new Piece = (piece : List ℕ) × Comes before after most limit old.count piece × (new ≡ with_piece old piece)
+Takes before after most limit old new (Ended ending) = Ends before after limit old.count ending × (new ≡ old)
+
+-- So many bytes came, which stand in the buffer behind those that it held, and none only at the end.
+abbrev pub FillsWith : (before after : Seen) (held room : ℕ) (old new : List ℕ) → ℕ → Type 0
+FillsWith before after held room old new zero = ((limit : ℕ) → WasRead before after limit [] Whole) × (take held new ≡ take held old)
+FillsWith before after held room old new (suc n) =
+    (piece : List ℕ) × HaveCome before after piece × (length piece ≡ suc n) × (suc n ≤ room) × (take (held + suc n) new ≡ take held old ++ piece)
+
+-- One read into a buffer, behind the bytes that it holds: bytes came, or the read failed.
+abbrev pub Fills : {E : Type 0} → (before after : Seen) (held room : ℕ) (old new : List ℕ) → Result ℕ E → Type 0
+Fills before after held room old new (Ok n) = FillsWith before after held room old new n
+Fills before after held room old new (Err e) = ((limit : ℕ) → WasRead before after limit [] Broken) × (take held new ≡ take held old)

@@ -1,51 +1,78 @@
 //! A source that is being read.
-ghost use Rattle.std.specs.Prelude.{◌≡◌, ◌<◌, ◌≤◌, ◌+◌, ◌^◌, length, IfOk, IfSome, OnErr, Ok};
-ghost use Rattle.aero_model.specs.CallCounts.{seen_by};
+ghost use Rattle.std.specs.Prelude.{◌≡◌, ◌<◌, ◌≤◌, ◌+◌, ◌++◌, ◌^◌, ◌↔◌, [], length, take, is_err, if◌then◌else◌, IsTrue, IfOk, IfSome, OnOk, OnErr, MatchResult, Ok};
+ghost use Rattle.std.specs.Io.KnownBytes.{Consumes, IsAtEnd, Keeps};
+ghost use Rattle.aero_model.specs.CallCounts.{seen_by, faults_of, ends_of, inner_of};
 ghost use Rattle.aero_model.specs.Lines.{most_line_bytes};
-ghost use Rattle.aero_lines.specs.Cutting.{last_block};
-ghost use Rattle.aero_intake.specs.Intake.{Takes, nothing_taken};
-ghost use Rattle.aero_intake.specs.Source.{IsQuiet};
+ghost use Rattle.aero_lines.specs.Cutting.{block_of, last_block};
+ghost use Rattle.aero_intake.specs.Intake.{Takes, Fills, nothing_taken, with_cut};
 
 use aero_lines::cutter::{Block, Cutter};
 use aero_model::counting::Counting;
 use aero_model::verdict::Ending;
 use std::alloc::{AllocError, Global};
+use std::io;
 use std::io::Read;
 use std::marker::Model;
+use std::mem;
+
+/// How many bytes are gathered before they are cut, unless the source ends: so many by several reads,
+/// however short. A question is asked about each block that comes of it, and at most 64 are open: with
+/// blocks of 64 KiB these are soon behind one verdict, and further workers have nothing to do.
+const BLOCK_BYTES: usize = 1 << 18;
 
 /// What one step of reading a source gave.
 #[derive(Drop)]
 pub enum Taken {
-    /// A piece came, and with it these lines are whole, or none.
-    Piece(Option<Block>),
+    /// A piece came, and is held.
+    Piece,
     /// The source has ended so. Nothing more is to be read of it.
     Ended(Ending),
 }
 
-/// One source as far as it was read: where its cutting stands, and how many bytes have come.
+/// One source as far as it was read: where its cutting stands, the bytes that came and aren't cut yet,
+/// and how many have come in all.
 #[derive(Drop)]
 pub struct Intake {
+    alloc: Global,
     cutter: Cutter,
+    // What is held stands at its front.
+    buffer: Vec<u8>,
+    held: usize,
     count: u32,
 }
 
 impl Model for Intake {
+    ghost use Rattle.std.specs.Prelude.{take};
     ghost use Rattle.aero_intake.specs.Intake.{Taking};
 
     ghost Value = { Taking };
 
-    ghost view = { λ i. record { cutting = i.cutter; count = i.count } };
+    ghost view = { λ i. record { cutting = i.cutter; held = take i.held i.buffer.items; count = i.count } };
+
+    ghost use Rattle.std.specs.Prelude.{◌≤◌, ◌^◌, vec_len};
+
+    ghost invariant = { λ i. record { held : i.held ≤ vec_len i.buffer; room : 2 ^ 18 ≤ vec_len i.buffer; short : vec_len i.buffer ≤ 2 ^ 20 } };
 }
 
 impl Intake {
-    /// A source of which nothing was read. It takes no memory yet.
-    pub fn new(alloc: Global) -> Intake
-        ensures { result ≡ nothing_taken }
+    /// A source of which nothing was read, with room for a read of so many bytes, 1,048,576 at most,
+    /// and for 262,144 at least.
+    ///
+    /// # Errors
+    ///
+    /// `AllocError` where memory is refused.
+    pub fn new(alloc: Global, piece: u32) -> Result<Intake, AllocError>
+        requires { piece ≤ 2 ^ 20 }
+        ensures { IfOk result (λ intake. intake ≡ nothing_taken) }
     {
-        Intake {
+        let room = BLOCK_BYTES.max(piece as usize);
+        Ok(Intake {
+            alloc,
             cutter: Cutter::new(alloc),
+            buffer: vec![in alloc; 0u8; room]?,
+            held: 0,
             count: 0,
-        }
+        })
     }
 
     /// How many bytes have come.
@@ -55,58 +82,93 @@ impl Intake {
         self.count
     }
 
-    /// Reads one piece into the buffer and cuts it. A read asks for at least 1 byte, for as many as
-    /// the buffer has room for at most, and for none past `limit + 1` in all. The source has ended
-    /// where the read failed, of whatever kind (`Broken`), where it gave 0 bytes (`Whole`), and,
-    /// without a read, where `limit + 1` bytes have come (`TooLarge`).
+    /// Whether what is held is to be cut before more is read: 262,144 bytes or more.
+    pub fn is_full(&self) -> bool
+        ensures { IsTrue result ↔ (2 ^ 18 ≤ length self.now.held) }
+    {
+        self.held >= BLOCK_BYTES
+    }
+
+    /// Whether nothing is held.
+    pub fn is_cut(&self) -> bool
+        ensures { IsTrue result ↔ (length self.now.held ≡ 0) }
+    {
+        self.held == 0
+    }
+
+    /// Reads one piece, which is held until it is cut. A read asks for at least 1 byte, for so many at
+    /// most, and for none past `limit + 1` in all. The source has ended where the read failed, of
+    /// whatever kind (`Broken`), where it gave 0 bytes (`Whole`), and, without a read, where
+    /// `limit + 1` bytes have come (`TooLarge`).
     ///
-    /// The limit is at most 2^30, and `limit + 1` bytes have come at most. What the buffer held is
-    /// lost.
-    ///
-    /// # Errors
-    ///
-    /// `AllocError` where memory is refused. The piece is then lost: no more of this source is of
-    /// use. No read has failed.
-    pub fn take<R: Read>(
-        &mut self,
-        reader: &mut Counting<R>,
-        buffer: &mut [u8],
-        limit: u32,
-    ) -> Result<Taken, AllocError>
-        requires some_room { 0 < length buffer.old }
+    /// The limit is at most 2^30, and `limit + 1` bytes have come at most.
+    pub fn take<R: Read>(&mut self, reader: &mut Counting<R>, piece: u32, limit: u32) -> Taken
+        requires some_room { 0 < piece }
+        requires not_full { length self.old.held < 2 ^ 18 }
         requires limited { limit ≤ 2 ^ 30 }
         requires within { self.old.count ≤ limit + 1 }
-        ensures takes { IfOk result (λ taken. Takes (seen_by R.remaining reader.old) (seen_by R.remaining reader.new) (length buffer.old) limit self.old self.new taken) }
-        ensures unchanged { OnErr result (self.new ≡ self.old) }
-        ensures quiet { OnErr result (IsQuiet (seen_by R.remaining reader.old) (seen_by R.remaining reader.new)) }
+        ensures { Takes (seen_by R.remaining reader.old) (seen_by R.remaining reader.new) piece limit self.old self.new result }
     {
         let left = limit as usize + 1 - self.count as usize;
         if left == 0 {
-            return Ok(Taken::Ended(Ending::TooLarge));
+            return Taken::Ended(Ending::TooLarge);
         }
-        let room = buffer.len().min(left);
-        match reader.read(&mut buffer[..room]) {
-            Err(_) => Ok(Taken::Ended(Ending::Broken)),
-            Ok(0) => Ok(Taken::Ended(Ending::Whole)),
+        let room = (self.buffer.len() - self.held).min(piece as usize).min(left);
+        match read_behind(reader, &mut self.buffer, self.held, room) {
+            Err(_) => Taken::Ended(Ending::Broken),
+            Ok(0) => Taken::Ended(Ending::Whole),
             Ok(count) => {
-                let block = self.cutter.feed(&buffer[..count])?;
+                self.held += count;
                 self.count += count as u32;
-                Ok(Taken::Piece(block))
+                Taken::Piece
             }
         }
     }
 
-    /// Gives the last line of a source that is whole, where no byte 10 ended it: 4,096 bytes at
-    /// most.
+    /// Cuts what is held, and gives all lines that are whole now, or None where there is none.
+    ///
+    /// # Errors
+    ///
+    /// `AllocError` where memory is refused. Nothing has changed then.
+    pub fn cut(&mut self) -> Result<Option<Block>, AllocError>
+        ensures block { IfOk result (λ block. block ≡ block_of self.old.cutting self.old.held) }
+        ensures few { IfOk result (λ block. IfSome block (λ bytes. length bytes ≤ most_line_bytes + 2 ^ 20)) }
+        ensures after { OnOk result (self.new ≡ with_cut self.old) }
+        ensures refused { OnErr result (self.new ≡ self.old) }
+    {
+        let block = self.cutter.feed(&self.buffer[..self.held])?;
+        self.held = 0;
+        Ok(block)
+    }
+
+    /// Gives the last line of a source that is whole and was cut, where no byte 10 ended it: 4,096
+    /// bytes at most. Another source may be read then, of which nothing has come.
     ///
     /// # Errors
     ///
     /// None: no memory is needed, and the result is always Ok.
-    pub fn finish(self) -> Result<Option<Block>, AllocError>
-        ensures last { result ≡ Ok (last_block self.cutting) }
+    pub fn finish(&mut self) -> Result<Option<Block>, AllocError>
+        ensures last { result ≡ Ok (last_block self.old.cutting) }
         ensures few { IfOk result (λ block. IfSome block (λ bytes. length bytes ≤ most_line_bytes)) }
+        ensures fresh { self.new ≡ nothing_taken }
     {
-        let Intake { cutter, .. } = self;
+        let cutter = mem::replace(&mut self.cutter, Cutter::new(self.alloc));
+        self.held = 0;
+        self.count = 0;
         cutter.finish()
     }
+}
+
+// One read of at most so many bytes, behind so many that stay as they are.
+fn read_behind<R: Read>(
+    reader: &mut Counting<R>,
+    buffer: &mut [u8],
+    held: usize,
+    room: usize,
+) -> io::Result<usize>
+    requires some { 0 < room }
+    requires fits { held + room ≤ length buffer.old }
+    ensures { Fills (seen_by R.remaining reader.old) (seen_by R.remaining reader.new) held room buffer.old buffer.new result }
+{
+    reader.read(&mut buffer[held..held + room])
 }
