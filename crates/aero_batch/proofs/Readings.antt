@@ -1,5 +1,5 @@
 -- A step of reading keeps what holds of the sources.
-use Rattle.std.proofs.Common.{◌≡◌, ℕ, ◌+◌, ◌<◌, Bool, true, false, List, [], ◌∷◌, ◌++◌, map, length, slice_get, Option, Some, None, refl, sym, ◌∙◌, ap, subst, inl, inr, arith}
+use Rattle.std.proofs.Common.{◌≡◌, ℕ, ◌+◌, ◌<◌, Bool, true, false, List, [], ◌∷◌, ◌++◌, map, length, slice_get, Option, Some, None, refl, sym, ◌∙◌, ap, subst, append_assoc, inl, inr, arith}
 use Rattle.std.specs.Prelude.{if◌then◌else◌, option_to_list}
 use Rattle.std.specs.List.{concat}
 use Rattle.std.proofs.lemmas.Bool.{cases_eq}
@@ -16,15 +16,15 @@ use Rattle.aero_batch.specs.declared.progress.Progress.{Progress}
 use Rattle.aero_intake.specs.declared.track.Track.{Track}
 use Rattle.aero_intake.specs.declared.track.Track.TheVariants.{Arriving, Arrived, Checking, Found}
 use Rattle.aero_batch.specs.Founds.{Sighted}
-use Rattle.aero_batch.specs.Holding.{Holds, HasEnded, HaveComeFrom, nothing_known}
+use Rattle.aero_batch.specs.Holding.{Holds, HasEnded, HasCome, HasComeFrom, nothing_known}
 use Rattle.aero_batch.specs.Inquiries.{Inquired}
-use Rattle.aero_intake.specs.Intake.{Taking, IsTaken, HaveCome, Ends}
+use Rattle.aero_intake.specs.Intake.{Taking, IsTaken, HaveCome}
 use Rattle.aero_intake.specs.Source.{WasRead}
-use Rattle.aero_batch.specs.Steps.{EndsSource, TakesPiece, IsReadFrom, decided_there, has_decided, wanted, with_block, last_of, ended_track}
+use Rattle.aero_batch.specs.Steps.{TakesPiece, NotesEnding, CutsHeld, PassesOn, IsReadFrom, decided_there, has_decided, wanted, with_block, last_of, ended_track}
 use Rattle.aero_intake.specs.Stories.{Story, AreEnough, IsTracked, AreTracked, changed}
 use Rattle.aero_intake.specs.Tracks.{decides}
 use Rattle.aero_batch.proofs.Retold.{retold, retold_there, retold_same, retold_elsewhere, with_pieces, block_tracked, still_arriving}
-use Rattle.aero_intake.proofs.Taken.{nothing_is_taken, piece_is_taken, blocks_with_last, nothing_has_come, piece_has_come, source_was_read}
+use Rattle.aero_intake.proofs.Taken.{nothing_is_taken, piece_is_held, held_is_cut, cut_bytes, blocks_with_last, nothing_has_come, more_has_come, source_was_read}
 use Rattle.aero_intake.proofs.Tracked.{changed_there, changed_elsewhere, before_change, enough_asked, enough_dropped, settled_decide}
 use Rattle.aero_verdict.specs.Finding.{Terms}
 
@@ -70,42 +70,103 @@ block_count : (p : Progress) (o : Option (List ℕ)) (blocks : List (List ℕ)) 
 block_count p None blocks is = is ∙ ap length (sym (append-nil blocks))
 block_count p (Some b) blocks is = omega (arith, is, length-append blocks (b ∷ []))
 
-pub piece_holds : (terms : Terms) (old now after : List Sighted) (p q : Progress) (tale : ℕ → Story) (before_read after_read : Seen) →
-    IsReadFrom now after p.read before_read after_read → TakesPiece terms before_read after_read p q → Holds terms old now p tale → (new : ℕ → Story) × Holds terms old after q new × ((s : ℕ) → s < p.read → new s ≡ tale s)
-piece_holds terms old now after p q tale before_read after_read from takes holds =
-    let given = block_of p.intake.cutting takes.piece in
+-- what has come of the source whose reader was used
+come_on : (terms : Terms) (old now after : List Sighted) (place : ℕ) (before_read after_read : Seen) (bytes more : List ℕ) (was is : Option Ending) → IsReadFrom now after place before_read after_read →
+    ((first : Seen) → HasCome first before_read terms.rules.limits.bytes bytes was → HasCome first after_read terms.rules.limits.bytes more is) →
+    HasComeFrom terms old now place bytes was → HasComeFrom terms old after place more is
+come_on terms old now after place before_read after_read bytes more was is from goes come before last was_there is_there =
+    let same : record { name = from.was.name; reader = after_read } ≡ last = the_some (record { name = from.was.name; reader = after_read }) last (sym from.is_there ∙ is_there) in
+    let mid = subst (λ (x : Seen). HasCome before.reader x terms.rules.limits.bytes bytes was) from.used (come before from.was was_there from.was_there) in
+    subst (λ (x : Sighted). HasCome before.reader x.reader terms.rules.limits.bytes more is) same (goes before.reader mid)
+
+-- a piece comes, and is held
+pub taking_holds : (terms : Terms) (old now after : List Sighted) (p q : Progress) (tale : ℕ → Story) (before_read after_read : Seen) →
+    IsReadFrom now after p.read before_read after_read → p.ended ≡ None → TakesPiece terms before_read after_read p q → Holds terms old now p tale → Holds terms old after q tale
+taking_holds terms old now after p q tale before_read after_read from reading takes holds =
+    let pieces = (tale p.read).pieces in
+    let bytes = concat pieces ++ p.intake.held in
+    let limit = terms.rules.limits.bytes in
+    subst (λ (m : Progress). Holds terms old after m tale) (sym takes.new_is)
+    (record {
+      tracked = holds.tracked;
+      ended = λ s below. ended_stays terms old now after p.read s (tale s) from.others (λ e. omega (arith, below, e)) (holds.ended s below);
+      cut = holds.cut;
+      taken = piece_is_held p.intake pieces holds.cut takes.piece holds.taken;
+      enough = holds.enough;
+      come = come_on terms old now after p.read before_read after_read bytes (concat pieces ++ (p.intake.held ++ takes.piece)) p.ended p.ended from
+          (λ first come. subst (λ e. HasCome first after_read limit (concat pieces ++ (p.intake.held ++ takes.piece)) e) (sym reading)
+          (subst (λ bs. HaveCome first after_read bs) (append_assoc (concat pieces) p.intake.held takes.piece)
+          (more_has_come first before_read after_read bytes takes.piece (subst (λ e. HasCome first before_read limit bytes e) reading come) takes.comes.come)))
+          holds.come;
+      asked = holds.asked;
+      not_ended = holds.not_ended;
+      later = λ s above. ((holds.later s above).0, from.others s (λ e. omega (arith, above, e)) ∙ (holds.later s above).1);
+    })
+
+-- the reading ends
+pub noting_holds : (terms : Terms) (old now after : List Sighted) (p q : Progress) (tale : ℕ → Story) (before_read after_read : Seen) →
+    IsReadFrom now after p.read before_read after_read → p.ended ≡ None → NotesEnding terms before_read after_read p q → Holds terms old now p tale → Holds terms old after q tale
+noting_holds terms old now after p q tale before_read after_read from reading notes holds =
+    let bytes = concat (tale p.read).pieces ++ p.intake.held in
+    let limit = terms.rules.limits.bytes in
+    subst (λ (m : Progress). Holds terms old after m tale) (sym notes.new_is)
+    (record {
+      tracked = holds.tracked;
+      ended = λ s below. ended_stays terms old now after p.read s (tale s) from.others (λ e. omega (arith, below, e)) (holds.ended s below);
+      cut = holds.cut;
+      taken = holds.taken;
+      enough = holds.enough;
+      come = come_on terms old now after p.read before_read after_read bytes bytes p.ended (Some notes.ending) from
+          (λ first come. source_was_read first before_read after_read limit p.intake.count bytes notes.ending (subst (λ e. HasCome first before_read limit bytes e) reading come) holds.taken.count notes.ends)
+          holds.come;
+      asked = holds.asked;
+      not_ended = holds.not_ended;
+      later = λ s above. ((holds.later s above).0, from.others s (λ e. omega (arith, above, e)) ∙ (holds.later s above).1);
+    })
+
+-- what is held is cut
+pub cutting_holds : (terms : Terms) (old now after : List Sighted) (p q : Progress) (tale : ℕ → Story) (before_read after_read : Seen) →
+    IsReadFrom now after p.read before_read after_read → after_read ≡ before_read → CutsHeld terms p q → Holds terms old now p tale →
+    (new : ℕ → Story) × Holds terms old after q new × ((s : ℕ) → s < p.read → new s ≡ tale s)
+cutting_holds terms old now after p q tale before_read after_read from unread cuts holds =
+    let given = block_of p.intake.cutting p.intake.held in
     let o = wanted terms p given in
     let cut = holds.cut ++ option_to_list given in
-    let pieces = (tale p.read).pieces ++ takes.piece ∷ [] in
+    let pieces = (tale p.read).pieces ++ p.intake.held ∷ [] in
+    let bytes = concat (tale p.read).pieces ++ p.intake.held in
+    let limit = terms.rules.limits.bytes in
     let story = with_pieces (tale p.read) pieces o in
     let new : ℕ → Story = retold tale p.read story in
     let there : new p.read ≡ story = retold_there tale p.read story in
-    let there' : new q.read ≡ story = ap new takes.read ∙ there in
+    let there' : new q.read ≡ story = ap new cuts.read ∙ there in
     let elsewhere : (s : ℕ) → (p.read ≡ s → ⊥) → new s ≡ tale s = λ s other. retold_elsewhere tale p.read s story other in
-    let tracked = block_tracked terms p tale pieces o holds.not_ended holds.tracked in (
+    let tracked = block_tracked terms p tale pieces o holds.not_ended holds.tracked in
+    let come : HasComeFrom terms old after p.read (concat pieces ++ []) p.ended =
+    come_on terms old now after p.read before_read after_read bytes (concat pieces ++ []) p.ended p.ended from
+    (λ first come. subst (λ bs. HasCome first after_read limit bs p.ended) (sym (cut_bytes (tale p.read).pieces p.intake.held))
+    (subst (λ (x : Seen). HasCome first x limit bytes p.ended) (sym unread) come))
+    holds.come in (
       new,
       record {
-        tracked = subst (λ (i : Inquired). AreTracked terms i.open_ones new q.tracks.items) (sym takes.inquiry)
-            (subst (λ ts. AreTracked terms (with_block p o).inquiry.open_ones new ts) (sym takes.tracks) tracked);
+        tracked = subst (λ (i : Inquired). AreTracked terms i.open_ones new q.tracks.items) (sym cuts.inquiry)
+            (subst (λ ts. AreTracked terms (with_block p o).inquiry.open_ones new ts) (sym cuts.tracks) tracked);
         ended = λ s below.
-            let less : s < p.read = subst (λ r. s < r) takes.read below in
+            let less : s < p.read = subst (λ r. s < r) cuts.read below in
             let other : p.read ≡ s → ⊥ = λ e. omega (arith, less, e) in
             subst (λ (x : Story). HasEnded terms old after s x) (sym (elsewhere s other)) (ended_stays terms old now after p.read s (tale s) from.others other (holds.ended s less));
         cut = cut;
         taken = subst (λ (x : Story). IsTaken q.intake x.pieces cut) (sym there')
-            (subst (λ (i : Taking). IsTaken i pieces cut) (sym takes.intake)
-            (piece_is_taken p.intake (tale p.read).pieces holds.cut takes.piece holds.taken));
+            (subst (λ (i : Taking). IsTaken i pieces cut) (sym cuts.intake)
+            (held_is_cut p.intake (tale p.read).pieces holds.cut holds.taken));
         enough = subst (λ (x : Story). AreEnough terms.rules x.blocks cut) (sym there') (enough_wanted terms p tale holds.cut given holds.tracked holds.enough);
-        come = subst (λ (x : Story). HaveComeFrom old after q.read x) (sym there') (subst (λ r. HaveComeFrom old after r story) (sym takes.read)
-            (λ before last was is.
-            let same : record { name = from.was.name; reader = after_read } ≡ last = the_some (record { name = from.was.name; reader = after_read }) last (sym from.is_there ∙ is) in
-            let mid = holds.come before from.was was from.was_there in
-            let come = piece_has_come before.reader before_read after_read (tale p.read).pieces _ terms.rules.limits.bytes p.intake.count takes.piece (subst (λ (x : Seen). HaveCome before.reader x (tale p.read).pieces) from.used mid) takes.comes in
-            subst (λ (x : Sighted). HaveCome before.reader x.reader pieces) same come));
-        asked = takes.blocks ∙ (block_count p o (tale p.read).blocks holds.asked ∙ ap (λ (x : Story). length x.blocks) (sym there'));
+        come = subst (λ (x : Story). HasComeFrom terms old after q.read (concat x.pieces ++ q.intake.held) q.ended) (sym there')
+            (subst (λ (i : Taking). HasComeFrom terms old after q.read (concat pieces ++ i.held) q.ended) (sym cuts.intake)
+            (subst (λ e. HasComeFrom terms old after q.read (concat pieces ++ []) e) (sym cuts.ended)
+            (subst (λ r. HasComeFrom terms old after r (concat pieces ++ []) p.ended) (sym cuts.read) come)));
+        asked = cuts.blocks ∙ (block_count p o (tale p.read).blocks holds.asked ∙ ap (λ (x : Story). length x.blocks) (sym there'));
         not_ended = ap (λ (x : Story). x.ending) there';
         later = λ s above.
-            let less : p.read < s = subst (λ r. r < s) takes.read above in
+            let less : p.read < s = subst (λ r. r < s) cuts.read above in
             let other : p.read ≡ s → ⊥ = λ e. omega (arith, less, e) in
             (elsewhere s other ∙ (holds.later s less).0, from.others s other ∙ (holds.later s less).1);
       },
@@ -114,7 +175,7 @@ piece_holds terms old now after p q tale before_read after_read from takes holds
 
 -- a source that was arriving has ended
 ended_track_fits : (terms : Terms) (qs : List Question) (s count blocks : ℕ) (ending : Ending) (i : Taking) (pieces cut all : List (List ℕ)) (readings : List Reading) →
-    IsTaken i pieces cut → count ≡ i.count → AreEnough terms.rules all (cut ++ option_to_list (last_of i.cutting ending)) → blocks ≡ length all →
+    IsTaken i pieces cut → count ≡ length (concat pieces) → AreEnough terms.rules all (cut ++ option_to_list (last_of i.cutting ending)) → blocks ≡ length all →
     IsTracked terms qs s (record { pieces = pieces; blocks = all; ending = None }) (Arriving readings) →
     IsTracked terms qs s (record { pieces = pieces; blocks = all; ending = Some ending }) (ended_track ending count blocks (Arriving readings))
 ended_track_fits terms qs s count blocks Whole i pieces cut all readings taken is_count enough is_blocks is = (
@@ -123,21 +184,21 @@ ended_track_fits terms qs s count blocks Whole i pieces cut all readings taken i
   record {
     ended = refl;
     enough = subst (λ bs. AreEnough terms.rules all bs) (blocks_with_last i pieces cut taken) enough;
-    byte_count = is_count ∙ taken.count;
+    byte_count = is_count;
     block_count = is_blocks;
   },
 )
 ended_track_fits terms qs s count blocks Broken i pieces cut all readings taken is_count enough is_blocks is =
-    (refl, is_count ∙ taken.count, merely (ap findings.Broken (is_count ∙ taken.count)))
+    (refl, is_count, merely (ap findings.Broken is_count))
 ended_track_fits terms qs s count blocks TooLarge i pieces cut all readings taken is_count enough is_blocks is =
-    (refl, is_count ∙ taken.count, merely refl)
+    (refl, is_count, merely refl)
 
 ended_tracked : (terms : Terms) (p : Progress) (tale : ℕ → Story) (ending : Ending) (o : Option (List ℕ)) (all cut : List (List ℕ)) → AreEnough terms.rules all (cut ++ option_to_list (last_of p.intake.cutting ending)) →
-    IsTaken p.intake (tale p.read).pieces cut → (with_block p o).blocks ≡ length all →
+    IsTaken p.intake (tale p.read).pieces cut → p.intake.count ≡ length (concat (tale p.read).pieces) → (with_block p o).blocks ≡ length all →
     AreTracked terms (with_block p o).inquiry.open_ones (retold tale p.read (record { pieces = (tale p.read).pieces; blocks = all; ending = None })) p.tracks.items →
     AreTracked terms (with_block p o).inquiry.open_ones (retold tale p.read (record { pieces = (tale p.read).pieces; blocks = all; ending = Some ending }))
     (changed p.read (ended_track ending p.intake.count (with_block p o).blocks) p.tracks.items)
-ended_tracked terms p tale ending o all cut enough taken blocks tracked s t at =
+ended_tracked terms p tale ending o all cut enough taken is_count blocks tracked s t at =
     let qs = (with_block p o).inquiry.open_ones in
     let f : Track → Track = ended_track ending p.intake.count (with_block p o).blocks in
     let mid : Story = record { pieces = (tale p.read).pieces; blocks = all; ending = None } in
@@ -148,7 +209,7 @@ ended_tracked terms p tale ending o all cut enough taken blocks tracked s t at =
           let was = before_change f (slice_get p.tracks.items s) t (sym (changed_there s f p.tracks.items) ∙ at_place) in
           let is = subst (λ x. IsTracked terms qs s x was.0) (retold_same tale p.read s mid same) (tracked s was.0 was.1) in
           let arriving = still_arriving terms qs s mid was.0 refl is in
-          let fits = ended_track_fits terms qs s p.intake.count (with_block p o).blocks ending p.intake (tale p.read).pieces cut all arriving.0 taken refl enough blocks
+          let fits = ended_track_fits terms qs s p.intake.count (with_block p o).blocks ending p.intake (tale p.read).pieces cut all arriving.0 taken is_count enough blocks
           (subst (λ x. IsTracked terms qs s mid x) {y = Arriving arriving.0} arriving.1 is) in
           subst (λ x. IsTracked terms qs s x t) {x = story} {y = retold tale p.read story s} (sym (retold_same tale p.read s story same))
           (subst (λ x. IsTracked terms qs s story x) {y = t} (sym (was.2 ∙ ap f {y = Arriving arriving.0} arriving.1)) fits))
@@ -158,16 +219,14 @@ ended_tracked terms p tale ending o all cut enough taken blocks tracked s t at =
     ]
 
 -- the sources that have ended, the one that was being read among them
-ended_before : (terms : Terms) (old now after : List Sighted) (p q : Progress) (tale : ℕ → Story) (before_read after_read : Seen) (ending : Ending) (first : Sighted) (story : Story) (new : ℕ → Story) →
-    slice_get old p.read ≡ Some first → IsReadFrom now after p.read before_read after_read → Ends before_read after_read terms.rules.limits.bytes p.intake.count ending →
+ended_before : (terms : Terms) (old now after : List Sighted) (p : Progress) (tale : ℕ → Story) (before_read after_read : Seen) (ending : Ending) (first : Sighted) (story : Story) (new : ℕ → Story) →
+    slice_get old p.read ≡ Some first → IsReadFrom now after p.read before_read after_read → WasRead first.reader after_read terms.rules.limits.bytes (concat (tale p.read).pieces) ending →
     Holds terms old now p tale → story.pieces ≡ (tale p.read).pieces → story.ending ≡ Some ending → new p.read ≡ story → ((s : ℕ) → (p.read ≡ s → ⊥) → new s ≡ tale s) →
     (s : ℕ) → s < p.read + 1 → HasEnded terms old after s (new s)
-ended_before terms old now after p q tale before_read after_read ending first story new was from ends holds pieces is_ended there elsewhere s below =
+ended_before terms old now after p tale before_read after_read ending first story new was from read holds pieces is_ended there elsewhere s below =
     elim (cases_eq p.read s) [
       | inl same ↦
-          (let mid = subst (λ (x : Seen). HaveCome first.reader x (tale p.read).pieces) from.used (holds.come first from.was was from.was_there) in
-          let read = source_was_read first.reader before_read after_read terms.rules.limits.bytes p.intake (tale p.read).pieces holds.cut ending mid holds.taken ends in
-          subst (λ n. HasEnded terms old after n (new n)) same
+          (subst (λ n. HasEnded terms old after n (new n)) same
           (subst (λ (x : Story). HasEnded terms old after p.read x) (sym there)
           (record {
             before = first;
@@ -183,14 +242,27 @@ ended_before terms old now after p q tale before_read after_read ending first st
           subst (λ (x : Story). HasEnded terms old after s x) (sym (elsewhere s other)) (ended_stays terms old now after p.read s (tale s) from.others other (holds.ended s less)))
     ]
 
-pub ending_holds : (terms : Terms) (old now after : List Sighted) (p q : Progress) (tale : ℕ → Story) (before_read after_read : Seen) (ending : Ending) (first : Sighted) →
-    slice_get old p.read ≡ Some first → IsReadFrom now after p.read before_read after_read → Ends before_read after_read terms.rules.limits.bytes p.intake.count ending → EndsSource terms ending p q →
+empty : (xs : List ℕ) → length xs ≡ 0 → xs ≡ []
+empty [] none = refl
+empty (x ∷ xs) none = absurd (omega (arith, none))
+
+-- the source is passed on from
+pub passing_holds : (terms : Terms) (old now after : List Sighted) (p q : Progress) (tale : ℕ → Story) (before_read after_read : Seen) (first : Sighted) →
+    slice_get old p.read ≡ Some first → IsReadFrom now after p.read before_read after_read → after_read ≡ before_read → PassesOn terms p q →
     Holds terms old now p tale → (new : ℕ → Story) × Holds terms old after q new × ((s : ℕ) → s < p.read → new s ≡ tale s)
-ending_holds terms old now after p q tale before_read after_read ending first was from ends is holds =
+passing_holds terms old now after p q tale before_read after_read first was from unread passes holds =
+    let ending = passes.ending in
+    let is = passes.ends in
+    let limit = terms.rules.limits.bytes in
     let given = last_of p.intake.cutting ending in
     let o = wanted terms p given in
     let pieces = (tale p.read).pieces in
     let all = (tale p.read).blocks ++ option_to_list o in
+    let bytes_are : concat pieces ++ p.intake.held ≡ concat pieces = ap (λ h. concat pieces ++ h) (empty p.intake.held passes.all_cut) ∙ append-nil (concat pieces) in
+    let read : WasRead first.reader after_read limit (concat pieces) ending =
+    subst (λ (x : Seen). WasRead first.reader x limit (concat pieces) ending) (from.used ∙ sym unread)
+    (subst (λ bs. WasRead first.reader from.was.reader limit bs ending) bytes_are
+    (subst (λ e. HasCome first.reader from.was.reader limit (concat pieces ++ p.intake.held) e) passes.ended (holds.come first from.was was from.was_there))) in
     let mid : Story = with_pieces (tale p.read) pieces o in
     let story : Story = record { pieces = pieces; blocks = all; ending = Some ending } in
     let arriving : ℕ → Story = retold tale p.read mid in
@@ -207,15 +279,17 @@ ending_holds terms old now after p q tale before_read after_read ending first wa
       record {
         tracked = subst (λ (i : Inquired). AreTracked terms i.open_ones new q.tracks.items) (sym is.inquiry)
             (subst (λ ts. AreTracked terms qs new ts) (sym is.tracks)
-            (ended_tracked terms p tale ending o all holds.cut (enough_wanted terms p tale holds.cut given holds.tracked holds.enough) holds.taken blocks tracked));
-        ended = λ s below. ended_before terms old now after p q tale before_read after_read ending first story new was from ends holds refl refl there elsewhere s (omega (arith, below, is.read));
+            (ended_tracked terms p tale ending o all holds.cut (enough_wanted terms p tale holds.cut given holds.tracked holds.enough) holds.taken (holds.taken.count ∙ ap length bytes_are) blocks tracked));
+        ended = λ s below. ended_before terms old now after p tale before_read after_read ending first story new was from read holds refl refl there elsewhere s (omega (arith, below, is.read));
         cut = [];
         taken = subst (λ (x : Story). IsTaken q.intake x.pieces []) (sym next_known) (subst (λ (i : Taking). IsTaken i [] []) (sym is.intake) nothing_is_taken);
         enough = subst (λ (x : Story). AreEnough terms.rules x.blocks []) (sym next_known) (inl refl);
-        come = subst (λ (x : Story). HaveComeFrom old after q.read x) (sym next_known)
+        come = subst (λ e. HasComeFrom terms old after q.read (concat (new q.read).pieces ++ q.intake.held) e) (sym is.reading)
+            (subst (λ (i : Taking). HasComeFrom terms old after q.read (concat (new q.read).pieces ++ i.held) None) (sym is.intake)
+            (subst (λ (x : Story). HasComeFrom terms old after q.read (concat x.pieces ++ []) None) (sym next_known)
             (λ before last at_old at_new.
             let same : before ≡ last = the_some before last (sym at_old ∙ (sym (holds.later q.read next_above).1 ∙ (sym (from.others q.read next_other) ∙ at_new))) in
-            subst (λ (x : Sighted). HaveCome before.reader x.reader []) same (nothing_has_come before.reader));
+            subst (λ (x : Sighted). HaveCome before.reader x.reader []) same (nothing_has_come before.reader))));
         asked = is.blocks ∙ ap (λ (x : Story). length x.blocks) (sym next_known);
         not_ended = ap (λ (x : Story). x.ending) next_known;
         later = λ s above.

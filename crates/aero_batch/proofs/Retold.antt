@@ -1,6 +1,7 @@
 -- A step keeps what holds of the sources: settling, and asking for a verdict.
 use Rattle.std.proofs.Common.{◌≡◌, ℕ, ◌<◌, eqb, cond, List, [], ◌∷◌, ◌++◌, map, length, slice_get, Option, Some, None, refl, sym, ◌∙◌, ap, subst, inl, inr}
 use Rattle.std.specs.Prelude.{option_to_list}
+use Rattle.std.specs.List.{concat}
 use Rattle.std.proofs.lemmas.Bool.{cases_eq, eq-eqb, ne_eqb}
 use Rattle.std.proofs.lemmas.List.{append-nil}
 use Rattle.aero_grammar.specs.Reading.{Reading, reading_of}
@@ -10,7 +11,7 @@ use Rattle.aero_batch.specs.declared.progress.Progress.{Progress}
 use Rattle.aero_intake.specs.declared.track.Track.{Track}
 use Rattle.aero_intake.specs.declared.track.Track.TheVariants.{Arriving, Arrived, Checking, Found}
 use Rattle.aero_batch.specs.Founds.{Sighted}
-use Rattle.aero_batch.specs.Holding.{Holds, HaveComeFrom}
+use Rattle.aero_batch.specs.Holding.{Holds, HasComeFrom}
 use Rattle.aero_batch.specs.Inquiries.{Inquired}
 use Rattle.aero_intake.specs.Intake.{Taking, IsTaken}
 use Rattle.aero_batch.specs.Steps.{ChecksNext, SettlesNext, Settles, with_block, with_check}
@@ -33,15 +34,17 @@ pub retold_elsewhere : (tale : ℕ → Story) (place s : ℕ) (story : Story) �
 retold_elsewhere tale place s story other = ap (λ b. cond b story (tale s)) (ne_eqb place s other)
 
 -- a step that reads nothing keeps what holds of the reading
-pub without_reading : (terms : Terms) (old now : List Sighted) (p q : Progress) (tale : ℕ → Story) → q.read ≡ p.read → q.intake ≡ p.intake → q.blocks ≡ p.blocks →
+pub without_reading : (terms : Terms) (old now : List Sighted) (p q : Progress) (tale : ℕ → Story) → q.read ≡ p.read → q.intake ≡ p.intake → q.blocks ≡ p.blocks → q.ended ≡ p.ended →
     AreTracked terms q.inquiry.open_ones tale q.tracks.items → Holds terms old now p tale → Holds terms old now q tale
-without_reading terms old now p q tale read intake blocks tracked holds = record {
+without_reading terms old now p q tale read intake blocks ended tracked holds = record {
   tracked = tracked;
   ended = λ s below. holds.ended s (subst (λ r. s < r) read below);
   cut = holds.cut;
   taken = subst (λ r. IsTaken q.intake (tale r).pieces holds.cut) (sym read) (subst (λ (i : Taking). IsTaken i (tale p.read).pieces holds.cut) (sym intake) holds.taken);
   enough = subst (λ r. AreEnough terms.rules (tale r).blocks holds.cut) (sym read) holds.enough;
-  come = subst (λ r. HaveComeFrom old now r (tale r)) (sym read) holds.come;
+  come = subst (λ e. HasComeFrom terms old now q.read (concat (tale q.read).pieces ++ q.intake.held) e) (sym ended)
+      (subst (λ (i : Taking). HasComeFrom terms old now q.read (concat (tale q.read).pieces ++ i.held) p.ended) (sym intake)
+      (subst (λ r. HasComeFrom terms old now r (concat (tale r).pieces ++ p.intake.held) p.ended) (sym read) holds.come));
   asked = blocks ∙ (holds.asked ∙ ap (λ r. length (tale r).blocks) (sym read));
   not_ended = ap (λ r. (tale r).ending) read ∙ holds.not_ended;
   later = λ s above. holds.later s (subst (λ r. r < s) read above);
@@ -59,7 +62,7 @@ settled_tracked terms tale (q ∷ rest) asked new old_tracks new_tracks is track
 
 pub settling_holds : (terms : Terms) (old now : List Sighted) (p q : Progress) (tale : ℕ → Story) → SettlesNext p q → Holds terms old now p tale → Holds terms old now q tale
 settling_holds terms old now p q tale is holds =
-    without_reading terms old now p q tale is.read is.intake is.blocks
+    without_reading terms old now p q tale is.read is.intake is.blocks is.ended
     (settled_tracked terms tale p.inquiry.open_ones p.inquiry.asked q.inquiry p.tracks.items q.tracks.items is.settles holds.tracked) holds
 
 -- the track at the place of what is known, once another stands there
@@ -96,7 +99,7 @@ check_tracked terms i tale tracks place (Found bytes ending finding) after readi
 pub checking_holds : (terms : Terms) (old now : List Sighted) (p q : Progress) (tale : ℕ → Story) → ChecksNext terms p q → Holds terms old now p tale → Holds terms old now q tale
 checking_holds terms old now p q tale is holds =
     let tracked = check_tracked terms p.inquiry tale p.tracks.items p.checked is.before is.after is.readings is.was is.ready is.gives holds.tracked in
-    without_reading terms old now p q tale is.read is.intake is.blocks
+    without_reading terms old now p q tale is.read is.intake is.blocks is.ended
     (subst (λ (i : Inquired). AreTracked terms i.open_ones tale q.tracks.items) (sym is.inquiry)
     (subst (λ ts. AreTracked terms (with_check terms p.inquiry p.checked is.readings).open_ones tale ts) (sym is.tracks) tracked)) holds
 

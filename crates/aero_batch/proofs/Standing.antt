@@ -18,17 +18,17 @@ use Rattle.aero_batch.specs.declared.told.Told.{Told}
 use Rattle.aero_intake.specs.declared.track.Track.{Track}
 use Rattle.aero_intake.specs.declared.track.Track.TheVariants as tracks
 use Rattle.aero_batch.specs.Founds.{Sighted, Found, IsFoundAt, AreOfTheFirst, told, ending_of, lines_of_all, counts_of_all, Took, IsNextText, WasCutOff, IsWritten, WasRun}
-use Rattle.aero_batch.specs.Holding.{Holds, AreTold, Tells, Stands, HasNumbers, IsBegun, nothing_known}
+use Rattle.aero_batch.specs.Holding.{Holds, HasComeFrom, Counted, AreTold, Tells, Stands, HasNumbers, IsBegun, nothing_known}
 use Rattle.aero_batch.specs.Inquiries.{Inquired}
 use Rattle.aero_intake.specs.Intake.{Taking, IsTaken, HaveCome}
 use Rattle.aero_intake.specs.Source.{WasRead}
 use Rattle.aero_batch.specs.Steps.{Steps, ReadsOn}
 use Rattle.aero_batch.specs.Telling.{WasCut, TellsText, TellsNext, IsOneMore, cause_of, total}
 use Rattle.aero_intake.specs.Stories.{Story, IsTracked}
-use Rattle.aero_batch.proofs.Readings.{piece_holds, ending_holds}
+use Rattle.aero_batch.proofs.Readings.{taking_holds, noting_holds, cutting_holds, passing_holds}
 use Rattle.aero_intake.proofs.Taken.{nothing_is_taken, nothing_has_come}
 use Rattle.aero_batch.proofs.Retold.{settling_holds, checking_holds}
-use Rattle.aero_batch.proofs.Sums.{settling_counted, checking_counted, piece_counted, ending_counted}
+use Rattle.aero_batch.proofs.Sums.{settling_counted, checking_counted, taking_counted, noting_counted, cutting_counted, ending_counted}
 use Rattle.aero_verdict.specs.Finding.{Terms}
 
 the_some : {A : Type 0} (x y : A) → Some x ≡ Some y → x ≡ y
@@ -286,27 +286,43 @@ step_stands terms old now after before mid p q a (inr (inr is)) names st = go is
     same_length : length now ≡ length old
     same_length = sym (length-map now (λ x. x.name)) ∙ (ap length st.names ∙ length-map old (λ x. x.name))
 
+    same_tale : Holds terms old after q st.tale → Counted terms (length old) q → p.checked ≤ q.checked → Stands terms old after before mid q a
+    same_tale holds counted more = record {
+      tale = st.tale;
+      founds = st.founds;
+      holds = holds;
+      are_told = still_told terms old before mid p q a st.tale st.tale st.founds st.counted.checked more (λ s less. refl) st.are_told;
+      counted = counted;
+      names = names ∙ st.names;
+    }
+
     go : ReadsOn terms is.before_read is.after_read p q → Stands terms old after before mid q a
-    go (inl takes) =
-        let new = piece_holds terms old now after p q st.tale is.before_read is.after_read is.from takes st.holds in
+    go (inl (reading, inl takes)) =
+        same_tale (taking_holds terms old now after p q st.tale is.before_read is.after_read is.from reading takes st.holds)
+        (taking_counted terms (length old) p q is.before_read is.after_read takes st.counted) (omega (arith, ap (λ (m : Progress). m.checked) takes.new_is))
+    go (inl (reading, inr notes)) =
+        same_tale (noting_holds terms old now after p q st.tale is.before_read is.after_read is.from reading notes st.holds)
+        (noting_counted terms (length old) p q is.before_read is.after_read notes st.counted) (omega (arith, ap (λ (m : Progress). m.checked) notes.new_is))
+    go (inr (inl (unused, cuts))) =
+        let new = cutting_holds terms old now after p q st.tale is.before_read is.after_read is.from unused cuts st.holds in
         record {
           tale = new.0;
           founds = st.founds;
           holds = new.1;
-          are_told = still_told terms old before mid p q a st.tale new.0 st.founds st.counted.checked (omega (arith, takes.checked)) new.2 st.are_told;
-          counted = piece_counted terms (length old) p q is.before_read is.after_read is.may takes st.counted;
+          are_told = still_told terms old before mid p q a st.tale new.0 st.founds st.counted.checked (omega (arith, cuts.checked)) new.2 st.are_told;
+          counted = cutting_counted terms (length old) p q is.may cuts st.counted;
           names = names ∙ st.names;
         }
-    go (inr ends) =
+    go (inr (inr (unused, passes))) =
         let within : p.read < length old = omega (arith, is.unread, same_length) in
         let first = slice_get_some old p.read within in
-        let new = ending_holds terms old now after p q st.tale is.before_read is.after_read ends.0 first.0 first.1 is.from ends.1 ends.2 st.holds in
+        let new = passing_holds terms old now after p q st.tale is.before_read is.after_read first.0 first.1 is.from unused passes st.holds in
         record {
           tale = new.0;
           founds = st.founds;
           holds = new.1;
-          are_told = still_told terms old before mid p q a st.tale new.0 st.founds st.counted.checked (omega (arith, ends.2.checked)) new.2 st.are_told;
-          counted = ending_counted terms (length old) p q ends.0 within is.may ends.2 st.counted;
+          are_told = still_told terms old before mid p q a st.tale new.0 st.founds st.counted.checked (omega (arith, passes.ends.checked)) new.2 st.are_told;
+          counted = ending_counted terms (length old) p q passes.ending within is.may passes.ends st.counted;
           names = names ∙ st.names;
         }
 
@@ -378,8 +394,9 @@ get_replicate (suc n) (suc s) x y at = get_replicate n s x y at
 -- before the first step
 pub begun_stands : (terms : Terms) (old : List Sighted) (before : Seen) (p : Progress) (a : Told) → IsBegun terms (length old) p a → Stands terms old old before before p a
 begun_stands terms old before p a is =
-    let start = is.start.1 in
+    let start = is.start in
     let count : p.intake.count ≡ 0 = ap (λ (i : Taking). i.count) start.intake in
+    let held : length p.intake.held ≡ 0 = ap (λ (i : Taking). length i.held) start.intake in
     let asked : p.inquiry.asked ≡ 0 = ap (λ (i : Inquired). i.asked) start.inquiry in
     let questions : length p.inquiry.open_ones ≡ 0 = ap (λ (i : Inquired). length i.open_ones) start.inquiry in
     record {
@@ -393,7 +410,9 @@ begun_stands terms old before p a is =
         cut = [];
         taken = subst (λ (i : Taking). IsTaken i [] []) (sym start.intake) nothing_is_taken;
         enough = inl refl;
-        come = λ x y at_old at_now. subst (λ (z : Sighted). HaveCome x.reader z.reader []) (the_some x y (sym at_old ∙ at_now)) (nothing_has_come x.reader);
+        come = subst (λ e. HasComeFrom terms old old p.read ([] ++ p.intake.held) e) (sym start.reading)
+            (subst (λ (i : Taking). HasComeFrom terms old old p.read i.held None) (sym start.intake)
+            (λ x y at_old at_now. subst (λ (z : Sighted). HaveCome x.reader z.reader []) (the_some x y (sym at_old ∙ at_now)) (nothing_has_come x.reader)));
         asked = start.no_blocks;
         not_ended = refl;
         later = λ s above. (refl, refl);
@@ -415,10 +434,8 @@ begun_stands terms old before p a is =
         open_few = omega (arith, questions);
         within = omega (arith, count);
         few_bytes = is.few_bytes;
-        blocks = omega (arith, start.no_blocks);
+        blocks = omega (arith, start.no_blocks, held);
         asked = omega (arith, asked);
-        some_room = omega (arith, start.buffer, is.start.2);
-        short = subst (λ m. m ≤ 2 ^ 20) (sym start.buffer) is.start.3;
       };
       names = refl;
     }

@@ -33,9 +33,9 @@ block_intake : (p : Progress) (o : Option (List ℕ)) → (with_block p o).intak
 block_intake p None = refl
 block_intake p (Some b) = refl
 
-block_buffer : (p : Progress) (o : Option (List ℕ)) → (with_block p o).buffer ≡ p.buffer
-block_buffer p None = refl
-block_buffer p (Some b) = refl
+block_ended : (p : Progress) (o : Option (List ℕ)) → (with_block p o).ended ≡ p.ended
+block_ended p None = refl
+block_ended p (Some b) = refl
 
 block_inquiry : (p : Progress) (i : Taking) (o : Option (List ℕ)) → (with_block (record p { intake = i }) o).inquiry ≡ (with_block p o).inquiry
 block_inquiry p i None = refl
@@ -45,19 +45,18 @@ block_blocks : (p : Progress) (i : Taking) (o : Option (List ℕ)) → (with_blo
 block_blocks p i None = refl
 block_blocks p i (Some b) = refl
 
-pub ends_source : (terms : Terms) (ending : Ending) (p mid : Progress) (fresh taken : Taking) (given : Option (List ℕ)) (bytes : ℕ) (x y : Track) →
-    fresh ≡ nothing_taken → taken ≡ p.intake → bytes ≡ taken.count → given ≡ last_of taken.cutting ending → mid ≡ with_block (record p { intake = fresh }) (wanted terms p given) →
+pub ends_source : (terms : Terms) (ending : Ending) (p mid : Progress) (fresh : Taking) (given : Option (List ℕ)) (bytes : ℕ) (x y : Track) →
+    fresh ≡ nothing_taken → bytes ≡ p.intake.count → given ≡ last_of p.intake.cutting ending → mid ≡ with_block (record p { intake = fresh }) (wanted terms p given) →
     slice_get mid.tracks.items mid.read ≡ Some x → y ≡ ended_track ending bytes mid.blocks x →
-    EndsSource terms ending p (record mid { tracks = with_item mid.tracks mid.read y; read = mid.read + 1; blocks = 0 })
-ends_source terms ending p mid fresh taken given bytes x y is_fresh is_taken count is_last is at ended =
+    EndsSource terms ending p (record mid { tracks = with_item mid.tracks mid.read y; read = mid.read + 1; blocks = 0; ended = None })
+ends_source terms ending p mid fresh given bytes x y is_fresh bytes_are is_last is at ended =
     let q : Progress = record p { intake = fresh } in
     let last = wanted terms p given in
-    let block : last ≡ wanted terms p (last_of p.intake.cutting ending) = ap (wanted terms p) (is_last ∙ ap (λ (i : Taking). last_of i.cutting ending) is_taken) in
+    let block : last ≡ wanted terms p (last_of p.intake.cutting ending) = ap (wanted terms p) is_last in
     let read_is : mid.read ≡ p.read = ap (λ (m : Progress). m.read) is ∙ block_read q last in
     let tracks_are : mid.tracks.items ≡ p.tracks.items = ap (λ (m : Progress). m.tracks.items) is ∙ ap (λ v. v.items) (block_tracks q last) in
     let blocks_are : mid.blocks ≡ (with_block p (wanted terms p (last_of p.intake.cutting ending))).blocks =
     ap (λ (m : Progress). m.blocks) is ∙ (block_blocks p fresh last ∙ ap (λ o. (with_block p o).blocks) block) in
-    let bytes_are : bytes ≡ p.intake.count = count ∙ ap (λ (i : Taking). i.count) is_taken in
     record {
       inquiry = ap (λ (m : Progress). m.inquiry) is ∙ (block_inquiry p fresh last ∙ ap (λ o. (with_block p o).inquiry) block);
       tracks = set_changed mid.tracks.items mid.read x y (ended_track ending bytes mid.blocks) at ended
@@ -67,7 +66,7 @@ ends_source terms ending p mid fresh taken given bytes x y is_fresh is_taken cou
       checked = ap (λ (m : Progress). m.checked) is ∙ block_checked q last;
       intake = ap (λ (m : Progress). m.intake) is ∙ (block_intake q last ∙ is_fresh);
       blocks = refl;
-      buffer = ap (λ (m : Progress). m.buffer.len) is ∙ ap (λ v. v.len) (block_buffer q last);
+      reading = refl;
     }
 
 pub settles_from_gives : (qs : List Question) (asked : ℕ) (new : Inquired) (trace : ℕ) (v : Value) (old_tracks new_tracks : List Track) →

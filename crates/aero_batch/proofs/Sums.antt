@@ -1,6 +1,6 @@
 -- The numbers of a run stay within their bounds.
 use Rattle.std.proofs.Common.{◌≡◌, ℕ, ◌+◌, ◌<◌, ◌≤◌, ◌^◌, List, [], ◌∷◌, length, Option, Some, None, refl, sym, ◌∙◌, ap, subst, arith}
-use Rattle.std.proofs.lemmas.List.{length_push}
+use Rattle.std.proofs.lemmas.List.{length_push, length-append}
 use Rattle.aero_model.specs.declared.verdict.Ending.{Ending}
 use Rattle.aero_model.specs.CallCounts.{Seen}
 use Rattle.aero_grammar.specs.Reading.{Reading}
@@ -12,7 +12,7 @@ use Rattle.aero_intake.specs.declared.track.Track.{Track}
 use Rattle.aero_batch.specs.Holding.{Counted}
 use Rattle.aero_batch.specs.Inquiries.{Inquired}
 use Rattle.aero_intake.specs.Intake.{Taking}
-use Rattle.aero_batch.specs.Steps.{ChecksNext, SettlesNext, TakesPiece, EndsSource, MayAsk, with_block, wanted, with_check, last_of, ended_track, Settles}
+use Rattle.aero_batch.specs.Steps.{ChecksNext, SettlesNext, TakesPiece, NotesEnding, CutsHeld, EndsSource, MayAsk, with_block, wanted, with_check, last_of, ended_track, Settles}
 use Rattle.aero_intake.specs.Stories.{trace_of}
 use Rattle.aero_intake.specs.Tracks.{with_value}
 use Rattle.aero_intake.proofs.Tracked.{changed_length}
@@ -39,6 +39,7 @@ pub settling_counted : (terms : Terms) (n : ℕ) (p q : Progress) → SettlesNex
 settling_counted terms n p q is c =
     let few = settled_fewer p.inquiry.open_ones p.inquiry.asked q.inquiry p.tracks.items q.tracks.items is.settles in
     let count : q.intake.count ≡ p.intake.count = ap (λ (i : Taking). i.count) is.intake in
+    let held : length q.intake.held ≡ length p.intake.held = ap (λ (i : Taking). length i.held) is.intake in
     record {
       tracks = few.tracks ∙ c.tracks;
       few_sources = c.few_sources;
@@ -47,10 +48,8 @@ settling_counted terms n p q is c =
       open_few = omega (arith, few.questions, c.open_few);
       within = omega (arith, c.within, count);
       few_bytes = c.few_bytes;
-      blocks = omega (arith, c.blocks, is.blocks, count);
+      blocks = omega (arith, c.blocks, is.blocks, count, held);
       asked = omega (arith, few.same_asked, c.asked, is.read, is.blocks, is.checked);
-      some_room = omega (arith, c.some_room, is.buffer);
-      short = subst (λ m. m ≤ 2 ^ 20) (sym is.buffer) c.short;
     }
 
 pub record OneMore (i j : Inquired) (k : ℕ) : Type 0 where
@@ -68,6 +67,7 @@ checking_counted terms n p q below may is c =
     let k = more.0 in
     let m = more.1 in
     let count : q.intake.count ≡ p.intake.count = ap (λ (i : Taking). i.count) is.intake in
+    let held : length q.intake.held ≡ length p.intake.held = ap (λ (i : Taking). length i.held) is.intake in
     let questions : length q.inquiry.open_ones ≡ length p.inquiry.open_ones + k = ap (λ (i : Inquired). length i.open_ones) is.inquiry ∙ m.questions in
     let more_asked : q.inquiry.asked ≡ p.inquiry.asked + k = ap (λ (i : Inquired). i.asked) is.inquiry ∙ m.more_asked in
     record {
@@ -78,22 +78,51 @@ checking_counted terms n p q below may is c =
       open_few = omega (arith, questions, m.one, may.room);
       within = omega (arith, c.within, count);
       few_bytes = c.few_bytes;
-      blocks = omega (arith, c.blocks, is.blocks, count);
+      blocks = omega (arith, c.blocks, is.blocks, count, held);
       asked = omega (arith, more_asked, m.one, c.asked, is.read, is.blocks, is.checked);
-      some_room = omega (arith, c.some_room, is.buffer);
-      short = subst (λ m. m ≤ 2 ^ 20) (sym is.buffer) c.short;
     }
 
 block_more : (p : Progress) (o : Option (List ℕ)) → (k : ℕ) × OneMore p.inquiry (with_block p o).inquiry k × ((with_block p o).blocks ≡ p.blocks + k)
 block_more p None = (0, record { one = omega arith; questions = omega arith; more_asked = omega arith }, omega arith)
 block_more p (Some b) = (1, record { one = omega arith; questions = length_push p.inquiry.open_ones (Parse p.read p.blocks b); more_asked = refl }, refl)
 
-pub piece_counted : (terms : Terms) (n : ℕ) (p q : Progress) (before after : Seen) → MayAsk p → TakesPiece terms before after p q → Counted terms n p → Counted terms n q
-piece_counted terms n p q before after may is c =
-    let more = block_more p (wanted terms p (block_of p.intake.cutting is.piece)) in
+pub taking_counted : (terms : Terms) (n : ℕ) (p q : Progress) (before after : Seen) → TakesPiece terms before after p q → Counted terms n p → Counted terms n q
+taking_counted terms n p q before after is c =
+    subst (λ (m : Progress). Counted terms n m) (sym is.new_is)
+    (record {
+      tracks = c.tracks;
+      few_sources = c.few_sources;
+      read = c.read;
+      checked = c.checked;
+      open_few = c.open_few;
+      within = is.comes.within;
+      few_bytes = c.few_bytes;
+      blocks = omega (arith, c.blocks, length-append p.intake.held is.piece);
+      asked = c.asked;
+    })
+
+pub noting_counted : (terms : Terms) (n : ℕ) (p q : Progress) (before after : Seen) → NotesEnding terms before after p q → Counted terms n p → Counted terms n q
+noting_counted terms n p q before after is c =
+    subst (λ (m : Progress). Counted terms n m) (sym is.new_is)
+    (record {
+      tracks = c.tracks;
+      few_sources = c.few_sources;
+      read = c.read;
+      checked = c.checked;
+      open_few = c.open_few;
+      within = c.within;
+      few_bytes = c.few_bytes;
+      blocks = c.blocks;
+      asked = c.asked;
+    })
+
+pub cutting_counted : (terms : Terms) (n : ℕ) (p q : Progress) → MayAsk p → CutsHeld terms p q → Counted terms n p → Counted terms n q
+cutting_counted terms n p q may is c =
+    let more = block_more p (wanted terms p (block_of p.intake.cutting p.intake.held)) in
     let k = more.0 in
     let m = more.1 in
-    let count : q.intake.count ≡ p.intake.count + length is.piece = ap (λ (i : Taking). i.count) is.intake in
+    let count : q.intake.count ≡ p.intake.count = ap (λ (i : Taking). i.count) is.intake in
+    let held : length q.intake.held ≡ 0 = ap (λ (i : Taking). length i.held) is.intake in
     let questions : length q.inquiry.open_ones ≡ length p.inquiry.open_ones + k = ap (λ (i : Inquired). length i.open_ones) is.inquiry ∙ m.questions in
     let more_asked : q.inquiry.asked ≡ p.inquiry.asked + k = ap (λ (i : Inquired). i.asked) is.inquiry ∙ m.more_asked in
     let blocks : q.blocks ≡ p.blocks + k = is.blocks ∙ more.2 in
@@ -103,12 +132,10 @@ piece_counted terms n p q before after may is c =
       read = omega (arith, c.read, is.read);
       checked = omega (arith, c.checked, is.checked, is.read);
       open_few = omega (arith, questions, m.one, may.room);
-      within = omega (arith, is.comes.within, count);
+      within = omega (arith, c.within, count);
       few_bytes = c.few_bytes;
-      blocks = omega (arith, c.blocks, blocks, count, m.one, is.comes.some);
+      blocks = omega (arith, c.blocks, blocks, count, held, m.one, is.some);
       asked = omega (arith, more_asked, c.asked, blocks, is.read, is.checked);
-      some_room = omega (arith, c.some_room, is.buffer);
-      short = subst (λ m. m ≤ 2 ^ 20) (sym is.buffer) c.short;
     }
 
 pub ending_counted : (terms : Terms) (n : ℕ) (p q : Progress) (ending : Ending) → p.read < n → MayAsk p → EndsSource terms ending p q → Counted terms n p → Counted terms n q
@@ -117,6 +144,7 @@ ending_counted terms n p q ending unread may is c =
     let k = more.0 in
     let m = more.1 in
     let count : q.intake.count ≡ 0 = ap (λ (i : Taking). i.count) is.intake in
+    let held : length q.intake.held ≡ 0 = ap (λ (i : Taking). length i.held) is.intake in
     let questions : length q.inquiry.open_ones ≡ length p.inquiry.open_ones + k = ap (λ (i : Inquired). length i.open_ones) is.inquiry ∙ m.questions in
     let more_asked : q.inquiry.asked ≡ p.inquiry.asked + k = ap (λ (i : Inquired). i.asked) is.inquiry ∙ m.more_asked in
     let few : terms.rules.limits.bytes ≤ 1073741824 = c.few_bytes in
@@ -128,10 +156,8 @@ ending_counted terms n p q ending unread may is c =
       open_few = omega (arith, questions, m.one, may.room);
       within = omega (arith, count);
       few_bytes = c.few_bytes;
-      blocks = omega (arith, is.blocks);
+      blocks = omega (arith, is.blocks, held);
       asked = omega (arith, more_asked, m.one, c.asked, c.blocks, c.within, few, is.blocks, is.read, is.checked);
-      some_room = omega (arith, c.some_room, is.buffer);
-      short = subst (λ m. m ≤ 2 ^ 20) (sym is.buffer) c.short;
     }
 
 -- there is always room for one more question's number

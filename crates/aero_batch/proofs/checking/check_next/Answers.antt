@@ -22,5 +22,5 @@ returns g c =
       read = refl;
       intake = refl;
       blocks = refl;
-      buffer = refl;
+      ended = refl;
     }

@@ -17,5 +17,5 @@ returns g c =
       checked = refl;
       intake = refl;
       blocks = refl;
-      buffer = refl;
+      ended = refl;
     }) c.give_value.ensures
