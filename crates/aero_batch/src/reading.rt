@@ -54,10 +54,7 @@ fn read_piece<R: Read>(plan: &Plan, reader: &mut Counting<R>, progress: &mut Pro
     requires within { progress.old.intake.count ≤ plan.now.limits.bytes + 1 }
     ensures { ReadsPiece (terms_of plan.now) (seen_by R.remaining reader.old) (seen_by R.remaining reader.new) progress.old progress.new }
 {
-    progress.ended = match progress
-        .intake
-        .take(reader, plan.piece, plan.limits.bytes)
-    {
+    progress.ended = match progress.intake.take(reader, plan.piece, plan.limits.bytes) {
         Taken::Piece => None,
         Taken::Ended(ending) => Some(ending),
     };

@@ -1,16 +1,16 @@
 -- A read into a buffer behind what it holds.
-use Rattle.std.proofs.Common.{◌≡◌, ℕ, zero, suc, ◌+◌, ◌<◌, ◌≤◌, List, [], ◌∷◌, ◌++◌, length, take, drop, Result, Ok, Err, refl, sym, ◌∙◌, ap, ap₂, subst, arith, drop_at, length-take-le}
+use Rattle.std.proofs.Common.{◌≡◌, ℕ, zero, suc, ◌+◌, ◌<◌, ◌≤◌, List, [], ◌∷◌, ◌++◌, length, take, Result, Ok, Err, refl, ◌∙◌, ap, ap₂, arith, drop_at, length-take-le}
 use Rattle.std.specs.Prelude.{is_err, if◌then◌else◌, ◌&&◌, nat_lt}
 use Rattle.std.specs.Global.{Vec}
 use Rattle.std.specs.Vec.{with_items}
 use Rattle.std.specs.Io.{ReadsAtMost}
-use Rattle.std.specs.Io.KnownBytes.{Consumes, ReadConsumes}
+use Rattle.std.specs.Io.KnownBytes.{ReadConsumes}
 use Rattle.std.proofs.KnownBytes.{Consumes-kept, Consumes-nil}
 use Rattle.std.proofs.lemmas.Bool.{lt-ltb, ne_eqb}
 use Rattle.std.proofs.lemmas.List.{with_items_is}
 use borrow.Rule.Slice.PartMut.{put_mid, post_of, take_put}
 use lib.Seq.{take-add, take-append-le}
-use Rattle.aero_model.specs.declared.verdict.Ending.TheVariants.{Whole, Broken}
+use Rattle.aero_model.specs.declared.verdict.Ending.TheVariants.{Whole}
 use Rattle.aero_model.specs.CallCounts.{Seen, moves_nothing}
 use Rattle.aero_intake.specs.Source.{WasRead}
 use Rattle.aero_intake.specs.Intake.{Fills, FillsWith}

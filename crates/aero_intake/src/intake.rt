@@ -1,7 +1,6 @@
 //! A source that is being read.
-ghost use Rattle.std.specs.Prelude.{◌≡◌, ◌<◌, ◌≤◌, ◌+◌, ◌++◌, ◌^◌, ◌↔◌, [], length, take, is_err, if◌then◌else◌, IsTrue, IfOk, IfSome, OnOk, OnErr, MatchResult, Ok};
-ghost use Rattle.std.specs.Io.KnownBytes.{Consumes, IsAtEnd, Keeps};
-ghost use Rattle.aero_model.specs.CallCounts.{seen_by, faults_of, ends_of, inner_of};
+ghost use Rattle.std.specs.Prelude.{◌≡◌, ◌<◌, ◌≤◌, ◌+◌, ◌^◌, ◌↔◌, length, IsTrue, IfOk, IfSome, OnOk, OnErr, Ok};
+ghost use Rattle.aero_model.specs.CallCounts.{seen_by};
 ghost use Rattle.aero_model.specs.Lines.{most_line_bytes};
 ghost use Rattle.aero_lines.specs.Cutting.{block_of, last_block};
 ghost use Rattle.aero_intake.specs.Intake.{Takes, Fills, nothing_taken, with_cut};
@@ -10,10 +9,9 @@ use aero_lines::cutter::{Block, Cutter};
 use aero_model::counting::Counting;
 use aero_model::verdict::Ending;
 use std::alloc::{AllocError, Global};
-use std::io;
 use std::io::Read;
 use std::marker::Model;
-use std::mem;
+use std::{io, mem};
 
 /// How many bytes are gathered before they are cut, unless the source ends: so many by several reads,
 /// however short. A question is asked about each block that comes of it, and at most 64 are open: with
@@ -113,7 +111,9 @@ impl Intake {
         if left == 0 {
             return Taken::Ended(Ending::TooLarge);
         }
-        let room = (self.buffer.len() - self.held).min(piece as usize).min(left);
+        let room = (self.buffer.len() - self.held)
+            .min(piece as usize)
+            .min(left);
         match read_behind(reader, &mut self.buffer, self.held, room) {
             Err(_) => Taken::Ended(Ending::Broken),
             Ok(0) => Taken::Ended(Ending::Whole),

@@ -41,45 +41,78 @@ fn lines_of(alloc: Global, text: &str) -> Result<Vec<u8>, AllocError> {
     Ok(bytes)
 }
 
-// Whether a step gave this: `-` for a piece with no whole line, a piece's block, or the ending.
-fn is(alloc: Global, taken: &Taken, wanted: &str) -> Result<bool, AllocError> {
-    let is_wanted = match taken {
-        Taken::Piece(None) => wanted == "-",
-        Taken::Piece(Some(block)) => block.bytes() == lines_of(alloc, wanted)?.as_slice(),
-        Taken::Ended(Ending::Whole) => wanted == "whole",
-        Taken::Ended(Ending::Broken) => wanted == "broken",
-        Taken::Ended(Ending::TooLarge) => wanted == "too large",
-    };
-    Ok(is_wanted)
+// What is asked of a source: a piece of it, or to cut what is held.
+#[derive(Clone, Copy)]
+enum Call {
+    Next,
+    Cut,
 }
 
-fn step<R: Read>(
+use Call::{Cut, Next};
+
+// What a call gives: `+` for a piece, the ending, a block, or `-` for none.
+fn given<R: Read>(
     intake: &mut Intake,
     reader: &mut Counting<R>,
-    buffer: &mut [u8],
-    limit: u32,
-) -> Result<Taken, Fail> {
-    if buffer.is_empty() || limit > 100 || intake.count() > limit + 1 {
-        return Err("no such step".into());
-    }
-    Ok(intake.take(reader, buffer, limit)?)
+    (piece, limit): (u32, u32),
+    call: Call,
+    alloc: Global,
+) -> Result<Vec<u8>, Fail> {
+    let text = match call {
+        Call::Next => name_of(&take(intake, reader, piece, limit)?)
+            .as_bytes()
+            .to_vec(alloc)?,
+        Call::Cut => match intake.cut()? {
+            Some(block) => block.into_bytes(),
+            None => b"-".to_vec(alloc)?,
+        },
+    };
+    Ok(text)
 }
 
-// A source, read under a limit into a buffer of this room by a reader that fails after so many bytes.
-// Each step has what it gives, and how many bytes have come then. What is left of the text follows, and
+fn name_of(taken: &Taken) -> &'static str {
+    match taken {
+        Taken::Piece => "+",
+        Taken::Ended(Ending::Whole) => "whole",
+        Taken::Ended(Ending::Broken) => "broken",
+        Taken::Ended(Ending::TooLarge) => "too large",
+    }
+}
+
+fn take<R: Read>(
+    intake: &mut Intake,
+    reader: &mut Counting<R>,
+    piece: u32,
+    limit: u32,
+) -> Result<Taken, Fail> {
+    if piece == 0 || limit > 1_000_000 || intake.count() > limit + 1 || intake.is_full() {
+        return Err("no such step".into());
+    }
+    Ok(intake.take(reader, piece, limit))
+}
+
+fn new_intake(alloc: Global, piece: u32) -> Result<Intake, Fail> {
+    if piece > 1_048_576 {
+        return Err("no such piece".into());
+    }
+    Ok(Intake::new(alloc, piece)?)
+}
+
+// A source, read under a limit by so many bytes at most a read, by a reader that fails after so many bytes.
+// Each call has what it gives, and how many bytes have come then. What is left of the text follows, and
 // the last line, which no byte 10 ended.
 #[derive(Drop)]
 struct Row<'a> {
     text: &'a str,
-    room: usize,
+    piece: u32,
     limit: u32,
     fails_after: usize,
-    steps: &'a [(&'a str, u32)],
+    calls: &'a [(Call, &'a str, u32)],
     left: &'a str,
     last: &'a str,
 }
 
-// The first step that gives something else, if there is one, or else what is wrong at the end.
+// The first call that gives something else, if there is one, or else what is wrong at the end.
 fn fault_of(alloc: Global, row: &Row) -> Result<Option<String>, Fail> {
     let text = lines_of(alloc, row.text)?;
     let mut reader = Counting::new(BreaksOnce {
@@ -87,22 +120,26 @@ fn fault_of(alloc: Global, row: &Row) -> Result<Option<String>, Fail> {
         left: row.fails_after,
         has_failed: false,
     });
-    let mut buffer = vec![in alloc; 0u8; row.room]?;
-    let mut intake = Intake::new(alloc);
+    let mut intake = new_intake(alloc, row.piece)?;
     if intake.count() != 0 {
-        return Ok(Some(format!(in alloc; "bytes before the first step")?));
+        return Ok(Some(format!(in alloc; "bytes before the first call")?));
     }
-    for (wanted, count) in row.steps {
-        let taken = step(&mut intake, &mut reader, &mut buffer, row.limit)?;
-        if !is(alloc, &taken, wanted)? || intake.count() != *count {
+    let by = (row.piece, row.limit);
+    for (call, wanted, count) in row.calls {
+        let text = given(&mut intake, &mut reader, by, *call, alloc)?;
+        if text != lines_of(alloc, wanted)? || intake.count() != *count {
             return Ok(Some(format!(in alloc; "not {wanted} of {}", row.text)?));
         }
     }
     let left = reader.into_inner().text;
-    match intake.finish()? {
-        Some(last) if left == row.left.as_bytes() && last.bytes() == row.last.as_bytes() => Ok(
-            None,
-        ),
+    let last = intake.finish()?;
+    // Then another source may be read.
+    let is_new = intake.count() == 0 && intake.is_cut();
+    match last {
+        Some(last)
+            if is_new && left == row.left.as_bytes() && last.bytes() == row.last.as_bytes() => {
+            Ok(None)
+        }
         _ => Ok(Some(format!(in alloc; "another end of {}", row.text)?)),
     }
 }
@@ -112,28 +149,41 @@ fn a_source_comes_in_pieces_until_it_ends(rt: HostRuntime) -> Result<(), Fail> {
     let rows = [
         Row {
             text: "ab/c/d",
-            room: 2,
+            piece: 2,
             limit: 100,
             fails_after: 100,
-            steps: &[("-", 2), ("ab/", 4), ("c/", 6), ("whole", 6)],
+            calls: &[
+                (Next, "+", 2),
+                (Next, "+", 4),
+                (Cut, "ab/", 4),
+                (Next, "+", 6),
+                (Cut, "c/", 6),
+                (Cut, "-", 6),
+                (Next, "whole", 6),
+            ],
             left: "",
             last: "d",
         },
         Row {
             text: "a/bcd",
-            room: 7,
+            piece: 7,
             limit: 2,
             fails_after: 100,
-            steps: &[("a/", 3), ("too large", 3)],
+            calls: &[(Next, "+", 3), (Next, "too large", 3), (Cut, "a/", 3)],
             left: "cd",
             last: "b",
         },
         Row {
             text: "abc",
-            room: 7,
+            piece: 7,
             limit: 100,
             fails_after: 3,
-            steps: &[("-", 3), ("broken", 3), ("whole", 3)],
+            calls: &[
+                (Next, "+", 3),
+                (Next, "broken", 3),
+                (Cut, "-", 3),
+                (Next, "whole", 3),
+            ],
             left: "",
             last: "abc",
         },
@@ -142,6 +192,45 @@ fn a_source_comes_in_pieces_until_it_ends(rt: HostRuntime) -> Result<(), Fail> {
         if let Some(fault) = fault_of(rt.alloc(), row)? {
             assert!(rt; false, "{fault}");
         }
+    }
+    Ok(())
+}
+
+// How many reads there were until a source was full, of so many bytes a read, how many bytes had come then, and how
+// many the lines have that were whole.
+fn filled(alloc: Global, text: &[u8], piece: u32) -> Result<(u32, u32, usize), Fail> {
+    let mut reader = Counting::new(text);
+    let mut intake = new_intake(alloc, piece)?;
+    for reads in 0..1_000u32 {
+        if intake.is_full() {
+            let block = intake.cut()?.ok_or("no line")?;
+            return Ok((reads, intake.count(), block.bytes().len()));
+        }
+        let Taken::Piece = take(&mut intake, &mut reader, piece, 1_000_000)? else {
+            return Err("the source has ended".into());
+        };
+    }
+    Err("too many reads".into())
+}
+
+// A read asks for no more than what is lacking, unless a whole read has room for more.
+#[test]
+fn a_block_is_gathered_by_several_reads(rt: HostRuntime) -> Result<(), Fail> {
+    let mut text = Vec::new(rt.alloc());
+    for _ in 0..30_000 {
+        text.extend_from_slice(b"123456789\n")?;
+    }
+    // Of 262,144 bytes the last 4 are of a line that isn't whole.
+    let rows = [
+        (1_000, 263, 262_144, 262_140),
+        (65_536, 4, 262_144, 262_140),
+        (262_143, 2, 262_144, 262_140),
+        (262_144, 1, 262_144, 262_140),
+        (262_145, 1, 262_145, 262_140),
+        (1_048_576, 1, 300_000, 300_000),
+    ];
+    for (piece, reads, count, block) in rows {
+        assert!(rt; filled(rt.alloc(), &text, piece)? == (reads, count, block));
     }
     Ok(())
 }

@@ -31,6 +31,20 @@ impl Read for BreaksOnce<'_> {
     }
 }
 
+// A reader that gives so many bytes at a read at most.
+#[derive(Drop)]
+pub(crate) struct Short<'a> {
+    pub(crate) reader: BreaksOnce<'a>,
+    pub(crate) most: usize,
+}
+
+impl Read for Short<'_> {
+    fn read(&mut self, buf: &mut [u8]) -> io::Result<usize> {
+        let most = buf.len().min(self.most);
+        self.reader.read(&mut buf[..most])
+    }
+}
+
 // A reader without an end.
 #[derive(Drop)]
 pub(crate) struct Endless;

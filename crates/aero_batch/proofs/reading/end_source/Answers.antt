@@ -1,4 +1,4 @@
-use Rattle.std.proofs.Common.{rules, ◌<◌, ◌∙◌}
+use Rattle.std.proofs.Common.{rules, ◌<◌}
 use Rattle.std.proofs.lemmas.Option.{slice_get_read}
 use Rattle.aero_batch.proofs.Stepping.{ends_source}
 use Rattle.aero_batch.proofs.reading.end_source.Goals as goal

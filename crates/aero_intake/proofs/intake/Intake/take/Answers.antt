@@ -1,4 +1,4 @@
-use Rattle.std.proofs.Common.{◌≡◌, ◌≤◌, ◌∙◌, ap, length, rules, arith}
+use Rattle.std.proofs.Common.{◌≡◌, ◌∙◌, ap, length, rules, arith}
 use Rattle.aero_intake.specs.Intake.{Taking}
 use Rattle.aero_intake.proofs.Filled.{still_held, none_came}
 use Rattle.aero_intake.proofs.intake.Intake.take.Goals as goal
