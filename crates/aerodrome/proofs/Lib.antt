@@ -1,3 +1,3 @@
-mod Built
 mod Numbers
 mod Passed
+mod Told

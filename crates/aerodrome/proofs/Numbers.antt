@@ -1,20 +1,23 @@
--- The two numbers of the command line lie in their ranges.
-use Rattle.std.proofs.Common.{◌≡◌, ◌∙◌, ◌<◌, ◌≤◌, ◌^◌, ◌==◌, if◌then◌else◌, ap, ℕ, zero, suc, true, List, [], ◌∷◌, length, Option, Some, None, sym, subst, inl, inr, refl, arith, slice_index, codes}
+-- What is read of the command line lies in the ranges of its options.
+use Rattle.std.proofs.Common.{◌≡◌, ◌∙◌, ◌<◌, ◌≤◌, ◌^◌, ◌==◌, if◌then◌else◌, ap, ℕ, zero, suc, false, true, List, [], ◌∷◌, length, map, Option, Some, None, sym, subst, inl, inr, refl, arith, slice_index}
 use Rattle.std.specs.List.{slice_index_or}
 use Rattle.std.specs.Str.{bytes_eq}
-use Rattle.std.specs.Prelude.{pos, Result, unwrap_or}
+use Rattle.std.specs.Prelude.{Bool, pos, Result, unwrap_or}
 use Rattle.std.specs.Str.Parse.{ParsesUnsigned}
+use Rattle.std.proofs.lemmas.List.{length-map}
 use Rattle.std.proofs.lemmas.Slice.Eq.{bytes_eq-Decides}
-use Rattle.clap.specs.Facts.{args_of}
-use Rattle.clap.specs.Built.{IsParsedFrom}
-use Rattle.clap.specs.Matches.{one_text, found_of, ReadsOne}
+use Rattle.clap.specs.Words.{Accepts, App, IsParsedFrom, ReadsOne, Rule, Text, app_of, args_of, found_of, is_simple, new_rule, one_text, read_as, reading_of, rule_of}
 use Rattle.clap.proofs.CallerReads.{signed_reads}
+use Rattle.clap.proofs.OnLiterals.{clap_on_literals}
+use Rattle.clap.proofs.SimpleLemmas.{all_simple, plain_fields, simple_groups}
 use Rattle.clap.specs.declared.builder.arg.Arg.{Arg}
 use Rattle.clap.specs.declared.builder.command.Command.{Command}
+use Rattle.clap.specs.declared.builder.value_parser.ValueParser.{ValueParser}
 use Rattle.clap.specs.declared.builder.value_parser.ValueParser.TheVariants as vp
 use Rattle.clap.specs.declared.parser.matches.ArgMatches.{ArgMatches}
 use Rattle.clap.specs.declared.parser.matches.Found.{Found}
-use Rattle.aerodrome.specs.Words.{ReadsWithin, IsNumberOption, IsCommandLine}
+use Rattle.aerodrome.specs.Line.{program}
+use Rattle.aerodrome.specs.Words.{IsRead, ReadsWithin}
 use Rattle.aerodrome.proofs.Passed.{passed}
 
 -- a number that is read within a range lies in it
@@ -39,68 +42,77 @@ number_within E G most number f name within none value only fits = go (one_text 
         let high : got.0 ≤ most = got.3 in
         (omega arith, omega arith)
 
-abbrev initial : Arg → ℕ
-initial a = slice_index a.id.now 0
+pub program_is_simple : is_simple program ≡ true
+unfolding clap_on_literals
+program_is_simple = refl
 
--- the place of the argument of the program whose name begins so
+abbrev rules : List Rule
+rules = program.top.rules
+
+abbrev rule_at : ℕ → Rule
+rule_at k = slice_index_or rules k (new_rule [])
+
+abbrev initial : Rule → ℕ
+initial rule = slice_index rule.id 0
+
+-- the place of the option whose name begins so
 abbrev place_by : ℕ → ℕ
 place_by first = if first == 119 then 0 else if first == 112 then 1 else if first == 101 then 2 else if first == 111 then 3 else 4
 
-place_of : (a b c d f : Arg) → initial a ≡ 119 → initial b ≡ 112 → initial c ≡ 101 → initial d ≡ 111 → initial f ≡ 102
-    → (j : ℕ) (e : Arg) → j < 5 → place_by (initial (slice_index_or (a ∷ b ∷ c ∷ d ∷ f ∷ []) j e)) ≡ j
-place_of a b c d f ia ib ic id ig zero e lt = ap place_by ia
-place_of a b c d f ia ib ic id ig (suc zero) e lt = ap place_by ib
-place_of a b c d f ia ib ic id ig (suc (suc zero)) e lt = ap place_by ic
-place_of a b c d f ia ib ic id ig (suc (suc (suc zero))) e lt = ap place_by id
-place_of a b c d f ia ib ic id ig (suc (suc (suc (suc zero)))) e lt = ap place_by ig
-place_of a b c d f ia ib ic id ig (suc (suc (suc (suc (suc j))))) e lt = absurd (omega arith)
+place_of : (j : ℕ) → j < 5 → place_by (initial (rule_at j)) ≡ j
+place_of zero lt = refl
+place_of (suc zero) lt = refl
+place_of (suc (suc zero)) lt = refl
+place_of (suc (suc (suc zero))) lt = refl
+place_of (suc (suc (suc (suc zero)))) lt = refl
+place_of (suc (suc (suc (suc (suc j))))) lt = absurd (omega arith)
 
--- what is read of an option of the command line is within its range
-option_within : (line : Command) (m : ArgMatches) (p : IsParsedFrom line m) (known : IsCommandLine line)
-    → (k : ℕ) (a : Arg) (name : List ℕ) (first most : ℕ) → k < 5
-    → slice_index_or (args_of line) k a ≡ a → IsNumberOption a name most → slice_index name 0 ≡ first
-    → (first ≡ 0 → ⊥) → (first ≡ 104 → ⊥) → (first ≡ 118 → ⊥)
-    → ReadsWithin (found_of m) name most
-option_within line m p known k a name first most ltk at option start not0 not104 not118 text read =
-    let size : length (args_of line) ≡ 5 = ap length known.args in
-    let begins : slice_index a.id.now 0 ≡ first = ap (λ (t : List ℕ). slice_index t 0) option.id ∙ start in
-    let parser : (slice_index_or (args_of line) k a).value_parser ≡ Some (vp.Signed (pos 1) (pos most)) = rw at option.parser in
-    let id : (slice_index_or (args_of line) k a).id.now ≡ name = rw at option.id in
-    let unique : (j : ℕ) (e : Arg) → j < length (args_of line)
-    → bytes_eq (slice_index_or (args_of line) j e).id.now (slice_index_or (args_of line) k a).id.now ≡ true → j ≡ k =
-    λ j e lt same.
-    let ids = (bytes_eq-Decides (slice_index_or (args_of line) j e).id.now (slice_index_or (args_of line) k a).id.now).0 same in
-    let place : (i : ℕ) (f : Arg) → i < 5 → place_by (initial (slice_index_or (known.workers ∷ known.piece ∷ known.except ∷ known.order ∷ known.files ∷ []) i f)) ≡ i =
-    place_of known.workers known.piece known.except known.order known.files
-    (ap (λ (t : List ℕ). slice_index t 0) known.workers_option.id)
-    (ap (λ (t : List ℕ). slice_index t 0) known.piece_option.id)
-    (ap (λ (t : List ℕ). slice_index t 0) known.except_id)
-    (ap (λ (t : List ℕ). slice_index t 0) known.order_id)
-    (ap (λ (t : List ℕ). slice_index t 0) known.files_id) in
-    sym (place j e (omega arith))
-    ∙ (ap place_by (subst (λ (l : List Arg). initial (slice_index_or l j e) ≡ initial (slice_index_or l k a)) known.args
-    (ap (λ (t : List ℕ). slice_index t 0) ids))
-    ∙ place k a ltk)
+mapped_at : (xs : List Arg) (k : ℕ) (d : Arg) (e : Rule) → k < length xs → rule_of (slice_index_or xs k d) ≡ slice_index_or (map rule_of xs) k e
+mapped_at [] k d e lt = absurd (omega arith)
+mapped_at (x ∷ xs) zero d e lt = refl
+mapped_at (x ∷ xs) (suc k) d e lt = mapped_at xs k d e (omega arith)
+
+first_of : (xs : List Arg) → length xs ≡ 5 → Arg
+first_of [] five = absurd (omega arith)
+first_of (x ∷ xs) five = x
+
+-- what is read of an option of the command line passed the parser of its rule
+option_passed : (line : Command) (m : ArgMatches) → IsParsedFrom line m → app_of line ≡ program
+    → (k : ℕ) (q : ValueParser) → k < 5 → (rule_at k).parser ≡ Some q → (rule_at k).ignore_case ≡ false
+    → (initial (rule_at k) ≡ 0 → ⊥) → (initial (rule_at k) ≡ 104 → ⊥) → (initial (rule_at k) ≡ 118 → ⊥)
+    → (text : Text) → one_text (found_of m) (rule_at k).id ≡ Some text
+    → (word : Text) × (text ≡ read_as (reading_of q) word) × Accepts false q word
+option_passed line m p is k q ltk parser ignores not0 not104 not118 text read =
+    let listed : map rule_of (args_of line) ≡ rules = ap (λ (a : App). a.top.rules) is in
+    let size : length (args_of line) ≡ 5 = sym (length-map (args_of line) rule_of) ∙ ap length listed in
+    let d = first_of (args_of line) size in
+    let rule : (j : ℕ) (e : Arg) → j < 5 → rule_of (slice_index_or (args_of line) j e) ≡ rule_at j =
+    λ j e lt. mapped_at (args_of line) j e (new_rule []) (omega arith) ∙ ap (λ (l : List Rule). slice_index_or l j (new_rule [])) listed
     in
-    let got = passed line m p known.no_groups known.groups known.globals k a (omega arith) unique
-    (λ empty. not0 (sym start ∙ ap (λ (t : List ℕ). slice_index t 0) (sym id ∙ empty)))
+    let named : (slice_index_or (args_of line) k d).id.now ≡ (rule_at k).id = ap (λ (r : Rule). r.id) (rule k d ltk) in
+    let unique : (j : ℕ) (e : Arg) → j < length (args_of line)
+    → bytes_eq (slice_index_or (args_of line) j e).id.now (slice_index_or (args_of line) k d).id.now ≡ true → j ≡ k =
+    λ j e lt same.
+    let ids = (bytes_eq-Decides (slice_index_or (args_of line) j e).id.now (slice_index_or (args_of line) k d).id.now).0 same in
+    let here : (rule_at j).id ≡ (rule_at k).id = sym (ap (λ (r : Rule). r.id) (rule j e (omega arith))) ∙ (ids ∙ named) in
+    sym (place_of j (omega arith)) ∙ (ap (λ (t : Text). place_by (slice_index t 0)) here ∙ place_of k ltk)
+    in
+    let simple = plain_fields line (ap (λ (a : App). a.top.is_plain) is) in
+    let got = passed line m p (simple_groups line (ap (λ (a : App). all_simple a.top.rules) is)) simple.groups simple.globals k d (omega arith) unique
+    (λ empty. not0 (ap (λ (t : Text). slice_index t 0) (sym named ∙ empty)))
     (λ auto. elim auto [
-      | inl h ↦ not104 (sym start ∙ ap (λ (t : List ℕ). slice_index t 0) (sym id ∙ h))
-      | inr h ↦ not118 (sym start ∙ ap (λ (t : List ℕ). slice_index t 0) (sym id ∙ h))
+      | inl h ↦ not104 (ap (λ (t : Text). slice_index t 0) (sym named ∙ h))
+      | inr h ↦ not118 (ap (λ (t : Text). slice_index t 0) (sym named ∙ h))
     ])
-    (vp.Signed (pos 1) (pos most)) parser text (rw id read) in
-    (got.0, got.1, got.2)
+    q (ap (λ (r : Rule). r.parser) (rule k d ltk) ∙ parser) text (rw named read) in
+    (got.0, got.1, subst (λ (b : Bool). Accepts b q got.0) (ap (λ (r : Rule). r.ignore_case) (rule k d ltk) ∙ ignores) got.2)
 
-pub workers_within : (line : Command) (m : ArgMatches) → IsParsedFrom line m → IsCommandLine line
-    → ReadsWithin (found_of m) (codes "workers") 16
-workers_within line m p known =
-    option_within line m p known 0 known.workers (codes "workers") 119 16 (omega arith)
-    (ap (λ (l : List Arg). slice_index_or l 0 known.workers) known.args) known.workers_option refl
-    (λ h. omega arith) (λ h. omega arith) (λ h. omega arith)
-
-pub piece_within : (line : Command) (m : ArgMatches) → IsParsedFrom line m → IsCommandLine line
-    → ReadsWithin (found_of m) (codes "piece") (2 ^ 20)
-piece_within line m p known =
-    option_within line m p known 1 known.piece (codes "piece") 112 (2 ^ 20) (omega arith)
-    (ap (λ (l : List Arg). slice_index_or l 1 known.piece) known.args) known.piece_option refl
-    (λ h. omega arith) (λ h. omega arith) (λ h. omega arith)
+-- where the command is that of the program, its numbers and its flag are read as they should be
+pub line_read : (line : Command) (m : ArgMatches) → IsParsedFrom line m → app_of line ≡ program → IsRead (found_of m)
+line_read line m p is = record {
+  workers = option_passed line m p is 0 (vp.Signed (pos 1) (pos 16)) (omega arith) refl refl (λ h. omega arith) (λ h. omega arith) (λ h. omega arith);
+  piece = option_passed line m p is 1 (vp.Signed (pos 1) (pos (2 ^ 20))) (omega arith) refl refl (λ h. omega arith) (λ h. omega arith) (λ h. omega arith);
+  order = λ text read.
+      let got = option_passed line m p is 3 vp.Bool (omega arith) refl refl (λ h. omega arith) (λ h. omega arith) (λ h. omega arith) text read in
+      subst (λ (t : Text). Accepts false vp.Bool t) (sym got.1) got.2;
+}

@@ -1,2 +1,3 @@
 pub mod Labels
+pub mod Line
 pub mod Words

@@ -1,9 +1,6 @@
--- What the reader of the command line knows of its two numbers.
-use Rattle.std.specs.Prelude.{◌≡◌, ℕ, List, [], ◌∷◌, Some, codes, false, pos, ◌^◌}
-use Rattle.clap.specs.Words.{IsSignedIn, args_of, groups_of, one_text, without_minus, NamesNoGroup}
-use Rattle.clap.specs.declared.builder.arg.Arg.{Arg}
-use Rattle.clap.specs.declared.builder.command.Command.{Command}
-use Rattle.clap.specs.declared.builder.command.Command.TheViews.{out-Command}
+-- What the reader of the command line knows of its numbers and its flag.
+use Rattle.std.specs.Prelude.{◌≡◌, ℕ, List, Some, codes, false, pos, ◌^◌}
+use Rattle.clap.specs.Words.{Accepts, IsSignedIn, one_text, without_minus}
 use Rattle.clap.specs.declared.builder.value_parser.ValueParser.TheVariants as vp
 use Rattle.clap.specs.declared.parser.matches.Found.{Found}
 
@@ -13,24 +10,12 @@ ReadsWithin found name most =
     (text : List ℕ) → one_text found name ≡ Some text
     → (word : List ℕ) × (text ≡ without_minus word) × IsSignedIn (pos 1) (pos most) word
 
--- an option with a number from 1 to `most`
-pub record IsNumberOption (option : Arg) (name : List ℕ) (most : ℕ) : Type 0 where
-  pub id : option.id.now ≡ name
-  pub parser : option.value_parser ≡ Some (vp.Signed (pos 1) (pos most))
+-- what is read of this flag is what a truth value is written as
+abbrev pub ReadsFlag : Found → List ℕ → Type 0
+ReadsFlag found name = (text : List ℕ) → one_text found name ≡ Some text → Accepts false vp.Bool text
 
--- the command line of the program: two options with numbers, the labels, the flag for the serial order, and the files
-pub record IsCommandLine (line : Command) : Type 0 where
-  pub workers : Arg
-  pub piece : Arg
-  pub except : Arg
-  pub order : Arg
-  pub files : Arg
-  pub args : args_of line ≡ workers ∷ piece ∷ except ∷ order ∷ files ∷ []
-  pub workers_option : IsNumberOption workers (codes "workers") 16
-  pub piece_option : IsNumberOption piece (codes "piece") (2 ^ 20)
-  pub except_id : except.id.now ≡ codes "except"
-  pub order_id : order.id.now ≡ codes "order"
-  pub files_id : files.id.now ≡ codes "files"
-  pub groups : groups_of line ≡ []
-  pub no_groups : NamesNoGroup line
-  pub globals : (out-Command line).has_globals ≡ false
+-- what is read of the command line
+pub record IsRead (found : Found) : Type 0 where
+  pub workers : ReadsWithin found (codes "workers") 16
+  pub piece : ReadsWithin found (codes "piece") (2 ^ 20)
+  pub order : ReadsFlag found (codes "order")

@@ -1,9 +1,10 @@
 //! The words of the command line, and what they ask for.
-ghost use Rattle.std.specs.Prelude.{◌≡◌, ◌<◌, ◌≤◌, ◌^◌, ◌++◌, ◌∷◌, [], Some, IfOk, OnOk, codes, false, length, map, pos, vec_len};
-ghost use Rattle.clap.specs.Words.{found_of};
+ghost use Rattle.std.specs.Prelude.{◌≡◌, ◌<◌, ◌≤◌, ◌++◌, ◌∷◌, [], IfOk, OnOk, false, map, pos, string_bytes, vec_len};
+ghost use Rattle.clap.specs.Words.{app_of, found_of, one_of, rows_of, rule_of};
 ghost use Rattle.clap.specs.declared.builder.value_parser.ValueParser.TheVariants as vp;
 ghost use Rattle.aerodrome.specs.Labels.{IsTold};
-ghost use Rattle.aerodrome.specs.Words.{IsCommandLine, ReadsWithin};
+ghost use Rattle.aerodrome.specs.Line.{AsksFor, files_rule, is_told, label_rule, no_rules, number_rule, number_told, order_rule, program, rows_given};
+ghost use Rattle.aerodrome.specs.Words.{IsRead, ReadsFlag, ReadsWithin};
 
 use crate::help;
 use aero_model::except::MOST_LABELS;
@@ -26,13 +27,16 @@ const MOST_PIECE: u32 = 1_048_576;
 const DEFAULT_PIECE: u32 = 65_536;
 
 /// Reads the words that follow the program's name.
-pub fn settle_words(alloc: Global, words: &[String]) -> Result<Config, Refused> {
+pub fn settle_words(alloc: Global, words: &[String]) -> Result<Config, Refused>
+    ensures { IfOk result (λ config. AsksFor config (rows_given (map string_bytes words.now))) }
+{
     let matches = matches_of(alloc, words)?;
     settle(alloc, &matches)
 }
 
 fn matches_of<'a>(alloc: Global, words: &'a [String]) -> Result<ArgMatches<'a>, Refused>
-    ensures { IfOk result (λ m. ReadsWithin (found_of m) (codes "workers") 16 × ReadsWithin (found_of m) (codes "piece") (2 ^ 20)) }
+    ensures read { IfOk result (λ m. IsRead (found_of m)) }
+    ensures rows { IfOk result (λ m. rows_of (found_of m) ≡ rows_given (map string_bytes words.entry.now)) }
 {
     let line = command_line(alloc)?;
     match line.try_get_matches_from(words) {
@@ -43,54 +47,81 @@ fn matches_of<'a>(alloc: Global, words: &'a [String]) -> Result<ArgMatches<'a>, 
 
 // The command line as its reader knows it.
 fn command_line<'a>(alloc: Global) -> Result<Command<'a>, AllocError>
-    ensures { IfOk result IsCommandLine }
+    ensures { IfOk result (λ line. app_of line ≡ program) }
 {
-    let workers = number_option(alloc, "workers", MOST_WORKERS)
-        .default_value("4")
-        .help(help::WORKERS);
-    let piece = number_option(alloc, "piece", MOST_PIECE)
-        .default_value("65536")
-        .help(help::PIECE);
-    let except = Arg::new(alloc, "except")
-        .long("except")
-        .value_name("LABEL")
-        .action(ArgAction::Append)
-        .help(help::EXCEPT);
-    let order = Arg::new(alloc, "order")
-        .long("order")
-        .action(ArgAction::SetTrue)
-        .help(help::ORDER)
-        .long_help(help::LONG_ORDER);
-    let files = Arg::new(alloc, "files")
-        .value_name("FILE")
-        .action(ArgAction::Append)
-        .num_args(0..)
-        .help(help::FILES);
+    bare_line(alloc)
+        .arg(number_option(alloc, "workers", MOST_WORKERS, "4", help::WORKERS))?
+        .arg(number_option(alloc, "piece", MOST_PIECE, "65536", help::PIECE))?
+        .arg(label_option(alloc))?
+        .arg(order_flag(alloc))?
+        .arg(file_words(alloc))
+}
+
+// The command line without its arguments.
+fn bare_line<'a>(alloc: Global) -> Command<'a>
+    ensures { app_of result ≡ no_rules }
+{
     Command::new(alloc, "aerodrome")
         .no_binary_name(true)
         .version(help::VERSION)
         .about(help::ABOUT)
         .long_about(help::LONG_ABOUT)
         .after_long_help(help::REPORT)
-        .arg(workers)?
-        .arg(piece)?
-        .arg(except)?
-        .arg(order)?
-        .arg(files)
 }
 
 // An option with a number from 1 to `most`.
-fn number_option<'a>(alloc: Global, name: &'a str, most: u32) -> Arg<'a>
-    ensures id { result.id ≡ name.entry }
-    ensures parser { result.value_parser ≡ Some (vp.Signed (pos 1) (pos most)) }
-    ensures groups { result.groups.items ≡ [] }
-    ensures global { result.global ≡ false }
+fn number_option<'a>(
+    alloc: Global,
+    name: &'a str,
+    most: u32,
+    default: &'a str,
+    text: &'a str,
+) -> Arg<'a>
+    ensures rule { rule_of result ≡ number_rule name.entry.now most default.entry.now }
+    ensures local { result.global ≡ false }
 {
     Arg::new(alloc, name)
         .long(name)
         .value_name("N")
         .action(ArgAction::Set)
         .value_parser(numbers_to(most))
+        .default_value(default)
+        .help(text)
+}
+
+// The option with a label, which may be used more than once.
+fn label_option<'a>(alloc: Global) -> Arg<'a>
+    ensures rule { rule_of result ≡ label_rule }
+    ensures local { result.global ≡ false }
+{
+    Arg::new(alloc, "except")
+        .long("except")
+        .value_name("LABEL")
+        .action(ArgAction::Append)
+        .help(help::EXCEPT)
+}
+
+fn order_flag<'a>(alloc: Global) -> Arg<'a>
+    ensures rule { rule_of result ≡ order_rule }
+    ensures local { result.global ≡ false }
+{
+    Arg::new(alloc, "order")
+        .long("order")
+        .action(ArgAction::SetTrue)
+        .value_parser(ValueParser::bool())
+        .help(help::ORDER)
+        .long_help(help::LONG_ORDER)
+}
+
+fn file_words<'a>(alloc: Global) -> Arg<'a>
+    ensures rule { rule_of result ≡ files_rule }
+    ensures local { result.global ≡ false }
+{
+    Arg::new(alloc, "files")
+        .value_name("FILE")
+        .action(ArgAction::Append)
+        .num_args(0..)
+        .help(help::FILES)
 }
 
 // What reads a number from 1 to `most`.
@@ -119,8 +150,8 @@ fn refusal_of(alloc: Global, error: &Error) -> Refused {
 }
 
 fn settle(alloc: Global, matches: &ArgMatches<'_>) -> Result<Config, Refused>
-    requires workers { ReadsWithin (found_of matches.now) (codes "workers") 16 }
-    requires piece { ReadsWithin (found_of matches.now) (codes "piece") (2 ^ 20) }
+    requires { IsRead (found_of matches.now) }
+    ensures { IfOk result (λ config. AsksFor config (rows_of (found_of matches.now))) }
 {
     let workers = number_in(matches, "workers", MOST_WORKERS, DEFAULT_WORKERS);
     let piece = number_in(matches, "piece", MOST_PIECE, DEFAULT_PIECE);
@@ -136,7 +167,7 @@ fn settle(alloc: Global, matches: &ArgMatches<'_>) -> Result<Config, Refused>
         piece,
         files,
         except,
-        order: matches.get_flag("order"),
+        order: flag_in(matches, "order"),
     })
 }
 
@@ -190,6 +221,7 @@ fn number_in(matches: &ArgMatches<'_>, name: &str, most: u32, fallback: u32) -> 
     requires reads { ReadsWithin (found_of matches.now) name.now most }
     requires some { 0 < fallback }
     requires within { fallback ≤ most }
+    ensures told { result ≡ number_told fallback (one_of name.now (rows_of (found_of matches.now))) }
     ensures some { 0 < result }
     ensures within { result ≤ most }
 {
@@ -199,9 +231,17 @@ fn number_in(matches: &ArgMatches<'_>, name: &str, most: u32, fallback: u32) -> 
     }
 }
 
+// Whether a flag is given.
+fn flag_in(matches: &ArgMatches<'_>, name: &str) -> bool
+    requires { ReadsFlag (found_of matches.now) name.now }
+    ensures { result ≡ is_told (one_of name.now (rows_of (found_of matches.now))) }
+{
+    matches.get_flag(name)
+}
+
 // Copies of the texts.
 fn owned(alloc: Global, texts: &[&str]) -> Result<Vec<String>, AllocError>
-    ensures { IfOk result (λ all. vec_len all ≡ length texts.now) }
+    ensures { IfOk result (λ all. map string_bytes all.items ≡ map (λ text. text.now) texts.now) }
 {
     let mut all = Vec::new(alloc);
     for text in texts {

@@ -1,6 +1,6 @@
-use Rattle.std.proofs.Common.{◌≡◌, vec_len}
+use Rattle.std.proofs.Common.{◌≡◌, map, string_bytes, take}
 use Rattle.aerodrome.proofs.words.owned.Given as goal
 
--- as many copies as texts so far
+-- the copies so far
 abbrev pub invariant-loop-text : goal.invariant-loop-text
-invariant-loop-text l = vec_len l.all ≡ l.text-index
+invariant-loop-text l = map string_bytes l.all.items ≡ map (λ text. text.now) (take l.text-index l.fn.texts)

@@ -1,0 +1,72 @@
+-- The program's command line, and what its words ask for.
+use Rattle.std.specs.Prelude.{◌≡◌, ◌∷◌, ℕ, Bool, false, true, List, [], Option, Some, None, codes, map, pos, string_bytes, unwrap_or, ◌^◌}
+use Rattle.std.specs.Str.{bytes_eq}
+use Rattle.std.specs.Str.Parse.{digits_value, without_leading_plus}
+use Rattle.clap.specs.Lexer.{usize_max}
+use Rattle.clap.specs.Words.{App, Row, Rule, Text, all_of, matches_of, new_app, new_rule, one_of, with_rule}
+use Rattle.clap.specs.declared.builder.action.ArgAction.TheVariants.{Append, Set, SetTrue}
+use Rattle.clap.specs.declared.builder.value_parser.ValueParser.TheVariants as vp
+use Rattle.aero_program.specs.declared.command.Config.{Config}
+
+-- an option with a number from 1 to `most`
+abbrev pub number_rule : Text → ℕ → Text → Rule
+number_rule name most default = record (new_rule name) {
+  long = Some name;
+  action = Some Set;
+  value_names = 1;
+  defaults = default ∷ [];
+  parser = Some (vp.Signed (pos 1) (pos most));
+}
+
+-- the labels, each by an option of its own
+abbrev pub label_rule : Rule
+label_rule = record (new_rule (codes "except")) { long = Some (codes "except"); action = Some Append; value_names = 1 }
+
+-- the flag for the serial order
+abbrev pub order_rule : Rule
+order_rule = record (new_rule (codes "order")) { long = Some (codes "order"); action = Some SetTrue; parser = Some vp.Bool }
+
+-- the files: any number of words that belong to no option
+abbrev pub files_rule : Rule
+files_rule = record (new_rule (codes "files")) {
+  action = Some Append;
+  range = Some (record { start_inclusive = 0; end_inclusive = usize_max });
+  value_names = 1;
+}
+
+-- a program of this name, whose words are the arguments alone, and which tells its version
+abbrev pub no_rules : App
+no_rules = record (new_app (codes "aerodrome")) {
+  top = record (new_app (codes "aerodrome")).top { no_binary_name = true; has_version = true };
+}
+
+abbrev pub program : App
+program = with_rule (with_rule (with_rule (with_rule (with_rule no_rules
+    (number_rule (codes "workers") 16 (codes "4")))
+    (number_rule (codes "piece") (2 ^ 20) (codes "65536")))
+    label_rule) order_rule) files_rule
+
+-- what each option has of these words, its default included
+abbrev pub rows_given : List Text → List Row
+rows_given words = matches_of program words
+
+-- the number that the text of an option says
+abbrev pub number_told : ℕ → Option Text → ℕ
+number_told fallback None = fallback
+number_told fallback (Some text) = digits_value 10 (without_leading_plus text)
+
+abbrev pub is_told : Option Text → Bool
+is_told None = false
+is_told (Some text) = bytes_eq text (codes "true")
+
+-- the texts of an option, in the order of the words
+abbrev pub texts_told : Option (List Text) → List Text
+texts_told texts = unwrap_or texts []
+
+-- the configuration is what the options have
+pub record AsksFor (config : Config) (rows : List Row) : Type 0 where
+  pub workers : config.workers ≡ number_told 4 (one_of (codes "workers") rows)
+  pub piece : config.piece ≡ number_told 65536 (one_of (codes "piece") rows)
+  pub except : config.except.items ≡ texts_told (all_of (codes "except") rows)
+  pub order : config.order ≡ is_told (one_of (codes "order") rows)
+  pub files : map string_bytes config.files.items ≡ texts_told (all_of (codes "files") rows)
