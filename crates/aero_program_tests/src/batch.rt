@@ -199,7 +199,7 @@ fn a_text_has_its_steps_where_its_order_is_asked_for(rt: HostRuntime) -> Result<
             "n: serializable (5 events, 1 blocks)/  1 T1/traces 1: ",
         ),
         (
-            "T1|w(x)/T2|r(x)",
+            "T1|w(x)|5/T2|r(x)|6",
             "",
             "n: serializable (2 events, 0 blocks)/  1 T1/  2 T2/traces 1: ",
         ),
@@ -207,6 +207,11 @@ fn a_text_has_its_steps_where_its_order_is_asked_for(rt: HostRuntime) -> Result<
             WRITTEN_BETWEEN,
             "",
             "n: serializable (4 events, 1 blocks)/  2 T2/  1 T1/traces 1: ",
+        ),
+        (
+            "T3|w(a)/T1|begin/T2|w(a)/T1|r(a)/T1|end",
+            "",
+            "n: serializable (5 events, 1 blocks)/  1 T3/  3 T2/  2 T1/traces 1: ",
         ),
         (
             "T3|w(a)//T1|begin/T2|w(a)/T1|r(a)/T1|end",
@@ -224,9 +229,24 @@ fn a_text_has_its_steps_where_its_order_is_asked_for(rt: HostRuntime) -> Result<
             "n: no violation, 1 blocks open (3 events, 1 blocks)/traces 1: ",
         ),
         (
+            "T1|begin/T2|begin/T1|w(x)/T2|w(y)/T1|r(y)",
+            "",
+            "n: no violation, 2 blocks open (5 events, 2 blocks)/traces 1: ",
+        ),
+        (
+            "T1|begin/T2|begin/T2|w(y)/T1|w(x)/T2|r(x)/T1|r(y)",
+            "",
+            "n: no violation, 2 blocks open (6 events, 2 blocks)/traces 1: ",
+        ),
+        (
             CROSSED,
             "",
             "n: violation at line 6: block of T1 from line 1/traces 1: ",
+        ),
+        (
+            "T1|r()",
+            "",
+            "n:1: malformed: MissingTarget/traces 1: ",
         ),
         (
             "T1|w(x)/T1|r()",
