@@ -1,16 +1,19 @@
 //! A run over many sources: each is read and judged, and the report is written.
 //!
-//! `run` reads the sources one after the other. Each is cut into blocks of whole lines as it comes, and
-//! a crew of workers reads the blocks and finds the verdicts. The lines of the report stand in the order
-//! of the sources, and each says what the definitions say of the bytes that were read, whatever the
-//! pieces, the number of workers and the order of their answers: `specs/Founds.antt` has it in full.
+//! `run` reads the sources one after the other. Each is cut into blocks of whole lines, as often as 262,144
+//! bytes of it have come, and a crew of workers reads the blocks and finds the verdicts. The lines of the
+//! report stand in the order of the sources, and each says what the definitions say of the bytes that were
+//! read, whatever the pieces, the number of workers and the order of their answers: `specs/Founds.antt` has
+//! it in full.
 //! `run_over` is the same with any helpers, of whom nothing is promised but how many they are.
 //!
 //! How a source is read, and what is known of it, is aero_intake's: its `plan` and its `source` are
 //! those of a run.
 //!
 //! ```text
-//! let plan = Plan::new(4, 65_536, Limits::greatest()).ok_or("no such plan")?;
+//! let no_labels = Except::new(Vec::new(alloc)).ok_or("too many labels")?;
+//! let except = SharedExcept::new(alloc, no_labels)?;
+//! let plan = Plan::new(4, 65_536, Limits::greatest(), except, false).ok_or("no such plan")?;
 //! let reader = Counting::new(b"T1|begin\nT1|w(x)\nT1|end\n".as_slice());
 //! let mut sources = [Source { name: b"a".to_vec(alloc)?, reader, may_wait: false }];
 //! let mut writer = Counting::new(Vec::new(alloc));

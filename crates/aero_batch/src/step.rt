@@ -17,9 +17,10 @@ use std::alloc::{AllocError, Global};
 use std::io::Read;
 use std::sync::Wait;
 
-/// One step: the verdict on a source is asked for, or a piece is read, or, where the oldest question has
-/// its answer, the window is full, the next read is the first of a source that may wait, or nothing is left
-/// to read, that question is settled. So what is known of a source is told before the next read. An `AllocError` says that memory was refused.
+/// One step: the verdict on a source is asked for, or a piece is read, or what was read is cut and asked
+/// about; or, where the oldest question has its answer, the window is full, the next read is the first of a
+/// source that may wait, or nothing is left to read, that question is settled. So what is known of a
+/// source is told before the next read. An `AllocError` says that memory was refused.
 pub fn step<R: Read, H: Helpers, T: Wait>(
     rt: &T,
     alloc: Global,
