@@ -10,9 +10,9 @@ ghost use Rattle.aero_grammar.specs.Tabled.{lines_in, IsBlock};
 
 use crate::bytes::has_clean_lines;
 use crate::line::words_of;
+use crate::line_event::LineEvent;
 use crate::parsed::Parsed;
 use crate::tables::Tables;
-use aero_model::numbered::Numbered;
 use aero_model::verdict::LineFault;
 use memchr::memchr;
 use std::alloc::{AllocError, Global};
@@ -41,7 +41,7 @@ pub fn parse_block(alloc: Global, bytes: &[u8]) -> Result<Parsed, AllocError>
         lines += 1;
         match words_of(line, is_clean) {
             Ok(None) => {}
-            Ok(Some(words)) => events.push((lines, tables.number(words)?))?,
+            Ok(Some(words)) => events.push(LineEvent::new(lines, tables.number(words)?))?,
             Err(fault) => return Ok(parsed(tables, events, lines, Some((lines, fault)))),
         }
     }
@@ -51,7 +51,7 @@ pub fn parse_block(alloc: Global, bytes: &[u8]) -> Result<Parsed, AllocError>
 // What the block says, by its parts. What is kept takes no more memory than it needs.
 fn parsed(
     tables: Tables,
-    mut events: Vec<(u32, Numbered)>,
+    mut events: Vec<LineEvent>,
     lines: u32,
     fault: Option<(u32, LineFault)>,
 ) -> Parsed

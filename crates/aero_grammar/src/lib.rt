@@ -13,7 +13,7 @@
 //!
 //! ```text
 //! let parsed = parse_block(rt.alloc(), b"\nT1|begin(f)|12\nT1\nT2|w(y)")?;
-//! let (line, event) = parsed.events[0];
+//! let (line, event) = parsed.events[0].parts();
 //! assert_eq!(rt; line, 2);
 //! assert_eq!(rt; event.what, What::Begin(Some(0)));
 //! assert!(rt; parsed.labels.name(0) == Some(b"f"));
@@ -26,6 +26,7 @@ pub mod block;
 mod bytes;
 pub mod laws;
 pub mod line;
+pub mod line_event;
 mod names;
 mod operation;
 pub mod parsed;

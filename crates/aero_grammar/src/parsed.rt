@@ -1,5 +1,5 @@
 //! What was read of a block: its tables of names, its events, and its first fault.
-use aero_model::numbered::Numbered;
+use crate::line_event::LineEvent;
 use aero_model::verdict::LineFault;
 use aero_names::list::NameList;
 use std::marker::Model;
@@ -20,7 +20,7 @@ pub struct Parsed {
     /// The events, in the order of their lines, each with its line's number, and by its names'
     /// places in the tables. Lines count from 1 within the block, and the numbers rise, since blank
     /// lines count and have no event.
-    pub events: Vec<(u32, Numbered)>,
+    pub events: Vec<LineEvent>,
     /// How many lines there are, blank ones with them, or the faulty line's number where there is
     /// a fault.
     pub lines: u32,

@@ -44,11 +44,11 @@ pub own_check-other : (s : ℕ) (q : Question) → (trace_of q ≡ s → ⊥) �
 own_check-other s (Parse trace number bytes) other = refl
 own_check-other s (Check trace parts limits labels order) other = ap (λ b. if b then record { parts = parts; terms = asking limits labels order } ∷ [] else []) (ne_eqb trace s other)
 
-blocks_asked-more : (s : ℕ) (qs : List Question) (q : Question) → blocks_asked s (qs ++ q ∷ []) ≡ blocks_asked s qs ++ own_block s q
+pub blocks_asked-more : (s : ℕ) (qs : List Question) (q : Question) → blocks_asked s (qs ++ q ∷ []) ≡ blocks_asked s qs ++ own_block s q
 blocks_asked-more s [] q = append-nil (own_block s q)
 blocks_asked-more s (p ∷ more) q = ap (λ bs. own_block s p ++ bs) (blocks_asked-more s more q) ∙ sym (append_assoc (own_block s p) (blocks_asked s more) (own_block s q))
 
-checks_asked-more : (s : ℕ) (qs : List Question) (q : Question) → checks_asked s (qs ++ q ∷ []) ≡ checks_asked s qs ++ own_check s q
+pub checks_asked-more : (s : ℕ) (qs : List Question) (q : Question) → checks_asked s (qs ++ q ∷ []) ≡ checks_asked s qs ++ own_check s q
 checks_asked-more s [] q = append-nil (own_check s q)
 checks_asked-more s (p ∷ more) q = ap (λ cs. own_check s p ++ cs) (checks_asked-more s more q) ∙ sym (append_assoc (own_check s p) (checks_asked s more) (own_check s q))
 
@@ -76,7 +76,7 @@ pub before_change : {A : Type 0} (f : A → A) (o : Option A) (y : A) → option
 before_change f None y is = cc
 before_change f (Some x) y is = (x, refl, cc)
 
-nil_right : {A : Type 0} (xs ys : List A) → xs ++ ys ≡ [] → ys ≡ []
+pub nil_right : {A : Type 0} (xs ys : List A) → xs ++ ys ≡ [] → ys ≡ []
 nil_right [] ys is = is
 nil_right (x ∷ xs) ys is = cc
 

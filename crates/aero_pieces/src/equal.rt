@@ -2,9 +2,9 @@
 ghost use Rattle.std.specs.Prelude.{◌≡◌, ◌↔◌, IsTrue};
 
 use crate::question::Question;
+use aero_grammar::line_event::LineEvent;
 use aero_grammar::parsed::Parsed;
 use aero_model::limits::Limits;
-use aero_model::numbered::Numbered;
 
 /// Whether the questions have the same content. The numbers and lengths are compared first, and the
 /// bytes, or the names and events, only where those agree.
@@ -86,23 +86,8 @@ fn is_same_parsed(a: &Parsed, b: &Parsed) -> bool
         && a.labels.has_same_names(&b.labels)
 }
 
-fn are_same_events(a: &[(u32, Numbered)], b: &[(u32, Numbered)]) -> bool
+fn are_same_events(a: &[LineEvent], b: &[LineEvent]) -> bool
     ensures { IsTrue result ↔ (a.now ≡ b.now) }
 {
-    if a.len() != b.len() {
-        return false;
-    }
-    for i in 0..a.len() {
-        if !is_same_line(a[i], b[i]) {
-            return false;
-        }
-    }
-    true
-}
-
-#[inline(always)]
-fn is_same_line(a: (u32, Numbered), b: (u32, Numbered)) -> bool
-    ensures { IsTrue result ↔ (a ≡ b) }
-{
-    a.0 == b.0 && a.1 == b.1
+    a == b
 }

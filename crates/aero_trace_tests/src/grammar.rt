@@ -1,6 +1,8 @@
 use aero_grammar::block::parse_block;
 use aero_grammar::line::parse_line;
+use aero_grammar::line_event::LineEvent;
 use aero_grammar::parsed::Parsed;
+use aero_model::numbered::{Numbered, What};
 use aero_names::list::NameList;
 use std::alloc::{AllocError, Global};
 use std::test::Fail;
@@ -165,7 +167,8 @@ fn words_of(alloc: Global, parsed: &Parsed) -> Result<String, Fail> {
     push_names(alloc, &mut words, ", variables", &parsed.variables)?;
     push_names(alloc, &mut words, ", locks", &parsed.locks)?;
     push_names(alloc, &mut words, ", labels", &parsed.labels)?;
-    for (line, event) in &parsed.events {
+    for event in &parsed.events {
+        let (line, event) = event.parts();
         let said = format!(in alloc; ", {line}: {} {:?}", event.thread, event.what)?;
         words.push_str(&said)?;
     }
@@ -200,6 +203,29 @@ fn blocks_are_read_up_to_their_first_fault(rt: HostRuntime) -> Result<(), Fail> 
     for (row, wanted) in rows {
         let words = words_of_block(rt.alloc(), row)?;
         assert!(rt; words.as_str() == wanted, "{words}");
+    }
+    Ok(())
+}
+
+#[test]
+fn an_event_of_a_line_gives_back_what_it_is_made_of(rt: HostRuntime) -> Result<(), Fail> {
+    let deeds = [
+        What::Read(1),
+        What::Write(2),
+        What::Acquire(3),
+        What::Release(4),
+        What::Fork(5),
+        What::Join(6),
+        What::Begin(None),
+        What::Begin(Some(0)),
+        What::Begin(Some(u32::MAX)),
+        What::End,
+        What::Exempt,
+    ];
+    for what in deeds {
+        let event = Numbered { thread: 7, what };
+        let (line, same) = LineEvent::new(8, event).parts();
+        assert!(rt; line == 8 && same == event, "{what:?}");
     }
     Ok(())
 }

@@ -39,8 +39,9 @@ fn actor_in_part(part: &Parsed, before: u32, line: u32) -> Option<&[u8]>
 fn actor_in(part: &Parsed, line: u32) -> Option<&[u8]>
     ensures { option_copied result ≡ actor_on line part.now.events }
 {
-    for (at, event) in &part.events {
-        if *at == line {
+    for event in &part.events {
+        let (at, event) = event.parts();
+        if at == line {
             return part.threads.name(event.thread);
         }
     }

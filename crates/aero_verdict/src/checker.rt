@@ -6,6 +6,7 @@ use crate::blocks::Blocks;
 use crate::engine::Engine;
 use crate::known::{BlockNames, Known};
 use crate::numbering::Numbering;
+use aero_grammar::line_event::LineEvent;
 use aero_model::limits::Limits;
 use aero_model::name::Name;
 use aero_model::numbered::Numbered;
@@ -149,7 +150,7 @@ impl<E: Engine> Checker<E> {
         &mut self,
         alloc: Global,
         block: BlockNames<'_>,
-        events: &[(u32, Numbered)],
+        events: &[LineEvent],
         before: u32,
         most: u32,
     ) -> Result<(), (u32, Stop)>
@@ -164,12 +165,13 @@ impl<E: Engine> Checker<E> {
             StopsIn rules self.new all self.old.shape.admitted before (up_to most (lines_in (tables_in block.entry) block.entry.labels.now events.now)) stopped.0 stopped.1) }
     {
         let mut known = Known::new(alloc);
-        for (line, event) in events {
-            if *line > most {
+        for event in events {
+            let (line, event) = event.parts();
+            if line > most {
                 continue;
             }
-            let line = before + *line;
-            match self.admit(&mut known, block, line, *event) {
+            let line = before + line;
+            match self.admit(&mut known, block, line, event) {
                 Ok(None) => {}
                 Ok(Some(t)) => return Err((line, Stop::Closed(t))),
                 Err(fault) => return Err((line, Stop::Refused(fault))),

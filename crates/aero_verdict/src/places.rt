@@ -104,7 +104,7 @@ fn event_in(part: &Parsed, place: u32) -> (u32, &[u8])
     ensures at { IsAt part.now.events place result.0 result.1.now }
     ensures line { result.0 ≤ part.now.lines }
 {
-    let (line, event) = part.events[place as usize];
+    let (line, event) = part.events[place as usize].parts();
     match part.threads.name(event.thread) {
         Some(name) => (line, name),
         None => unreachable!(),

@@ -62,7 +62,7 @@ lines-preserved c =
     let tables_are : lists_in c.number.new.self ≡ with_event tables e = c.in_ok-number-in-Ok-Some.ensures.names in
     let labels_are : labels_in c.number.new.self ≡ labels_after labels e.op e.target = c.in_ok-number-in-Ok-Some.ensures.labels in
     let events_are : c.push.new.self.items ≡ events ++ (n, numbered_next tables labels e) ∷ [] =
-    c.in_ok-push-in-Ok-Some.ensures.items ∙ ap (λ x. events ++ (n, x) ∷ []) (c.in_ok-number-in-Ok-Some.ensures.numbered ∙ numbered_by_turns tables labels e) in
+    c.in_ok-push-in-Ok-Some.ensures.items ∙ ap (λ x. events ++ x ∷ []) c.new.ensures ∙ ap (λ x. events ++ (n, x) ∷ []) (c.in_ok-number-in-Ok-Some.ensures.numbered ∙ numbered_by_turns tables labels e) in
     record {
       read =
           one_more_line so_far c.lines.lines (reading_of c.args.bytes.now) c.lines.rest.now c.first_line.result.0.now c.first_line.result.1.now c.lines.invariant.read c.first_line.ensures.lines

@@ -26,13 +26,17 @@ module _ (t : Tables) (labels : List (List ℕ)) (items : List (ℕ × Numbered)
   on_line : slice_get (lines_in t labels items) place ≡ Some (line_in t labels item)
   on_line = slice_get-map (line_in t labels) items place ∙ ap (option_map (line_in t labels)) at
 
+-- what is read at a place, whatever would be read past the end
+read_as : (place : ℕ) (items : List (ℕ × Numbered)) (read item : ℕ × Numbered) → item ≡ read → read ≡ get_or items place read → item ≡ get_or items place item
+read_as place items read item same is = same ∙ is ∙ ap (get_or items place) (sym same)
+
 same_inside : {A : Type 0} (a b : A) → Some a ≡ Some b → a ≡ b
 same_inside a b same = cc
 
 pub unreachable-requires : goal.unreachable-requires
 unreachable-requires c =
     let t : Tables = record { threads = c.part.inside.threads; variables = c.part.inside.variables; locks = c.part.inside.locks } in
-    let here = listed t c.part.inside.labels c.part.inside.events.items c.args.part.now (ap (λ (r : Reading). r.events) c.part.view_is) c.part.invariant.tabled c.args.place c.index.result.now c.requires c.index.ensures in
+    let here = listed t c.part.inside.labels c.part.inside.events.items c.args.part.now (ap (λ (r : Reading). r.events) c.part.view_is) c.part.invariant.tabled c.args.place c.parts-line.result c.requires (read_as c.args.place c.part.inside.events.items c.index.result.now c.parts-line.result c.parts-line.ensures c.index.ensures) in
     let same = sym (ap option_copied c.in-None.is) ∙ c.name.ensures ∙ here in
     absurd (cc)
 
@@ -41,13 +45,13 @@ returns-clause-at c =
     let t : Tables = record { threads = c.part.inside.threads; variables = c.part.inside.variables; locks = c.part.inside.locks } in
     let labels = c.part.inside.labels in
     let items = c.part.inside.events.items in
-    let item = c.index.result.now in
+    let item = c.parts-line.result in
     let view = ap (λ (r : Reading). r.events) c.part.view_is in
-    let here = listed t labels items c.args.part.now view c.part.invariant.tabled c.args.place item c.requires c.index.ensures in
+    let here = listed t labels items c.args.part.now view c.part.invariant.tabled c.args.place item c.requires (read_as c.args.place c.part.inside.events.items c.index.result.now c.parts-line.result c.parts-line.ensures c.index.ensures) in
     let name_is : c.in-Some.name.now ≡ name_at t.threads item.1.thread = same_inside _ _ (sym (ap option_copied c.in-Some.is) ∙ c.name.ensures ∙ here) in
     record {
       event = (line_in t labels item).1;
-      at_place = ap (λ es. slice_get es c.args.place) (sym view) ∙ on_line t labels items c.args.part.now view c.part.invariant.tabled c.args.place item c.requires c.index.ensures;
+      at_place = ap (λ es. slice_get es c.args.place) (sym view) ∙ on_line t labels items c.args.part.now view c.part.invariant.tabled c.args.place item c.requires (read_as c.args.place c.part.inside.events.items c.index.result.now c.parts-line.result c.parts-line.ensures c.index.ensures);
       actor = sym name_is;
       is_name = at_place IsName t.threads item.1.thread c.in-Some.name.now c.part.invariant.names.threads (here ∙ ap Some (sym name_is));
     }
@@ -57,9 +61,9 @@ returns-clause-line c =
     let t : Tables = record { threads = c.part.inside.threads; variables = c.part.inside.variables; locks = c.part.inside.locks } in
     let labels = c.part.inside.labels in
     let items = c.part.inside.events.items in
-    let item = c.index.result.now in
+    let item = c.parts-line.result in
     let view = ap (λ (r : Reading). r.events) c.part.view_is in
-    let here = on_line t labels items c.args.part.now view c.part.invariant.tabled c.args.place item c.requires c.index.ensures in
+    let here = on_line t labels items c.args.part.now view c.part.invariant.tabled c.args.place item c.requires (read_as c.args.place c.part.inside.events.items c.index.result.now c.parts-line.result c.parts-line.ensures c.index.ensures) in
     let within : item.0 ≤ c.part.inside.lines = at_place (λ (e : ℕ × Named). e.0 ≤ c.part.inside.lines) (lines_in t labels items) c.args.place (line_in t labels item) c.part.invariant.reading.within here in
     let same = ap (λ (r : Reading). r.lines) c.part.view_is in
     omega (arith, within, same)

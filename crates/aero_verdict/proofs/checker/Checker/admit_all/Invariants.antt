@@ -3,8 +3,8 @@ use Rattle.aero_verdict.specs.Known.{tables_in, Knows}
 use Rattle.aero_verdict.proofs.Lines.{Admits}
 use Rattle.aero_verdict.proofs.checker.Checker.admit_all.Given as goal
 
-abbrev pub invariant-loop-line : goal.invariant-loop-line
-invariant-loop-line g l = record {
-  admits : Admits g.E.Engine.stands_for l.initial.self l.block.labels.now l.block.exempt.now (lines_in (tables_in l.block) l.block.labels.now l.events) l.before l.most l.line-index l.self;
+abbrev pub invariant-loop-event : goal.invariant-loop-event
+invariant-loop-event g l = record {
+  admits : Admits g.E.Engine.stands_for l.initial.self l.block.labels.now l.block.exempt.now (lines_in (tables_in l.block) l.block.labels.now l.events) l.before l.most l.event-index l.self;
   known : Knows l.self.numbering (tables_in l.block) l.known;
 }
