@@ -1,3 +1,4 @@
+pub mod Apart
 pub mod Questions
 pub mod Readers
 pub mod Readings

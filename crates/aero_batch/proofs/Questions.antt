@@ -10,10 +10,9 @@ use Rattle.aero_gather.specs.declared.gather.Accepted.{Accepted}
 use Rattle.aero_gather.specs.declared.gather.Accepted.TheVariants.{Kept, Repeated, Stranger}
 use Rattle.std.proofs.lemmas.Bool.{le-leb}
 use Rattle.aero_gather.specs.declared.gather.Oldest.TheVariants.{Awaited, Missed, Kept as Kept_oldest}
-use Rattle.std.specs.Prelude.{IfOk, Result, Ok, Err, option_map}
+use Rattle.std.specs.Prelude.{IfOk, Result, Ok, Err}
 use Rattle.aero_gather.specs.Gathered.{Settles, GivesKnown}
-use Rattle.aero_batch.specs.Inquiries.{Gives, SettlesKnown, questions_of}
-use Rattle.aero_intake.specs.Stories.{trace_of}
+use Rattle.aero_batch.specs.Inquiries.{SettlesKnown, StaysOpen, questions_of}
 
 the_some : {A : Type 0} (x y : A) → Some x ≡ Some y → x ≡ y
 the_some x y p = cc p
@@ -26,19 +25,21 @@ same_questions (c ∷ more) zero e d at same =
     ap (λ q. q ∷ map (λ x. x.question) more) (same ∙ ap (λ x. x.question) (the_some e c (sym at)))
 same_questions (c ∷ more) (suc place) e d at same = ap (λ qs. c.question ∷ qs) (same_questions more place e d at same)
 
-pub record StaysAsked (old new : Gathered) : Type 0 where
-  pub questions : questions_of new ≡ questions_of old
-  pub asked : new.tally.asked ≡ old.tally.asked
-  pub window : new.window ≡ old.window
+same_count : (old new : Gathered) → questions_of new ≡ questions_of old → length new.entries ≡ length old.entries
+same_count old new same = sym (length-map new.entries (λ x. x.question)) ∙ (ap length same ∙ length-map old.entries (λ x. x.question))
 
-pub accepted_stays : (q : Question) (v : Value) (old new : Gathered) (r : Accepted) → Accepts q v old new r → StaysAsked old new
-accepted_stays q v old new Kept is = record {
-  questions = ap (λ es. map (λ x. x.question) es) is.0.kept ∙ same_questions old.entries is.0.place is.0.entry (record is.0.entry { value = Some v }) is.0.at_place refl;
-  asked = ap (λ g. g.tally.asked) is.1;
-  window = ap (λ g. g.window) is.1;
-}
-accepted_stays q v old new Repeated is = record { questions = ap questions_of is.2; asked = ap (λ g. g.tally.asked) is.2; window = ap (λ g. g.window) is.2 }
-accepted_stays q v old new Stranger is = record { questions = ap questions_of is.1; asked = ap (λ g. g.tally.asked) is.1; window = ap (λ g. g.window) is.1 }
+stays_open : (old new : Gathered) → questions_of new ≡ questions_of old → new.tally.asked ≡ old.tally.asked → new.window ≡ old.window → StaysOpen old new
+stays_open old new questions asked window = record { questions = questions; count = same_count old new questions; asked = asked; window = window }
+
+pub stays_same : (old new : Gathered) → new ≡ old → StaysOpen old new
+stays_same old new is = stays_open old new (ap questions_of is) (ap (λ g. g.tally.asked) is) (ap (λ g. g.window) is)
+
+pub accepted_stays : (q : Question) (v : Value) (old new : Gathered) (r : Accepted) → Accepts q v old new r → StaysOpen old new
+accepted_stays q v old new Kept is =
+    stays_open old new (ap (λ es. map (λ x. x.question) es) is.0.kept ∙ same_questions old.entries is.0.place is.0.entry (record is.0.entry { value = Some v }) is.0.at_place refl)
+    (ap (λ g. g.tally.asked) is.1) (ap (λ g. g.window) is.1)
+accepted_stays q v old new Repeated is = stays_same old new is.2
+accepted_stays q v old new Stranger is = stays_same old new is.1
 
 noted_stays : (entries : List Entry) (place : ℕ) (o : Option Entry) → slice_get entries place ≡ o →
     map (λ x. x.question) (noted entries place o) ≡ map (λ x. x.question) entries
@@ -56,8 +57,9 @@ with_note_stays gone ticket entries = go (nat_le gone ticket)
     go true = noted_stays entries (ticket - gone) (slice_get entries (ticket - gone)) refl
     go false = refl
 
-pub missed_stays : (old : Gathered) (ticket : ℕ) → questions_of (with_missed old ticket) ≡ questions_of old
-missed_stays old ticket = with_note_stays (old.tally.asked - length old.entries) ticket old.entries
+pub missed_stays : (old new : Gathered) (ticket : ℕ) → new ≡ with_missed old ticket → StaysOpen old new
+missed_stays old new ticket is =
+    stays_open old new (ap questions_of is ∙ with_note_stays (old.tally.asked - length old.entries) ticket old.entries) (ap (λ g. g.tally.asked) is) (ap (λ g. g.window) is)
 
 -- an open question that was noted, the oldest one, isn't awaited
 oldest_noted : (question : Question) (value : Option Value) (missed : Bool) (more : List Entry) (e : Entry) → e ≡ record { question = question; value = value; missed = missed } →
@@ -89,30 +91,3 @@ pub settles_known : {E : Type 0} (old new : Gathered) (r : Result (Option Value)
     IfOk r (λ given. SettlesKnown old old.entries new given)
 settles_known old new (Ok given) is known = given_known old new old.entries given is known
 settles_known old new (Err e) is known = tt
-
-pub gives_front : (old new : Gathered) (entries : List Entry) (q : Question) (v : Value) → Some q ≡ option_map (λ e. e.question) (slice_get entries 0) →
-    SettlesKnown old entries new (Some v) → (asked : ℕ) → old.tally.asked ≡ asked →
-    Gives (map (λ e. e.question) entries) asked (record { open_ones = questions_of new; asked = new.tally.asked }) (Some (trace_of q, v))
-gives_front old new [] q v front is asked same = cc
-gives_front old new (e ∷ more) q v front is asked same = (
-  is.0,
-  is.1,
-  ap₂ (λ x y. Some (trace_of x, y)) (the_some q e.question front) (the_some v is.0 is.2),
-  ap₂ (λ es n. record { open_ones = map (λ x. x.question) es; asked = n }) is.3 (is.4 ∙ same),
-)
-
-pub settled_one_less : (old new : Gathered) (entries : List Entry) (v : Value) → SettlesKnown old entries new (Some v) → length entries ≡ suc (length new.entries)
-settled_one_less old new [] v is = cc
-settled_one_less old new (e ∷ more) v is = ap (λ es. suc (length es)) (sym is.3)
-
--- one question less is open once the oldest has left
-pub settled_count : (before mid new : Gathered) (entries : List Entry) (v : Value) (count : ℕ) → mid.entries ≡ entries → SettlesKnown mid entries new (Some v) → count ≡ length before.entries → questions_of mid ≡ questions_of before →
-    (new.window ≡ mid.window) × (count - 1 ≡ length new.entries)
-settled_count before mid new [] v count are is many same = absurd (let no : Some v ≡ None = is.0 in cc)
-settled_count before mid new (e ∷ more) v count are is many same =
-    let of_mid : length (questions_of mid) ≡ length mid.entries = length-map mid.entries (λ x. x.question) in
-    let of_before : length (questions_of before) ≡ length before.entries = length-map before.entries (λ x. x.question) in
-    let all : length (questions_of mid) ≡ length (questions_of before) = ap length same in
-    let left : length mid.entries ≡ suc (length more) = ap length are in
-    let rest : length new.entries ≡ length more = ap length is.3 in
-    (is.5, omega (arith, of_mid, of_before, all, left, rest, many))

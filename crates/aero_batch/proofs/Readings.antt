@@ -17,12 +17,13 @@ use Rattle.aero_intake.specs.declared.track.Track.{Track}
 use Rattle.aero_intake.specs.declared.track.Track.TheVariants.{Arriving, Arrived, Checking, Found}
 use Rattle.aero_batch.specs.Founds.{Sighted}
 use Rattle.aero_batch.specs.Holding.{Holds, HasEnded, HasCome, HasComeFrom, nothing_known}
-use Rattle.aero_batch.specs.Inquiries.{Inquired}
+use Rattle.aero_batch.specs.Inquiries.{Inquired, AreApart, all_open}
 use Rattle.aero_intake.specs.Intake.{Taking, IsTaken, HaveCome}
 use Rattle.aero_intake.specs.Source.{WasRead}
 use Rattle.aero_batch.specs.Steps.{TakesPiece, NotesEnding, CutsHeld, PassesOn, IsReadFrom, decided_there, has_decided, wanted, with_block, last_of, ended_track}
 use Rattle.aero_intake.specs.Stories.{Story, AreEnough, IsTracked, AreTracked, changed}
 use Rattle.aero_intake.specs.Tracks.{decides}
+use Rattle.aero_batch.proofs.Apart.{block_apart}
 use Rattle.aero_batch.proofs.Retold.{retold, retold_there, retold_same, retold_elsewhere, with_pieces, block_tracked, still_arriving}
 use Rattle.aero_intake.proofs.Taken.{nothing_is_taken, piece_is_held, held_is_cut, cut_bytes, blocks_with_last, nothing_has_come, more_has_come, source_was_read}
 use Rattle.aero_intake.proofs.Tracked.{changed_there, changed_elsewhere, before_change, enough_asked, enough_dropped, settled_decide}
@@ -45,19 +46,19 @@ ended_stays terms old now after place s story others other has = record {
 }
 
 -- What is settled of the source that is being read decides, and so do all its blocks that were asked about.
-story_decides : (terms : Terms) (p : Progress) (tale : ℕ → Story) → AreTracked terms p.inquiry.open_ones tale p.tracks.items → has_decided terms p ≡ true →
+story_decides : (terms : Terms) (p : Progress) (tale : ℕ → Story) → AreTracked terms (all_open p.inquiry) tale p.tracks.items → has_decided terms p ≡ true →
     decides terms.rules.limits (map reading_of (tale p.read).blocks) ≡ true
 story_decides terms p tale tracked is = go (slice_get p.tracks.items p.read) refl is
   where
     go : (o : Option Track) → slice_get p.tracks.items p.read ≡ o → decided_there terms o ≡ true → decides terms.rules.limits (map reading_of (tale p.read).blocks) ≡ true
     go None at is = cc (is)
-    go (Some (Arriving readings)) at is = settled_decide terms.rules p.inquiry.open_ones p.read (tale p.read) readings (tracked p.read (Arriving readings) at).0 is
+    go (Some (Arriving readings)) at is = settled_decide terms.rules (all_open p.inquiry) p.read (tale p.read) readings (tracked p.read (Arriving readings) at).0 is
     go (Some (Arrived bytes blocks readings)) at is = cc (is)
     go (Some (Checking bytes)) at is = cc (is)
     go (Some (Found bytes ending finding)) at is = cc (is)
 
 -- the next block is asked about, or what was read decides
-enough_wanted : (terms : Terms) (p : Progress) (tale : ℕ → Story) (cut : List (List ℕ)) (o : Option (List ℕ)) → AreTracked terms p.inquiry.open_ones tale p.tracks.items →
+enough_wanted : (terms : Terms) (p : Progress) (tale : ℕ → Story) (cut : List (List ℕ)) (o : Option (List ℕ)) → AreTracked terms (all_open p.inquiry) tale p.tracks.items →
     AreEnough terms.rules (tale p.read).blocks cut → AreEnough terms.rules ((tale p.read).blocks ++ option_to_list (wanted terms p o)) (cut ++ option_to_list o)
 enough_wanted terms p tale cut o tracked enough = go (has_decided terms p) refl
   where
@@ -88,6 +89,7 @@ taking_holds terms old now after p q tale before_read after_read from reading ta
     let limit = terms.rules.limits.bytes in
     subst (λ (m : Progress). Holds terms old after m tale) (sym takes.new_is)
     (record {
+      apart = holds.apart;
       tracked = holds.tracked;
       ended = λ s below. ended_stays terms old now after p.read s (tale s) from.others (λ e. omega (arith, below, e)) (holds.ended s below);
       cut = holds.cut;
@@ -111,6 +113,7 @@ noting_holds terms old now after p q tale before_read after_read from reading no
     let limit = terms.rules.limits.bytes in
     subst (λ (m : Progress). Holds terms old after m tale) (sym notes.new_is)
     (record {
+      apart = holds.apart;
       tracked = holds.tracked;
       ended = λ s below. ended_stays terms old now after p.read s (tale s) from.others (λ e. omega (arith, below, e)) (holds.ended s below);
       cut = holds.cut;
@@ -148,8 +151,9 @@ cutting_holds terms old now after p q tale before_read after_read from unread cu
     holds.come in (
       new,
       record {
-        tracked = subst (λ (i : Inquired). AreTracked terms i.open_ones new q.tracks.items) (sym cuts.inquiry)
-            (subst (λ ts. AreTracked terms (with_block p o).inquiry.open_ones new ts) (sym cuts.tracks) tracked);
+        apart = subst AreApart (sym cuts.inquiry) (block_apart p o holds.apart);
+        tracked = subst (λ (i : Inquired). AreTracked terms (all_open i) new q.tracks.items) (sym cuts.inquiry)
+            (subst (λ ts. AreTracked terms (all_open (with_block p o).inquiry) new ts) (sym cuts.tracks) tracked);
         ended = λ s below.
             let less : s < p.read = subst (λ r. s < r) cuts.read below in
             let other : p.read ≡ s → ⊥ = λ e. omega (arith, less, e) in
@@ -195,11 +199,11 @@ ended_track_fits terms qs s count blocks TooLarge i pieces cut all readings take
 
 ended_tracked : (terms : Terms) (p : Progress) (tale : ℕ → Story) (ending : Ending) (o : Option (List ℕ)) (all cut : List (List ℕ)) → AreEnough terms.rules all (cut ++ option_to_list (last_of p.intake.cutting ending)) →
     IsTaken p.intake (tale p.read).pieces cut → p.intake.count ≡ length (concat (tale p.read).pieces) → (with_block p o).blocks ≡ length all →
-    AreTracked terms (with_block p o).inquiry.open_ones (retold tale p.read (record { pieces = (tale p.read).pieces; blocks = all; ending = None })) p.tracks.items →
-    AreTracked terms (with_block p o).inquiry.open_ones (retold tale p.read (record { pieces = (tale p.read).pieces; blocks = all; ending = Some ending }))
+    AreTracked terms (all_open (with_block p o).inquiry) (retold tale p.read (record { pieces = (tale p.read).pieces; blocks = all; ending = None })) p.tracks.items →
+    AreTracked terms (all_open (with_block p o).inquiry) (retold tale p.read (record { pieces = (tale p.read).pieces; blocks = all; ending = Some ending }))
     (changed p.read (ended_track ending p.intake.count (with_block p o).blocks) p.tracks.items)
 ended_tracked terms p tale ending o all cut enough taken is_count blocks tracked s t at =
-    let qs = (with_block p o).inquiry.open_ones in
+    let qs = (all_open (with_block p o).inquiry) in
     let f : Track → Track = ended_track ending p.intake.count (with_block p o).blocks in
     let mid : Story = record { pieces = (tale p.read).pieces; blocks = all; ending = None } in
     let story : Story = record { pieces = (tale p.read).pieces; blocks = all; ending = Some ending } in
@@ -271,13 +275,14 @@ passing_holds terms old now after p q tale before_read after_read first was from
     let elsewhere : (s : ℕ) → (p.read ≡ s → ⊥) → new s ≡ tale s = λ s other. retold_elsewhere tale p.read s story other in
     let tracked = block_tracked terms p tale pieces o holds.not_ended holds.tracked in
     let blocks = block_count p o (tale p.read).blocks holds.asked in
-    let qs = (with_block p o).inquiry.open_ones in
+    let qs = (all_open (with_block p o).inquiry) in
     let next_other : p.read ≡ q.read → ⊥ = λ e. omega (arith, e, is.read) in
     let next_above : p.read < q.read = omega (arith, is.read) in
     let next_known : new q.read ≡ nothing_known = elsewhere q.read next_other ∙ (holds.later q.read next_above).0 in (
       new,
       record {
-        tracked = subst (λ (i : Inquired). AreTracked terms i.open_ones new q.tracks.items) (sym is.inquiry)
+        apart = subst AreApart (sym is.inquiry) (block_apart p o holds.apart);
+        tracked = subst (λ (i : Inquired). AreTracked terms (all_open i) new q.tracks.items) (sym is.inquiry)
             (subst (λ ts. AreTracked terms qs new ts) (sym is.tracks)
             (ended_tracked terms p tale ending o all holds.cut (enough_wanted terms p tale holds.cut given holds.tracked holds.enough) holds.taken (holds.taken.count ∙ ap length bytes_are) blocks tracked));
         ended = λ s below. ended_before terms old now after p tale before_read after_read ending first story new was from read holds refl refl there elsewhere s (omega (arith, below, is.read));

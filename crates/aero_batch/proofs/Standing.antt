@@ -19,12 +19,13 @@ use Rattle.aero_intake.specs.declared.track.Track.{Track}
 use Rattle.aero_intake.specs.declared.track.Track.TheVariants as tracks
 use Rattle.aero_batch.specs.Founds.{Sighted, Found, IsFoundAt, AreOfTheFirst, told, ending_of, lines_of_all, counts_of_all, Took, IsNextText, WasCutOff, IsWritten, WasRun}
 use Rattle.aero_batch.specs.Holding.{Holds, HasComeFrom, Counted, AreTold, Tells, Stands, HasNumbers, IsBegun, nothing_known}
-use Rattle.aero_batch.specs.Inquiries.{Inquired}
+use Rattle.aero_batch.specs.Inquiries.{Inquired, AreApart, all_open, open_count}
 use Rattle.aero_intake.specs.Intake.{Taking, IsTaken, HaveCome}
 use Rattle.aero_intake.specs.Source.{WasRead}
 use Rattle.aero_batch.specs.Steps.{Steps, ReadsOn}
 use Rattle.aero_batch.specs.Telling.{WasCut, TellsText, TellsNext, IsOneMore, cause_of, total}
 use Rattle.aero_intake.specs.Stories.{Story, IsTracked}
+use Rattle.aero_batch.proofs.Apart.{nothing_apart}
 use Rattle.aero_batch.proofs.Readings.{taking_holds, noting_holds, cutting_holds, passing_holds}
 use Rattle.aero_intake.proofs.Taken.{nothing_is_taken, nothing_has_come}
 use Rattle.aero_batch.proofs.Retold.{settling_holds, checking_holds}
@@ -268,9 +269,9 @@ pub step_stands : (terms : Terms) (old now after : List Sighted) (before mid : S
 step_stands terms old now after before mid p q a (inl is) names st = record {
   tale = st.tale;
   founds = st.founds;
-  holds = subst (λ l. Holds terms old l q st.tale) (sym is.0) (settling_holds terms old now p q st.tale is.1 st.holds);
-  are_told = still_told terms old before mid p q a st.tale st.tale st.founds st.counted.checked (omega (arith, is.1.checked)) (λ s less. refl) st.are_told;
-  counted = settling_counted terms (length old) p q is.1 st.counted;
+  holds = subst (λ l. Holds terms old l q st.tale) (sym is.0) (settling_holds terms old now is.1 p q st.tale is.2 st.holds);
+  are_told = still_told terms old before mid p q a st.tale st.tale st.founds st.counted.checked (omega (arith, is.2.checked)) (λ s less. refl) st.are_told;
+  counted = settling_counted terms (length old) is.1 p q is.2 st.counted;
   names = names ∙ st.names;
 }
 step_stands terms old now after before mid p q a (inr (inl is)) names st = record {
@@ -398,14 +399,15 @@ begun_stands terms old before p a is =
     let count : p.intake.count ≡ 0 = ap (λ (i : Taking). i.count) start.intake in
     let held : length p.intake.held ≡ 0 = ap (λ (i : Taking). length i.held) start.intake in
     let asked : p.inquiry.asked ≡ 0 = ap (λ (i : Inquired). i.asked) start.inquiry in
-    let questions : length p.inquiry.open_ones ≡ 0 = ap (λ (i : Inquired). length i.open_ones) start.inquiry in
+    let questions : open_count p.inquiry ≡ 0 = ap open_count start.inquiry in
     record {
       tale = λ s. nothing_known;
       founds = [];
       holds = record {
+        apart = subst AreApart (sym start.inquiry) nothing_apart;
         tracked = λ s t at.
             let track : t ≡ tracks.Arriving [] = get_replicate (length old) s (tracks.Arriving []) t (subst (λ ts. slice_get ts s ≡ Some t) start.tracks at) in
-            subst (λ (i : Inquired). IsTracked terms i.open_ones s nothing_known t) (sym start.inquiry) (subst (λ x. IsTracked terms [] s nothing_known x) (sym track) (refl, refl, refl));
+            subst (λ (i : Inquired). IsTracked terms (all_open i) s nothing_known t) (sym start.inquiry) (subst (λ x. IsTracked terms [] s nothing_known x) (sym track) (refl, refl, refl));
         ended = λ s below. absurd (omega (arith, below, start.none_read));
         cut = [];
         taken = subst (λ (i : Taking). IsTaken i [] []) (sym start.intake) nothing_is_taken;

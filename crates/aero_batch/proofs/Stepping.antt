@@ -69,10 +69,10 @@ ends_source terms ending p mid fresh given bytes x y is_fresh bytes_are is_last 
       reading = refl;
     }
 
-pub settles_from_gives : (qs : List Question) (asked : ℕ) (new : Inquired) (trace : ℕ) (v : Value) (old_tracks new_tracks : List Track) →
-    Gives qs asked new (Some (trace, v)) → new_tracks ≡ changed trace (λ t. with_value t v) old_tracks → Settles qs asked new old_tracks new_tracks
-settles_from_gives [] asked new trace v old_tracks new_tracks is given = cc (is.0)
-settles_from_gives (q ∷ rest) asked new trace v old_tracks new_tracks is given =
+pub settles_from_gives : (qs : List Question) (left : List Question → Inquired) (new : Inquired) (trace : ℕ) (v : Value) (old_tracks new_tracks : List Track) →
+    Gives qs left new (Some (trace, v)) → new_tracks ≡ changed trace (λ t. with_value t v) old_tracks → Settles qs left new old_tracks new_tracks
+settles_from_gives [] left new trace v old_tracks new_tracks is given = cc (is.0)
+settles_from_gives (q ∷ rest) left new trace v old_tracks new_tracks is given =
     let parts = some_pair_parts trace (trace_of q) v is.0 is.2 in (
       is.3,
       record {

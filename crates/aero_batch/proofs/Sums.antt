@@ -1,5 +1,5 @@
 -- The numbers of a run stay within their bounds.
-use Rattle.std.proofs.Common.{◌≡◌, ℕ, ◌+◌, ◌<◌, ◌≤◌, List, [], ◌∷◌, length, Option, Some, None, refl, sym, ◌∙◌, ap, subst, arith}
+use Rattle.std.proofs.Common.{◌≡◌, ℕ, suc, ◌+◌, ◌<◌, ◌≤◌, List, [], ◌∷◌, length, Option, Some, None, refl, sym, ◌∙◌, ap, subst, arith}
 use Rattle.std.proofs.lemmas.List.{length_push, length-append}
 use Rattle.aero_model.specs.declared.verdict.Ending.{Ending}
 use Rattle.aero_model.specs.CallCounts.{Seen}
@@ -10,7 +10,9 @@ use Rattle.aero_pieces.specs.declared.question.Question.TheVariants.{Parse, Chec
 use Rattle.aero_batch.specs.declared.progress.Progress.{Progress}
 use Rattle.aero_intake.specs.declared.track.Track.{Track}
 use Rattle.aero_batch.specs.Holding.{Counted}
-use Rattle.aero_batch.specs.Inquiries.{Inquired}
+use Rattle.aero_batch.specs.declared.kind.Kind.{Kind}
+use Rattle.aero_batch.specs.declared.kind.Kind.TheVariants.{Block, Verdict}
+use Rattle.aero_batch.specs.Inquiries.{Inquired, open_count, open_of, with_open}
 use Rattle.aero_intake.specs.Intake.{Taking}
 use Rattle.aero_batch.specs.Steps.{ChecksNext, SettlesNext, TakesPiece, NotesEnding, CutsHeld, EndsSource, MayAsk, with_block, wanted, with_check, last_of, ended_track, Settles}
 use Rattle.aero_intake.specs.Stories.{trace_of}
@@ -18,26 +20,33 @@ use Rattle.aero_intake.specs.Tracks.{with_value}
 use Rattle.aero_intake.proofs.Tracked.{changed_length}
 use Rattle.aero_verdict.specs.Finding.{Terms}
 
-pub record Fewer (qs : List Question) (asked : ℕ) (new : Inquired) (old_tracks new_tracks : List Track) : Type 0 where
-  pub questions : length new.open_ones ≤ length qs
-  pub same_asked : new.asked ≡ asked
+pub record Fewer (i new : Inquired) (old_tracks new_tracks : List Track) : Type 0 where
+  pub questions : open_count new ≤ open_count i
+  pub same_asked : new.asked ≡ i.asked
   pub tracks : length new_tracks ≡ length old_tracks
 
-settled_fewer : (qs : List Question) (asked : ℕ) (new : Inquired) (old_tracks new_tracks : List Track) → Settles qs asked new old_tracks new_tracks → Fewer qs asked new old_tracks new_tracks
-settled_fewer [] asked new old_tracks new_tracks is =
-    let open_is : length new.open_ones ≡ 0 = ap (λ (i : Inquired). length i.open_ones) is.0 in
-    record { questions = omega (arith, open_is); same_asked = ap (λ (i : Inquired). i.asked) is.0; tracks = ap length is.1 }
-settled_fewer (q ∷ rest) asked new old_tracks new_tracks is =
-    let open_is : length new.open_ones ≡ length rest = ap (λ (i : Inquired). length i.open_ones) is.0 in
-    record {
-      questions = omega (arith, open_is);
-      same_asked = ap (λ (i : Inquired). i.asked) is.0;
-      tracks = ap length is.1.tracks ∙ changed_length (trace_of q) (λ t. with_value t is.1.value) old_tracks;
-    }
+-- those of one kind are left so, of which there were at least as many
+left_fewer : (kind : Kind) (i new : Inquired) (rest : List Question) (old_tracks new_tracks : List Track) → length rest ≤ length (open_of kind i) → new ≡ with_open kind i rest →
+    length new_tracks ≡ length old_tracks → Fewer i new old_tracks new_tracks
+left_fewer Block i new rest old_tracks new_tracks less is same =
+    let count : open_count new ≡ length i.verdicts + length rest = ap open_count is in
+    record { questions = omega (arith, count, less); same_asked = ap (λ (j : Inquired). j.asked) is; tracks = same }
+left_fewer Verdict i new rest old_tracks new_tracks less is same =
+    let count : open_count new ≡ length rest + length i.blocks = ap open_count is in
+    record { questions = omega (arith, count, less); same_asked = ap (λ (j : Inquired). j.asked) is; tracks = same }
 
-pub settling_counted : (terms : Terms) (n : ℕ) (p q : Progress) → SettlesNext p q → Counted terms n p → Counted terms n q
-settling_counted terms n p q is c =
-    let few = settled_fewer p.inquiry.open_ones p.inquiry.asked q.inquiry p.tracks.items q.tracks.items is.settles in
+settled_fewer : (kind : Kind) (i new : Inquired) (qs : List Question) (old_tracks new_tracks : List Track) → open_of kind i ≡ qs → Settles qs (with_open kind i) new old_tracks new_tracks →
+    Fewer i new old_tracks new_tracks
+settled_fewer kind i new [] old_tracks new_tracks are is =
+    let none : 0 ≤ length (open_of kind i) = omega arith in
+    left_fewer kind i new [] old_tracks new_tracks none is.0 (ap length is.1)
+settled_fewer kind i new (q ∷ rest) old_tracks new_tracks are is =
+    let more : length (open_of kind i) ≡ suc (length rest) = ap length are in
+    left_fewer kind i new rest old_tracks new_tracks (omega (arith, more)) is.0 (ap length is.1.tracks ∙ changed_length (trace_of q) (λ t. with_value t is.1.value) old_tracks)
+
+pub settling_counted : (terms : Terms) (n : ℕ) (kind : Kind) (p q : Progress) → SettlesNext kind p q → Counted terms n p → Counted terms n q
+settling_counted terms n kind p q is c =
+    let few = settled_fewer kind p.inquiry q.inquiry (open_of kind p.inquiry) p.tracks.items q.tracks.items refl is.settles in
     let count : q.intake.count ≡ p.intake.count = ap (λ (i : Taking). i.count) is.intake in
     let held : length q.intake.held ≡ length p.intake.held = ap (λ (i : Taking). length i.held) is.intake in
     record {
@@ -54,12 +63,12 @@ settling_counted terms n p q is c =
 
 pub record OneMore (i j : Inquired) (k : ℕ) : Type 0 where
   pub one : k ≤ 1
-  pub questions : length j.open_ones ≡ length i.open_ones + k
+  pub questions : open_count j ≡ open_count i + k
   pub more_asked : j.asked ≡ i.asked + k
 
 check_more : (terms : Terms) (i : Inquired) (place : ℕ) (o : Option (List Reading)) → (k : ℕ) × OneMore i (with_check terms i place o) k
 check_more terms i place None = (0, record { one = omega arith; questions = omega arith; more_asked = omega arith })
-check_more terms i place (Some rs) = (1, record { one = omega arith; questions = length_push i.open_ones (Check place rs terms.rules.limits terms.rules.labels terms.order); more_asked = refl })
+check_more terms i place (Some rs) = (1, record { one = omega arith; questions = omega (arith, length_push i.verdicts (Check place rs terms.rules.limits terms.rules.labels terms.order)); more_asked = refl })
 
 pub checking_counted : (terms : Terms) (n : ℕ) (p q : Progress) → p.checked < p.read → MayAsk p → ChecksNext terms p q → Counted terms n p → Counted terms n q
 checking_counted terms n p q below may is c =
@@ -68,7 +77,7 @@ checking_counted terms n p q below may is c =
     let m = more.1 in
     let count : q.intake.count ≡ p.intake.count = ap (λ (i : Taking). i.count) is.intake in
     let held : length q.intake.held ≡ length p.intake.held = ap (λ (i : Taking). length i.held) is.intake in
-    let questions : length q.inquiry.open_ones ≡ length p.inquiry.open_ones + k = ap (λ (i : Inquired). length i.open_ones) is.inquiry ∙ m.questions in
+    let questions : open_count q.inquiry ≡ open_count p.inquiry + k = ap open_count is.inquiry ∙ m.questions in
     let more_asked : q.inquiry.asked ≡ p.inquiry.asked + k = ap (λ (i : Inquired). i.asked) is.inquiry ∙ m.more_asked in
     record {
       tracks = ap length is.tracks ∙ (changed_length p.checked (λ t. is.after) p.tracks.items ∙ c.tracks);
@@ -84,7 +93,7 @@ checking_counted terms n p q below may is c =
 
 block_more : (p : Progress) (o : Option (List ℕ)) → (k : ℕ) × OneMore p.inquiry (with_block p o).inquiry k × ((with_block p o).blocks ≡ p.blocks + k)
 block_more p None = (0, record { one = omega arith; questions = omega arith; more_asked = omega arith }, omega arith)
-block_more p (Some b) = (1, record { one = omega arith; questions = length_push p.inquiry.open_ones (Parse p.read p.blocks b); more_asked = refl }, refl)
+block_more p (Some b) = (1, record { one = omega arith; questions = omega (arith, length_push p.inquiry.blocks (Parse p.read p.blocks b)); more_asked = refl }, refl)
 
 pub taking_counted : (terms : Terms) (n : ℕ) (p q : Progress) (before after : Seen) → TakesPiece terms before after p q → Counted terms n p → Counted terms n q
 taking_counted terms n p q before after is c =
@@ -123,7 +132,7 @@ cutting_counted terms n p q may is c =
     let m = more.1 in
     let count : q.intake.count ≡ p.intake.count = ap (λ (i : Taking). i.count) is.intake in
     let held : length q.intake.held ≡ 0 = ap (λ (i : Taking). length i.held) is.intake in
-    let questions : length q.inquiry.open_ones ≡ length p.inquiry.open_ones + k = ap (λ (i : Inquired). length i.open_ones) is.inquiry ∙ m.questions in
+    let questions : open_count q.inquiry ≡ open_count p.inquiry + k = ap open_count is.inquiry ∙ m.questions in
     let more_asked : q.inquiry.asked ≡ p.inquiry.asked + k = ap (λ (i : Inquired). i.asked) is.inquiry ∙ m.more_asked in
     let blocks : q.blocks ≡ p.blocks + k = is.blocks ∙ more.2 in
     record {
@@ -145,7 +154,7 @@ ending_counted terms n p q ending unread may is c =
     let m = more.1 in
     let count : q.intake.count ≡ 0 = ap (λ (i : Taking). i.count) is.intake in
     let held : length q.intake.held ≡ 0 = ap (λ (i : Taking). length i.held) is.intake in
-    let questions : length q.inquiry.open_ones ≡ length p.inquiry.open_ones + k = ap (λ (i : Inquired). length i.open_ones) is.inquiry ∙ m.questions in
+    let questions : open_count q.inquiry ≡ open_count p.inquiry + k = ap open_count is.inquiry ∙ m.questions in
     let more_asked : q.inquiry.asked ≡ p.inquiry.asked + k = ap (λ (i : Inquired). i.asked) is.inquiry ∙ m.more_asked in
     let few : terms.rules.limits.bytes ≤ 1073741824 = c.few_bytes in
     record {
@@ -161,9 +170,9 @@ ending_counted terms n p q ending unread may is c =
     }
 
 -- there is always room for one more question's number
-pub may_ask : (terms : Terms) (n : ℕ) (p : Progress) → Counted terms n p → length p.inquiry.open_ones < 64 → MayAsk p
+pub may_ask : (terms : Terms) (n : ℕ) (p : Progress) → Counted terms n p → open_count p.inquiry < 64 → MayAsk p
 may_ask terms n p c room =
     let few : terms.rules.limits.bytes ≤ 1073741824 = c.few_bytes in
-    let asked : p.inquiry.asked < 18446744073709551615 = omega (arith, c.asked, c.read, c.few_sources, c.blocks, c.within, few, c.checked) in
+    let asked : p.inquiry.asked < 9223372036854775808 = omega (arith, c.asked, c.read, c.few_sources, c.blocks, c.within, few, c.checked) in
     let blocks : p.blocks < 18446744073709551615 = omega (arith, c.blocks, c.within, few) in
     record { room = room; few = asked; few_blocks = blocks }

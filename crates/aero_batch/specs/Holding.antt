@@ -9,6 +9,7 @@ use Rattle.aero_batch.specs.declared.told.Told.{Told}
 use Rattle.aero_batch.specs.Founds.{Sighted, Found, Took, ending_of, counts_of_all, lines_of_all}
 use Rattle.aero_intake.specs.Intake.{IsTaken, HaveCome}
 use Rattle.aero_intake.specs.Source.{WasRead}
+use Rattle.aero_batch.specs.Inquiries.{AreApart, all_open, open_count}
 use Rattle.aero_batch.specs.Steps.{IsStart}
 use Rattle.aero_batch.specs.Telling.{total}
 use Rattle.aero_intake.specs.Stories.{Story, AreEnough, AreTracked}
@@ -38,9 +39,10 @@ abbrev pub HasComeFrom : Terms → List Sighted → List Sighted → ℕ → Lis
 HasComeFrom terms old now s bytes ending =
     (before after : Sighted) → slice_get old s ≡ Some before → slice_get now s ≡ Some after → HasCome before.reader after.reader terms.rules.limits.bytes bytes ending
 
--- Each source has a story: it has ended, is being read, or was not read yet. What is known of each fits its story. Of the blocks that the source that is being read was cut into, enough were asked about. The pieces that were cut and what is held have come from it, and its reading has ended so, if it has.
+-- The open questions on blocks and on verdicts stand apart. Each source has a story: it has ended, is being read, or was not read yet. What is known of each fits its story. Of the blocks that the source that is being read was cut into, enough were asked about. The pieces that were cut and what is held have come from it, and its reading has ended so, if it has.
 pub record Holds (terms : Terms) (old now : List Sighted) (p : Progress) (tale : ℕ → Story) : Type 0 where
-  pub tracked : AreTracked terms p.inquiry.open_ones tale p.tracks.items
+  pub apart : AreApart p.inquiry
+  pub tracked : AreTracked terms (all_open p.inquiry) tale p.tracks.items
   pub ended : (s : ℕ) → s < p.read → HasEnded terms old now s (tale s)
   pub cut : List (List ℕ)
   pub taken : IsTaken p.intake (tale p.read).pieces cut
@@ -56,7 +58,7 @@ pub record Counted (terms : Terms) (sources : ℕ) (p : Progress) : Type 0 where
   pub few_sources : sources ≤ 65536
   pub read : p.read ≤ sources
   pub checked : p.checked ≤ p.read
-  pub open_few : length p.inquiry.open_ones ≤ 64
+  pub open_few : open_count p.inquiry ≤ 64
   pub within : p.intake.count ≤ terms.rules.limits.bytes + 1
   pub few_bytes : terms.rules.limits.bytes ≤ 2 ^ 30
   pub blocks : p.blocks + length p.intake.held ≤ p.intake.count

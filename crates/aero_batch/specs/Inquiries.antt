@@ -1,35 +1,58 @@
--- The questions that are open, as contracts see them: whatever the helpers reply, they stay in their order until they are given back.
-use Rattle.std.specs.Prelude.{◌≡◌, ◌↔◌, IsTrue, ℕ, ◌+◌, Bool, List, [], ◌∷◌, ◌++◌, map, Option, Some, None}
+-- The questions that are open, as contracts see them: whatever the helpers reply, those of each kind stay in their order until they are given back.
+use Rattle.std.specs.Prelude.{◌≡◌, ℕ, ◌+◌, ◌*◌, List, [], ◌∷◌, ◌++◌, map, length, Option, Some, None}
 use Rattle.aero_pieces.specs.declared.question.Question.{Question}
+use Rattle.aero_pieces.specs.declared.question.Question.TheVariants.{Parse, Check}
 use Rattle.aero_pieces.specs.declared.answer.Value.{Value}
 use Rattle.aero_pieces.specs.Values.{IsValueOf}
 use Rattle.aero_pieces.specs.Schedule.{Entry}
-use Rattle.aero_gather.specs.Gathered.{Gathered, Accepts, IsAwaited, with_missed}
-use Rattle.aero_gather.specs.declared.gather.Accepted.{Accepted}
-use Rattle.aero_gather.specs.declared.gather.Accepted.TheVariants.{Kept}
-use Rattle.aero_worker.specs.declared.reply.Reply.{Reply}
-use Rattle.aero_worker.specs.declared.reply.Reply.TheVariants.{Done, Missed}
-use Rattle.aero_intake.specs.Stories.{trace_of}
+use Rattle.aero_gather.specs.Gathered.{Gathered}
+use Rattle.aero_batch.specs.declared.kind.Kind.{Kind}
+use Rattle.aero_batch.specs.declared.kind.Kind.TheVariants.{Block, Verdict}
+use Rattle.aero_intake.specs.Stories.{trace_of, blocks_asked, checks_asked}
 
--- the open questions, the oldest first, and how many were asked
+-- the open questions on blocks and those on verdicts, the oldest first, and how many were asked
 pub record Inquired : Type 0 where
-  pub open_ones : List Question
+  pub blocks : List Question
+  pub verdicts : List Question
   pub asked : ℕ
 
 abbrev pub questions_of : Gathered → List Question
 questions_of g = map (λ e. e.question) g.entries
 
 abbrev pub nothing_asked : Inquired
-nothing_asked = record { open_ones = []; asked = 0 }
+nothing_asked = record { blocks = []; verdicts = []; asked = 0 }
 
-abbrev pub with_question : Inquired → Question → Inquired
-with_question i q = record { open_ones = i.open_ones ++ q ∷ []; asked = i.asked + 1 }
+-- all that are open
+abbrev pub all_open : Inquired → List Question
+all_open i = i.verdicts ++ i.blocks
 
--- the oldest open question leaves, and its value is given with the number of its trace
-abbrev pub Gives : List Question → ℕ → Inquired → Option (ℕ × Value) → Type 0
-Gives [] asked new given = (given ≡ None) × (new ≡ record { open_ones = []; asked = asked })
-Gives (q ∷ rest) asked new given =
-    (v : Value) × IsValueOf q v × (given ≡ Some (trace_of q, v)) × (new ≡ record { open_ones = rest; asked = asked })
+abbrev pub open_count : Inquired → ℕ
+open_count i = length i.verdicts + length i.blocks
+
+-- those of one kind
+abbrev pub open_of : Kind → Inquired → List Question
+open_of Block i = i.blocks
+open_of Verdict i = i.verdicts
+
+-- the same with these of one kind
+abbrev pub with_open : Kind → Inquired → List Question → Inquired
+with_open Block i qs = record i { blocks = qs }
+with_open Verdict i qs = record i { verdicts = qs }
+
+-- a question of the kind is asked
+abbrev pub with_question : Kind → Inquired → Question → Inquired
+with_question Block i q = record { blocks = i.blocks ++ q ∷ []; verdicts = i.verdicts; asked = i.asked + 1 }
+with_question Verdict i q = record { blocks = i.blocks; verdicts = i.verdicts ++ q ∷ []; asked = i.asked + 1 }
+
+-- No question on a verdict is among those on blocks, and none on a block among those on verdicts.
+pub record AreApart (i : Inquired) : Type 0 where
+  pub no_checks : (s : ℕ) → checks_asked s i.blocks ≡ []
+  pub no_blocks : (s : ℕ) → blocks_asked s i.verdicts ≡ []
+
+-- The first of the questions leaves, and its value is given with the number of its trace: `left` says what stands once these are left.
+abbrev pub Gives : List Question → (List Question → Inquired) → Inquired → Option (ℕ × Value) → Type 0
+Gives [] left new given = (given ≡ None) × (new ≡ left [])
+Gives (q ∷ rest) left new given = (v : Value) × IsValueOf q v × (given ≡ Some (trace_of q, v)) × (new ≡ left rest)
 
 -- The oldest open question leaves the gatherer, and one of its values is given.
 abbrev pub SettlesKnown : Gathered → List Entry → Gathered → Option Value → Type 0
@@ -37,7 +60,24 @@ SettlesKnown old [] new given = (given ≡ None) × (new ≡ old)
 SettlesKnown old (e ∷ more) new given =
     (v : Value) × IsValueOf e.question v × (given ≡ Some v) × (new.entries ≡ more) × (new.tally.asked ≡ old.tally.asked) × (new.window ≡ old.window)
 
--- What a reply does, and whether it is of use: an answer is accepted, and is of use where it is kept, and a question that has none is noted as missed, which is of use where it is news.
-abbrev pub Heeds : Reply → Gathered → Gathered → Bool → Type 0
-Heeds (Done answer) old new is_of_use = (accepted : Accepted) × Accepts answer.question answer.value old new accepted × (IsTrue is_of_use ↔ (accepted ≡ Kept))
-Heeds (Missed number) old new is_of_use = (new ≡ with_missed old number) × (IsTrue is_of_use ↔ IsAwaited old number)
+-- The same, where its value is given with the number of its trace, and so many are left.
+abbrev pub TakesFront : Gathered → List Entry → Gathered → Option (ℕ × Value) → Type 0
+TakesFront old [] new given = (given ≡ None) × (new ≡ old)
+TakesFront old (e ∷ more) new given =
+    (v : Value) × IsValueOf e.question v × (given ≡ Some (trace_of e.question, v)) × (new.entries ≡ more) × (new.tally.asked ≡ old.tally.asked) × (new.window ≡ old.window)
+
+-- The questions stay open, as many as there were, and no more are asked.
+pub record StaysOpen (old new : Gathered) : Type 0 where
+  pub questions : questions_of new ≡ questions_of old
+  pub count : length new.entries ≡ length old.entries
+  pub asked : new.tally.asked ≡ old.tally.asked
+  pub window : new.window ≡ old.window
+
+abbrev pub kind_of : Question → Kind
+kind_of (Parse trace number bytes) = Block
+kind_of (Check trace parts limits labels order) = Verdict
+
+-- The number of a job tells the kind of its question, and its ticket among those of its kind.
+abbrev pub job_number : Kind → ℕ → ℕ
+job_number Block ticket = ticket * 2
+job_number Verdict ticket = ticket * 2 + 1

@@ -1,5 +1,6 @@
 pub mod Founds
 pub mod Holding
 pub mod Inquiries
+pub mod Replies
 pub mod Steps
 pub mod Telling

@@ -12,7 +12,9 @@ use Rattle.aero_batch.specs.declared.progress.Progress.{Progress}
 use Rattle.aero_intake.specs.declared.track.Track.{Track}
 use Rattle.aero_intake.specs.declared.track.Track.TheVariants.{Arriving, Found}
 use Rattle.aero_batch.specs.Founds.{Sighted}
-use Rattle.aero_batch.specs.Inquiries.{Inquired, nothing_asked, with_question}
+use Rattle.aero_batch.specs.declared.kind.Kind.{Kind}
+use Rattle.aero_batch.specs.declared.kind.Kind.TheVariants.{Block, Verdict}
+use Rattle.aero_batch.specs.Inquiries.{Inquired, nothing_asked, open_count, open_of, with_open, with_question}
 use Rattle.aero_intake.specs.Intake.{nothing_taken, with_piece, with_cut, Comes, Ends}
 use Rattle.aero_intake.specs.Tracks.{is_decided, with_arrival, IsReady, GivesReadings}
 use Rattle.aero_intake.specs.Stories.{changed, IsSettledWith}
@@ -30,14 +32,14 @@ pub record IsStart (sources : ℕ) (progress : Progress) : Type 0 where
 
 -- one more question may be asked
 pub record MayAsk (progress : Progress) : Type 0 where
-  pub room : length progress.inquiry.open_ones < 64
-  pub few : progress.inquiry.asked < 2 ^ 64 - 1
+  pub room : open_count progress.inquiry < 64
+  pub few : progress.inquiry.asked < 2 ^ 63
   pub few_blocks : progress.blocks < 2 ^ 64 - 1
 
 -- the next block of the source that is being read is asked about, if there is one
 abbrev pub with_block : Progress → Option (List ℕ) → Progress
 with_block p None = p
-with_block p (Some block) = record p { inquiry = with_question p.inquiry (Parse p.read p.blocks block); blocks = p.blocks + 1 }
+with_block p (Some block) = record p { inquiry = with_question Block p.inquiry (Parse p.read p.blocks block); blocks = p.blocks + 1 }
 
 -- whether what was read of the source that is being read decides
 abbrev pub decided_there : Terms → Option Track → Bool
@@ -117,7 +119,7 @@ ReadsOn terms before after old new =
 -- the verdict is asked for on what the blocks of a source say
 abbrev pub with_check : Terms → Inquired → ℕ → Option (List Reading) → Inquired
 with_check terms i trace None = i
-with_check terms i trace (Some readings) = with_question i (Check trace readings terms.rules.limits terms.rules.labels terms.order)
+with_check terms i trace (Some readings) = with_question Verdict i (Check trace readings terms.rules.limits terms.rules.labels terms.order)
 
 -- The verdict on the next source is asked for, where it needs one.
 pub record ChecksNext (terms : Terms) (old new : Progress) : Type 0 where
@@ -135,14 +137,14 @@ pub record ChecksNext (terms : Terms) (old new : Progress) : Type 0 where
   pub blocks : new.blocks ≡ old.blocks
   pub ended : new.ended ≡ old.ended
 
--- The value of the oldest open question, if there is one, goes to the track of its source.
-abbrev pub Settles : List Question → ℕ → Inquired → List Track → List Track → Type 0
-Settles [] asked inquiry old new = (inquiry ≡ record { open_ones = []; asked = asked }) × (new ≡ old)
-Settles (q ∷ rest) asked inquiry old new = (inquiry ≡ record { open_ones = rest; asked = asked }) × IsSettledWith q old new
+-- The value of the first of the questions, if there is one, goes to the track of its source: `left` says what stands once these are left.
+abbrev pub Settles : List Question → (List Question → Inquired) → Inquired → List Track → List Track → Type 0
+Settles [] left inquiry old new = (inquiry ≡ left []) × (new ≡ old)
+Settles (q ∷ rest) left inquiry old new = (inquiry ≡ left rest) × IsSettledWith q old new
 
--- The oldest open question is settled, if there is one.
-pub record SettlesNext (old new : Progress) : Type 0 where
-  pub settles : Settles old.inquiry.open_ones old.inquiry.asked new.inquiry old.tracks.items new.tracks.items
+-- The oldest open question of the kind is settled, if there is one.
+pub record SettlesNext (kind : Kind) (old new : Progress) : Type 0 where
+  pub settles : Settles (open_of kind old.inquiry) (with_open kind old.inquiry) new.inquiry old.tracks.items new.tracks.items
   pub read : new.read ≡ old.read
   pub checked : new.checked ≡ old.checked
   pub intake : new.intake ≡ old.intake
@@ -169,5 +171,5 @@ pub record ReadsNext (terms : Terms) (now after : List Sighted) (old new : Progr
 -- One step of a run: it asks for a verdict, reads, or settles.
 abbrev pub Steps : Terms → List Sighted → List Sighted → Progress → Progress → Type 0
 Steps terms now after old new =
-    ((after ≡ now) × SettlesNext old new)
+    ((after ≡ now) × (kind : Kind) × SettlesNext kind old new)
     ⊎ (((after ≡ now) × (old.checked < old.read) × MayAsk old × ChecksNext terms old new) ⊎ ReadsNext terms now after old new)

@@ -1,6 +1,7 @@
 //! Asking for the verdicts of whole sources, and settling what was asked.
 ghost use Rattle.std.specs.Prelude.{◌≡◌, ◌<◌, ◌-◌, ◌^◌, length, vec_len, slice_get, IfOk, OnOk};
 ghost use Rattle.std.specs.Arc.{arc_value};
+ghost use Rattle.aero_batch.specs.Inquiries.{open_count};
 ghost use Rattle.aero_batch.specs.Steps.{MayAsk, ChecksNext, SettlesNext, with_check};
 ghost use Rattle.aero_intake.specs.PlanTerms.{terms_of};
 ghost use Rattle.aero_intake.specs.Tracks.{IsReady, with_value};
@@ -8,6 +9,7 @@ ghost use Rattle.aero_intake.specs.Stories.{changed};
 
 use crate::helpers::Helpers;
 use crate::inquiry::Inquiry;
+use crate::kind::Kind;
 use crate::progress::Progress;
 use aero_intake::plan::Plan;
 use aero_intake::track::{Readings, Track, take_readings, take_value};
@@ -53,15 +55,15 @@ fn ask_check<H: Helpers, T: Wait>(
     trace: u64,
     readings: Option<Readings>,
 ) -> Result<(), AllocError>
-    requires room { length inquiry.old.open_ones < 64 }
-    requires few { inquiry.old.asked < 2 ^ 64 - 1 }
+    requires room { open_count inquiry.old < 64 }
+    requires few { inquiry.old.asked < 2 ^ 63 }
     ensures { OnOk result (inquiry.new ≡ with_check (terms_of plan.now) inquiry.old trace readings) }
 {
     let Some(readings) = readings else {
         return Ok(());
     };
     let question = check_question(alloc, plan, trace, readings)?;
-    inquiry.ask(rt, helpers, question)
+    inquiry.ask(rt, helpers, Kind::Verdict, question)
 }
 
 fn check_question(
@@ -82,15 +84,16 @@ fn check_question(
     .share(alloc)
 }
 
-/// Settles the oldest open question, if there is one: its value goes to the track of its source.
+/// Settles the oldest open question of this kind, if there is one: its value goes to the track of its source.
 pub fn settle_next<H: Helpers, T: Wait>(
     rt: &T,
     helpers: &mut H,
     progress: &mut Progress,
+    kind: Kind,
 ) -> Result<(), AllocError>
-    ensures { OnOk result (SettlesNext progress.old progress.new) }
+    ensures { OnOk result (SettlesNext kind progress.old progress.new) }
 {
-    let Some((trace, value)) = progress.inquiry.settle(rt, helpers)? else {
+    let Some((trace, value)) = progress.inquiry.settle(rt, helpers, kind)? else {
         return Ok(());
     };
     give_value(&mut progress.tracks, trace, value)

@@ -1,12 +1,15 @@
 //! The questions that are open, and those who may answer them.
-ghost use Rattle.std.specs.Prelude.{◌≡◌, ◌<◌, ◌≤◌, ◌-◌, ◌+◌, ◌^◌, ◌↔◌, [], length, map, true, false, IfOk, OnOk, OnErr, IsTrue, MatchBool};
+ghost use Rattle.std.specs.Prelude.{◌≡◌, ◌<◌, ◌≤◌, ◌-◌, ◌+◌, ◌*◌, ◌^◌, ◌++◌, ◌∷◌, ◌↔◌, [], ℕ, length, map, true, false, IfOk, IfSome, IfNone, OnOk, OnErr, IsTrue, MatchBool};
 ghost use Rattle.std.specs.Arc.{arc_value};
 ghost use Rattle.aero_gather.specs.Gathered.{with_missed};
-ghost use Rattle.aero_batch.specs.Inquiries.{nothing_asked, with_question, Gives, SettlesKnown, questions_of};
+ghost use Rattle.aero_batch.specs.Inquiries.{nothing_asked, with_question, open_of, open_count, with_open, job_number, Gives, SettlesKnown, StaysOpen, TakesFront, questions_of};
+ghost use Rattle.aero_batch.specs.Replies.{of_kind};
 ghost use Rattle.aero_intake.specs.Stories.{trace_of};
 
+use crate::gathers::Gathers;
 use crate::helpers::Helpers;
-use crate::replies::{Listening, await_oldest, hear, is_answered, miss};
+use crate::kind::Kind;
+use crate::replies::{Listening, answered, await_oldest, hear, note};
 use aero_gather::gather::{Gather, Tally, Ticket};
 use aero_pieces::answer::Value;
 use aero_pieces::question::Question;
@@ -18,12 +21,14 @@ use std::sync::{Arc, Wait};
 /// How many questions may be open.
 const WINDOW: u32 = 64;
 
-/// Questions that were asked of helpers, in their order. Each is given back with its value, the
-/// oldest first, whatever the helpers reply.
+/// Questions that were asked of helpers, in the order of each kind. Each is given back with its value, the
+/// oldest of its kind first, whatever the helpers reply.
 #[derive(Drop)]
 pub struct Inquiry {
-    gather: Gather,
-    open_count: u32,
+    gathers: Gathers,
+    // How many questions of each kind are open.
+    blocks: u32,
+    verdicts: u32,
     listening: Listening,
 }
 
@@ -32,12 +37,22 @@ impl Model for Inquiry {
 
     ghost Value = { Inquired };
 
-    ghost use Rattle.std.specs.Prelude.{◌≡◌, length};
+    ghost use Rattle.std.specs.Prelude.{◌≡◌, ◌+◌, ◌≤◌, ◌^◌, length};
     ghost use Rattle.aero_batch.specs.Inquiries.{questions_of};
 
-    ghost view = { λ i. record { open_ones = questions_of i.gather; asked = i.gather.tally.asked } };
+    ghost view = { λ i. record {
+      blocks = questions_of i.gathers.blocks;
+      verdicts = questions_of i.gathers.verdicts;
+      asked = i.gathers.blocks.tally.asked + i.gathers.verdicts.tally.asked;
+    } };
 
-    ghost invariant = { λ i. record { window : i.gather.window ≡ 64; count : i.open_count ≡ length i.gather.entries } };
+    ghost invariant = { λ i. record {
+      block_window : i.gathers.blocks.window ≡ 64;
+      verdict_window : i.gathers.verdicts.window ≡ 64;
+      block_count : i.blocks ≡ length i.gathers.blocks.entries;
+      verdict_count : i.verdicts ≡ length i.gathers.verdicts.entries;
+      few : i.gathers.blocks.tally.asked + i.gathers.verdicts.tally.asked ≤ 2 ^ 63;
+    } };
 }
 
 impl Inquiry {
@@ -46,8 +61,12 @@ impl Inquiry {
         ensures { IfOk result (λ inquiry. inquiry ≡ nothing_asked) }
     {
         Ok(Inquiry {
-            gather: Gather::new(alloc, WINDOW)?,
-            open_count: 0,
+            gathers: Gathers {
+                blocks: Gather::new(alloc, WINDOW)?,
+                verdicts: Gather::new(alloc, WINDOW)?,
+            },
+            blocks: 0,
+            verdicts: 0,
             listening: Listening {
                 is_alone,
                 useless: 0,
@@ -57,81 +76,120 @@ impl Inquiry {
 
     /// Whether one more question may be asked: fewer than 64 are open.
     pub fn has_room(&self) -> bool
-        ensures { IsTrue result ↔ (length self.now.open_ones < 64) }
+        ensures { IsTrue result ↔ (open_count self.now < 64) }
     {
-        self.open_count < WINDOW
+        u64::from(self.blocks) + u64::from(self.verdicts) < u64::from(WINDOW)
     }
 
     /// Whether no question is open.
     pub fn is_settled(&self) -> bool
-        ensures { IsTrue result ↔ (length self.now.open_ones ≡ 0) }
+        ensures { IsTrue result ↔ (open_count self.now ≡ 0) }
     {
-        self.open_count == 0
+        self.blocks == 0 && self.verdicts == 0
+    }
+
+    /// The kind of which a question is to be awaited next: blocks, where one is asked about.
+    pub fn awaited(&self) -> Kind {
+        if self.blocks == 0 {
+            Kind::Verdict
+        } else {
+            Kind::Block
+        }
     }
 
     /// How many questions were asked, answers kept, and values worked out here.
     pub fn tally(&self) -> Tally
         ensures asked { result.asked ≡ self.now.asked }
         ensures counted { result.kept + result.done_here ≤ result.asked }
-        ensures settled { length self.now.open_ones ≡ 0 → result.asked ≡ result.kept + result.done_here }
+        ensures settled { open_count self.now ≡ 0 → result.asked ≡ result.kept + result.done_here }
     {
-        self.gather.tally()
+        let blocks = self.gathers.blocks.tally();
+        let verdicts = self.gathers.verdicts.tally();
+        Tally {
+            asked: blocks.asked + verdicts.asked,
+            kept: blocks.kept + verdicts.kept,
+            done_here: blocks.done_here + verdicts.done_here,
+        }
     }
 
-    /// Asks a question, and posts it as a job with the number of its ticket. Where it can't be
-    /// posted no reply is awaited.
+    /// Asks a question of this kind, and posts it as a job. Where it can't be posted no reply is awaited.
     pub fn ask<H: Helpers, R: Wait>(
         &mut self,
         rt: &R,
         helpers: &mut H,
+        kind: Kind,
         question: Arc<Question, Global>,
     ) -> Result<(), AllocError>
-        requires room { length self.old.open_ones < 64 }
-        requires few { self.old.asked < 2 ^ 64 - 1 }
-        ensures { OnOk result (self.new ≡ with_question self.old (arc_value question)) }
+        requires room { open_count self.old < 64 }
+        requires few { self.old.asked < 2 ^ 63 }
+        ensures { OnOk result (self.new ≡ with_question kind self.old (arc_value question)) }
     {
-        let shared = Arc::try_clone(&question)?;
-        let Ok(ticket) = self.gather.ask(question) else {
-            unreachable!()
-        };
-        self.open_count += 1;
         let is_alone = self.listening.is_alone;
-        post(rt, helpers, &mut self.gather, is_alone, ticket, shared);
+        match kind {
+            Kind::Block => {
+                ask_in(rt, helpers, &mut self.gathers.blocks, kind, is_alone, question)?;
+                self.blocks += 1;
+            }
+            Kind::Verdict => {
+                ask_in(rt, helpers, &mut self.gathers.verdicts, kind, is_alone, question)?;
+                self.verdicts += 1;
+            }
+        }
         Ok(())
     }
 
-    /// Takes replies that have come, without waiting for one. The answer says whether the oldest open
-    /// question can be settled without waiting.
-    pub fn hear<H: Helpers, R: Wait>(&mut self, rt: &R, helpers: &mut H) -> bool
+    /// Takes replies that have come, without waiting for one. The answer says of which kind the oldest
+    /// open question can be settled without waiting, if of one.
+    pub fn hear<H: Helpers, R: Wait>(&mut self, rt: &R, helpers: &mut H) -> Option<Kind>
         ensures { self.new ≡ self.old }
     {
-        self.listening = hear(rt, helpers, &mut self.gather, self.listening);
-        is_answered(&self.gather)
+        self.listening = hear(rt, helpers, &mut self.gathers, self.listening);
+        answered(&self.gathers)
     }
 
-    /// Takes the oldest open question away, and gives the number of its trace and its value. Waits
-    /// for its answer as long as one is to be awaited, but for no more than 1,024 replies in a row that
-    /// are of no use, and else works the value out. `None` where no question is open.
+    /// Takes the oldest open question of this kind away, and gives the number of its trace and its value.
+    /// Waits for its answer as long as one is to be awaited, but for no more than 1,024 replies in a row
+    /// that are of no use, and else works the value out. `None` where no question of the kind is open.
     pub fn settle<H: Helpers, R: Wait>(
         &mut self,
         rt: &R,
         helpers: &mut H,
+        kind: Kind,
     ) -> Result<Option<(u64, Value)>, AllocError>
-        ensures { IfOk result (λ given. Gives self.old.open_ones self.old.asked self.new given) }
+        ensures { IfOk result (λ given. Gives (open_of kind self.old) (with_open kind self.old) self.new given) }
     {
-        let oldest = oldest_ticket(&self.gather, self.open_count);
-        let listening = await_oldest(rt, helpers, &mut self.gather, oldest, self.listening);
-        self.listening = listening;
-        let trace = match self.gather.front() {
-            Some(question) => trace_number(question),
-            None => return Ok(None),
-        };
-        let Some(value) = settle_known(&mut self.gather)? else {
-            return Ok(None);
-        };
-        self.open_count -= 1;
-        Ok(Some((trace, value)))
+        let oldest = oldest_ticket(&self.gathers, kind, self.blocks, self.verdicts);
+        self.listening = await_oldest(rt, helpers, &mut self.gathers, kind, oldest, self.listening);
+        match kind {
+            Kind::Block => take_front(&mut self.gathers.blocks, &mut self.blocks),
+            Kind::Verdict => take_front(&mut self.gathers.verdicts, &mut self.verdicts),
+        }
     }
+}
+
+// Asks a question of this kind, for which there is room, and posts it.
+fn ask_in<H: Helpers, R: Wait>(
+    rt: &R,
+    helpers: &mut H,
+    gather: &mut Gather,
+    kind: Kind,
+    is_alone: bool,
+    question: Arc<Question, Global>,
+) -> Result<(), AllocError>
+    requires room { length gather.old.entries < gather.old.window }
+    requires few { gather.old.tally.asked < 2 ^ 63 }
+    ensures questions { OnOk result (questions_of gather.new ≡ questions_of gather.old ++ arc_value question ∷ []) }
+    ensures asked { OnOk result (gather.new.tally.asked ≡ gather.old.tally.asked + 1) }
+    ensures one_more { OnOk result (length gather.new.entries ≡ length gather.old.entries + 1) }
+    ensures window { OnOk result (gather.new.window ≡ gather.old.window) }
+    ensures unchanged { OnErr result (gather.new ≡ gather.old) }
+{
+    let shared = Arc::try_clone(&question)?;
+    let Ok(ticket) = gather.ask(question) else {
+        unreachable!()
+    };
+    post(rt, helpers, gather, kind, is_alone, ticket, shared);
+    Ok(())
 }
 
 // Posts the question, unless nobody helps, and says whether an answer is to be awaited. Where none is,
@@ -140,45 +198,81 @@ fn post<H: Helpers, R: Wait>(
     rt: &R,
     helpers: &mut H,
     gather: &mut Gather,
+    kind: Kind,
     is_alone: bool,
     ticket: Ticket,
     question: Arc<Question, Global>,
 ) -> bool
+    requires { ticket.number < 2 ^ 63 }
     ensures awaited { MatchBool result (gather.new ≡ gather.old) (gather.new ≡ with_missed gather.old ticket.number) }
     ensures alone { is_alone ≡ true → result ≡ false }
-    ensures questions { questions_of gather.new ≡ questions_of gather.old }
-    ensures asked { gather.new.tally.asked ≡ gather.old.tally.asked }
-    ensures window { gather.new.window ≡ gather.old.window }
+    ensures stays { StaysOpen gather.old gather.new }
 {
-    if !is_alone && is_posted(rt, helpers, ticket, question) {
+    if !is_alone && is_posted(rt, helpers, job_of(kind, ticket, question)) {
         return true;
     }
-    miss(gather, ticket);
+    note(gather, ticket);
     false
 }
 
 // Whether the helpers took the job.
-fn is_posted<H: Helpers, R: Wait>(
-    rt: &R,
-    helpers: &mut H,
-    ticket: Ticket,
-    question: Arc<Question, Global>,
-) -> bool {
-    let job = Job {
-        number: ticket.number,
-        question,
-    };
+fn is_posted<H: Helpers, R: Wait>(rt: &R, helpers: &mut H, job: Job) -> bool {
     helpers.post(rt, job).is_ok()
 }
 
+// The job of a question of this kind with this ticket.
+fn job_of(kind: Kind, ticket: Ticket, question: Arc<Question, Global>) -> Job
+    requires { ticket.number < 2 ^ 63 }
+    ensures number { result.number ≡ job_number kind ticket.number }
+    ensures question { result.question ≡ question }
+{
+    let even = ticket.number * 2;
+    let number = match kind {
+        Kind::Block => even,
+        Kind::Verdict => even + 1,
+    };
+    Job { number, question }
+}
+
+// The ticket of the oldest open question of this kind, where so many are open of each.
+fn oldest_ticket(gathers: &Gathers, kind: Kind, blocks: u32, verdicts: u32) -> Ticket
+    requires blocks { blocks ≡ length gathers.now.blocks.entries }
+    requires verdicts { verdicts ≡ length gathers.now.verdicts.entries }
+    ensures { result.number ≡ (of_kind kind gathers.now).tally.asked - length (of_kind kind gathers.now).entries }
+{
+    match kind {
+        Kind::Block => oldest_of(&gathers.blocks, blocks),
+        Kind::Verdict => oldest_of(&gathers.verdicts, verdicts),
+    }
+}
+
 // The ticket of the oldest open question, where so many are open.
-fn oldest_ticket(gather: &Gather, open_count: u32) -> Ticket
-    requires { open_count ≡ length gather.now.entries }
+fn oldest_of(gather: &Gather, count: u32) -> Ticket
+    requires { count ≡ length gather.now.entries }
     ensures { result.number ≡ gather.now.tally.asked - length gather.now.entries }
 {
     Ticket {
-        number: gather.tally().asked - u64::from(open_count),
+        number: gather.tally().asked - u64::from(count),
     }
+}
+
+// Takes the oldest open question away, and gives the number of its trace and its value. So many are open.
+fn take_front(gather: &mut Gather, count: &mut u32) -> Result<Option<(u64, Value)>, AllocError>
+    requires { count.old ≡ length gather.old.entries }
+    ensures front { IfOk result (λ given. TakesFront gather.old gather.old.entries gather.new given) }
+    ensures count { count.new ≡ length gather.new.entries }
+    ensures window { gather.new.window ≡ gather.old.window }
+    ensures asked { gather.new.tally.asked ≡ gather.old.tally.asked }
+{
+    let trace = match gather.front() {
+        Some(question) => trace_number(question),
+        None => return Ok(None),
+    };
+    let Some(value) = settle_known(gather)? else {
+        return Ok(None);
+    };
+    *count -= 1;
+    Ok(Some((trace, value)))
 }
 
 // Takes the oldest open question away, and gives its value.

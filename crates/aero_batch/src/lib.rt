@@ -25,8 +25,10 @@
 #![tactic(auto)]
 
 mod checking;
+mod gathers;
 pub mod helpers;
 mod inquiry;
+mod kind;
 pub mod outcome;
 mod progress;
 mod reading;

@@ -7,6 +7,7 @@ ghost use Rattle.aero_intake.specs.Intake.{nothing_taken};
 ghost use Rattle.aero_batch.specs.Steps.{MayAsk, ReadsOn, ReadsPiece, CutsHeld, EndsSource, with_block, wanted, last_of, ended_track};
 
 use crate::helpers::Helpers;
+use crate::kind::Kind;
 use crate::progress::Progress;
 use aero_intake::intake::{Intake, Taken};
 use aero_intake::plan::Plan;
@@ -99,7 +100,7 @@ fn ask_block<H: Helpers, T: Wait>(
         return Ok(());
     };
     let question = block_question(alloc, progress.read as u64, progress.blocks, block)?;
-    progress.inquiry.ask(rt, helpers, question)?;
+    progress.inquiry.ask(rt, helpers, Kind::Block, question)?;
     progress.blocks += 1;
     Ok(())
 }

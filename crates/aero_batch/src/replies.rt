@@ -1,10 +1,16 @@
 //! Taking the replies of helpers, who may say what they like.
-ghost use Rattle.std.specs.Prelude.{◌≡◌, ◌<◌, ◌-◌, ◌+◌, ◌↔◌, ◌⊎◌, true, false, length, IsTrue, if◌then◌else◌};
+ghost use Rattle.std.specs.Prelude.{◌≡◌, ◌<◌, ◌-◌, ◌+◌, ◌↔◌, ◌⊎◌, true, false, length, IsTrue, IfSome, IfNone, if◌then◌else◌};
 ghost use Rattle.aero_gather.specs.Gathered.{IsAwaited, oldest_of, with_missed};
-ghost use Rattle.aero_batch.specs.Inquiries.{Heeds, questions_of};
+ghost use Rattle.aero_gather.specs.declared.gather.Oldest.TheVariants.{Awaited};
+ghost use Rattle.aero_batch.specs.Inquiries.{StaysOpen, kind_of as asked_kind};
+ghost use Rattle.aero_batch.specs.Replies.{AllStay, ChangesOne, Heeds, of_kind, IsAnswered};
 
+use crate::gathers::Gathers;
 use crate::helpers::Helpers;
+use crate::kind::Kind;
 use aero_gather::gather::{Accepted, Gather, Oldest, Ticket};
+use aero_pieces::answer::Answer;
+use aero_pieces::question::Question;
 use aero_worker::Reply;
 use std::sync::Wait;
 
@@ -21,67 +27,64 @@ pub struct Listening {
     pub useless: u32,
 }
 
-/// Takes replies until the oldest open question, which has this ticket, has an answer or is noted as
-/// missed. After 1,024 replies in a row that were of no use it is noted as missed. Where nobody
-/// replies nothing is awaited.
+/// Takes replies until the oldest open question of this kind, which has this ticket, has an answer or is
+/// noted as missed. After 1,024 replies in a row that were of no use it is noted as missed. Where
+/// nobody replies nothing is awaited.
 pub fn await_oldest<H: Helpers, R: Wait>(
     rt: &R,
     helpers: &mut H,
-    gather: &mut Gather,
+    gathers: &mut Gathers,
+    kind: Kind,
     oldest: Ticket,
     listening: Listening,
 ) -> Listening
-    requires { oldest.number ≡ gather.old.tally.asked - length gather.old.entries }
-    ensures ended { result.is_alone ≡ false → (oldest_of gather.new.entries ≡ Oldest.Awaited → ⊥) }
-    ensures questions { questions_of gather.new ≡ questions_of gather.old }
-    ensures asked { gather.new.tally.asked ≡ gather.old.tally.asked }
-    ensures window { gather.new.window ≡ gather.old.window }
+    requires { oldest.number ≡ (of_kind kind gathers.old).tally.asked - length (of_kind kind gathers.old).entries }
+    ensures ended { result.is_alone ≡ false → (oldest_of (of_kind kind gathers.new).entries ≡ Awaited → ⊥) }
+    ensures stay { AllStay gathers.old gathers.new }
 {
     if listening.is_alone {
         return listening;
     }
     let mut useless = listening.useless;
     'replies: for _ in rt.forever() {
-        if gather.oldest() != Oldest::Awaited {
+        if oldest_state(gathers, kind) != Oldest::Awaited {
             return replied(useless);
         }
         if !is_patient(useless) {
-            give_up(gather, oldest);
+            give_up(gathers, kind, oldest);
             return replied(0);
         }
         let Some(reply) = helpers.next_answer(rt) else {
             return nobody_left();
         };
-        useless = useless_after(useless, take_reply(gather, reply));
+        useless = useless_after(useless, take_reply(gathers, reply));
     }
     unreachable!()
 }
 
 /// Takes replies that have come, 64 at most and without waiting for one, until the oldest open
-/// question awaits none, or 1,024 in a row were of no use.
+/// question of one kind awaits none, or 1,024 in a row were of no use.
 pub fn hear<H: Helpers, R: Wait>(
     rt: &R,
     helpers: &mut H,
-    gather: &mut Gather,
+    gathers: &mut Gathers,
     listening: Listening,
 ) -> Listening
     ensures alone { result.is_alone ≡ listening.is_alone }
-    ensures questions { questions_of gather.new ≡ questions_of gather.old }
-    ensures asked { gather.new.tally.asked ≡ gather.old.tally.asked }
-    ensures window { gather.new.window ≡ gather.old.window }
+    ensures stay { AllStay gathers.old gathers.new }
 {
     if listening.is_alone {
         return listening;
     }
     let mut useless = listening.useless;
     for _ in 0..AT_ONCE {
-        if gather.oldest() != Oldest::Awaited || !is_patient(useless) {
+        if answered(gathers).is_some() || !is_patient(useless) {
             return replied(useless);
         }
         let Some(reply) = helpers.ready_answer(rt) else {
             return replied(useless);
         };
-        useless = useless_after(useless, take_reply(gather, reply));
+        useless = useless_after(useless, take_reply(gathers, reply));
     }
     replied(useless)
 }
@@ -106,13 +109,38 @@ fn nobody_left() -> Listening
     }
 }
 
-/// Whether a question is open, and the oldest has an answer or none is to be awaited.
-pub fn is_answered(gather: &Gather) -> bool
+/// A kind of which a question is open, and the oldest has an answer or none is to be awaited: that of
+/// verdicts, where both are.
+pub fn answered(gathers: &Gathers) -> Option<Kind>
+    ensures some { IfSome result (λ kind. IsAnswered kind gathers.now) }
+    ensures none { IfNone result ((kind : Kind) → IsAnswered kind gathers.now → ⊥) }
+{
+    if is_answered(&gathers.verdicts) {
+        return Some(Kind::Verdict);
+    }
+    if is_answered(&gathers.blocks) {
+        return Some(Kind::Block);
+    }
+    None
+}
+
+// Whether a question is open, and the oldest has an answer or none is to be awaited.
+fn is_answered(gather: &Gather) -> bool
     ensures { IsTrue result ↔ ((oldest_of gather.now.entries ≡ Oldest.Kept) ⊎ (oldest_of gather.now.entries ≡ Oldest.Missed)) }
 {
     match gather.oldest() {
         Oldest::Kept | Oldest::Missed => true,
         Oldest::Awaited | Oldest::Nothing => false,
+    }
+}
+
+// What is known of the oldest open question of this kind.
+fn oldest_state(gathers: &Gathers, kind: Kind) -> Oldest
+    ensures { result ≡ oldest_of (of_kind kind gathers.now).entries }
+{
+    match kind {
+        Kind::Block => gathers.blocks.oldest(),
+        Kind::Verdict => gathers.verdicts.oldest(),
     }
 }
 
@@ -131,37 +159,83 @@ fn useless_after(useless: u32, is_of_use: bool) -> u32
     if is_of_use { 0 } else { useless + 1 }
 }
 
-// Notes the oldest open question, which has this ticket, as missed, unless it has an answer.
-fn give_up(gather: &mut Gather, oldest: Ticket)
-    requires { oldest.number ≡ gather.old.tally.asked - length gather.old.entries }
-    ensures ended { oldest_of gather.new.entries ≡ Oldest.Awaited → ⊥ }
-    ensures questions { questions_of gather.new ≡ questions_of gather.old }
-    ensures asked { gather.new.tally.asked ≡ gather.old.tally.asked }
-    ensures window { gather.new.window ≡ gather.old.window }
+// Notes the oldest open question of this kind, which has this ticket, as missed, unless it has an answer.
+fn give_up(gathers: &mut Gathers, kind: Kind, oldest: Ticket)
+    requires { oldest.number ≡ (of_kind kind gathers.old).tally.asked - length (of_kind kind gathers.old).entries }
+    ensures ended { oldest_of (of_kind kind gathers.new).entries ≡ Awaited → ⊥ }
+    ensures stay { AllStay gathers.old gathers.new }
 {
-    miss(gather, oldest);
+    miss(gathers, kind, oldest);
 }
 
 // Takes a reply: an answer is accepted, and where none comes the question is noted as missed. The
 // answer says whether it was of use: an answer that is kept, or a note that is news.
-fn take_reply(gather: &mut Gather, reply: Reply) -> bool
-    ensures heeds { Heeds reply gather.old gather.new result }
-    ensures questions { questions_of gather.new ≡ questions_of gather.old }
-    ensures asked { gather.new.tally.asked ≡ gather.old.tally.asked }
-    ensures window { gather.new.window ≡ gather.old.window }
+fn take_reply(gathers: &mut Gathers, reply: Reply) -> bool
+    ensures heeds { Heeds reply gathers.old gathers.new result }
+    ensures stay { AllStay gathers.old gathers.new }
 {
     match reply {
-        Reply::Done(answer) => gather.accept(answer) == Accepted::Kept,
-        Reply::Missed(number) => miss(gather, Ticket { number }),
+        Reply::Done(answer) => accept(gathers, answer),
+        Reply::Missed(number) => miss_job(gathers, number),
+    }
+}
+
+// Takes an answer, for the oldest open question with the same content, and says whether one keeps it.
+fn accept(gathers: &mut Gathers, answer: Answer) -> bool
+    ensures heeds { Heeds (Reply.Done answer) gathers.old gathers.new result }
+    ensures stay { AllStay gathers.old gathers.new }
+{
+    let kind = kind_of(answer.question());
+    match kind {
+        Kind::Block => gathers.blocks.accept(answer) == Accepted::Kept,
+        Kind::Verdict => gathers.verdicts.accept(answer) == Accepted::Kept,
+    }
+}
+
+/// What the question is about.
+pub fn kind_of(question: &Question) -> Kind
+    ensures { result ≡ asked_kind question.now }
+{
+    match question {
+        Question::Parse { .. } => Kind::Block,
+        Question::Check { .. } => Kind::Verdict,
+    }
+}
+
+// Notes the question of the job with this number as missed, unless it has an answer or isn't open, and
+// says whether that is news.
+fn miss_job(gathers: &mut Gathers, number: u64) -> bool
+    ensures heeds { Heeds (Reply.Missed number) gathers.old gathers.new result }
+    ensures stay { AllStay gathers.old gathers.new }
+{
+    let ticket = Ticket { number: number / 2 };
+    let kind = if number % 2 == 0 {
+        Kind::Block
+    } else {
+        Kind::Verdict
+    };
+    miss(gathers, kind, ticket)
+}
+
+// Notes the question of this kind with this ticket as missed, unless it has an answer or isn't open, and
+// says whether that is news.
+fn miss(gathers: &mut Gathers, kind: Kind, ticket: Ticket) -> bool
+    ensures news { IsTrue result ↔ IsAwaited (of_kind kind gathers.old) ticket.number }
+    ensures noted { ChangesOne kind gathers.old gathers.new (λ a b. b ≡ with_missed a ticket.number) }
+    ensures stay { AllStay gathers.old gathers.new }
+{
+    match kind {
+        Kind::Block => note(&mut gathers.blocks, ticket),
+        Kind::Verdict => note(&mut gathers.verdicts, ticket),
     }
 }
 
 /// Notes the question with this ticket as missed, unless it has an answer or isn't open, and says
 /// whether that is news.
-pub fn miss(gather: &mut Gather, ticket: Ticket) -> bool
+pub fn note(gather: &mut Gather, ticket: Ticket) -> bool
     ensures news { IsTrue result ↔ IsAwaited gather.old ticket.number }
     ensures noted { gather.new ≡ with_missed gather.old ticket.number }
-    ensures questions { questions_of gather.new ≡ questions_of gather.old }
+    ensures stays { StaysOpen gather.old gather.new }
 {
     gather.note_missed(ticket)
 }

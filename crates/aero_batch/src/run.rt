@@ -4,6 +4,7 @@ ghost use Rattle.aero_report.specs.Texts.{no_counts};
 ghost use Rattle.aero_model.specs.CallCounts.{Seen, seen_by};
 ghost use Rattle.aero_intake.specs.PlanTerms.{terms_of};
 ghost use Rattle.aero_batch.specs.Founds.{Sighted, sighted, WasRun};
+ghost use Rattle.aero_batch.specs.Inquiries.{open_count};
 ghost use Rattle.aero_batch.specs.Holding.{HasNumbers, IsBegun, Stands};
 
 use crate::helpers::{Helpers, Nobody};
@@ -134,7 +135,7 @@ fn outcome_of(told: Told, cause: Option<Cause>, inquiry: &Inquiry, workers: u32)
     ensures cause { result.cause ≡ cause }
     ensures asked { result.tally.asked ≡ inquiry.now.asked }
     ensures tallied { result.tally.kept + result.tally.done_here ≤ result.tally.asked }
-    ensures settled { length inquiry.now.open_ones ≡ 0 → result.tally.asked ≡ result.tally.kept + result.tally.done_here }
+    ensures settled { open_count inquiry.now ≡ 0 → result.tally.asked ≡ result.tally.kept + result.tally.done_here }
     ensures workers { result.workers ≡ workers }
 {
     let Told { endings, counts } = told;
@@ -161,7 +162,7 @@ fn run_on<R: Read, W: Write, H: Helpers, T: Wait>(
         (seen_by W.contents writer.old) (seen_by W.contents writer.new) told.new.endings.items told.new.counts None) }
     ensures stopped { IfErr result (λ cause. WasRun (terms_of around.now.plan.now) (map (sighted R.remaining) sources.old) (map (sighted R.remaining) sources.new)
         (seen_by W.contents writer.old) (seen_by W.contents writer.new) told.new.endings.items told.new.counts (Some cause)) }
-    ensures settled { OnOk result (length progress.new.inquiry.open_ones ≡ 0) }
+    ensures settled { OnOk result (open_count progress.new.inquiry ≡ 0) }
 {
     'steps: for _ in around.rt.forever() {
         if advance(around, sources, writer, helpers, progress, told)? {
@@ -187,7 +188,7 @@ fn advance<R: Read, W: Write, H: Helpers, T: Wait>(
     ensures stopped { IfErr result (λ cause. (old : List Sighted) (before : Seen) → Stands (terms_of around.now.plan.now) old (map (sighted R.remaining) sources.old) before (seen_by W.contents writer.old) progress.old told.old
         → WasRun (terms_of around.now.plan.now) old (map (sighted R.remaining) sources.new) before (seen_by W.contents writer.new) told.new.endings.items told.new.counts (Some cause)) }
     ensures all_told { IfOk result (λ is_done. is_done ≡ true → vec_len told.new.endings ≡ length sources.new) }
-    ensures all_settled { IfOk result (λ is_done. is_done ≡ true → length progress.new.inquiry.open_ones ≡ 0) }
+    ensures all_settled { IfOk result (λ is_done. is_done ≡ true → open_count progress.new.inquiry ≡ 0) }
 {
     let Around { rt, alloc, plan } = *around;
     if tell_ready(alloc, plan, sources, progress, writer, told)? {

@@ -8,6 +8,8 @@ ghost use Rattle.aero_batch.specs.Steps.{Steps};
 
 use crate::checking::{check_next, settle_next};
 use crate::helpers::Helpers;
+use crate::inquiry::Inquiry;
+use crate::kind::Kind;
 use crate::progress::Progress;
 use crate::reading::read_on;
 use aero_intake::plan::Plan;
@@ -18,7 +20,7 @@ use std::io::Read;
 use std::sync::Wait;
 
 /// One step: the verdict on a source is asked for, or a piece is read, or what was read is cut and asked
-/// about; or, where the oldest question has its answer, the window is full, the next read is the first of a
+/// about; or, where the oldest question of a kind has its answer, the window is full, the next read is the first of a
 /// source that may wait, or nothing is left to read, that question is settled. So what is known of a
 /// source is told before the next read. An `AllocError` says that memory was refused.
 pub fn step<R: Read, H: Helpers, T: Wait>(
@@ -34,11 +36,11 @@ pub fn step<R: Read, H: Helpers, T: Wait>(
     ensures names { map (λ s. s.name) (map (sighted R.remaining) sources.new) ≡ map (λ s. s.name) (map (sighted R.remaining) sources.old) }
     ensures others { (s : ℕ) → (progress.old.read ≡ s → ⊥) → slice_get (map (sighted R.remaining) sources.new) s ≡ slice_get (map (sighted R.remaining) sources.old) s }
 {
-    let is_answered = progress.inquiry.hear(rt, helpers);
-    step_on(rt, alloc, plan, sources, helpers, progress, is_answered)
+    let answered = progress.inquiry.hear(rt, helpers);
+    step_on(rt, alloc, plan, sources, helpers, progress, answered)
 }
 
-// The same, where it is said whether the oldest question has its answer.
+// The same, where it is said of which kind the oldest question has its answer, if of one.
 fn step_on<R: Read, H: Helpers, T: Wait>(
     rt: &T,
     alloc: Global,
@@ -46,25 +48,34 @@ fn step_on<R: Read, H: Helpers, T: Wait>(
     sources: &mut [Source<R>],
     helpers: &mut H,
     progress: &mut Progress,
-    is_answered: bool,
+    answered: Option<Kind>,
 ) -> Result<(), AllocError>
     requires { Counted (terms_of plan.now) (length sources.old) progress.old }
     ensures steps { OnOk result (Steps (terms_of plan.now) (map (sighted R.remaining) sources.old) (map (sighted R.remaining) sources.new) progress.old progress.new) }
     ensures names { map (λ s. s.name) (map (sighted R.remaining) sources.new) ≡ map (λ s. s.name) (map (sighted R.remaining) sources.old) }
     ensures others { (s : ℕ) → (progress.old.read ≡ s → ⊥) → slice_get (map (sighted R.remaining) sources.new) s ≡ slice_get (map (sighted R.remaining) sources.old) s }
 {
+    let kind = next_kind(&progress.inquiry, answered);
     if !progress.inquiry.has_room() {
-        return settle_next(rt, helpers, progress);
+        return settle_next(rt, helpers, progress, kind);
     }
     if progress.checked < progress.read && is_ready(&progress.tracks[progress.checked]) {
         return check_next(rt, alloc, plan, helpers, progress);
     }
-    let is_settled_first = is_answered || is_held_back(sources, progress);
+    let is_settled_first = answered.is_some() || is_held_back(sources, progress);
     if !is_settled_first && progress.read < sources.len() {
         let source = &mut sources[progress.read];
         return read_on(rt, alloc, plan, &mut source.reader, helpers, progress);
     }
-    settle_next(rt, helpers, progress)
+    settle_next(rt, helpers, progress, kind)
+}
+
+// The kind of which a question is settled next, where one is: one that is answered, or else that which is awaited.
+fn next_kind(inquiry: &Inquiry, answered: Option<Kind>) -> Kind {
+    match answered {
+        Some(kind) => kind,
+        None => inquiry.awaited(),
+    }
 }
 
 // Whether the next read is the first of a source that may wait, while questions on those before it are

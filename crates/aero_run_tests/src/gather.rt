@@ -55,7 +55,7 @@ fn event_of(alloc: Global, value: &Value) -> Result<String, Fail> {
             if parsed.events.len() != 1 {
                 return Err("not one event".into());
             }
-            let (_, event) = parsed.events[0];
+            let (_, event) = parsed.events[0].parts();
             Ok(format!(in alloc; "{:?}", event.what)?)
         }
         Value::Judged(_) | Value::Ordered(..) => Err("a verdict".into()),

@@ -53,10 +53,11 @@ fn trace_question(
 fn is_read(value: &Value) -> bool {
     match value {
         Value::Parsed(parsed) => {
-            let [(line, event)] = parsed.events.as_slice() else {
+            let [event] = parsed.events.as_slice() else {
                 return false;
             };
-            (parsed.lines, *line) == (1, 1)
+            let (line, event) = event.parts();
+            (parsed.lines, line) == (1, 1)
                 && parsed.fault.is_none()
                 && event.what == What::Read(0)
                 && parsed.threads.name(event.thread) == Some(b"T1".as_slice())

@@ -73,13 +73,14 @@ fn is_read(value: &Value) -> bool {
     let Value::Parsed(parsed) = value else {
         return false;
     };
-    let Some((line, event)) = parsed.events.first() else {
+    let Some(event) = parsed.events.first() else {
         return false;
     };
+    let (line, event) = event.parts();
     parsed.lines == 1
         && parsed.fault == None
         && parsed.events.len() == 1
-        && *line == 1
+        && line == 1
         && event.what == What::Read(0)
         && parsed.threads.name(event.thread) == Some(b"T1".as_slice())
         && parsed.variables.name(0) == Some(b"x".as_slice())

@@ -1,0 +1,39 @@
+-- What replies do to the open questions.
+use Rattle.std.specs.Prelude.{◌≡◌, ◌↔◌, ◌⊎◌, IsTrue, ℕ, Bool}
+use Rattle.aero_gather.specs.Gathered.{Gathered, Accepts, IsAwaited, oldest_of, with_missed}
+use Rattle.aero_gather.specs.declared.gather.Oldest.TheVariants as oldest
+use Rattle.aero_gather.specs.declared.gather.Accepted.{Accepted}
+use Rattle.aero_gather.specs.declared.gather.Accepted.TheVariants.{Kept}
+use Rattle.aero_worker.specs.declared.reply.Reply.{Reply}
+use Rattle.aero_worker.specs.declared.reply.Reply.TheVariants.{Done, Missed}
+use Rattle.aero_batch.specs.declared.kind.Kind.{Kind}
+use Rattle.aero_batch.specs.declared.kind.Kind.TheVariants.{Block, Verdict}
+use Rattle.aero_batch.specs.declared.gathers.Gathers.{Gathers}
+use Rattle.aero_batch.specs.Inquiries.{StaysOpen, kind_of, job_number}
+
+-- the gatherer of a kind
+abbrev pub of_kind : Kind → Gathers → Gathered
+of_kind Block g = g.blocks
+of_kind Verdict g = g.verdicts
+
+-- All questions stay open, and no more are asked.
+pub record AllStay (old new : Gathers) : Type 0 where
+  pub blocks : StaysOpen old.blocks new.blocks
+  pub verdicts : StaysOpen old.verdicts new.verdicts
+
+-- The gatherer of one kind is changed so, and the other one isn't.
+pub record ChangesOne (kind : Kind) (old new : Gathers) (changes : Gathered → Gathered → Type 0) : Type 0 where
+  pub changed : changes (of_kind kind old) (of_kind kind new)
+  pub blocks : kind ≡ Verdict → new.blocks ≡ old.blocks
+  pub verdicts : kind ≡ Block → new.verdicts ≡ old.verdicts
+
+-- What a reply does, and whether it is of use: an answer is accepted by the gatherer of its question's kind, and is of use where it is kept, and a question that has none is noted as missed, which is of use where it is news.
+abbrev pub Heeds : Reply → Gathers → Gathers → Bool → Type 0
+Heeds (Done answer) old new is_of_use =
+    (accepted : Accepted) × ChangesOne (kind_of answer.question) old new (λ a b. Accepts answer.question answer.value a b accepted) × (IsTrue is_of_use ↔ (accepted ≡ Kept))
+Heeds (Missed number) old new is_of_use =
+    (kind : Kind) × (ticket : ℕ) × (number ≡ job_number kind ticket) × ChangesOne kind old new (λ a b. b ≡ with_missed a ticket) × (IsTrue is_of_use ↔ IsAwaited (of_kind kind old) ticket)
+
+-- A question of the kind is open, and the oldest has an answer, or none is to be awaited.
+abbrev pub IsAnswered : Kind → Gathers → Type 0
+IsAnswered kind g = (oldest_of (of_kind kind g).entries ≡ oldest.Kept) ⊎ (oldest_of (of_kind kind g).entries ≡ oldest.Missed)
