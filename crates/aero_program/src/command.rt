@@ -1,6 +1,6 @@
 //! What a command line asks for, or why nothing is judged.
 ghost use Rattle.std.specs.Prelude.{◌≡◌, ◌<◌, ◌≤◌, ◌^◌, IfOk, vec_len};
-ghost use Rattle.aero_program.specs.Command.{AreGreatest};
+ghost use Rattle.aero_program.specs.Command.{AreGreatest, shown_after};
 
 use crate::arguments::Unread;
 use aero_batch::plan::Plan;
@@ -9,9 +9,16 @@ use aero_model::limits::Limits;
 use aero_model::name::Name;
 use std::alloc::{AllocError, Global};
 
+/// How many milliseconds lie between one line on progress and the next.
+pub const TICK: u64 = 200;
+
+// From how many milliseconds on a run is one to wait for.
+const LONG_RUN: u64 = 2_000;
+
 /// What a command line asks for: 1 to 16 workers, reads of 1 to 1,048,576 bytes, at most 65,536
 /// files, and at most 64 labels of blocks that are no transactions, both in the order of the words,
-/// and whether the serial order is asked for. No files at all means standard input.
+/// whether the serial order is asked for, and when the line on progress is shown. No files at all
+/// means standard input.
 #[derive(Drop)]
 pub struct Config {
     pub workers: u32,
@@ -19,12 +26,39 @@ pub struct Config {
     pub files: Vec<String>,
     pub except: Vec<Name>,
     pub order: bool,
+    /// No report, note or status depends on it.
+    pub progress: Progress,
     ghost some_workers: { 0 < workers },
     ghost most_workers: { workers ≤ 16 },
     ghost some_piece: { 0 < piece },
     ghost most_piece: { piece ≤ 2 ^ 20 },
     ghost most_files: { vec_len files ≤ 2 ^ 16 },
     ghost most_labels: { vec_len except ≤ 64 },
+}
+
+/// When the line on progress is shown on standard error.
+#[derive(Clone, Copy, Debug, PartialEq, Eq, Drop)]
+pub enum Progress {
+    /// On a terminal, once a run lasts over two seconds.
+    Auto,
+    /// On any standard error, from the first tick on.
+    Always,
+    /// Not at all.
+    Never,
+}
+
+impl Progress {
+    /// After how many milliseconds of a run the line is shown first, if ever, where standard error is
+    /// a terminal, or isn't.
+    pub fn first_after(self, is_terminal: bool) -> Option<u64>
+        ensures { result ≡ shown_after self is_terminal }
+    {
+        match self {
+            Progress::Auto => { if is_terminal { Some(LONG_RUN) } else { None } }
+            Progress::Always => Some(TICK),
+            Progress::Never => None,
+        }
+    }
 }
 
 impl Config {

@@ -1,4 +1,4 @@
-//! Tests of a run over many sources, and of what the program does with it.
+//! Tests of a run over many sources, of what the program does with it, and of its line on progress.
 //!
 //! A crate with tests is proved twice, with them and without, so they stand here, above both crates, and
 //! each is proved once. A module has the tests of the crate that it is named for. It has nothing for
@@ -11,3 +11,5 @@ mod batch;
 mod except;
 #[cfg(test)]
 mod program;
+#[cfg(test)]
+mod progress;

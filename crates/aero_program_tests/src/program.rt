@@ -1,4 +1,4 @@
-mod streams;
+pub(crate) mod streams;
 
 use crate::program::streams::{EVER, Interrupted, Narrow, Shelf, Text};
 use aero_batch::outcome::{Cause, Outcome};
@@ -7,7 +7,7 @@ use aero_model::counting::Counting;
 use aero_model::verdict::Counts;
 use aero_program::answer::answer;
 use aero_program::arguments::{Unread, words_of};
-use aero_program::command::{Config, Refused, Stop};
+use aero_program::command::{Config, Progress, Refused, Stop};
 use aero_program::failure::Failure;
 use aero_program::input::Input;
 use aero_program::output::Output;
@@ -256,6 +256,7 @@ fn config_of(alloc: Global, file: Option<&str>, order: bool) -> Result<Config, F
         except: Vec::new(alloc),
         files,
         order,
+        progress: Progress::Auto,
     })
 }
 

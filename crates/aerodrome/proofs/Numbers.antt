@@ -55,38 +55,50 @@ rule_at k = slice_index_or rules k (new_rule [])
 abbrev initial : Rule → ℕ
 initial rule = slice_index rule.id 0
 
--- the place of the option whose name begins so
-abbrev place_by : ℕ → ℕ
-place_by first = if first == 119 then 0 else if first == 112 then 1 else if first == 101 then 2 else if first == 111 then 3 else 4
+-- the place of the option whose name has these letters first and second
+abbrev place_by : ℕ → ℕ → ℕ
+place_by first second =
+    if first == 119 then 0
+    else if first == 112 then (if second == 105 then 1 else 4)
+    else if first == 101 then 2
+    else if first == 111 then 3
+    else if first == 113 then 5
+    else 6
 
-place_of : (j : ℕ) → j < 5 → place_by (initial (rule_at j)) ≡ j
+-- the place of the option of this name
+abbrev place_named : Text → ℕ
+place_named name = place_by (slice_index name 0) (slice_index name 1)
+
+place_of : (j : ℕ) → j < 7 → place_named (rule_at j).id ≡ j
 place_of zero lt = refl
 place_of (suc zero) lt = refl
 place_of (suc (suc zero)) lt = refl
 place_of (suc (suc (suc zero))) lt = refl
 place_of (suc (suc (suc (suc zero)))) lt = refl
-place_of (suc (suc (suc (suc (suc j))))) lt = absurd (omega arith)
+place_of (suc (suc (suc (suc (suc zero))))) lt = refl
+place_of (suc (suc (suc (suc (suc (suc zero)))))) lt = refl
+place_of (suc (suc (suc (suc (suc (suc (suc j))))))) lt = absurd (omega arith)
 
 mapped_at : (xs : List Arg) (k : ℕ) (d : Arg) (e : Rule) → k < length xs → rule_of (slice_index_or xs k d) ≡ slice_index_or (map rule_of xs) k e
 mapped_at [] k d e lt = absurd (omega arith)
 mapped_at (x ∷ xs) zero d e lt = refl
 mapped_at (x ∷ xs) (suc k) d e lt = mapped_at xs k d e (omega arith)
 
-first_of : (xs : List Arg) → length xs ≡ 5 → Arg
-first_of [] five = absurd (omega arith)
-first_of (x ∷ xs) five = x
+first_of : (xs : List Arg) → length xs ≡ 7 → Arg
+first_of [] seven = absurd (omega arith)
+first_of (x ∷ xs) seven = x
 
 -- what is read of an option of the command line passed the parser of its rule
 option_passed : (line : Command) (m : ArgMatches) → IsParsedFrom line m → app_of line ≡ program
-    → (k : ℕ) (q : ValueParser) → k < 5 → (rule_at k).parser ≡ Some q → (rule_at k).ignore_case ≡ false
+    → (k : ℕ) (q : ValueParser) → k < 7 → (rule_at k).parser ≡ Some q → (rule_at k).ignore_case ≡ false
     → (initial (rule_at k) ≡ 0 → ⊥) → (initial (rule_at k) ≡ 104 → ⊥) → (initial (rule_at k) ≡ 118 → ⊥)
     → (text : Text) → one_text (found_of m) (rule_at k).id ≡ Some text
     → (word : Text) × (text ≡ read_as (reading_of q) word) × Accepts false q word
 option_passed line m p is k q ltk parser ignores not0 not104 not118 text read =
     let listed : map rule_of (args_of line) ≡ rules = ap (λ (a : App). a.top.rules) is in
-    let size : length (args_of line) ≡ 5 = sym (length-map (args_of line) rule_of) ∙ ap length listed in
+    let size : length (args_of line) ≡ 7 = sym (length-map (args_of line) rule_of) ∙ ap length listed in
     let d = first_of (args_of line) size in
-    let rule : (j : ℕ) (e : Arg) → j < 5 → rule_of (slice_index_or (args_of line) j e) ≡ rule_at j =
+    let rule : (j : ℕ) (e : Arg) → j < 7 → rule_of (slice_index_or (args_of line) j e) ≡ rule_at j =
     λ j e lt. mapped_at (args_of line) j e (new_rule []) (omega arith) ∙ ap (λ (l : List Rule). slice_index_or l j (new_rule [])) listed
     in
     let named : (slice_index_or (args_of line) k d).id.now ≡ (rule_at k).id = ap (λ (r : Rule). r.id) (rule k d ltk) in
@@ -95,7 +107,7 @@ option_passed line m p is k q ltk parser ignores not0 not104 not118 text read =
     λ j e lt same.
     let ids = (bytes_eq-Decides (slice_index_or (args_of line) j e).id.now (slice_index_or (args_of line) k d).id.now).0 same in
     let here : (rule_at j).id ≡ (rule_at k).id = sym (ap (λ (r : Rule). r.id) (rule j e (omega arith))) ∙ (ids ∙ named) in
-    sym (place_of j (omega arith)) ∙ (ap (λ (t : Text). place_by (slice_index t 0)) here ∙ place_of k ltk)
+    sym (place_of j (omega arith)) ∙ (ap place_named here ∙ place_of k ltk)
     in
     let simple = plain_fields line (ap (λ (a : App). a.top.is_plain) is) in
     let got = passed line m p (simple_groups line (ap (λ (a : App). all_simple a.top.rules) is)) simple.groups simple.globals k d (omega arith) unique
@@ -107,12 +119,18 @@ option_passed line m p is k q ltk parser ignores not0 not104 not118 text read =
     q (ap (λ (r : Rule). r.parser) (rule k d ltk) ∙ parser) text (rw named read) in
     (got.0, got.1, subst (λ (b : Bool). Accepts b q got.0) (ap (λ (r : Rule). r.ignore_case) (rule k d ltk) ∙ ignores) got.2)
 
--- where the command is that of the program, its numbers and its flag are read as they should be
+-- where the command is that of the program, its numbers and its flags are read as they should be
 pub line_read : (line : Command) (m : ArgMatches) → IsParsedFrom line m → app_of line ≡ program → IsRead (found_of m)
 line_read line m p is = record {
   workers = option_passed line m p is 0 (vp.Signed (pos 1) (pos 16)) (omega arith) refl refl (λ h. omega arith) (λ h. omega arith) (λ h. omega arith);
   piece = option_passed line m p is 1 (vp.Signed (pos 1) (pos (2 ^ 20))) (omega arith) refl refl (λ h. omega arith) (λ h. omega arith) (λ h. omega arith);
   order = λ text read.
       let got = option_passed line m p is 3 vp.Bool (omega arith) refl refl (λ h. omega arith) (λ h. omega arith) (λ h. omega arith) text read in
+      subst (λ (t : Text). Accepts false vp.Bool t) (sym got.1) got.2;
+  progress = λ text read.
+      let got = option_passed line m p is 4 vp.Bool (omega arith) refl refl (λ h. omega arith) (λ h. omega arith) (λ h. omega arith) text read in
+      subst (λ (t : Text). Accepts false vp.Bool t) (sym got.1) got.2;
+  quiet = λ text read.
+      let got = option_passed line m p is 5 vp.Bool (omega arith) refl refl (λ h. omega arith) (λ h. omega arith) (λ h. omega arith) text read in
       subst (λ (t : Text). Accepts false vp.Bool t) (sym got.1) got.2;
 }

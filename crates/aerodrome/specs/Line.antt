@@ -7,6 +7,8 @@ use Rattle.clap.specs.Words.{App, Row, Rule, Text, all_of, matches_of, new_app, 
 use Rattle.clap.specs.declared.builder.action.ArgAction.TheVariants.{Append, Set, SetTrue}
 use Rattle.clap.specs.declared.builder.value_parser.ValueParser.TheVariants as vp
 use Rattle.aero_program.specs.declared.command.Config.{Config}
+use Rattle.aero_program.specs.declared.command.Progress.{Progress}
+use Rattle.aero_program.specs.declared.command.Progress.TheVariants.{Auto, Always, Never}
 
 -- an option with a number from 1 to `most`
 abbrev pub number_rule : Text → ℕ → Text → Rule
@@ -22,9 +24,9 @@ number_rule name most default = record (new_rule name) {
 abbrev pub label_rule : Rule
 label_rule = record (new_rule (codes "except")) { long = Some (codes "except"); action = Some Append; value_names = 1 }
 
--- the flag for the serial order
-abbrev pub order_rule : Rule
-order_rule = record (new_rule (codes "order")) { long = Some (codes "order"); action = Some SetTrue; parser = Some vp.Bool }
+-- a flag of this name
+abbrev pub flag_rule : Text → Rule
+flag_rule name = record (new_rule name) { long = Some name; action = Some SetTrue; parser = Some vp.Bool }
 
 -- the files: any number of words that belong to no option
 abbrev pub files_rule : Rule
@@ -41,10 +43,10 @@ no_rules = record (new_app (codes "aerodrome")) {
 }
 
 abbrev pub program : App
-program = with_rule (with_rule (with_rule (with_rule (with_rule no_rules
+program = with_rule (with_rule (with_rule (with_rule (with_rule (with_rule (with_rule no_rules
     (number_rule (codes "workers") 16 (codes "4")))
     (number_rule (codes "piece") (2 ^ 20) (codes "65536")))
-    label_rule) order_rule) files_rule
+    label_rule) (flag_rule (codes "order"))) (flag_rule (codes "progress"))) (flag_rule (codes "quiet"))) files_rule
 
 -- what each option has of these words, its default included
 abbrev pub rows_given : List Text → List Row
@@ -59,6 +61,12 @@ abbrev pub is_told : Option Text → Bool
 is_told None = false
 is_told (Some text) = bytes_eq text (codes "true")
 
+-- when the line on progress is shown: not where quiet is asked for, else always where progress is, else by itself
+abbrev pub progress_told : (quiet : Bool) → (progress : Bool) → Progress
+progress_told true progress = Never
+progress_told false true = Always
+progress_told false false = Auto
+
 -- the texts of an option, in the order of the words
 abbrev pub texts_told : Option (List Text) → List Text
 texts_told texts = unwrap_or texts []
@@ -69,4 +77,5 @@ pub record AsksFor (config : Config) (rows : List Row) : Type 0 where
   pub piece : config.piece ≡ number_told 65536 (one_of (codes "piece") rows)
   pub except : config.except.items ≡ texts_told (all_of (codes "except") rows)
   pub order : config.order ≡ is_told (one_of (codes "order") rows)
+  pub progress : config.progress ≡ progress_told (is_told (one_of (codes "quiet") rows)) (is_told (one_of (codes "progress") rows))
   pub files : map string_bytes config.files.items ≡ texts_told (all_of (codes "files") rows)

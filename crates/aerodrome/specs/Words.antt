@@ -1,4 +1,4 @@
--- What the reader of the command line knows of its numbers and its flag.
+-- What the reader of the command line knows of its numbers and its flags.
 use Rattle.std.specs.Prelude.{◌≡◌, ℕ, List, Some, codes, false, pos, ◌^◌}
 use Rattle.clap.specs.Words.{Accepts, IsSignedIn, one_text, without_minus}
 use Rattle.clap.specs.declared.builder.value_parser.ValueParser.TheVariants as vp
@@ -19,3 +19,5 @@ pub record IsRead (found : Found) : Type 0 where
   pub workers : ReadsWithin found (codes "workers") 16
   pub piece : ReadsWithin found (codes "piece") (2 ^ 20)
   pub order : ReadsFlag found (codes "order")
+  pub progress : ReadsFlag found (codes "progress")
+  pub quiet : ReadsFlag found (codes "quiet")

@@ -54,6 +54,21 @@ after the other: for each, two spaces, the line of its first event, a
 space, its thread. Each time the one whose first event is earliest
 comes next, of those before which nothing is left that must come first";
 
+pub const PROGRESS: &str = "Standard error has a line on progress, whatever it is";
+
+pub const LONG_PROGRESS: &str =
+    "A line on standard error says how many sources were read and how many
+bytes came, written again in place five times a second, and is cleared
+before anything else is written there, and at the end. Without this
+option it is shown where standard error is a terminal and a run lasts
+over two seconds; with it on any standard error, from a fifth of a
+second on. The report is the same";
+
+pub const QUIET: &str = "No line on progress, also where --progress is given";
+
+pub const LONG_QUIET: &str = "There is no line on progress, also where --progress is given. What
+standard error says else stays";
+
 pub const FILES: &str = "The traces to judge, in this order, at most 65536. Without a FILE it
 is standard input, which the report calls `-`. As a FILE, `-` is a
 path like any other; each word after `--` is a FILE";

@@ -9,7 +9,8 @@
 //! ```
 //!
 //! The sources are the files that the command line names, or else standard input. `words` reads the
-//! command line, and `aero_program::answer` does what it asks for.
+//! command line, and `aero_program::answer` does what it asks for, beside the line on progress of
+//! `aero_progress`.
 #![tactic(auto)]
 
 mod help;
@@ -20,26 +21,42 @@ pub mod words;
 use aero_model::counting::Counting;
 use aero_program::answer::answer;
 use aero_program::arguments::words_of;
-use aero_program::command::{Config, Stop};
+use aero_program::command::{Config, Stop, TICK};
 use aero_program::output::Output;
 use aero_program::retrying::Retrying;
+use aero_progress::beside::Beside;
+use aero_progress::files::MeteredFiles;
+use aero_progress::metered::Metered;
+use aero_progress::ticker::{Pace, Ticker};
+use std::alloc::Global;
+use std::io::{IsTerminal, Read, Write};
 use std::process::ExitCode;
-use std::rt::Runtime;
+use std::rt::{Files, Runtime};
+use std::sync::Wait;
+use std::thread::Threads;
+use std::time::Clock;
 use words::settle_words;
 
 fn main(rt: HostRuntime) -> ExitCode {
     // Only main can ask for the three streams: what is generic over the runtime is handed them.
-    let mut output = Output::new(rt.stdout());
-    let mut errors = Counting::new(Retrying::new(rt.stderr()));
-    let status = answer(
+    let streams = Streams {
+        input: rt.stdin(),
+        output: rt.stdout(),
+        errors: rt.stderr(),
+        is_screen: rt.stdout().is_terminal(),
+    };
+    let asked = asked_by(&rt);
+    let ticker = ticker_for(
         rt,
         rt.alloc(),
-        asked_by(&rt),
-        &rt,
-        rt.stdin(),
-        &mut output,
-        &mut errors,
+        &asked,
+        rt.stderr(),
+        rt.stderr().is_terminal(),
     );
+    let status = answer_beside(rt, rt.alloc(), asked, streams, ticker.as_ref());
+    if let Some(ticker) = ticker {
+        ticker.stop(&rt);
+    }
     ExitCode::from(status)
 }
 
@@ -47,4 +64,63 @@ fn main(rt: HostRuntime) -> ExitCode {
 fn asked_by<R: Runtime + AllocGlobal>(rt: &R) -> Result<Config, Stop> {
     let words = words_of(rt.alloc(), rt)?;
     Ok(settle_words(rt.alloc(), &words)?)
+}
+
+// What writes the line on progress to the writer, if it is asked for and can be had.
+fn ticker_for<W, R>(
+    rt: R,
+    alloc: Global,
+    asked: &Result<Config, Stop>,
+    writer: W,
+    is_terminal: bool,
+) -> Option<Ticker<W>>
+where
+    W: Write + Drop + Send + 'static,
+    R: Threads + Wait + Clock + Copy + Send + 'static,
+{
+    let Ok(config) = asked else {
+        return None;
+    };
+    let pace = Pace {
+        first_after: config.progress.first_after(is_terminal)?,
+        tick: TICK,
+    };
+    let sources = config.files.len().max(1);
+    Ticker::start(rt, alloc, writer, sources as u64, pace)
+}
+
+// The three standard streams.
+#[derive(Drop)]
+struct Streams<I, O, E> {
+    input: I,
+    output: O,
+    errors: E,
+    // Whether standard output is a terminal, which the line on progress may share.
+    is_screen: bool,
+}
+
+// Does what is asked for. Where there is a line on progress, it hears what is read, and makes room for
+// what is written to its terminal.
+fn answer_beside<I, O, E, L, R>(
+    rt: R,
+    alloc: Global,
+    asked: Result<Config, Stop>,
+    streams: Streams<I, O, E>,
+    ticker: Option<&Ticker<L>>,
+) -> u8
+where
+    I: Read + Drop,
+    O: Write + Drop,
+    E: Write + Drop,
+    L: Write + Drop + Send + 'static,
+    R: Files + Drop + Threads + Wait + Copy + Send + 'static,
+{
+    let line = ticker.map(|ticker| ticker.line());
+    let meter = ticker.map(|ticker| ticker.meter());
+    let on_screen = if streams.is_screen { line } else { None };
+    let mut output = Output::new(Beside::new(rt, streams.output, on_screen));
+    let mut errors = Counting::new(Retrying::new(Beside::new(rt, streams.errors, line)));
+    let files = MeteredFiles::new(&rt, meter);
+    let input = Metered::new(streams.input, meter);
+    answer(rt, alloc, asked, &files, input, &mut output, &mut errors)
 }

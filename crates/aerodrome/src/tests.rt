@@ -1,4 +1,4 @@
-use crate::words::{Config, Refused, settle_words};
+use crate::words::{Config, Progress, Refused, settle_words};
 use std::alloc::{AllocError, Global};
 use std::process::Abort;
 use std::test::Fail;
@@ -57,7 +57,7 @@ fn the_words_that_are_taken(rt: HostRuntime) {
 
 #[test]
 fn the_words_that_are_refused(rt: HostRuntime) -> Result<(), Fail> {
-    let rows: [&[&str]; 18] = [
+    let rows: [&[&str]; 21] = [
         &["--workers", "0"],
         &["--workers", "17"],
         &["--workers", "4294967312"],
@@ -73,6 +73,9 @@ fn the_words_that_are_refused(rt: HostRuntime) -> Result<(), Fail> {
         &["--except", "a", "--except"],
         &["--order", "--order"],
         &["--order=yes"],
+        &["--progress", "--progress"],
+        &["--quiet", "--quiet"],
+        &["--quiet=true"],
         &["--nothing"],
         &["-x"],
         &["--nothing", "--help"],
@@ -104,6 +107,8 @@ fn the_help_says_all_and_the_version_is_told(rt: HostRuntime) -> Result<(), Fail
         "--except <LABEL>",
         "64 labels",
         "--order",
+        "--progress",
+        "--quiet",
         "Each time the one whose first event is earliest",
         "[FILE]...",
         "65536",
@@ -182,6 +187,24 @@ fn the_serial_order_is_asked_for_by_a_flag(rt: HostRuntime) {
     expect_order(&rt, &["--order"], true);
     expect_order(&rt, &["a", "--order", "--workers", "1"], true);
     expect_order(&rt, &["--", "--order"], false);
+}
+
+// Expects the line on progress to be shown so.
+fn expect_progress(rt: &(impl Abort + AllocGlobal), words: &[&str], progress: Progress) {
+    match settled(rt.alloc(), words) {
+        Err(refused) => assert!(rt; false, "{refused:?}"),
+        Ok(config) => assert!(rt; config.progress == progress),
+    }
+}
+
+#[test]
+fn the_line_on_progress_is_asked_for_by_flags(rt: HostRuntime) {
+    expect_progress(&rt, &[], Progress::Auto);
+    expect_progress(&rt, &["--progress"], Progress::Always);
+    expect_progress(&rt, &["a", "--quiet", "b"], Progress::Never);
+    expect_progress(&rt, &["--quiet", "--progress"], Progress::Never);
+    expect_progress(&rt, &["--progress", "--quiet"], Progress::Never);
+    expect_progress(&rt, &["--", "--quiet", "--progress"], Progress::Auto);
 }
 
 // Expects these labels, in this order.

@@ -1,15 +1,15 @@
 //! The words of the command line, and what they ask for.
-ghost use Rattle.std.specs.Prelude.{◌≡◌, ◌<◌, ◌≤◌, ◌++◌, ◌∷◌, [], IfOk, OnOk, false, map, pos, string_bytes, vec_len};
+ghost use Rattle.std.specs.Prelude.{◌≡◌, ◌<◌, ◌≤◌, ◌++◌, ◌∷◌, [], IfOk, OnOk, codes, false, map, pos, string_bytes, vec_len};
 ghost use Rattle.clap.specs.Words.{app_of, found_of, one_of, rows_of, rule_of};
 ghost use Rattle.clap.specs.declared.builder.value_parser.ValueParser.TheVariants as vp;
 ghost use Rattle.aerodrome.specs.Labels.{IsTold};
-ghost use Rattle.aerodrome.specs.Line.{AsksFor, files_rule, is_told, label_rule, no_rules, number_rule, number_told, order_rule, program, rows_given};
+ghost use Rattle.aerodrome.specs.Line.{AsksFor, files_rule, flag_rule, is_told, label_rule, no_rules, number_rule, number_told, program, progress_told, rows_given};
 ghost use Rattle.aerodrome.specs.Words.{IsRead, ReadsFlag, ReadsWithin};
 
 use crate::help;
 use aero_model::except::MOST_LABELS;
 use aero_model::name::{Name, NameFault};
-pub use aero_program::command::{Config, Refused};
+pub use aero_program::command::{Config, Progress, Refused};
 use clap::builder::ValueParser;
 use clap::error::ErrorKind;
 use clap::{Arg, ArgAction, ArgMatches, Command, Error, value_parser};
@@ -53,7 +53,9 @@ fn command_line<'a>(alloc: Global) -> Result<Command<'a>, AllocError>
         .arg(number_option(alloc, "workers", MOST_WORKERS, "4", help::WORKERS))?
         .arg(number_option(alloc, "piece", MOST_PIECE, "65536", help::PIECE))?
         .arg(label_option(alloc))?
-        .arg(order_flag(alloc))?
+        .arg(flag(alloc, "order", help::ORDER, help::LONG_ORDER))?
+        .arg(flag(alloc, "progress", help::PROGRESS, help::LONG_PROGRESS))?
+        .arg(flag(alloc, "quiet", help::QUIET, help::LONG_QUIET))?
         .arg(file_words(alloc))
 }
 
@@ -101,16 +103,17 @@ fn label_option<'a>(alloc: Global) -> Arg<'a>
         .help(help::EXCEPT)
 }
 
-fn order_flag<'a>(alloc: Global) -> Arg<'a>
-    ensures rule { rule_of result ≡ order_rule }
+// A flag, with a short help and a long one.
+fn flag<'a>(alloc: Global, name: &'a str, text: &'a str, long_text: &'a str) -> Arg<'a>
+    ensures rule { rule_of result ≡ flag_rule name.entry.now }
     ensures local { result.global ≡ false }
 {
-    Arg::new(alloc, "order")
-        .long("order")
+    Arg::new(alloc, name)
+        .long(name)
         .action(ArgAction::SetTrue)
         .value_parser(ValueParser::bool())
-        .help(help::ORDER)
-        .long_help(help::LONG_ORDER)
+        .help(text)
+        .long_help(long_text)
 }
 
 fn file_words<'a>(alloc: Global) -> Arg<'a>
@@ -168,6 +171,7 @@ fn settle(alloc: Global, matches: &ArgMatches<'_>) -> Result<Config, Refused>
         files,
         except,
         order: flag_in(matches, "order"),
+        progress: progress_in(matches),
     })
 }
 
@@ -237,6 +241,28 @@ fn flag_in(matches: &ArgMatches<'_>, name: &str) -> bool
     ensures { result ≡ is_told (one_of name.now (rows_of (found_of matches.now))) }
 {
     matches.get_flag(name)
+}
+
+// When the line on progress is shown.
+fn progress_in(matches: &ArgMatches<'_>) -> Progress
+    requires progress { ReadsFlag (found_of matches.now) (codes "progress") }
+    requires quiet { ReadsFlag (found_of matches.now) (codes "quiet") }
+    ensures { result ≡ progress_told (is_told (one_of (codes "quiet") (rows_of (found_of matches.now))))
+        (is_told (one_of (codes "progress") (rows_of (found_of matches.now)))) }
+{
+    progress_of(flag_in(matches, "quiet"), flag_in(matches, "progress"))
+}
+
+fn progress_of(is_quiet: bool, is_wanted: bool) -> Progress
+    ensures { result ≡ progress_told is_quiet is_wanted }
+{
+    if is_quiet {
+        Progress::Never
+    } else if is_wanted {
+        Progress::Always
+    } else {
+        Progress::Auto
+    }
 }
 
 // Copies of the texts.
