@@ -127,11 +127,25 @@ impl Inquiry {
         let is_alone = self.listening.is_alone;
         match kind {
             Kind::Block => {
-                ask_in(rt, helpers, &mut self.gathers.blocks, kind, is_alone, question)?;
+                ask_in(
+                    rt,
+                    helpers,
+                    &mut self.gathers.blocks,
+                    kind,
+                    is_alone,
+                    question,
+                )?;
                 self.blocks += 1;
             }
             Kind::Verdict => {
-                ask_in(rt, helpers, &mut self.gathers.verdicts, kind, is_alone, question)?;
+                ask_in(
+                    rt,
+                    helpers,
+                    &mut self.gathers.verdicts,
+                    kind,
+                    is_alone,
+                    question,
+                )?;
                 self.verdicts += 1;
             }
         }
