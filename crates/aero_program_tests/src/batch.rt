@@ -6,6 +6,7 @@ mod gathered;
 mod habits;
 mod runs;
 mod streams;
+mod verdicts;
 
 use crate::batch::habits::Habit;
 use crate::batch::runs::{Who, plan_by, run_by, run_planned};
