@@ -17,7 +17,7 @@ use std::alloc::{AllocError, Global};
 // How many places hints have at first, and at most: powers of two.
 const FEWEST_HINTS: usize = 64;
 
-const MOST_HINTS: usize = 65_536;
+const MOST_HINTS: usize = 4_194_304;
 
 // Whether the list's name with this number is this one.
 #[inline(always)]
@@ -57,7 +57,7 @@ pub(crate) fn set_hint(hints: &mut [u32], hash: u64, number: u32) {
     }
 }
 
-// As many hints as there are names, or more, but no more than 65,536, where memory isn't refused.
+// As many hints as there are names, or more, but no more than 2^22, where memory isn't refused.
 pub(crate) fn grow_hints(alloc: Global, hints: &mut Vec<u32>, names: u32) {
     let places = hints.len();
     if places > names as usize || places >= MOST_HINTS {
