@@ -247,6 +247,11 @@ pub absorbed_some : (row ended now new : List Lead) (t n : ℕ) → Some n ≡ l
 absorbed_some row ended now new t n there lowered dropped w =
     dropped w ∙ ap₂ (λ b r. if b then None else r) (same_test t w) (lowered w ∙ ap (λ r. if is_some (least_in ended w) then lesser (least_in row w) r else least_in row w) there)
 
+-- where none led to the block, it alone is dropped
+pub absorbed_empty : (row ended new : List Lead) (t : ℕ) → ended ≡ [] → ((w : ℕ) → least_in new w ≡ (if t == w then None else least_in row w)) → (w : ℕ) → least_in new w ≡ absorbed (least_in ended) (least_in row) t w
+absorbed_empty row ended new t none dropped w =
+    dropped w ∙ ap₂ (λ b r. if b then None else r) (same_test t w) (sym (ap (λ es. if is_some (least_in es w) then lesser (least_in row w) (least_in row t) else least_in row w) none))
+
 -- the least opener that passes a test, if there is one
 abbrev pub LeastPassing : (ℕ → Bool) → List Lead → Option ℕ → Type 0
 LeastPassing test ls None = (u : ℕ) → is_some (least_in ls u) ≡ true → test u ≡ false
@@ -283,7 +288,7 @@ pub none_still : (ls : List Lead) (i : ℕ) (l : Lead) (u : ℕ) → slice_get l
 none_still ls i l u at a b = some_next ls i l u at ∙ ap₂ (λ x y. x || y) a b
 
 -- where a block is found, there is a place for it
-found_there : (ls : List Lead) (i w : ℕ) → opener_of (slice_get ls i) ≡ Some w → is_some (least_in ls w) ≡ true
+pub found_there : (ls : List Lead) (i w : ℕ) → opener_of (slice_get ls i) ≡ Some w → is_some (least_in ls w) ≡ true
 found_there [] i w h = cc
 found_there (l ∷ ls) zero w h = go (l.opener == w) (eq-eqb l.opener w (same_Some l.opener w h)) (least_in ls w)
   where
@@ -297,6 +302,18 @@ found_there (l ∷ ls) (suc i) w h = go (l.opener == w) (least_in ls w) (found_t
     go true None k = refl
     go true (Some p) k = refl
     go false r k = k
+
+-- one more of the other row's that is here where it is below
+pub all_next : (row other : List Lead) (i : ℕ) (l : Lead) (n : ℕ) → slice_get other i ≡ Some l → (l.place < n → is_some (least_in row l.opener) ≡ true)
+    → ((w : ℕ) → is_below (least_in (take i other) w) n ≡ true → is_some (least_in row w) ≡ true)
+    → (w : ℕ) → is_below (least_in (take (i + 1) other) w) n ≡ true → is_some (least_in row w) ≡ true
+all_next row other i l n at here so_far w h = go (cases_eq l.opener w)
+  where
+    go : (l.opener ≡ w) ⊎ (l.opener ≢ w) → is_some (least_in row w) ≡ true
+    go (inl e) =
+        ⊎_elim (so_far w) (λ k. ap (λ u. is_some (least_in row u)) (sym e) ∙ here (ltb-true l.place n k))
+        (or_cases _ _ (sym (below_lesser (least_in (take i other) w) (Some l.place) n) ∙ sym (ap (λ r. is_below r n) (least_next other i l w at ∙ cond-true _ _ _ (eq-eqb l.opener w e))) ∙ h))
+    go (inr ne) = so_far w (sym (ap (λ r. is_below r n) (least_next other i l w at ∙ cond-false _ _ _ (ne_eqb l.opener w ne))) ∙ h)
 
 -- a block that has a place stands where an index of the row says
 pub indexed_step : (ls : List Lead) (i : ℕ) (l : Lead) (was now : ℕ → ℕ) → slice_get ls i ≡ Some l

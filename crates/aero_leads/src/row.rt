@@ -1,5 +1,5 @@
 //! Which open blocks lead to a thread, and from which of its events on.
-ghost use Rattle.std.specs.Prelude.{◌≡◌, ◌≢◌, ◌==◌, ◌&&◌, ◌++◌, ◌∷◌, [], ℕ, false, nat_lt, None, Some, OnOk, is_some, slice_get, if◌then◌else◌};
+ghost use Rattle.std.specs.Prelude.{◌≡◌, ◌≢◌, ◌==◌, ◌&&◌, ◌++◌, ◌∷◌, [], ℕ, true, false, nat_lt, None, Some, OnOk, is_some, slice_get, if◌then◌else◌};
 ghost use Rattle.aero_leads.specs.Kept.{least_in, is_below, absorbed};
 ghost use Rattle.aero_leads.specs.Indexed.{IsIndexed, IsFound, opener_of};
 ghost use Rattle.aero_leads.specs.Listed.{IsListedRow, Grows, followers};
@@ -48,6 +48,37 @@ pub(crate) fn is_led(row: &[Lead], w: u32, below: u32) -> bool
         Some(place) => place < below,
         None => false,
     }
+}
+
+/// Whether the open block of thread `w` leads to the row's thread.
+pub(crate) fn has(row: &[Lead], w: u32) -> bool
+    ensures { result ≡ is_some (least_in row.now w) }
+{
+    for lead in row.iter() {
+        if lead.opener == w {
+            return true;
+        }
+    }
+    false
+}
+
+// How long a row may be that is looked through for each block of another one.
+const SHORT: usize = 8;
+
+/// Where it is true, each block that leads to an event of the other row's thread below a place leads to
+/// this row's thread as well. Of a long row nothing is known.
+pub(crate) fn has_all(row: &[Lead], other: &[Lead], below: u32) -> bool
+    ensures { result ≡ true → (w : ℕ) → is_below (least_in other.now w) below ≡ true → is_some (least_in row.now w) ≡ true }
+{
+    if row.len() > SHORT {
+        return false;
+    }
+    for lead in other.iter() {
+        if lead.place < below && !has(row, lead.opener) {
+            return false;
+        }
+    }
+    true
 }
 
 // Enters the places of the row.
@@ -235,6 +266,10 @@ pub(crate) fn absorb(
     ensures grows { Grows led.old led.new }
     ensures others { (v : ℕ) → is_some (least_in ended.now v) ≡ false → followers led.new v ≡ followers led.old v }
 {
+    if ended.is_empty() {
+        drop_opener(row, t);
+        return Ok(());
+    }
     let Some(place) = first(row, t) else {
         return Ok(());
     };

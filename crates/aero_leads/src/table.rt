@@ -6,7 +6,7 @@ ghost use Rattle.aero_leads.specs.Listed.{AreListed};
 use crate::index::{Index, no_row};
 use crate::last::Last;
 use crate::led::{Led, forget, no_block};
-use crate::row::{gain_all, settle};
+use crate::row::{gain_all, has_all, settle};
 use crate::thread;
 use crate::thread::{Thread, leads, leave, put_row, row_of, spread, take_row};
 use std::alloc::{AllocError, Global};
@@ -55,6 +55,11 @@ pub(crate) fn gain(
     ensures same { HaveSameBlocks table.old.threads.items table.new.threads.items }
     ensures room { vec_len table.new.threads ≡ vec_len table.old.threads }
 {
+    let mine = row_of(&table.threads, t);
+    let theirs = row_of(&table.threads, o);
+    if has_all(mine, theirs, below) {
+        return Ok(());
+    }
     let mut row = take_row(&mut table.threads, t);
     gain_all(
         &mut row,

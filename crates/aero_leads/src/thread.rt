@@ -5,7 +5,7 @@ ghost use Rattle.aero_leads.specs.Listed.{followers, is_listed, AreListed, Grows
 
 use crate::index::Index;
 use crate::led::{Led, count, follower};
-use crate::row::{Lead, absorb, first, is_led, least_of};
+use crate::row::{Lead, absorb, has, is_led, least_of};
 use std::alloc::{AllocError, Global};
 use std::mem;
 
@@ -109,7 +109,7 @@ pub(crate) fn least_back(threads: &[Thread], t: u32) -> Option<u32>
 fn leads_back(threads: &[Thread], t: u32, u: u32) -> bool
     ensures { result ≡ (not (u == t) && is_some (rows_in threads.now u t)) }
 {
-    u != t && first(row_of(threads, u), t).is_some()
+    u != t && has(row_of(threads, u), t)
 }
 
 /// Thread `t` has made an event.
