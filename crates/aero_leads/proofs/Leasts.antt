@@ -257,7 +257,7 @@ abbrev pub LeastPassing : (ℕ → Bool) → List Lead → Option ℕ → Type 0
 LeastPassing test ls None = (u : ℕ) → is_some (least_in ls u) ≡ true → test u ≡ false
 LeastPassing test ls (Some v) = (test v ≡ true) × (is_some (least_in ls v) ≡ true) × ((u : ℕ) → is_some (least_in ls u) ≡ true → test u ≡ true → v ≤ u)
 
-some_next : (ls : List Lead) (i : ℕ) (l : Lead) (u : ℕ) → slice_get ls i ≡ Some l → is_some (least_in (take (i + 1) ls) u) ≡ (l.opener == u || is_some (least_in (take i ls) u))
+pub some_next : (ls : List Lead) (i : ℕ) (l : Lead) (u : ℕ) → slice_get ls i ≡ Some l → is_some (least_in (take (i + 1) ls) u) ≡ (l.opener == u || is_some (least_in (take i ls) u))
 some_next ls i l u at = ap is_some (least_next ls i l u at) ∙ go (l.opener == u) (least_in (take i ls) u)
   where
     go : (b : Bool) (r : Option ℕ) → is_some (if b then lesser r (Some l.place) else r) ≡ (b || is_some r)
@@ -303,15 +303,15 @@ found_there (l ∷ ls) (suc i) w h = go (l.opener == w) (least_in ls w) (found_t
     go true (Some p) k = refl
     go false r k = k
 
--- one more of the other row's that is here where it is below
-pub all_next : (row other : List Lead) (i : ℕ) (l : Lead) (n : ℕ) → slice_get other i ≡ Some l → (l.place < n → is_some (least_in row l.opener) ≡ true)
-    → ((w : ℕ) → is_below (least_in (take i other) w) n ≡ true → is_some (least_in row w) ≡ true)
-    → (w : ℕ) → is_below (least_in (take (i + 1) other) w) n ≡ true → is_some (least_in row w) ≡ true
-all_next row other i l n at here so_far w h = go (cases_eq l.opener w)
+-- one more of the other row's that passes a test where it is below
+pub all_next : (test : ℕ → Bool) (other : List Lead) (i : ℕ) (l : Lead) (n : ℕ) → slice_get other i ≡ Some l → (l.place < n → test l.opener ≡ true)
+    → ((w : ℕ) → is_below (least_in (take i other) w) n ≡ true → test w ≡ true)
+    → (w : ℕ) → is_below (least_in (take (i + 1) other) w) n ≡ true → test w ≡ true
+all_next test other i l n at here so_far w h = go (cases_eq l.opener w)
   where
-    go : (l.opener ≡ w) ⊎ (l.opener ≢ w) → is_some (least_in row w) ≡ true
+    go : (l.opener ≡ w) ⊎ (l.opener ≢ w) → test w ≡ true
     go (inl e) =
-        ⊎_elim (so_far w) (λ k. ap (λ u. is_some (least_in row u)) (sym e) ∙ here (ltb-true l.place n k))
+        ⊎_elim (so_far w) (λ k. ap test (sym e) ∙ here (ltb-true l.place n k))
         (or_cases _ _ (sym (below_lesser (least_in (take i other) w) (Some l.place) n) ∙ sym (ap (λ r. is_below r n) (least_next other i l w at ∙ cond-true _ _ _ (eq-eqb l.opener w e))) ∙ h))
     go (inr ne) = so_far w (sym (ap (λ r. is_below r n) (least_next other i l w at ∙ cond-false _ _ _ (ne_eqb l.opener w ne))) ∙ h)
 

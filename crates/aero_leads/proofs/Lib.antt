@@ -13,3 +13,4 @@ pub mod Moving
 pub mod Standings
 pub mod ThreadSteps
 pub mod Ends
+pub mod Seeing

@@ -119,7 +119,7 @@ absorbed_alone es r t none w = go (w == t) refl (is_some (es w))
     go false e true = ap (lesser (r w)) none ∙ lesser_none (r w)
     go false e false = refl
 
-any_take_next : (p : ℕ → Bool) (us : List ℕ) (i u : ℕ) → slice_get us i ≡ Some u → list_any p (take (suc i) us) ≡ (list_any p (take i us) || p u)
+pub any_take_next : (p : ℕ → Bool) (us : List ℕ) (i u : ℕ) → slice_get us i ≡ Some u → list_any p (take (suc i) us) ≡ (list_any p (take i us) || p u)
 any_take_next p [] i u h = cc
 any_take_next p (x ∷ xs) zero u h = ap (λ y. p y || false) (same_Some x u h) ∙ flip (p u)
   where

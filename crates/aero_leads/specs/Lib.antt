@@ -4,5 +4,6 @@ pub mod Steps
 pub mod Kept
 pub mod Indexed
 pub mod Listed
+pub mod Seen
 pub mod States
 pub mod Standing

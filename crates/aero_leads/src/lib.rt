@@ -34,6 +34,7 @@ mod last;
 pub mod leads;
 mod led;
 mod row;
+mod seen;
 mod table;
 mod thread;
 mod variable;

@@ -62,8 +62,8 @@ pub(crate) fn has(row: &[Lead], w: u32) -> bool
     false
 }
 
-// How long a row may be that is looked through for each block of another one.
-const SHORT: usize = 8;
+/// How long a row may be that is looked through for each block of another one.
+pub const SHORT: usize = 8;
 
 /// Where it is true, each block that leads to an event of the other row's thread below a place leads to
 /// this row's thread as well. Of a long row nothing is known.

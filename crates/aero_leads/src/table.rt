@@ -1,24 +1,28 @@
 //! What is kept of the threads, and to which of them each open block leads.
-ghost use Rattle.std.specs.Prelude.{◌≡◌, ◌≢◌, ◌∷◌, ◌<◌, ◌-◌, ◌^◌, ◌==◌, ℕ, true, false, [], OnOk, OnErr, IfOk, vec_len, slice_get, if◌then◌else◌};
-ghost use Rattle.aero_leads.specs.Kept.{rows_in, thread_in_block, thread_begins, thread_acted, leads_to, leads_to_any, TakesAll, TakesRow, HaveSameBlocks, AreSameThreads, BeginsBlock, EndsBlock};
+ghost use Rattle.std.specs.Prelude.{◌≡◌, ◌≢◌, ◌∷◌, ◌<◌, ◌-◌, ◌^◌, ◌==◌, ℕ, true, false, [], OnOk, OnErr, IfOk, vec_len, slice_get, is_some, if◌then◌else◌};
+ghost use Rattle.aero_leads.specs.Kept.{rows_in, is_below, thread_in_block, thread_begins, thread_acted, leads_to, leads_to_any, TakesAll, TakesRow, HaveSameBlocks, AreSameThreads, BeginsBlock, EndsBlock};
 ghost use Rattle.aero_leads.specs.Listed.{AreListed};
+ghost use Rattle.aero_leads.specs.Seen.{AreSeen};
 
 use crate::index::{Index, no_row};
 use crate::last::Last;
 use crate::led::{Led, forget, no_block};
 use crate::row::{gain_all, has_all, settle};
+use crate::seen::{Seen, forget_all, has_seen, nothing_seen, see_all, unsee_all};
 use crate::thread;
 use crate::thread::{Thread, leads, leave, put_row, row_of, spread, take_row};
 use std::alloc::{AllocError, Global};
 
 /// The threads, by their numbers. With each open block the other threads are listed to whose events
-/// it leads. The index is room to work in.
+/// it leads. The index is room to work in. What is seen is a part of what the rows say.
 #[derive(Drop)]
 pub struct Table {
     pub threads: Vec<Thread>,
     pub led: Led,
     pub index: Index,
+    pub seen: Seen,
     ghost listed: { AreListed threads.items led },
+    ghost known: { AreSeen threads.items seen },
 }
 
 /// No thread.
@@ -29,6 +33,7 @@ pub(crate) fn no_thread(alloc: Global) -> Table
         threads: Vec::new(alloc),
         led: no_block(alloc),
         index: no_row(alloc),
+        seen: nothing_seen(alloc),
     }
 }
 
@@ -55,23 +60,28 @@ pub(crate) fn gain(
     ensures same { HaveSameBlocks table.old.threads.items table.new.threads.items }
     ensures room { vec_len table.new.threads ≡ vec_len table.old.threads }
 {
-    let mine = row_of(&table.threads, t);
-    let theirs = row_of(&table.threads, o);
-    if has_all(mine, theirs, below) {
+    if brings_nothing(table, t, o, below) {
         return Ok(());
     }
     let mut row = take_row(&mut table.threads, t);
-    gain_all(
-        &mut row,
-        t,
-        row_of(&table.threads, o),
-        below,
-        place,
-        &mut table.led,
-        &mut table.index,
-    )?;
+    let other = row_of(&table.threads, o);
+    let (led, index) = (&mut table.led, &mut table.index);
+    let Ok(()) = gain_all(&mut row, t, other, below, place, led, index) else {
+        forget_all(&mut table.seen);
+        return Err(AllocError);
+    };
     put_row(&mut table.threads, t, row);
+    see_all(&mut table.seen, &table.threads, t);
     Ok(())
+}
+
+// Where it is true, all that leads to an event of thread `o` below a place leads to thread `t` as well.
+fn brings_nothing(table: &Table, t: u32, o: u32, below: u32) -> bool
+    ensures { result ≡ true → (w : ℕ) → is_below (rows_in table.now.threads.items o w) below ≡ true → is_some (rows_in table.now.threads.items t w) ≡ true }
+{
+    let row = row_of(&table.threads, t);
+    let other = row_of(&table.threads, o);
+    has_all(row, other, below) || has_seen(&table.seen, t, other, below)
 }
 
 /// Thread `t` takes what leads to the event, from this place on, unless the event is its own, or
@@ -122,7 +132,11 @@ pub(crate) fn begin(table: &mut Table, t: u32, place: u32) -> Result<(), AllocEr
     ensures err { OnErr result (HaveSameBlocks table.old.threads.items table.new.threads.items) }
     ensures room { vec_len table.new.threads ≡ vec_len table.old.threads }
 {
-    thread::begin(&mut table.threads, t, place)
+    let Ok(()) = thread::begin(&mut table.threads, t, place) else {
+        forget_all(&mut table.seen);
+        return Err(AllocError);
+    };
+    Ok(())
 }
 
 /// Thread `t` ends its block: what leads to the block leads to all that the block led to.
@@ -134,15 +148,14 @@ pub(crate) fn end(table: &mut Table, t: u32) -> Result<(), AllocError>
 {
     let mut row = take_row(&mut table.threads, t);
     settle(&mut row, t);
-    spread(
-        &mut table.threads,
-        &row,
-        t,
-        &mut table.led,
-        &mut table.index,
-    )?;
+    let (led, index) = (&mut table.led, &mut table.index);
+    let Ok(()) = spread(&mut table.threads, &row, t, led, index) else {
+        forget_all(&mut table.seen);
+        return Err(AllocError);
+    };
     put_row(&mut table.threads, t, row);
     leave(&mut table.threads, t);
+    unsee_all(&mut table.seen, &table.led, t);
     forget(&mut table.led, t);
     Ok(())
 }

@@ -3,6 +3,7 @@ use Rattle.std.specs.Prelude.{if◌then◌else◌}
 use Rattle.aero_leads.specs.Kept.{least_in, rows_in, absorbed}
 use Rattle.aero_leads.specs.Listed.{is_listed}
 use Rattle.aero_leads.proofs.Ends.{ends_all}
+use Rattle.aero_leads.proofs.Seeing.{listed_ended, seen_ended}
 use Rattle.aero_leads.proofs.table.end.Goals as goal
 
 pub returns-clause-ends : goal.returns-clause-ends
@@ -10,5 +11,22 @@ returns-clause-ends c =
     ends_all c.args.table.now.threads.items c.take_row-row.new.threads.items c.spread.new.threads.items c.put_row.new.threads.items c.leave.new.threads.items c.args.t
     c.take_row-row.result.items c.settle.new.row.items c.args.table.now.led c.args.table.now.listed
     c.take_row-row.ensures.row c.take_row-row.ensures.rest c.settle.ensures
-    (λ o w. c.in_ok-spread.ensures.rows o w ∙ ap (λ es. if is_listed c.args.table.now.led c.args.t o then absorbed (least_in es) (rows_in c.take_row-row.new.threads.items o) c.args.t w else rows_in c.take_row-row.new.threads.items o w) c.deref.ensures.value)
+    (λ o w. c.in-Ok.ensures.rows o w ∙ ap (λ es. if is_listed c.args.table.now.led c.args.t o then absorbed (least_in es) (rows_in c.take_row-row.new.threads.items o) c.args.t w else rows_in c.take_row-row.new.threads.items o w) c.deref.ensures.value)
     c.spread.ensures.same c.put_row.ensures.row c.leave.ensures.rows c.leave.ensures.in_block c.leave.ensures.begins c.leave.ensures.acted
+
+pub invariant_of-table-2 : goal.invariant_of-table-2
+invariant_of-table-2 c =
+    let ends =
+    ends_all c.args.table.now.threads.items c.take_row-row.new.threads.items c.spread.new.threads.items c.put_row.new.threads.items c.leave.new.threads.items c.args.t
+    c.take_row-row.result.items c.settle.new.row.items c.args.table.now.led c.args.table.now.listed
+    c.take_row-row.ensures.row c.take_row-row.ensures.rest c.settle.ensures
+    (λ o w. c.in-Ok.ensures.rows o w ∙ ap (λ es. if is_listed c.args.table.now.led c.args.t o then absorbed (least_in es) (rows_in c.take_row-row.new.threads.items o) c.args.t w else rows_in c.take_row-row.new.threads.items o w) c.deref.ensures.value)
+    c.spread.ensures.same c.put_row.ensures.row c.leave.ensures.rows c.leave.ensures.in_block c.leave.ensures.begins c.leave.ensures.acted in
+    record {
+      listed = listed_ended c.args.table.now.threads.items c.take_row-row.new.threads.items c.spread.new.threads.items c.put_row.new.threads.items c.leave.new.threads.items c.args.t
+          c.take_row-row.result.items c.settle.new.row.items c.args.table.now.led c.spread.new.led c.forget.new.led c.args.table.now.listed
+          c.take_row-row.ensures.row c.take_row-row.ensures.rest c.settle.ensures c.spread.ensures.listed c.spread.ensures.grows c.put_row.ensures.row c.leave.ensures.rows c.forget.ensures ends;
+      known = seen_ended c.args.table.now.threads.items c.leave.new.threads.items c.spread.new.led c.args.table.now.seen c.unsee_all.new.seen c.args.t ends
+          (λ o w ne some. c.spread.ensures.grows w o (c.args.table.now.listed o w ne some))
+          c.unsee_all.ensures.kept c.unsee_all.ensures.own c.unsee_all.ensures.listed c.args.table.now.known;
+    }

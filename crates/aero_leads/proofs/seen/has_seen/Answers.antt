@@ -1,0 +1,17 @@
+use Rattle.std.proofs.Common.{sym, ◌∙◌, get_or, arith}
+use Rattle.std.proofs.lemmas.Option.{slice_get-get_or}
+use Rattle.aero_leads.specs.Seen.{seen_at}
+use Rattle.aero_leads.proofs.Leasts.{lead, all_next}
+use Rattle.aero_leads.proofs.seen.has_seen.Goals.{else-lead-below-via-then-lead-below+else-not-is_in, else-lead-below-via-else-lead-below}
+use Rattle.aero_leads.proofs.seen.has_seen.Goals as goal
+
+pub loop-lead-preserved : goal.loop-lead-preserved
+loop-lead-preserved c =
+    let l = get_or c.args.other.now c.loop-lead.lead-index (lead 0 0) in
+    record {
+      all = all_next (seen_at c.openers_of-openers.result.now) c.args.other.now c.loop-lead.lead-index l c.args.below (slice_get-get_or c.args.other.now c.loop-lead.lead-index (lead 0 0) c.loop-lead-test.true)
+          (elim c.else-lead-below.branch [
+            | else-lead-below-via-then-lead-below+else-not-is_in w ↦ λ _. sym w.is_in.ensures ∙ w.if-not-is_in.false
+            | else-lead-below-via-else-lead-below w ↦ λ less. absurd (omega (arith, less, w.if-lead-below.false))
+          ]) c.loop-lead.invariant.all;
+    }
