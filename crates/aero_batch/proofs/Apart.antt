@@ -1,17 +1,16 @@
 -- What is known of the sources doesn't hang on how questions on blocks and questions on verdicts stand among each other.
-use Rattle.std.proofs.Common.{◌≡◌, ℕ, List, [], ◌∷◌, ◌++◌, map, slice_get, Option, Some, None, refl, sym, ◌∙◌, ap, ap₂, subst, append_assoc}
+use Rattle.std.proofs.Common.{◌≡◌, ℕ, List, [], ◌∷◌, ◌++◌, map, Option, Some, None, refl, sym, ◌∙◌, ap, ap₂, subst, append_assoc}
 use Rattle.std.specs.Prelude.{All}
 use Rattle.std.proofs.lemmas.List.{append-nil}
 use Rattle.aero_grammar.specs.Reading.{Reading, reading_of}
 use Rattle.aero_pieces.specs.declared.question.Question.{Question}
 use Rattle.aero_pieces.specs.declared.question.Question.TheVariants.{Parse, Check}
-use Rattle.aero_batch.specs.declared.kind.Kind.TheVariants.{Block, Verdict}
 use Rattle.aero_batch.specs.declared.progress.Progress.{Progress}
-use Rattle.aero_batch.specs.Inquiries.{Inquired, AreApart, all_open, with_question}
+use Rattle.aero_batch.specs.Inquiries.{Inquired, AreApart}
 use Rattle.aero_batch.specs.Steps.{with_block, with_check}
 use Rattle.aero_intake.specs.declared.track.Track.{Track}
 use Rattle.aero_intake.specs.declared.track.Track.TheVariants.{Arriving, Arrived, Checking, Found}
-use Rattle.aero_intake.specs.Stories.{Story, Asked, own_block, own_check, blocks_asked, checks_asked, IsTracked, AreTracked}
+use Rattle.aero_intake.specs.Stories.{Story, own_block, own_check, blocks_asked, checks_asked, IsTracked, AreTracked}
 use Rattle.aero_intake.proofs.Tracked.{blocks_asked-more, checks_asked-more, nil_right}
 use Rattle.aero_verdict.specs.Finding.{Terms}
 
