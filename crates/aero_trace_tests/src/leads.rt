@@ -1,6 +1,7 @@
 use aero_access::clocks::{Clocks, Spent};
 use aero_end::end;
 use aero_leads::leads::Leads;
+use std::alloc::{AllocError, Global};
 use std::test::Fail;
 
 #[derive(Clone, Copy)]
@@ -351,5 +352,75 @@ fn both_engines_answer_the_same(rt: HostRuntime) -> Result<(), Fail> {
     }
     // Each kind has to come.
     assert!(rt; own >= 8 && other >= 4 && none >= 8, "{own} {other} {none}");
+    Ok(())
+}
+
+// How many threads there are where rows get long.
+const MANY: u32 = 24;
+
+// The next event of threads that hold blocks open: each writes variables that nobody wrote before, and reads
+// what threads before it wrote, and seldom what a later one did. `owners` has who wrote each variable.
+fn next_of_many(
+    state: &mut u32,
+    leads: &Leads,
+    owners: &mut Vec<u32>,
+) -> Result<(u32, Event), AllocError> {
+    let t = roll(state, MANY);
+    if !leads.in_block(t) {
+        return Ok((t, Event::Begin));
+    }
+    // No more than there are events.
+    let made = (owners.len() % 65_536) as u32;
+    let x = roll(state, made);
+    let luck = roll(state, 64);
+    if luck == 0 {
+        return Ok((t, Event::End));
+    }
+    match owners.get(x as usize) {
+        Some(owner) if *owner < t || luck < 3 => Ok((t, Event::Read(x))),
+        _ => {
+            owners.push(t)?;
+            Ok((t, Event::Write(made)))
+        }
+    }
+}
+
+// Gives both up to so many events of many threads: whether one closed a block, where both always gave the same.
+fn compare_many(
+    alloc: Global,
+    leads: &mut Leads,
+    clocks: &mut Clocks,
+    seed: u32,
+    events: u32,
+) -> Result<Option<bool>, AllocError> {
+    let mut owners = Vec::new(alloc);
+    let mut state = seed;
+    for _ in 0..events {
+        let (t, event) = next_of_many(&mut state, leads, &mut owners)?;
+        let answer = make(leads, t, event);
+        if answer != make_by_clocks(clocks, t, event) || !agree(leads, clocks, t) {
+            return Ok(None);
+        }
+        if answer != Ok(None) {
+            return Ok(Some(true));
+        }
+    }
+    Ok(Some(false))
+}
+
+#[test]
+fn both_engines_answer_the_same_where_many_blocks_are_open(rt: HostRuntime) -> Result<(), Fail> {
+    let (mut closed, mut none) = (0_u32, 0_u32);
+    for seed in 0..24 {
+        let mut leads = Leads::new(rt.alloc());
+        let mut clocks = Clocks::new(rt.alloc());
+        match compare_many(rt.alloc(), &mut leads, &mut clocks, seed, 100 + seed * 16)? {
+            Some(true) => closed = closed.saturating_add(1),
+            Some(false) => none = none.saturating_add(1),
+            None => assert!(rt; false, "seed {seed}"),
+        }
+    }
+    // Each kind has to come.
+    assert!(rt; closed >= 4 && none >= 4, "{closed} {none}");
     Ok(())
 }
