@@ -21,7 +21,7 @@ fit_is_good x here fit =
     let same : is_unfit x ≡ is_bad_byte x = rw here refl in
     sym same ∙ fit
 
-front_is_good : (n : ℕ) (text : List ℕ) → EndsNowhere n text → list_any is_unfit text ≡ false → list_any is_bad_byte (take n text) ≡ false
+pub front_is_good : (n : ℕ) (text : List ℕ) → EndsNowhere n text → list_any is_unfit text ≡ false → list_any is_bad_byte (take n text) ≡ false
 front_is_good zero text none fit = refl
 front_is_good (suc n) [] none fit = refl
 front_is_good (suc n) (x ∷ text) none fit =

@@ -1,4 +1,5 @@
 pub mod Clean
+pub mod CommonShape
 pub mod Events
 pub mod Fields
 pub mod Joined

@@ -1,7 +1,8 @@
 -- The reading of a text, a line at a time.
-use Rattle.std.proofs.Common.{◌≡◌, ◌<◌, ◌+◌, ◌==◌, ℕ, zero, suc, true, false, List, [], ◌∷◌, ◌++◌, length, take, drop, get_or, map, Some, None, Result, Ok, Err, OnErr, refl, sym, ◌∙◌, ap, arith, length-append}
-use Rattle.std.specs.List.{slice_split}
-use Rattle.std.proofs.lemmas.List.{append-nil}
+use Rattle.std.proofs.Common.{◌≡◌, ◌<◌, ◌≤◌, ◌+◌, ◌==◌, ℕ, zero, suc, true, false, List, [], ◌∷◌, ◌++◌, length, take, drop, get_or, map, Some, None, Result, Ok, Err, OnErr, refl, true≢false, sym, ◌∙◌, ap, arith, length-append}
+use Rattle.std.specs.List.{slice_split, position_or_len}
+use Rattle.std.proofs.lemmas.List.{append-nil, get_or-take}
+use Rattle.std.proofs.lemmas.List.Sums.{fails_before_first, passes_at_first}
 use Rattle.std.proofs.lemmas.List.Splits.{length-slice_split}
 use Rattle.std.proofs.lemmas.Bool.{ne_eqb, eqb-true, eq-eqb}
 use Rattle.memchr.specs.Find.{Nowhere, NoneBefore, Passes, is_byte}
@@ -62,6 +63,28 @@ lines_at text n first here =
     let some : 0 < length behind = omega (arith, length-slice_split is_line_end (drop (suc n) text)) in
     let next : suc n ≡ n + 1 = omega arith in
     ap without_empty_last split ∙ without_empty_last-cons (take n text) behind some ∙ ap (λ k. take n text ∷ lines_of (drop k text)) next
+
+-- the same of a text whose first byte 10 stands among its first n bytes
+module _ (text : List ℕ) (n end : ℕ) (at : end ≡ position_or_len is_line_end (take n text)) (below : end < n) (long : length (take n text) ≡ n) where
+  pub none_before : EndsNowhere end text
+  unfolding EndsNowhere
+  none_before k lt is =
+      let other : (get_or (take n text) k 0 == 10) ≡ false = fails_before_first is_line_end (take n text) k 0 (omega (arith, lt, at)) in
+      let here : get_or (take n text) k 0 ≡ 10 = get_or-take n text k 0 (omega (arith, lt, below)) ∙ is in
+      true≢false (sym (eq-eqb (get_or (take n text) k 0) 10 here) ∙ other)
+
+  stands_there : get_or text end 0 ≡ 10
+  stands_there =
+      sym (get_or-take n text end 0 below) ∙ ap (λ k. get_or (take n text) k 0) at
+      ∙ eqb-true (get_or (take n text) (position_or_len is_line_end (take n text)) 0) 10 (passes_at_first is_line_end (take n text) 0 (omega (arith, at, below, long)))
+
+  pub lines_cut : n ≤ length text → lines_of text ≡ take end text ∷ lines_of (drop (end + 1) text)
+  lines_cut wide =
+      let split = split_at_end end text (omega (arith, below, wide)) none_before stands_there in
+      let behind = slice_split is_line_end (drop (suc end) text) in
+      let some : 0 < length behind = omega (arith, length-slice_split is_line_end (drop (suc end) text)) in
+      let next : suc end ≡ end + 1 = omega arith in
+      ap without_empty_last split ∙ without_empty_last-cons (take end text) behind some ∙ ap (λ k. take end text ∷ lines_of (drop k text)) next
 
 pub lines_nowhere : (text : List ℕ) → 0 < length text → Nowhere (Passes (is_byte 10) text) 0 (length text) → lines_of text ≡ text ∷ []
 unfolding EndsNowhere

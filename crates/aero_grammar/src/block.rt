@@ -1,9 +1,10 @@
 //! What a block of lines says.
-ghost use Rattle.std.specs.Prelude.{◌≡◌, ◌<◌, ◌≤◌, ◌^◌, ◌∷◌, length, false, IfOk, OnErr};
+ghost use Rattle.std.specs.Prelude.{◌≡◌, ◌<◌, ◌≤◌, ◌^◌, ◌∷◌, length, true, false, IfOk, OnErr};
 ghost use Rattle.std.specs.List.{list_any};
 ghost use Rattle.aero_model.specs.Lines.{lines_of};
 ghost use Rattle.aero_model.specs.Names.{is_bad_byte};
-ghost use Rattle.aero_grammar.specs.Meaning.{is_unfit};
+ghost use Rattle.aero_grammar.specs.Meaning.{is_unfit, meaning};
+ghost use Rattle.aero_grammar.specs.Words.{ReadsMeaning};
 ghost use Rattle.aero_grammar.specs.Lists.{lists_in, labels_in};
 ghost use Rattle.aero_grammar.specs.Reading.{reading_of};
 ghost use Rattle.aero_grammar.specs.Tabled.{lines_in, IsBlock};
@@ -12,7 +13,9 @@ use crate::bytes::has_clean_lines;
 use crate::line::words_of;
 use crate::line_event::LineEvent;
 use crate::parsed::Parsed;
+use crate::short::{ShortLine, short_line};
 use crate::tables::Tables;
+use crate::words::Words;
 use aero_model::verdict::LineFault;
 use memchr::memchr;
 use std::alloc::{AllocError, Global};
@@ -36,16 +39,48 @@ pub fn parse_block(alloc: Global, bytes: &[u8]) -> Result<Parsed, AllocError>
     let is_clean = has_clean_lines(bytes);
     let mut rest = bytes;
     'lines: while !rest.is_empty() {
-        let (line, behind) = first_line(rest);
+        let LineRead { behind, words, .. } = read_line(rest, is_clean);
         rest = behind;
         lines += 1;
-        match words_of(line, is_clean) {
-            Ok(None) => {}
-            Ok(Some(words)) => events.push(LineEvent::new(lines, tables.number(words)?))?,
+        match words {
+            Ok(words) => match words {
+                None => {}
+                Some(words) => events.push(LineEvent::new(lines, tables.number(words)?))?,
+            },
             Err(fault) => return Ok(parsed(tables, events, lines, Some((lines, fault)))),
         }
     }
     Ok(parsed(tables, events, lines, None))
+}
+
+// A text's first line, what follows it, and the line's words.
+#[derive(Drop)]
+struct LineRead<'a> {
+    line: &'a [u8],
+    behind: &'a [u8],
+    words: Result<Option<Words<'a>>, LineFault>,
+}
+
+// Reads the text's first line, at once where it has the common shape.
+#[inline(always)]
+fn read_line(text: &[u8], is_clean: bool) -> LineRead<'_>
+    requires some { 0 < length text.now }
+    requires clean { is_clean ≡ true → list_any is_unfit text.now ≡ false }
+    ensures lines { lines_of text.now ≡ result.line.now ∷ lines_of result.behind.now }
+    ensures shorter { length result.behind.now < length text.now }
+    ensures fit { is_clean ≡ true → list_any is_unfit result.behind.now ≡ false }
+    ensures meaning { ReadsMeaning result.words (meaning result.line.now) }
+{
+    if is_clean
+        && let Some(short) = short_line(text)
+    {
+        let ShortLine { line, behind, words } = short;
+        let words = Ok(Some(words));
+        return LineRead { line, behind, words };
+    }
+    let (line, behind) = first_line(text);
+    let words = words_of(line, is_clean);
+    LineRead { line, behind, words }
 }
 
 // What the block says, by its parts. What is kept takes no more memory than it needs.

@@ -61,7 +61,7 @@ fn is_unfit_byte(byte: u8) -> bool
 
 // A space or a tab.
 #[inline(always)]
-fn is_blank(byte: u8) -> bool
+pub fn is_blank(byte: u8) -> bool
     ensures { result ≡ is_blank_byte byte }
 {
     byte == b' ' || byte == b'\t'

@@ -30,5 +30,6 @@ pub mod line_event;
 mod names;
 mod operation;
 pub mod parsed;
+mod short;
 mod tables;
 mod words;

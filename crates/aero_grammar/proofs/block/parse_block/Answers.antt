@@ -24,30 +24,27 @@ lines-init c = record {
   room = room_within (c.new-tables.result) (2 ^ 32 - 1) (2 * length c.args.bytes.now) (omega (arith, c.requires)) c.new-tables.ensures.room;
 }
 
-pub lines-preserved-in-Ok-None : goal.lines-preserved-in-Ok-None
-lines-preserved-in-Ok-None c =
+pub lines-preserved-in-None : goal.lines-preserved-in-None
+lines-preserved-in-None c =
     let so_far = lines_in (lists_in c.lines.tables) (labels_in c.lines.tables) c.lines.events.items in
     record {
       read =
-          one_more_line so_far c.lines.lines (reading_of c.args.bytes.now) c.lines.rest.now c.first_line.result.0.now c.first_line.result.1.now c.lines.invariant.read c.first_line.ensures.lines
-          ∙ ap (λ r. followed_by r (reading_of c.first_line.result.1.now)) (after_blank so_far c.lines.lines c.first_line.result.0.now (subst (λ o. ReadsMeaning (Ok o) (meaning c.first_line.result.0.now)) c.in-Ok-None.field-0-is c.in-Ok-None.ensures));
+          one_more_line so_far c.lines.lines (reading_of c.args.bytes.now) c.lines.rest.now c.read_line.result.line.now c.read_line.result.behind.now c.lines.invariant.read c.read_line.ensures.lines
+          ∙ ap (λ r. followed_by r (reading_of c.read_line.result.behind.now)) (after_blank so_far c.lines.lines c.read_line.result.line.now (subst (λ o. ReadsMeaning (Ok o) (meaning c.read_line.result.line.now)) c.in-None.is (subst (λ r. ReadsMeaning r (meaning c.read_line.result.line.now)) c.in-Ok.is c.read_line.ensures.meaning)));
       tabled = c.lines.invariant.tabled;
       names = c.lines.invariant.names;
-      room = room_within c.lines.tables (2 * length c.lines.rest.now) (2 * length c.first_line.result.1.now) (omega (arith, c.first_line.ensures.shorter)) c.lines.invariant.room;
-      fit = λ clean. c.first_line.ensures.fit (c.lines.invariant.fit clean);
-      counted = omega (arith, c.lines.invariant.counted, c.first_line.ensures.shorter);
+      room = room_within c.lines.tables (2 * length c.lines.rest.now) (2 * length c.read_line.result.behind.now) (omega (arith, c.read_line.ensures.shorter)) c.lines.invariant.room;
+      fit = c.read_line.ensures.fit;
+      counted = omega (arith, c.lines.invariant.counted, c.read_line.ensures.shorter);
     }
-
-pub words_of-requires : goal.words_of-requires
-words_of-requires c = λ clean. c.first_line.ensures.good (c.lines.invariant.fit clean)
 
 pub number-requires-clause-event : goal.number-requires-clause-event
 number-requires-clause-event c =
-    event_of_line c.first_line.result.0.now (named_of c.in-Ok-Some.words) (subst (λ o. ReadsMeaning (Ok o) (meaning c.first_line.result.0.now)) c.in-Ok-Some.field-0-is c.in-Ok-Some.ensures)
+    event_of_line c.read_line.result.line.now (named_of c.in-Some.words) (subst (λ o. ReadsMeaning (Ok o) (meaning c.read_line.result.line.now)) c.in-Some.is (subst (λ r. ReadsMeaning r (meaning c.read_line.result.line.now)) c.in-Ok.is c.read_line.ensures.meaning))
 
 pub number-requires-clause-room : goal.number-requires-clause-room
 number-requires-clause-room c =
-    room_within c.lines.tables (2 * length c.lines.rest.now) 2 (omega (arith, c.first_line.ensures.shorter)) c.lines.invariant.room
+    room_within c.lines.tables (2 * length c.lines.rest.now) 2 (omega (arith, c.read_line.ensures.shorter)) c.lines.invariant.room
 
 pub lines-preserved : goal.lines-preserved
 lines-preserved c =
@@ -56,24 +53,24 @@ lines-preserved c =
     let labels = labels_in c.lines.tables in
     let so_far = lines_in tables labels events in
     let n = c.lines.lines + 1 in
-    let e = named_of c.in-Ok-Some.words in
-    let means : meaning c.first_line.result.0.now ≡ Means e = subst (λ o. ReadsMeaning (Ok o) (meaning c.first_line.result.0.now)) c.in-Ok-Some.field-0-is c.in-Ok-Some.ensures in
-    let event = event_of_line c.first_line.result.0.now e means in
-    let tables_are : lists_in c.number.new.self ≡ with_event tables e = c.in_ok-number-in-Ok-Some.ensures.names in
-    let labels_are : labels_in c.number.new.self ≡ labels_after labels e.op e.target = c.in_ok-number-in-Ok-Some.ensures.labels in
+    let e = named_of c.in-Some.words in
+    let means : meaning c.read_line.result.line.now ≡ Means e = subst (λ o. ReadsMeaning (Ok o) (meaning c.read_line.result.line.now)) c.in-Some.is (subst (λ r. ReadsMeaning r (meaning c.read_line.result.line.now)) c.in-Ok.is c.read_line.ensures.meaning) in
+    let event = event_of_line c.read_line.result.line.now e means in
+    let tables_are : lists_in c.number.new.self ≡ with_event tables e = c.in_ok-number-in-Some.ensures.names in
+    let labels_are : labels_in c.number.new.self ≡ labels_after labels e.op e.target = c.in_ok-number-in-Some.ensures.labels in
     let events_are : c.push.new.self.items ≡ events ++ (n, numbered_next tables labels e) ∷ [] =
-    c.in_ok-push-in-Ok-Some.ensures.items ∙ ap (λ x. events ++ x ∷ []) c.new.ensures ∙ ap (λ x. events ++ (n, x) ∷ []) (c.in_ok-number-in-Ok-Some.ensures.numbered ∙ numbered_by_turns tables labels e) in
+    c.in_ok-push-in-Some.ensures.items ∙ ap (λ x. events ++ x ∷ []) c.new.ensures ∙ ap (λ x. events ++ (n, x) ∷ []) (c.in_ok-number-in-Some.ensures.numbered ∙ numbered_by_turns tables labels e) in
     record {
       read =
-          one_more_line so_far c.lines.lines (reading_of c.args.bytes.now) c.lines.rest.now c.first_line.result.0.now c.first_line.result.1.now c.lines.invariant.read c.first_line.ensures.lines
-          ∙ ap (λ r. followed_by r (reading_of c.first_line.result.1.now)) (after_event so_far c.lines.lines c.first_line.result.0.now e means)
-          ∙ ap (λ es. followed_by (reading es n None) (reading_of c.first_line.result.1.now))
+          one_more_line so_far c.lines.lines (reading_of c.args.bytes.now) c.lines.rest.now c.read_line.result.line.now c.read_line.result.behind.now c.lines.invariant.read c.read_line.ensures.lines
+          ∙ ap (λ r. followed_by r (reading_of c.read_line.result.behind.now)) (after_event so_far c.lines.lines c.read_line.result.line.now e means)
+          ∙ ap (λ es. followed_by (reading es n None) (reading_of c.read_line.result.behind.now))
           (sym ((λ i. lines_in (tables_are i) (labels_are i) (events_are i)) ∙ lines_pushed tables labels events c.lines.invariant.tabled n e event.has_target));
       tabled = tabled_as _ _ _ _ _ _ tables_are labels_are events_are (tabled_pushed tables labels events c.lines.invariant.tabled n e event.has_target);
       names = names_as _ _ _ _ tables_are labels_are (names_added tables labels e event c.lines.invariant.names);
-      room = room_left c.lines.tables c.number.new.self (2 * length c.lines.rest.now) (2 * length c.first_line.result.1.now) 2 (omega (arith, c.first_line.ensures.shorter)) c.lines.invariant.room c.in_ok-number-in-Ok-Some.ensures.grown;
-      fit = λ clean. c.first_line.ensures.fit (c.lines.invariant.fit clean);
-      counted = omega (arith, c.lines.invariant.counted, c.first_line.ensures.shorter);
+      room = room_left c.lines.tables c.number.new.self (2 * length c.lines.rest.now) (2 * length c.read_line.result.behind.now) 2 (omega (arith, c.read_line.ensures.shorter)) c.lines.invariant.room c.in_ok-number-in-Some.ensures.grown;
+      fit = c.read_line.ensures.fit;
+      counted = omega (arith, c.lines.invariant.counted, c.read_line.ensures.shorter);
     }
 
 pub parsed-requires : goal.parsed-requires
@@ -81,8 +78,8 @@ parsed-requires c =
     record {
       reading =
           subst IsReading
-          (read_to_fault (lines_in (lists_in c.lines.tables) (labels_in c.lines.tables) c.lines.events.items) c.lines.lines (reading_of c.args.bytes.now) c.lines.rest.now c.first_line.result.0.now c.first_line.result.1.now c.in-Err.fault c.lines.invariant.read
-          c.first_line.ensures.lines c.in-Err.ensures)
+          (read_to_fault (lines_in (lists_in c.lines.tables) (labels_in c.lines.tables) c.lines.events.items) c.lines.lines (reading_of c.args.bytes.now) c.lines.rest.now c.read_line.result.line.now c.read_line.result.behind.now c.in-Err.fault c.lines.invariant.read
+          c.read_line.ensures.lines (subst (λ r. ReadsMeaning r (meaning c.read_line.result.line.now)) c.in-Err.is c.read_line.ensures.meaning))
           (IsReading-of c.args.bytes.now);
       tabled = c.lines.invariant.tabled;
       names = c.lines.invariant.names;
@@ -104,12 +101,12 @@ returns-clause-reading c =
     c.parsed-2.ensures
     ∙ sym (read_to_end (lines_in (lists_in c.lines.tables) (labels_in c.lines.tables) c.lines.events.items) c.lines.lines (reading_of c.args.bytes.now) c.lines.rest.now c.lines.invariant.read end)
 
-pub returns-in_err-number-in-Ok-Some-clause-refused : goal.returns-in_err-number-in-Ok-Some-clause-refused
-returns-in_err-number-in-Ok-Some-clause-refused c =
-    has_event _ c.lines.lines (reading_of c.args.bytes.now) c.lines.rest.now c.first_line.result.0.now c.first_line.result.1.now (named_of c.in-Ok-Some.words) c.lines.invariant.read c.first_line.ensures.lines
-    (subst (λ o. ReadsMeaning (Ok o) (meaning c.first_line.result.0.now)) c.in-Ok-Some.field-0-is c.in-Ok-Some.ensures) c.from_residual.result
+pub returns-in_err-number-in-Some-clause-refused : goal.returns-in_err-number-in-Some-clause-refused
+returns-in_err-number-in-Some-clause-refused c =
+    has_event _ c.lines.lines (reading_of c.args.bytes.now) c.lines.rest.now c.read_line.result.line.now c.read_line.result.behind.now (named_of c.in-Some.words) c.lines.invariant.read c.read_line.ensures.lines
+    (subst (λ o. ReadsMeaning (Ok o) (meaning c.read_line.result.line.now)) c.in-Some.is (subst (λ r. ReadsMeaning r (meaning c.read_line.result.line.now)) c.in-Ok.is c.read_line.ensures.meaning)) c.from_residual.result
 
-pub returns-in_err-push-in-Ok-Some-clause-refused : goal.returns-in_err-push-in-Ok-Some-clause-refused
-returns-in_err-push-in-Ok-Some-clause-refused c =
-    has_event _ c.lines.lines (reading_of c.args.bytes.now) c.lines.rest.now c.first_line.result.0.now c.first_line.result.1.now (named_of c.in-Ok-Some.words) c.lines.invariant.read c.first_line.ensures.lines
-    (subst (λ o. ReadsMeaning (Ok o) (meaning c.first_line.result.0.now)) c.in-Ok-Some.field-0-is c.in-Ok-Some.ensures) c.from_residual-in_err-push-in-Ok-Some.result
+pub returns-in_err-push-in-Some-clause-refused : goal.returns-in_err-push-in-Some-clause-refused
+returns-in_err-push-in-Some-clause-refused c =
+    has_event _ c.lines.lines (reading_of c.args.bytes.now) c.lines.rest.now c.read_line.result.line.now c.read_line.result.behind.now (named_of c.in-Some.words) c.lines.invariant.read c.read_line.ensures.lines
+    (subst (λ o. ReadsMeaning (Ok o) (meaning c.read_line.result.line.now)) c.in-Some.is (subst (λ r. ReadsMeaning r (meaning c.read_line.result.line.now)) c.in-Ok.is c.read_line.ensures.meaning)) c.from_residual-in_err-push-in-Some.result

@@ -1,0 +1,78 @@
+-- Lines of the common shape.
+use Rattle.std.proofs.Common.{◌≡◌, ◌≢◌, ◌≤◌, ◌<◌, ◌+◌, ◌-◌, ◌==◌, ◌||◌, ◌&&◌, ℕ, zero, suc, min, Bool, true, false, cond, not, List, [], ◌∷◌, length, take, drop, get_or, Option, Some, refl, sym, ap, ◌∙◌, arith}
+use Rattle.std.specs.List.{position_or_len, prefix_len, list_any, list_all, before_first, after_first}
+use Rattle.std.specs.Str.Lines.{strip_carriage_return}
+use Rattle.std.specs.Prelude.{slice_index}
+use Rattle.std.proofs.lemmas.Bool.{ne_eqb, eqb-true, le-ltb, or_parts}
+use Rattle.std.proofs.lemmas.List.{take-take, drop-take, length-take}
+use Rattle.aero_model.specs.declared.event.Op.{Op}
+use Rattle.aero_model.specs.Lines.{is_too_long}
+use Rattle.aero_model.specs.Names.{is_bad_byte}
+use Rattle.aero_model.specs.Named.{stands_alone}
+use Rattle.aero_grammar.specs.Meaning.{Means, meaning, is_bar, is_blank, is_long_name, trimmed, operation_of, operation_word, is_unclosed, target_bytes, target_of}
+use Rattle.aero_grammar.specs.Short.{IsShort}
+
+-- the first place among fewer elements
+place_step : (b : Bool) (a c n : ℕ) → a ≡ min c n → cond (not b) (1 + a) 0 ≡ min (cond (not b) (1 + c) 0) (suc n)
+place_step true a c n same = omega arith
+place_step false a c n same = omega (arith, same)
+
+pub place_among : (p : ℕ → Bool) (n m : ℕ) (xs : List ℕ) → n ≤ m → m ≤ length xs → position_or_len p (take n xs) ≡ min (position_or_len p (take m xs)) n
+place_among p zero m xs le all = omega arith
+place_among p (suc n) zero xs le all = absurd (omega (arith, le))
+place_among p (suc n) (suc m) [] le all = absurd (omega (arith, all))
+place_among p (suc n) (suc m) (x ∷ xs) le all =
+    place_step (p x) (position_or_len p (take n xs)) (position_or_len p (take m xs)) n (place_among p n m xs (omega (arith, le)) (omega (arith, all)))
+
+-- the field between two places of a line
+pub field_between : (text : List ℕ) (end bar more : ℕ) → bar < end → bar ≡ position_or_len is_bar (take end text) → more ≤ end - (bar + 1) → more ≡ position_or_len is_bar (take (end - (bar + 1)) (drop (bar + 1) text)) →
+    take more (drop (bar + 1) text) ≡ before_first is_bar (after_first is_bar (take end text))
+field_between text end bar more below at within is =
+    let rest = end - (bar + 1) in
+    let whole : bar + 1 + rest ≡ end = omega (arith, below) in
+    let behind : after_first is_bar (take end text) ≡ take rest (drop (bar + 1) text) =
+        ap (λ k. drop (k + 1) (take end text)) (sym at) ∙ ap (λ k. drop (bar + 1) (take k text)) (sym whole) ∙ drop-take (bar + 1) rest text in
+    sym (take-take more rest (drop (bar + 1) text) within)
+    ∙ ap (λ k. take k (take rest (drop (bar + 1) text))) is
+    ∙ ap (before_first is_bar) (sym behind)
+
+-- a line in which a `|` stands isn't blank
+blank_step : (x : ℕ) (b any all : Bool) → x == 124 ≡ b → (b || any) ≡ true → (any ≡ true → all ≡ false) → (is_blank x && all) ≡ false
+blank_step x true any all is some rest = let bar = eqb-true x 124 is in rw bar refl
+blank_step x false any all is some rest = and_right (is_blank x) all (rest some)
+  where
+    and_right : (a c : Bool) → c ≡ false → (a && c) ≡ false
+    and_right true c h = h
+    and_right false c h = refl
+
+pub barred_not_blank : (xs : List ℕ) → list_any is_bar xs ≡ true → list_all is_blank xs ≡ false
+barred_not_blank [] some = cc
+barred_not_blank (x ∷ xs) some = blank_step x (x == 124) (list_any is_bar xs) (list_all is_blank xs) refl some (barred_not_blank xs)
+
+-- nor does a good line end with a byte 13
+last_is_good : (line : List ℕ) (n : ℕ) → n < length line → list_any is_bad_byte line ≡ false → is_bad_byte (get_or line n 0) ≡ false
+last_is_good [] n lt good = absurd (omega (arith, lt))
+last_is_good (x ∷ line) zero lt good = (or_parts (is_bad_byte x) (list_any is_bad_byte line) good).0
+last_is_good (x ∷ line) (suc n) lt good = last_is_good line n (omega (arith, lt)) (or_parts (is_bad_byte x) (list_any is_bad_byte line) good).1
+
+pub no_return : (line : List ℕ) → 0 < length line → list_any is_bad_byte line ≡ false → (slice_index line (length line - 1) == 13) ≡ false
+no_return line some good =
+    let fine = last_is_good line (length line - 1) (omega (arith, some)) good in
+    ne_eqb (slice_index line (length line - 1)) 13 (λ is. cc)
+
+-- what a line with these fields means
+pub short_meaning : (line thread field : List ℕ) (op : Op) (target : Option (List ℕ)) → length line < 32 → list_any is_bad_byte line ≡ false → list_any is_bar line ≡ true
+    → thread ≡ before_first is_bar line → trimmed thread ≡ thread → 0 < length thread → length thread < 32
+    → field ≡ before_first is_bar (after_first is_bar line) → IsShort field op target
+    → meaning line ≡ Means (record { thread = thread; op = op; target = target })
+short_meaning line thread field op target few good barred thread_is bare some short field_is is =
+    let front = position_or_len is_bar line in
+    let filled : 0 < length line = omega (arith, some, ap length thread_is, length-take front line) in
+    let stripped : (slice_index line (length line - 1) == 13) ≡ false = no_return line filled good in
+    let fits : is_too_long line ≡ false = le-ltb 4096 (length line) (omega (arith, few)) in
+    let not_blank = barred_not_blank line barred in
+    let thread_at : trimmed (before_first is_bar line) ≡ thread = ap trimmed (sym thread_is) ∙ bare in
+    let field_at : trimmed (before_first is_bar (after_first is_bar line)) ≡ field = ap trimmed (sym field_is) ∙ is.bare in
+    let named : (length thread == 0) ≡ false = ne_eqb (length thread) 0 (λ e. omega (arith, e, some)) in
+    let short_name : is_long_name thread ≡ false = le-ltb 255 (length thread) (omega (arith, short)) in
+    rw (stripped, fits, good, not_blank, barred, thread_at, field_at, named, is.word, is.closed, is.present, short_name, is.short, is.told) refl
