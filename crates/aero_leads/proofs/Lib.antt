@@ -14,3 +14,4 @@ pub mod Standings
 pub mod ThreadSteps
 pub mod Ends
 pub mod Seeing
+pub mod Variables

@@ -1,13 +1,13 @@
 -- What a thread takes, one event after the other.
-use Rattle.std.proofs.Common.{◌≡◌, ◌≢◌, ◌⊎◌, inl, inr, ℕ, zero, suc, ◌+◌, add-one, take, List, [], ◌∷◌, Some, refl, sym, ap, ap₂, ◌∙◌}
+use Rattle.std.proofs.Common.{◌≡◌, ◌≢◌, ◌⊎◌, inl, inr, ℕ, zero, suc, ◌+◌, add-one, take, List, [], ◌∷◌, ◌++◌, Option, Some, None, refl, sym, ap, ap₂, ◌∙◌, arith}
 use Rattle.std.specs.Prelude.{◌==◌, ◌||◌, ◌&&◌, not, Bool, true, false, if◌then◌else◌, slice_get}
-use Rattle.std.proofs.lemmas.Bool.{cases_Bool, cases_eq, cond-true, cond-false, eqb-true, eq-eqb, ne_eqb, or_left, or_right}
+use Rattle.std.proofs.lemmas.Bool.{cases_Bool, cases_eq, cond-true, cond-false, le-ltb, eqb-true, eq-eqb, ne_eqb, or_left, or_right}
 use Rattle.aero_leads.specs.declared.row.Lead.{Lead}
 use Rattle.aero_leads.specs.declared.last.Last.{Last}
 use Rattle.aero_leads.specs.declared.thread.Thread.{Thread}
 use Rattle.aero_leads.specs.Leads.{Rows}
 use Rattle.aero_leads.specs.Steps.{gains}
-use Rattle.aero_leads.specs.Kept.{least_in, is_below, thread_row, rows_in, HasRow, TakesRow, TakesAll, leads_to, leads_to_any}
+use Rattle.aero_leads.specs.Kept.{least_in, is_below, thread_row, rows_in, HasRow, TakesRow, TakesAll, leads_to, leads_to_any, if_any}
 use Rattle.aero_leads.proofs.Leasts.{gains_none, gains_more}
 
 -- a row is taken out, gains, and is put back
@@ -49,6 +49,18 @@ or_false false = refl
 
 pub takes_own : (old : Rows) (n t : ℕ) (l : Last) → l.thread ≡ t → TakesAll old old n t (l ∷ [])
 takes_own old n t l h = takes_nothing old n t (l ∷ []) (λ w. or_false (leads_to old t w l) ∙ own_leads_not old t w l h)
+
+-- where there is no event, nothing leads there
+pub none_leads : (rows : Rows) (t w : ℕ) (l : Last) → l.count ≡ 0 → leads_to rows t w l ≡ false
+none_leads rows t w l h = ap (λ n. not (l.thread == t) && is_below (rows l.thread w) n) h ∙ go (not (l.thread == t)) (rows l.thread w)
+  where
+    go : (b : Bool) (p : Option ℕ) → (b && is_below p 0) ≡ false
+    go true None = refl
+    go true (Some q) = le-ltb q 0 (omega arith)
+    go false p = refl
+
+pub takes_none : (old : Rows) (n t : ℕ) (l : Last) → l.count ≡ 0 → TakesAll old old n t (l ∷ [])
+takes_none old n t l h = takes_nothing old n t (l ∷ []) (λ w. or_false (leads_to old t w l) ∙ none_leads old t w l h)
 
 pub takes_one : (old new : Rows) (n t : ℕ) (l : Last) → l.thread ≢ t → TakesRow old new n t l.thread l.count → TakesAll old new n t (l ∷ [])
 takes_one old new n t l h row = record {
@@ -98,3 +110,20 @@ takes_then old mid new n t ks ls all a b both = record { rows = λ v w. b.rows v
 pub takes_next : (old mid new : Rows) (n t : ℕ) (ls : List Last) (i : ℕ) (l : Last) → slice_get ls i ≡ Some l → TakesAll old mid n t (take i ls) → TakesAll mid new n t (l ∷ []) → TakesAll old new n t (take (i + 1) ls)
 takes_next old mid new n t ls i l at a b =
     takes_then old mid new n t (take i ls) (l ∷ []) (take (i + 1) ls) a b (λ w. any_next old t w ls l i at ∙ ap (λ c. leads_to_any old t w (take i ls) || c) (sym (or_false (leads_to old t w l))))
+
+-- the latest read stands behind the others
+pub any_reads : (rows : Rows) (t w : ℕ) (ks : List Last) (l : Last) → leads_to_any rows t w (ks ++ if_any l) ≡ (leads_to_any rows t w ks || leads_to rows t w l)
+any_reads rows t w [] l = go (cases_Bool (l.count == 0))
+  where
+    go : (l.count == 0 ≡ true) ⊎ (l.count == 0 ≡ false) → leads_to_any rows t w (if_any l) ≡ leads_to rows t w l
+    go (inl e) = ap (leads_to_any rows t w) (cond-true (l.count == 0) [] (l ∷ []) e) ∙ sym (none_leads rows t w l (eqb-true l.count 0 e))
+    go (inr e) = ap (leads_to_any rows t w) (cond-false (l.count == 0) [] (l ∷ []) e) ∙ or_false (leads_to rows t w l)
+any_reads rows t w (k ∷ ks) l = ap (λ b. leads_to rows t w k || b) (any_reads rows t w ks l) ∙ assoc (leads_to rows t w k) (leads_to_any rows t w ks) (leads_to rows t w l)
+  where
+    assoc : (a b c : Bool) → (a || (b || c)) ≡ ((a || b) || c)
+    assoc true b c = refl
+    assoc false b c = refl
+
+pub takes_reads : (old mid new : Rows) (n t : ℕ) (ks : List Last) (l : Last) → TakesAll old mid n t ks → TakesAll mid new n t (l ∷ []) → TakesAll old new n t (ks ++ if_any l)
+takes_reads old mid new n t ks l a b =
+    takes_then old mid new n t ks (l ∷ []) (ks ++ if_any l) a b (λ w. any_reads old t w ks l ∙ ap (λ c. leads_to_any old t w ks || c) (sym (or_false (leads_to old t w l))))

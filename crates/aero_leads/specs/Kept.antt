@@ -1,5 +1,5 @@
 -- What contracts see of what the engine keeps.
-use Rattle.std.specs.Prelude.{◌≡◌, ◌≢◌, ℕ, ◌+◌, ◌≤◌, nat_lt, not, ◌==◌, ◌&&◌, ◌||◌, Bool, true, false, if◌then◌else◌, List, [], ◌∷◌, filter, Option, Some, None, is_some, slice_get}
+use Rattle.std.specs.Prelude.{◌≡◌, ◌≢◌, ℕ, ◌+◌, ◌≤◌, nat_lt, not, ◌==◌, ◌&&◌, ◌||◌, Bool, true, false, if◌then◌else◌, List, [], ◌∷◌, ◌++◌, filter, Option, Some, None, is_some, slice_get}
 use Rattle.aero_leads.specs.declared.row.Lead.{Lead}
 use Rattle.aero_leads.specs.declared.last.Last.{Last}
 use Rattle.aero_leads.specs.declared.thread.Thread.{Thread}
@@ -57,9 +57,21 @@ abbrev pub variable_write : Option Variable → Last
 variable_write None = last 0 0
 variable_write (Some v) = v.write
 
+-- the event, if there is one
+abbrev pub if_any : Last → List Last
+if_any l = if l.count == 0 then [] else l ∷ []
+
+abbrev pub latest_read_in : Option Variable → Last
+latest_read_in None = last 0 0
+latest_read_in (Some v) = v.read
+
+abbrev pub other_reads_in : Option Variable → List Last
+other_reads_in None = []
+other_reads_in (Some v) = v.others.items
+
+-- the latest read stands behind the others
 abbrev pub variable_reads : Option Variable → List Last
-variable_reads None = []
-variable_reads (Some v) = v.reads.items
+variable_reads v = other_reads_in v ++ if_any (latest_read_in v)
 
 -- whether thread w's open block leads to the event, which is of another thread than t
 abbrev pub leads_to : Rows → ℕ → ℕ → Last → Bool

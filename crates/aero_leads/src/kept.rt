@@ -7,10 +7,10 @@ ghost use Rattle.aero_leads.specs.Kept.{last, IsLeastBack};
 
 use crate::last::Last;
 use crate::table;
-use crate::table::{Table, gain, no_thread, take, take_all};
+use crate::table::{Table, gain, no_thread, take, take_reads};
 use crate::thread::least_back;
 use crate::variable::{
-    Variable, last_reads, last_release, last_write, note_read, note_release, note_write,
+    Variable, last_release, last_write, latest_read, note_read, note_release, note_write, other_reads,
 };
 use std::alloc::{AllocError, Global};
 
@@ -117,8 +117,9 @@ impl Kept {
         if take(&mut self.table, t, write, self.events)? {
             return Ok(true);
         }
-        let reads = last_reads(&self.variables, x);
-        if take_all(&mut self.table, t, reads, self.events)? {
+        let read = latest_read(&self.variables, x);
+        let others = other_reads(&self.variables, x);
+        if take_reads(&mut self.table, t, others, read, self.events)? {
             return Ok(true);
         }
         let event = self.event(t);

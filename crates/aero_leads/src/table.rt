@@ -1,6 +1,6 @@
 //! What is kept of the threads, and to which of them each open block leads.
-ghost use Rattle.std.specs.Prelude.{◌≡◌, ◌≢◌, ◌∷◌, ◌<◌, ◌-◌, ◌^◌, ◌==◌, ℕ, true, false, [], OnOk, OnErr, IfOk, vec_len, slice_get, is_some, if◌then◌else◌};
-ghost use Rattle.aero_leads.specs.Kept.{rows_in, is_below, thread_in_block, thread_begins, thread_acted, leads_to, leads_to_any, TakesAll, TakesRow, HaveSameBlocks, AreSameThreads, BeginsBlock, EndsBlock};
+ghost use Rattle.std.specs.Prelude.{◌≡◌, ◌≢◌, ◌∷◌, ◌++◌, ◌<◌, ◌-◌, ◌^◌, ◌==◌, ℕ, true, false, [], OnOk, OnErr, IfOk, vec_len, slice_get, is_some, if◌then◌else◌};
+ghost use Rattle.aero_leads.specs.Kept.{rows_in, is_below, thread_in_block, thread_begins, thread_acted, leads_to, leads_to_any, if_any, TakesAll, TakesRow, HaveSameBlocks, AreSameThreads, BeginsBlock, EndsBlock};
 ghost use Rattle.aero_leads.specs.Listed.{AreListed};
 ghost use Rattle.aero_leads.specs.Seen.{AreSeen};
 
@@ -93,7 +93,7 @@ pub(crate) fn take(table: &mut Table, t: u32, last: Last, place: u32) -> Result<
     ensures same { HaveSameBlocks table.old.threads.items table.new.threads.items }
     ensures room { vec_len table.new.threads ≡ vec_len table.old.threads }
 {
-    if last.thread == t {
+    if last.thread == t || last.count == 0 {
         return Ok(false);
     }
     if leads(&table.threads, t, last.thread, last.count) {
@@ -103,8 +103,29 @@ pub(crate) fn take(table: &mut Table, t: u32, last: Last, place: u32) -> Result<
     Ok(false)
 }
 
-/// The same of each of these events in turn.
-pub(crate) fn take_all(
+/// The same of the last reads of a variable, of which the latest stands alone.
+pub(crate) fn take_reads(
+    table: &mut Table,
+    t: u32,
+    others: &[Last],
+    latest: Last,
+    place: u32,
+) -> Result<bool, AllocError>
+    requires { t < vec_len table.old.threads }
+    ensures closing { IfOk result (λ closes. closes ≡ leads_to_any (rows_in table.old.threads.items) t t (others.now ++ if_any latest)) }
+    ensures takes { IfOk result (λ closes. closes ≡ false → TakesAll (rows_in table.old.threads.items) (rows_in table.new.threads.items) place t (others.now ++ if_any latest)) }
+    ensures same { HaveSameBlocks table.old.threads.items table.new.threads.items }
+    ensures room { vec_len table.new.threads ≡ vec_len table.old.threads }
+{
+    if take_all(table, t, others, place)? {
+        return Ok(true);
+    }
+    let closes = take(table, t, latest, place)?;
+    Ok(closes)
+}
+
+// The same of each of these events in turn.
+fn take_all(
     table: &mut Table,
     t: u32,
     lasts: &[Last],

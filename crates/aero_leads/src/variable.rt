@@ -1,15 +1,17 @@
 //! What is kept of variables and locks.
-ghost use Rattle.std.specs.Prelude.{◌≡◌, ◌==◌, ◌<◌, ◌++◌, ◌∷◌, [], ℕ, not, filter, OnOk, vec_len, slice_get, if◌then◌else◌};
-ghost use Rattle.aero_leads.specs.Kept.{last, last_or_none, variable_write, variable_reads, reads_but};
+ghost use Rattle.std.specs.Prelude.{◌≡◌, ◌==◌, ◌<◌, ◌++◌, ◌∷◌, [], ℕ, not, filter, Some, OnOk, vec_len, slice_get, if◌then◌else◌};
+ghost use Rattle.aero_leads.specs.Kept.{last, last_or_none, if_any, variable_write, latest_read_in, other_reads_in, variable_reads, reads_but};
 
 use crate::last::Last;
 use std::alloc::{AllocError, Global};
 
-/// The last write, and the last read by each thread that has read the variable since.
+/// The last write, the latest read since, and the last read by each other thread that has read the
+/// variable since. Most variables are read by one thread between writes, and need no list.
 #[derive(Drop)]
 pub struct Variable {
     pub write: Last,
-    pub reads: Vec<Last>,
+    pub read: Last,
+    pub others: Vec<Last>,
 }
 
 /// The last write of variable `x`.
@@ -22,12 +24,22 @@ pub(crate) fn last_write(variables: &[Variable], x: u32) -> Last
     }
 }
 
-/// The reads of variable `x` since.
-pub(crate) fn last_reads(variables: &[Variable], x: u32) -> &[Last]
-    ensures { result.now ≡ variable_reads (slice_get variables.now x) }
+/// The latest read of variable `x` since.
+pub(crate) fn latest_read(variables: &[Variable], x: u32) -> Last
+    ensures { result ≡ latest_read_in (slice_get variables.now x) }
 {
     match variables.get(x as usize) {
-        Some(variable) => &variable.reads,
+        Some(variable) => variable.read,
+        None => Last::none(),
+    }
+}
+
+/// The last reads of variable `x` since by other threads.
+pub(crate) fn other_reads(variables: &[Variable], x: u32) -> &[Last]
+    ensures { result.now ≡ other_reads_in (slice_get variables.now x) }
+{
+    match variables.get(x as usize) {
+        Some(variable) => &variable.others,
         None => &[],
     }
 }
@@ -54,7 +66,8 @@ pub(crate) fn note_write(
     reach(variables, x)?;
     let variable = &mut variables[x as usize];
     variable.write = event;
-    variable.reads.clear();
+    variable.read = Last::none();
+    variable.others.clear();
     Ok(())
 }
 
@@ -64,11 +77,13 @@ pub(crate) fn note_read(
     x: u32,
     event: Last,
 ) -> Result<(), AllocError>
+    requires { 0 < event.count }
     ensures writes { OnOk result ((y : ℕ) → variable_write (slice_get variables.new.items y) ≡ variable_write (slice_get variables.old.items y)) }
     ensures reads { OnOk result ((y : ℕ) → variable_reads (slice_get variables.new.items y) ≡ (if y == x then reads_but event.thread (variable_reads (slice_get variables.old.items y)) ++ event ∷ [] else variable_reads (slice_get variables.old.items y))) }
 {
     reach(variables, x)?;
-    put_read(&mut variables[x as usize].reads, event)
+    put_read(&mut variables[x as usize], event)?;
+    Ok(())
 }
 
 /// Lock `l` is released by this event.
@@ -80,12 +95,18 @@ pub(crate) fn note_release(releases: &mut Vec<Last>, l: u32, event: Last) -> Res
     Ok(())
 }
 
-// The event in the place of an earlier one by its thread.
-fn put_read(reads: &mut Vec<Last>, event: Last) -> Result<(), AllocError>
-    ensures { OnOk result (reads.new.items ≡ reads_but event.thread reads.old.items ++ event ∷ []) }
+// The event is the latest read, in the place of an earlier one by its thread.
+fn put_read(variable: &mut Variable, event: Last) -> Result<(), AllocError>
+    requires { 0 < event.count }
+    ensures write { variable.new.write ≡ variable.old.write }
+    ensures reads { OnOk result (variable_reads (Some variable.new) ≡ reads_but event.thread (variable_reads (Some variable.old)) ++ event ∷ []) }
 {
-    drop_reader(reads, event.thread);
-    reads.push(event)?;
+    drop_reader(&mut variable.others, event.thread);
+    let latest = variable.read;
+    if latest.count > 0 && latest.thread != event.thread {
+        variable.others.push(latest)?;
+    }
+    variable.read = event;
     Ok(())
 }
 
@@ -102,10 +123,11 @@ fn reach(variables: &mut Vec<Variable>, x: u32) -> Result<(), AllocError>
 {
     let at = x as usize;
     while variables.len() <= at {
-        let reads = Vec::new(*variables.allocator());
+        let others = Vec::new(*variables.allocator());
         variables.push(Variable {
             write: Last::none(),
-            reads,
+            read: Last::none(),
+            others,
         })?;
     }
     Ok(())
