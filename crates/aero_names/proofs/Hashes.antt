@@ -1,7 +1,10 @@
 -- The hash of a name, word by word.
-use Rattle.std.proofs.Common.{◌≡◌, ℕ, ◌<◌, ◌≤◌, ◌/◌, ◌^◌, List, [], ◌∷◌, length, take, drop, refl, ap, arith}
+use Rattle.std.proofs.Common.{◌≡◌, ℕ, ◌<◌, ◌≤◌, List, [], ◌∷◌, length, take, drop, Some, None, refl, sym, ap, arith}
+use Rattle.std.specs.Prelude.{option_map, unwrap_or}
 use Rattle.std.specs.Int.{w64, from_le_bytes}
-use Rattle.aero_names.specs.Hash.{mixed, short_word, hash_from, hash_of}
+use Rattle.aero_names.specs.declared.key.Key.{Key}
+use Rattle.aero_names.specs.Keys.{key_of}
+use Rattle.aero_names.specs.Hash.{mixed, short_word, hash_from, mixed_again, hash_of_key, hash_of_long, hash_of}
 
 -- one word more
 pub one_word : (hash : ℕ) (bytes : List ℕ) → 8 ≤ length bytes → hash_from (mixed hash (from_le_bytes w64 (take 8 bytes))) (drop 8 bytes) ≡ hash_from hash bytes
@@ -29,6 +32,15 @@ last_word hash (a ∷ b ∷ c ∷ d ∷ e ∷ f ∷ []) short = refl
 last_word hash (a ∷ b ∷ c ∷ d ∷ e ∷ f ∷ g ∷ []) short = refl
 last_word hash (a ∷ b ∷ c ∷ d ∷ e ∷ f ∷ g ∷ h ∷ rest) short = absurd (omega (arith, short))
 
-pub mixed_once_more : (last : ℕ) (name : List ℕ) → last ≡ hash_from (length name) name → mixed last (last / 2 ^ 32) ≡ hash_of name
+pub long_hash : (last : ℕ) (name : List ℕ) → last ≡ hash_from (length name) name → mixed_again last ≡ hash_of_long name
+unfolding hash_of_long
+long_hash last name is = ap mixed_again is
+
+-- the hash of a name is that of its key, where it has one
+pub hash_with_key : (name : List ℕ) (key : Key) → key_of name ≡ Some key → hash_of_key key ≡ hash_of name
 unfolding hash_of
-mixed_once_more last name is = ap (λ n. mixed n (n / 2 ^ 32)) is
+hash_with_key name key is = ap (λ k. unwrap_or (option_map hash_of_key k) (hash_of_long name)) (sym is)
+
+pub hash_without_key : (name : List ℕ) → key_of name ≡ None → hash_of_long name ≡ hash_of name
+unfolding hash_of
+hash_without_key name is = ap (λ k. unwrap_or (option_map hash_of_key k) (hash_of_long name)) (sym is)

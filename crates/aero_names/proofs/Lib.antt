@@ -1,6 +1,7 @@
 pub mod Cuts
 pub mod Fronts
 pub mod Hashes
+pub mod Keys
 pub mod Links
 pub mod Listings
 pub mod NewNames

@@ -1,14 +1,16 @@
 -- A list of names, each with its number, and one name more.
-use Rattle.std.proofs.Common.{◌≡◌, ◌+◌, ◌<◌, ◌≤◌, ℕ, zero, suc, Bool, true, false, cond, not, ◌||◌, List, [], ◌∷◌, ◌++◌, length, refl, sym, ◌∙◌, ap, subst, ◌⊎◌, inl, inr, arith, Some, length-append}
+use Rattle.std.proofs.Common.{◌≡◌, ◌+◌, ◌<◌, ◌≤◌, ℕ, zero, suc, Bool, true, false, cond, not, ◌||◌, List, [], ◌∷◌, ◌++◌, length, refl, sym, ◌∙◌, ap, subst, ◌⊎◌, inl, inr, arith, Option, Some, length-append}
 use Rattle.std.proofs.lemmas.Bool.{cases_Bool, or_parts, or_left, or_right, both_ways}
 use Rattle.std.proofs.lemmas.List.Sums.{fold-append}
 use Rattle.std.proofs.lemmas.Option.{same_Some, unwrap_or-slice_get}
 use Rattle.std.proofs.Math.ListN.{get_or-append}
 use Rattle.std.proofs.lemmas.Slice.Eq.{bytes_eq-Decides}
-use Rattle.std.specs.Prelude.{bytes_eq, slice_get, slice_index, unwrap_or, Result, Ok, Err, IfOk, OnOk}
+use Rattle.std.specs.Prelude.{bytes_eq, slice_get, slice_index, unwrap_or, Result, Ok, Err, IfOk, IfSome, OnOk}
 use Rattle.std.specs.List.{list_any}
 use Rattle.aero_model.specs.Numbering.{with_name, different_names, number_of}
+use Rattle.aero_names.specs.declared.key.Key.{Key}
 use Rattle.aero_names.specs.Hash.{hash_of}
+use Rattle.aero_names.specs.Keys.{AreKeys}
 use Rattle.aero_names.specs.Indexed.{name_in, IsLatest, IsIndexed, AreDistinct, AreFound}
 use Rattle.aero_names.specs.Listing.{Listing, IsListing, is_listed}
 
@@ -56,6 +58,10 @@ listed_at : (names : List (List ℕ)) (name : List ℕ) (n : ℕ) → slice_get 
 listed_at [] name n at = absurd (cc)
 listed_at (first ∷ names) name zero at = or_left (bytes_eq name first) (list_any (bytes_eq name) names) ((bytes_eq-Decides name first).1 (sym (same_Some first name at)))
 listed_at (first ∷ names) name (suc n) at = or_right (bytes_eq name first) (list_any (bytes_eq name) names) (listed_at names name n at)
+
+-- a name stands where a hint tells it
+pub at_hint : (hint : Option ℕ) (n : ℕ) (names : List (List ℕ)) (name : List ℕ) → hint ≡ Some n → IfSome hint (λ k. slice_get names k ≡ Some name) → slice_get names n ≡ Some name
+at_hint hint n names name is at = subst (λ h. IfSome h (λ k. slice_get names k ≡ Some name)) is at
 
 -- a name that is found has its number
 pub number_found : (l : Listing) (name : List ℕ) (n : ℕ) → AreDistinct l.names → slice_get l.names n ≡ Some name → n ≡ number_of l.names name
@@ -128,13 +134,14 @@ listing_pushed l name listing new room =
       in_range = listing.in_range;
     }
 
-pub found_pushed : (l : Listing) (name : List ℕ) (after : List (List ℕ)) (next next' : ℕ → ℕ) (before before' : List ℕ) → AreFound l next before → is_listed l name ≡ false → length l.names < l.limit → after ≡ l.names ++ name ∷ [] →
-    IsIndexed after (length l.names + 1) next' before' → AreFound (record l { names = after }) next' before'
-found_pushed l name after next next' before before' found new room is indexed =
+pub found_pushed : (l : Listing) (name : List ℕ) (after : List (List ℕ)) (next next' : ℕ → ℕ) (before before' : List ℕ) (keys keys' : List Key) → AreFound l next before keys → is_listed l name ≡ false → length l.names < l.limit → after ≡ l.names ++ name ∷ [] →
+    IsIndexed after (length l.names + 1) next' before' → AreKeys after keys' → AreFound (record l { names = after }) next' before' keys'
+found_pushed l name after next next' before before' keys keys' found new room is indexed keyed =
     record {
       listing = subst (λ ns. IsListing (record l { names = ns })) (sym is) (listing_pushed l name found.listing new room);
       distinct = subst AreDistinct (sym is) (distinct_pushed l.names name new found.distinct);
       indexed = subst (λ n. IsIndexed after n next' before') (sym (ap length is ∙ length-append l.names (name ∷ []))) indexed;
+      keyed = keyed;
     }
 
 -- the number that a new name got, and what stands there

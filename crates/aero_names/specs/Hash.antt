@@ -1,7 +1,9 @@
 -- A number made of all bytes of a name. Nothing is meant by it: a name is looked for among those with the same number.
-use Rattle.std.specs.Prelude.{ℕ, ◌+◌, ◌*◌, ◌/◌, ◌%◌, ◌^◌, List, [], ◌∷◌, length, fold}
+use Rattle.std.specs.Prelude.{ℕ, ◌+◌, ◌*◌, ◌/◌, ◌%◌, ◌^◌, List, [], ◌∷◌, length, fold, option_map, unwrap_or}
 use Rattle.std.specs.Int.{w64, from_le_bytes, rotate_left}
 use Rattle.std.specs.Int.Bits.{bit_xor}
+use Rattle.aero_names.specs.declared.key.Key.{Key}
+use Rattle.aero_names.specs.Keys.{key_of}
 
 -- what is left of the word, and of what was mixed before it
 unfoldable pub mixed : ℕ → ℕ → ℕ
@@ -16,7 +18,16 @@ unfoldable pub hash_from : ℕ → List ℕ → ℕ
 hash_from hash (a ∷ b ∷ c ∷ d ∷ e ∷ f ∷ g ∷ h ∷ rest) = hash_from (mixed hash (from_le_bytes w64 (a ∷ b ∷ c ∷ d ∷ e ∷ f ∷ g ∷ h ∷ []))) rest
 hash_from hash rest = mixed hash (short_word rest)
 
+-- mixed once more with its upper half
+abbrev pub mixed_again : ℕ → ℕ
+mixed_again last = mixed last (last / 2 ^ 32)
+
+unfoldable pub hash_of_key : Key → ℕ
+hash_of_key key = mixed_again (mixed (mixed key.length key.first) key.last)
+
+unfoldable pub hash_of_long : List ℕ → ℕ
+hash_of_long name = mixed_again (hash_from (length name) name)
+
+-- that of its key, where it has one
 unfoldable pub hash_of : List ℕ → ℕ
-hash_of name =
-    let last = hash_from (length name) name in
-    mixed last (last / 2 ^ 32)
+hash_of name = unwrap_or (option_map hash_of_key (key_of name)) (hash_of_long name)

@@ -1,7 +1,9 @@
 -- Where the names of a list are looked for: a table leads from a hash to the latest name that has it, and each name to the one before it with the same hash.
 use Rattle.std.specs.Prelude.{◌≡◌, ◌+◌, ◌<◌, ◌≤◌, ℕ, List, [], length, slice_get, slice_index, unwrap_or, nat_eq, Some}
 use Rattle.indexmap.specs.IndexMap.{IndexMap, get}
+use Rattle.aero_names.specs.declared.key.Key.{Key}
 use Rattle.aero_names.specs.Hash.{hash_of}
+use Rattle.aero_names.specs.Keys.{AreKeys}
 use Rattle.aero_names.specs.Listing.{Listing, IsListing}
 
 -- the name with this number
@@ -28,8 +30,9 @@ pub record IsIndexed (names : List (List ℕ)) (count : ℕ) (next : ℕ → ℕ
 abbrev pub AreDistinct : List (List ℕ) → Type 0
 AreDistinct names = (a b : ℕ) (name : List ℕ) → slice_get names a ≡ Some name → slice_get names b ≡ Some name → a ≡ b
 
--- the names are different, and each is found by the two tables
-pub record AreFound (l : Listing) (next : ℕ → ℕ) (before : List ℕ) : Type 0 where
+-- the names are different, each is found by the two tables, and these are their keys
+pub record AreFound (l : Listing) (next : ℕ → ℕ) (before : List ℕ) (keys : List Key) : Type 0 where
   pub listing : IsListing l
   pub distinct : AreDistinct l.names
   pub indexed : IsIndexed l.names (length l.names) next before
+  pub keyed : AreKeys l.names keys

@@ -3,13 +3,17 @@
 //! there is none. A name is looked for along those of its hash, and compared with each.
 //!
 //! Hints come first: a place for some bits of the hash, and there the number of a name. What it says is
-//! compared too, so it may be wrong or old.
+//! compared too, so it may be wrong or old: by the keys, which are kept for each name, or, where the name
+//! has none, by its bytes.
 ghost use Rattle.std.specs.Prelude.{◌≡◌, ◌+◌, ◌<◌, ◌↔◌, ◌++◌, ◌∷◌, [], ℕ, IsTrue, false, length, slice_get, Some, IfSome, IfNone, OnOk, bytes_eq, nat_eq, if◌then◌else◌, vec_capacity, vec_len};
 ghost use Rattle.std.specs.List.{list_any};
 ghost use Rattle.indexmap.specs.IndexMap.{spare};
-ghost use Rattle.aero_names.specs.Hash.{hash_of as hash_in};
+ghost use Rattle.aero_names.specs.Hash.{hash_of as hash_in, hash_of_long as long_hash};
 ghost use Rattle.aero_names.specs.Indexed.{IsIndexed, next_at};
+ghost use Rattle.aero_names.specs.Keys.{AreKeys};
 
+use crate::hash::{hash_of_key, hash_of_long};
+use crate::key::{Key, key_of};
 use crate::list::NameList;
 use indexmap::IndexMap;
 use std::alloc::{AllocError, Global};
@@ -30,9 +34,63 @@ fn is_here(names: &NameList, number: u32, name: &[u8]) -> bool
     }
 }
 
-// The number that the hint for this hash tells, where it is the name's.
+// Whether the name with this number has this key.
 #[inline(always)]
-pub(crate) fn hinted(hints: &[u32], names: &NameList, name: &[u8], hash: u64) -> Option<u32>
+fn is_key_here(keys: &[Key], number: u32, key: Key) -> bool
+    ensures { IsTrue result ↔ (slice_get keys.now number ≡ Some key) }
+{
+    match keys.get(number as usize) {
+        Some(here) => *here == key,
+        None => false,
+    }
+}
+
+// The hash of the name, and the number that the hint for it tells, where it is the name's. These are the
+// keys of the names.
+#[inline(always)]
+pub(crate) fn hinted(
+    hints: &[u32],
+    keys: &[Key],
+    names: &NameList,
+    name: &[u8],
+) -> (u64, Option<u32>)
+    requires { AreKeys names.now keys.now }
+    ensures hash { result.0 ≡ hash_in name.now }
+    ensures number { IfSome result.1 (λ number. slice_get names.now number ≡ Some name.now) }
+{
+    match key_of(name) {
+        Some(key) => {
+            let hash = hash_of_key(key);
+            (hash, hinted_by_key(hints, keys, key, hash))
+        }
+        None => hinted_long(hints, names, name),
+    }
+}
+
+// The number that the hint for this hash tells, where the name there has this key.
+#[inline(always)]
+fn hinted_by_key(hints: &[u32], keys: &[Key], key: Key, hash: u64) -> Option<u32>
+    ensures { IfSome result (λ number. slice_get keys.now number ≡ Some key) }
+{
+    let hint = *hints.get(hint_place(hash, hints.len()))?;
+    if is_key_here(keys, hint, key) {
+        return Some(hint);
+    }
+    None
+}
+
+// The same of a name with no key.
+fn hinted_long(hints: &[u32], names: &NameList, name: &[u8]) -> (u64, Option<u32>)
+    ensures hash { result.0 ≡ long_hash name.now }
+    ensures number { IfSome result.1 (λ number. slice_get names.now number ≡ Some name.now) }
+{
+    let hash = hash_of_long(name);
+    (hash, hinted_by_bytes(hints, names, name, hash))
+}
+
+// The number that the hint for this hash tells, where the name there is this one.
+#[inline(always)]
+fn hinted_by_bytes(hints: &[u32], names: &NameList, name: &[u8], hash: u64) -> Option<u32>
     ensures { IfSome result (λ number. slice_get names.now number ≡ Some name.now) }
 {
     let hint = *hints.get(hint_place(hash, hints.len()))?;
@@ -104,16 +162,20 @@ pub(crate) fn find(
     None
 }
 
-// Room for one name more in both tables, so that `link` needs no memory.
+// Room for one name more in the tables and among the keys, so that `link` and a push need no memory.
 pub(crate) fn make_room(
     latest: &mut IndexMap<u64, u32>,
     before: &mut Vec<u32>,
+    keys: &mut Vec<Key>,
 ) -> Result<(), AllocError>
     ensures same { (h : ℕ) → next_at latest.new h ≡ next_at latest.old h }
     ensures rows { before.new.items ≡ before.old.items }
+    ensures keys { keys.new.items ≡ keys.old.items }
     ensures spare { OnOk result (0 < spare latest.new) }
     ensures room { OnOk result (vec_len before.new < vec_capacity before.new) }
+    ensures key { OnOk result (vec_len keys.new < vec_capacity keys.new) }
 {
+    keys.reserve(1)?;
     before.reserve(1)?;
     latest.reserve(1)?;
     Ok(())

@@ -15,6 +15,7 @@
 
 mod hash;
 mod index;
+mod key;
 pub mod laws;
 pub mod list;
 pub mod names;

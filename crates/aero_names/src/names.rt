@@ -1,6 +1,6 @@
 //! A list of different names, numbered in order of first appearance.
-use crate::hash::hash_of;
 use crate::index::{find, grow_hints, hinted, link, make_room, set_hint};
+use crate::key::{Key, kept_key};
 use crate::list::NameList;
 use aero_model::name::Name;
 use indexmap::IndexMap;
@@ -28,6 +28,7 @@ pub struct Names {
     list: NameList,
     latest: IndexMap<u64, u32>,
     before: Vec<u32>,
+    keys: Vec<Key>,
     hints: Vec<u32>,
     limit: u32,
 }
@@ -40,7 +41,7 @@ impl Model for Names {
 
     ghost view = { λ n. record { names = n.list; limit = n.limit } };
 
-    ghost invariant = { λ n. AreFound (record { names = n.list; limit = n.limit }) (next_at n.latest) n.before.items };
+    ghost invariant = { λ n. AreFound (record { names = n.list; limit = n.limit }) (next_at n.latest) n.before.items n.keys.items };
 }
 
 impl Names {
@@ -58,6 +59,7 @@ impl Names {
             list: NameList::new(alloc),
             latest: IndexMap::new(alloc),
             before: Vec::new(alloc),
+            keys: Vec::new(alloc),
             hints: Vec::new(alloc),
             limit,
         }
@@ -94,8 +96,8 @@ impl Names {
         ensures err { OnErr result (self.new ≡ self.old) }
         ensures listing { IsListing self.new }
     {
-        let hash = hash_of(bytes);
-        match hinted(&self.hints, &self.list, bytes, hash) {
+        let (hash, hint) = hinted(&self.hints, &self.keys, &self.list, bytes);
+        match hint {
             Some(number) => Ok(number),
             None => self.number_without_hint(bytes, hash),
         }
@@ -151,8 +153,9 @@ impl Names {
         ensures listing { IsListing self.new }
     {
         let number = self.list.len();
-        make_room(&mut self.latest, &mut self.before)?;
+        make_room(&mut self.latest, &mut self.before, &mut self.keys)?;
         self.list.push(name)?;
+        self.keys.push_reserved(kept_key(name));
         link(&mut self.latest, &mut self.before, number, hash);
         grow_hints(self.alloc, &mut self.hints, number);
         set_hint(&mut self.hints, hash, number);

@@ -1,7 +1,8 @@
-use Rattle.std.proofs.Common.{◌≡◌, ◌+◌, ◌<◌, ◌==◌, ℕ, false, length, sym, ◌∙◌, ap, subst, if◌then◌else◌}
+use Rattle.std.proofs.Common.{rules, ◌≡◌, ◌+◌, ◌<◌, ◌==◌, ℕ, false, [], ◌∷◌, ◌++◌, length, sym, ◌∙◌, ap, subst, if◌then◌else◌}
 use Rattle.aero_names.specs.Hash.{hash_of}
 use Rattle.aero_names.specs.Indexed.{name_in, next_at}
 use Rattle.aero_names.specs.Listing.{Listing, is_listed}
+use Rattle.aero_names.proofs.Keys.{keys_pushed}
 use Rattle.aero_names.proofs.Links.{linked, indexed_same}
 use Rattle.aero_names.proofs.Listings.{found_pushed, indexed_pushed, last_name}
 use Rattle.aero_names.proofs.names.Names.add.Goals as goal
@@ -16,8 +17,11 @@ invariant_of-self-2 c =
     c.requires.hashed ∙ sym (ap hash_of (last_name c.self.inside.list c.push.new.self c.args.name.now c.in_ok-push.ensures.ok)) in
     let updates : (h : ℕ) → next_at c.link.new.latest h ≡ (if c.args.hash == h then length c.self.inside.list + 1 else next_at c.make_room.new.latest h) =
     λ h. c.link.ensures.latest h ∙ ap (λ n. if c.args.hash == h then n + 1 else next_at c.make_room.new.latest h) c.len-number.ensures in
-    found_pushed l c.args.name.now c.push.new.self (next_at c.self.inside.latest) (next_at c.link.new.latest) c.self.inside.before.items c.link.new.before.items c.self.invariant
+    let keyed = keys_pushed c.self.inside.list c.push.new.self c.self.inside.keys.items c.push_reserved.new.self.items c.args.name.now c.kept_key.result c.self.invariant.keyed (search rules) c.kept_key.ensures c.in_ok-push.ensures.ok
+    (c.push_reserved.ensures.items ∙ ap (λ ks. ks ++ c.kept_key.result ∷ []) c.make_room.ensures.keys) in
+    found_pushed l c.args.name.now c.push.new.self (next_at c.self.inside.latest) (next_at c.link.new.latest) c.self.inside.before.items c.link.new.before.items c.self.inside.keys.items c.push_reserved.new.self.items c.self.invariant
     (subst (λ (k : Listing). is_listed k c.args.name.now ≡ false) (sym c.self.view_is) c.requires.new)
     (subst (λ (k : Listing). length k.names < k.limit) (sym c.self.view_is) c.requires.room)
     c.in_ok-push.ensures.ok
     (linked c.push.new.self (next_at c.make_room.new.latest) (next_at c.link.new.latest) c.make_room.new.before.items c.link.new.before.items (length c.self.inside.list) c.args.hash pushed hash_is updates c.link.ensures.rows)
+    keyed

@@ -1,8 +1,8 @@
 use Rattle.std.proofs.Common.{◌∙◌, ap, ap₂, refl}
 use Rattle.std.specs.Int.{w64, from_le_bytes}
 use Rattle.aero_names.specs.Hash.{mixed, hash_from}
-use Rattle.aero_names.proofs.Hashes.{one_word, last_word, mixed_once_more}
-use Rattle.aero_names.proofs.hash.hash_of.Goals as goal
+use Rattle.aero_names.proofs.Hashes.{one_word, last_word, long_hash}
+use Rattle.aero_names.proofs.hash.hash_of_long.Goals as goal
 
 pub loop-word-preserved : goal.loop-word-preserved
 loop-word-preserved c =
@@ -14,5 +14,5 @@ loop-word-preserved c =
 pub returns : goal.returns
 returns c =
     let short = c.in_default.ensures.cases in
-    let last = c.mixed-last.ensures ∙ (ap (mixed c.loop-word.hash) c.short_word.ensures ∙ (last_word c.loop-word.hash c.loop-word.rest.now short ∙ c.loop-word.invariant)) in
-    c.mixed.ensures ∙ mixed_once_more c.mixed-last.result c.args.name.now last
+    let last = c.mixed.ensures ∙ (ap (mixed c.loop-word.hash) c.short_word.ensures ∙ (last_word c.loop-word.hash c.loop-word.rest.now short ∙ c.loop-word.invariant)) in
+    c.mixed_again.ensures ∙ long_hash c.mixed.result c.args.name.now last
