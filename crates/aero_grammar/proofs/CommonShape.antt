@@ -1,15 +1,13 @@
 -- Lines of the common shape.
-use Rattle.std.proofs.Common.{◌≡◌, ◌≢◌, ◌≤◌, ◌<◌, ◌+◌, ◌-◌, ◌==◌, ◌||◌, ◌&&◌, ℕ, zero, suc, min, Bool, true, false, cond, not, List, [], ◌∷◌, length, take, drop, get_or, Option, Some, refl, sym, ap, ◌∙◌, arith}
-use Rattle.std.specs.List.{position_or_len, prefix_len, list_any, list_all, before_first, after_first}
-use Rattle.std.specs.Str.Lines.{strip_carriage_return}
+use Rattle.std.proofs.Common.{◌≡◌, ◌≤◌, ◌<◌, ◌+◌, ◌-◌, ◌==◌, ◌||◌, ◌&&◌, ℕ, zero, suc, min, Bool, true, false, cond, not, List, [], ◌∷◌, length, take, drop, get_or, Option, refl, sym, ap, ◌∙◌, arith}
+use Rattle.std.specs.List.{position_or_len, list_any, list_all, before_first, after_first}
 use Rattle.std.specs.Prelude.{slice_index}
 use Rattle.std.proofs.lemmas.Bool.{ne_eqb, eqb-true, le-ltb, or_parts}
 use Rattle.std.proofs.lemmas.List.{take-take, drop-take, length-take}
 use Rattle.aero_model.specs.declared.event.Op.{Op}
 use Rattle.aero_model.specs.Lines.{is_too_long}
 use Rattle.aero_model.specs.Names.{is_bad_byte}
-use Rattle.aero_model.specs.Named.{stands_alone}
-use Rattle.aero_grammar.specs.Meaning.{Means, meaning, is_bar, is_blank, is_long_name, trimmed, operation_of, operation_word, is_unclosed, target_bytes, target_of}
+use Rattle.aero_grammar.specs.Meaning.{Means, meaning, is_bar, is_blank, is_long_name, trimmed}
 use Rattle.aero_grammar.specs.Short.{IsShort}
 
 -- the first place among fewer elements
@@ -31,7 +29,7 @@ field_between text end bar more below at within is =
     let rest = end - (bar + 1) in
     let whole : bar + 1 + rest ≡ end = omega (arith, below) in
     let behind : after_first is_bar (take end text) ≡ take rest (drop (bar + 1) text) =
-        ap (λ k. drop (k + 1) (take end text)) (sym at) ∙ ap (λ k. drop (bar + 1) (take k text)) (sym whole) ∙ drop-take (bar + 1) rest text in
+    ap (λ k. drop (k + 1) (take end text)) (sym at) ∙ ap (λ k. drop (bar + 1) (take k text)) (sym whole) ∙ drop-take (bar + 1) rest text in
     sym (take-take more rest (drop (bar + 1) text) within)
     ∙ ap (λ k. take k (take rest (drop (bar + 1) text))) is
     ∙ ap (before_first is_bar) (sym behind)

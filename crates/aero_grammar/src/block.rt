@@ -71,16 +71,26 @@ fn read_line(text: &[u8], is_clean: bool) -> LineRead<'_>
     ensures fit { is_clean ≡ true → list_any is_unfit result.behind.now ≡ false }
     ensures meaning { ReadsMeaning result.words (meaning result.line.now) }
 {
-    if is_clean
-        && let Some(short) = short_line(text)
-    {
-        let ShortLine { line, behind, words } = short;
+    if is_clean && let Some(short) = short_line(text) {
+        let ShortLine {
+            line,
+            behind,
+            words,
+        } = short;
         let words = Ok(Some(words));
-        return LineRead { line, behind, words };
+        return LineRead {
+            line,
+            behind,
+            words,
+        };
     }
     let (line, behind) = first_line(text);
     let words = words_of(line, is_clean);
-    LineRead { line, behind, words }
+    LineRead {
+        line,
+        behind,
+        words,
+    }
 }
 
 // What the block says, by its parts. What is kept takes no more memory than it needs.

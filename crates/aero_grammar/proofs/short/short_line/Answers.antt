@@ -1,4 +1,4 @@
-use Rattle.std.proofs.Common.{◌≡◌, ◌<◌, ◌+◌, ◌∷◌, take, drop, length, arith, sym, ap, ◌∙◌}
+use Rattle.std.proofs.Common.{◌≡◌, ◌<◌, ◌+◌, ◌∷◌, take, length, arith, sym, ap, ◌∙◌}
 use Rattle.std.proofs.lemmas.List.{length-take, take_rest}
 use Rattle.std.specs.List.{list_any}
 use Rattle.aero_model.specs.Lines.{lines_of}

@@ -1,4 +1,4 @@
-use Rattle.std.proofs.Common.{take, length, arith, refl}
+use Rattle.std.proofs.Common.{take, arith, refl}
 use Rattle.std.specs.Prelude.{option_copied}
 use Rattle.std.proofs.lemmas.List.{length-take}
 use Rattle.aero_grammar.proofs.CommonShape.{short_meaning}
