@@ -23,6 +23,51 @@ fn words_of_line(alloc: Global, line: &[u8]) -> Result<String, Fail> {
     Ok(words)
 }
 
+// The same of the line as the first of a block that goes on with 64 lines that are empty.
+fn words_of_first_line(alloc: Global, line: &[u8]) -> Result<String, Fail> {
+    let mut text = Vec::new(alloc);
+    text.extend_from_slice(line)?;
+    for _ in 0..64 {
+        text.push(b'\n')?;
+    }
+    if text.len() > 1 << 30 {
+        return Err("too many bytes".into());
+    }
+    let parsed = parse_block(alloc, &text)?;
+    if let Some((_, fault)) = parsed.fault {
+        return Ok(format!(in alloc; "{fault:?}")?);
+    }
+    match parsed.events.first() {
+        Some(event) => words_of_event(alloc, &parsed, event.parts().1),
+        None => Ok(format!(in alloc; "blank")?),
+    }
+}
+
+// The thread, the operation and the target of a block's event, in words.
+fn words_of_event(alloc: Global, parsed: &Parsed, event: Numbered) -> Result<String, Fail> {
+    let thread = name_of(&parsed.threads, event.thread)?;
+    let (op, target) = match event.what {
+        What::Read(n) => ("Read", name_of(&parsed.variables, n)?),
+        What::Write(n) => ("Write", name_of(&parsed.variables, n)?),
+        What::Acquire(n) => ("Acquire", name_of(&parsed.locks, n)?),
+        What::Release(n) => ("Release", name_of(&parsed.locks, n)?),
+        What::Fork(n) => ("Fork", name_of(&parsed.threads, n)?),
+        What::Join(n) => ("Join", name_of(&parsed.threads, n)?),
+        What::Begin(Some(n)) => ("Begin", name_of(&parsed.labels, n)?),
+        What::Begin(None) => return Ok(format!(in alloc; "{thread} Begin")?),
+        What::End => return Ok(format!(in alloc; "{thread} End")?),
+        What::Exempt => return Ok(format!(in alloc; "{thread} Exempt")?),
+    };
+    Ok(format!(in alloc; "{thread} {op} {target}")?)
+}
+
+fn name_of(names: &NameList, number: u32) -> Result<&str, Fail> {
+    match names.name(number) {
+        Some(name) => Ok(str::from_utf8(name)?),
+        None => Err("a number without a name".into()),
+    }
+}
+
 #[test]
 fn lines_say_their_events_or_have_their_first_fault(rt: HostRuntime) -> Result<(), Fail> {
     let rows = [
@@ -39,6 +84,11 @@ fn lines_say_their_events_or_have_their_first_fault(rt: HostRuntime) -> Result<(
         ("T0|r(x)\r", "T0 Read x"),
         ("T0|acq(l)", "T0 Acquire l"),
         ("T0|rel(l)", "T0 Release l"),
+        ("T0|w()|(x)", "MissingTarget"),
+        ("T0 |w(x)|7", "T0 Write x"),
+        ("T0|w(x) |7", "T0 Write x"),
+        ("T0|begin|(x)", "T0 Begin"),
+        ("T|w(x))|||", "T Write x)"),
         ("T0|fork(u)", "T0 Fork u"),
         ("T0|join(u)", "T0 Join u"),
         ("", "blank"),
@@ -68,6 +118,8 @@ fn lines_say_their_events_or_have_their_first_fault(rt: HostRuntime) -> Result<(
     for (line, wanted) in rows {
         let words = words_of_line(rt.alloc(), line.as_bytes())?;
         assert!(rt; words.as_str() == wanted, "{words}");
+        let words = words_of_first_line(rt.alloc(), line.as_bytes())?;
+        assert!(rt; words.as_str() == wanted, "{words}, in a block");
     }
     Ok(())
 }
@@ -97,8 +149,9 @@ fn filled(
 fn says(alloc: Global, line: &str, byte: u8, count: usize, wanted: &str) -> Result<bool, Fail> {
     let line = filled(alloc, line, b'#', byte, count)?;
     let words = words_of_line(alloc, &line)?;
+    let in_block = words_of_first_line(alloc, &line)?;
     let wanted = filled(alloc, wanted, b'#', byte, count)?;
-    Ok(words.as_bytes() == wanted.as_slice())
+    Ok(words.as_bytes() == wanted.as_slice() && in_block.as_bytes() == wanted.as_slice())
 }
 
 #[test]
@@ -143,10 +196,7 @@ fn names_of_1_to_255_bytes_are_read(rt: HostRuntime) -> Result<(), Fail> {
 fn push_names(alloc: Global, words: &mut String, kind: &str, names: &NameList) -> Result<(), Fail> {
     words.push_str(kind)?;
     for number in 0..names.len() {
-        let Some(name) = names.name(number) else {
-            return Err("a number without a name".into());
-        };
-        words.push_str(&format!(in alloc; " {}", str::from_utf8(name)?)?)?;
+        words.push_str(&format!(in alloc; " {}", name_of(names, number)?)?)?;
     }
     Ok(())
 }
