@@ -10,7 +10,8 @@ use crate::table;
 use crate::table::{Table, gain, no_thread, take, take_reads};
 use crate::thread::least_back;
 use crate::variable::{
-    Variable, last_release, last_write, latest_read, note_read, note_release, note_write, other_reads,
+    Variable, last_release, last_write, latest_read, note_read, note_release, note_write,
+    other_reads,
 };
 use std::alloc::{AllocError, Global};
 

@@ -125,12 +125,7 @@ pub(crate) fn take_reads(
 }
 
 // The same of each of these events in turn.
-fn take_all(
-    table: &mut Table,
-    t: u32,
-    lasts: &[Last],
-    place: u32,
-) -> Result<bool, AllocError>
+fn take_all(table: &mut Table, t: u32, lasts: &[Last], place: u32) -> Result<bool, AllocError>
     requires { t < vec_len table.old.threads }
     ensures closing { IfOk result (λ closes. closes ≡ leads_to_any (rows_in table.old.threads.items) t t lasts.now) }
     ensures takes { IfOk result (λ closes. closes ≡ false → TakesAll (rows_in table.old.threads.items) (rows_in table.new.threads.items) place t lasts.now) }

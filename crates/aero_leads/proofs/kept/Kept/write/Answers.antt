@@ -23,8 +23,8 @@ returns-then-branch-2-clause-moves c =
     let l = c.last_write-write.result in
     let write : l ≡ old.write c.args.x = c.last_write-write.ensures ∙ ap (λ xs. variable_write (slice_get xs c.args.x)) c.deref.ensures.value in
     let reads : c.other_reads-others.result.now ++ if_any c.latest_read-read.result ≡ old.reads c.args.x =
-        ap₂ (λ ls l. ls ++ if_any l) (c.other_reads-others.ensures ∙ ap (λ xs. other_reads_in (slice_get xs c.args.x)) c.deref-3.ensures.value)
-        (c.latest_read-read.ensures ∙ ap (λ xs. latest_read_in (slice_get xs c.args.x)) c.deref-2.ensures.value) in
+    ap₂ (λ ls l. ls ++ if_any l) (c.other_reads-others.ensures ∙ ap (λ xs. other_reads_in (slice_get xs c.args.x)) c.deref-3.ensures.value)
+    (c.latest_read-read.ensures ∙ ap (λ xs. latest_read_in (slice_get xs c.args.x)) c.deref-2.ensures.value) in
     moves_closing old _ (event c.args.t (Write c.args.x)) (l ∷ old.reads c.args.x)
     (λ h stands ok. subst (λ m. IsTaken old h (event c.args.t (Write c.args.x)) (m ∷ old.reads c.args.x)) (sym write) (taken_write old c.args.t c.args.x h stands))
     (or_right (leads_to old.rows c.args.t c.args.t l) _
@@ -39,8 +39,8 @@ returns-clause-moves c =
     let e = event c.args.t (Write c.args.x) in
     let write : l ≡ old.write c.args.x = c.last_write-write.ensures ∙ ap (λ xs. variable_write (slice_get xs c.args.x)) c.deref.ensures.value in
     let reads : c.other_reads-others.result.now ++ if_any c.latest_read-read.result ≡ old.reads c.args.x =
-        ap₂ (λ ls l. ls ++ if_any l) (c.other_reads-others.ensures ∙ ap (λ xs. other_reads_in (slice_get xs c.args.x)) c.deref-3.ensures.value)
-        (c.latest_read-read.ensures ∙ ap (λ xs. latest_read_in (slice_get xs c.args.x)) c.deref-2.ensures.value) in
+    ap₂ (λ ls l. ls ++ if_any l) (c.other_reads-others.ensures ∙ ap (λ xs. other_reads_in (slice_get xs c.args.x)) c.deref-3.ensures.value)
+    (c.latest_read-read.ensures ∙ ap (λ xs. latest_read_in (slice_get xs c.args.x)) c.deref-2.ensures.value) in
     let taken : TakesAll old.rows (rows_in c.take.new.table.threads.items) old.now c.args.t (l ∷ []) = c.in_ok-take.ensures.takes c.if-branch.false in
     let more = c.in_ok-take_reads.ensures.takes c.if-branch-2.false in
     moves_passing old _ e (l ∷ old.reads c.args.x)
