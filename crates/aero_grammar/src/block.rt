@@ -1,5 +1,5 @@
 //! What a block of lines says.
-ghost use Rattle.std.specs.Prelude.{◌≡◌, ◌<◌, ◌≤◌, ◌^◌, ◌∷◌, length, true, false, IfOk, OnErr};
+ghost use Rattle.std.specs.Prelude.{◌≡◌, ◌<◌, ◌≤◌, ◌^◌, ◌∷◌, [], length, true, false, IfOk, OnErr};
 ghost use Rattle.std.specs.List.{list_any};
 ghost use Rattle.aero_model.specs.Lines.{lines_of};
 ghost use Rattle.aero_model.specs.Names.{is_bad_byte};
@@ -20,13 +20,16 @@ use aero_model::verdict::LineFault;
 use memchr::memchr;
 use std::alloc::{AllocError, Global};
 
+// A short line's bytes: a block has seldom more lines than one for as many.
+const FEW_BYTES: usize = 10;
+
 /// What a block of lines says, up to its first fault: each line ends at a byte 10 or at the
 /// block's end, and no line follows a byte 10 at the end. The block has at most 2^30 bytes, and
 /// the lines are no more than its bytes. The labels of its begins are numbered like its names, in a
 /// table of their own, as many as there are.
 ///
 /// An `AllocError` says that memory was refused, to the list of events, a name or a label. So the block
-/// has an event: one without, or with none before its first fault, takes no memory.
+/// has an event: one without, or with none before its first fault, isn't refused.
 pub fn parse_block(alloc: Global, bytes: &[u8]) -> Result<Parsed, AllocError>
     requires { length bytes.now ≤ 2 ^ 30 }
     ensures reading { IfOk result (λ parsed. parsed ≡ reading_of bytes.now) }
@@ -34,7 +37,7 @@ pub fn parse_block(alloc: Global, bytes: &[u8]) -> Result<Parsed, AllocError>
     ensures refused { OnErr result (0 < length (reading_of bytes.now).events) }
 {
     let mut tables = Tables::new(alloc);
-    let mut events = Vec::new(alloc);
+    let mut events = room_for(alloc, bytes.len());
     let mut lines = 0;
     let is_clean = has_clean_lines(bytes);
     let mut rest = bytes;
@@ -51,6 +54,16 @@ pub fn parse_block(alloc: Global, bytes: &[u8]) -> Result<Parsed, AllocError>
         }
     }
     Ok(parsed(tables, events, lines, None))
+}
+
+// Room for the events of a block of so many bytes, where most of its lines are longer than a few bytes and
+// memory isn't refused. What isn't needed is given back once the block is read.
+fn room_for(alloc: Global, bytes: usize) -> Vec<LineEvent>
+    ensures { result.items ≡ [] }
+{
+    let mut events = Vec::new(alloc);
+    let _ = events.reserve(bytes / FEW_BYTES);
+    events
 }
 
 // A text's first line, what follows it, and the line's words.

@@ -18,8 +18,9 @@ use crate::list::NameList;
 use indexmap::IndexMap;
 use std::alloc::{AllocError, Global};
 
-// How many places hints have at first, and at most: powers of two.
-const FEWEST_HINTS: usize = 64;
+// How many places hints have at first, and at most: powers of two. Growing loses them, so the first are
+// enough for most blocks.
+const FEWEST_HINTS: usize = 1_024;
 
 const MOST_HINTS: usize = 4_194_304;
 

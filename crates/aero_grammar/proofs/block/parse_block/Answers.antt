@@ -15,9 +15,9 @@ use Rattle.aero_grammar.proofs.block.parse_block.Goals as goal
 pub lines-init : goal.lines-init
 lines-init c = record {
   read =
-      sym ((λ i. followed_by (reading (lines_in (c.new-tables.ensures.none i) (c.new-tables.ensures.unlabelled i) (c.new-events.ensures.items i)) 0 None) (reading_of c.args.bytes.now))
+      sym ((λ i. followed_by (reading (lines_in (c.new-tables.ensures.none i) (c.new-tables.ensures.unlabelled i) (c.room_for-events.ensures i)) 0 None) (reading_of c.args.bytes.now))
       ∙ nothing_followed_by (reading_of c.args.bytes.now));
-  tabled = tabled_as _ _ _ _ _ _ c.new-tables.ensures.none c.new-tables.ensures.unlabelled c.new-events.ensures.items nothing_tabled;
+  tabled = tabled_as _ _ _ _ _ _ c.new-tables.ensures.none c.new-tables.ensures.unlabelled c.room_for-events.ensures nothing_tabled;
   names = names_as _ _ _ _ c.new-tables.ensures.none c.new-tables.ensures.unlabelled no_names;
   counted = omega arith;
   fit = c.has_clean_lines-is_clean.ensures;
