@@ -122,7 +122,7 @@ key_kept None name key is same =
     absurd (omega (arith, none, most, long))
 
 -- the name at a place where its key is kept is the same
-found_by_key : (names : List (List ℕ)) (keys : List Key) (name : List ℕ) (key : Key) (n : ℕ) → AreKeys names keys → AreBytes name → key_of name ≡ Some key → slice_get keys n ≡ Some key → slice_get names n ≡ Some name
+pub found_by_key : (names : List (List ℕ)) (keys : List Key) (name : List ℕ) (key : Key) (n : ℕ) → AreKeys names keys → AreBytes name → key_of name ≡ Some key → slice_get keys n ≡ Some key → slice_get names n ≡ Some name
 found_by_key names keys name key n kept small is at = go names n kept.bytes (ap (λ ks. slice_get ks n) (sym kept.are) ∙ at)
   where
     go : (names : List (List ℕ)) (n : ℕ) → All AreBytes names → slice_get (map kept_key names) n ≡ Some key → slice_get names n ≡ Some name
@@ -146,3 +146,12 @@ keys_pushed names after keys more name key kept small key_is after_is more_is =
       are = more_is ∙ (ap₂ (λ ks k. ks ++ k ∷ []) kept.are key_is ∙ (sym (map-append kept_key names (name ∷ [])) ∙ ap (map kept_key) (sym after_is)));
       bytes = subst (All AreBytes) (sym after_is) (All-append AreBytes names (name ∷ []) kept.bytes (alone name small));
     }
+
+-- and its key is kept where it stands
+pub key_at_name : (names : List (List ℕ)) (keys : List Key) (name : List ℕ) (key : Key) (n : ℕ) → AreKeys names keys → key_of name ≡ Some key → slice_get names n ≡ Some name → slice_get keys n ≡ Some key
+key_at_name names keys name key n kept is at = ap (λ ks. slice_get ks n) kept.are ∙ go names n at
+  where
+    go : (names : List (List ℕ)) (n : ℕ) → slice_get names n ≡ Some name → slice_get (map kept_key names) n ≡ Some key
+    go [] n at = absurd (cc)
+    go (first ∷ names) zero at = ap (λ name. Some (kept_key name)) (same_Some first name at) ∙ ap (λ k. Some (unwrap_or k no_key)) is
+    go (first ∷ names) (suc n) at = go names n at

@@ -10,7 +10,7 @@ ghost use Rattle.std.specs.List.{list_any};
 ghost use Rattle.indexmap.specs.IndexMap.{spare};
 ghost use Rattle.aero_names.specs.Hash.{hash_of as hash_in, hash_of_long as long_hash};
 ghost use Rattle.aero_names.specs.Indexed.{IsIndexed, next_at};
-ghost use Rattle.aero_names.specs.Keys.{AreKeys};
+ghost use Rattle.aero_names.specs.Keys.{AreKeys, key_of as key_in};
 
 use crate::hash::{hash_of_key, hash_of_long};
 use crate::key::{Key, key_of};
@@ -116,10 +116,10 @@ pub(crate) fn set_hint(hints: &mut [u32], hash: u64, number: u32) {
     }
 }
 
-// As many hints as there are names, or more, but no more than 2^22, where memory isn't refused.
+// Twice as many hints as there are names, or more, but no more than 2^22, where memory isn't refused.
 pub(crate) fn grow_hints(alloc: Global, hints: &mut Vec<u32>, names: u32) {
     let places = hints.len();
-    if places > names as usize || places >= MOST_HINTS {
+    if places / 2 > names as usize || places >= MOST_HINTS {
         return;
     }
     let more = places.saturating_mul(2).max(FEWEST_HINTS);
@@ -139,23 +139,39 @@ fn latest_with(latest: &IndexMap<u64, u32>, hash: u64) -> u32
     }
 }
 
+// Whether the name with this number, of which these are the keys, is this one, whose key this is.
+#[inline(always)]
+fn is_named(keys: &[Key], names: &NameList, number: u32, name: &[u8], key: Option<Key>) -> bool
+    requires keyed { AreKeys names.now keys.now }
+    requires key { key ≡ key_in name.now }
+    ensures { IsTrue result ↔ (slice_get names.now number ≡ Some name.now) }
+{
+    match key {
+        Some(key) => is_key_here(keys, number, key),
+        None => is_here(names, number, name),
+    }
+}
+
 // The number of the name, whose hash this is, where the list has it.
 pub(crate) fn find(
     latest: &IndexMap<u64, u32>,
     before: &[u32],
+    keys: &[Key],
     names: &NameList,
     name: &[u8],
     hash: u64,
 ) -> Option<u32>
     requires indexed { IsIndexed names.now (length names.now) (next_at latest.now) before.now }
+    requires keyed { AreKeys names.now keys.now }
     requires hashed { hash ≡ hash_in name.now }
     ensures found { IfSome result (λ number. slice_get names.now number ≡ Some name.now) }
     ensures missed { IfNone result (list_any (bytes_eq name.now) names.now ≡ false) }
 {
+    let key = key_of(name);
     let mut next = latest_with(latest, hash);
     while next > 0 {
         let number = next - 1;
-        if is_here(names, number, name) {
+        if is_named(keys, names, number, name, key) {
             return Some(number);
         }
         next = before[number as usize];
@@ -190,9 +206,9 @@ pub(crate) fn link(latest: &mut IndexMap<u64, u32>, before: &mut Vec<u32>, numbe
     ensures latest { (h : ℕ) → next_at latest.new h ≡ (if nat_eq hash h then number + 1 else next_at latest.old h) }
     ensures rows { before.new.items ≡ before.old.items ++ next_at latest.old hash ∷ [] }
 {
-    let next = latest_with(latest, hash);
-    before.push(next).unwrap();
-    let Ok(_) = latest.insert(hash, number + 1) else {
+    let Ok(previous) = latest.insert(hash, number + 1) else {
         unreachable!()
     };
+    let next = previous.unwrap_or(0);
+    before.push(next).unwrap();
 }

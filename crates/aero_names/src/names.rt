@@ -114,7 +114,14 @@ impl Names {
         ensures err { OnErr result (self.new ≡ self.old) }
         ensures listing { IsListing self.new }
     {
-        match find(&self.latest, &self.before, &self.list, name, hash) {
+        match find(
+            &self.latest,
+            &self.before,
+            &self.keys,
+            &self.list,
+            name,
+            hash,
+        ) {
             Some(number) => {
                 set_hint(&mut self.hints, hash, number);
                 Ok(number)

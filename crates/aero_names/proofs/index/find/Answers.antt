@@ -9,7 +9,7 @@ loop-next-init c = left_at_first _ _ _ _ _ _ c.requires.indexed c.requires.hashe
 pub loop-next-preserved : goal.loop-next-preserved
 loop-next-preserved c =
     left_later _ _ _ _ _ _ _ c.requires.indexed c.loop-next.invariant (omega (arith, c.loop-next-test.true))
-    (λ at. both_ways _ c.if-is_here.false (c.is_here.ensures.1 at)) refl
+    (λ at. both_ways _ c.if-is_named.false (c.is_named.ensures.1 at)) refl
 
 pub returns-clause-missed : goal.returns-clause-missed
 returns-clause-missed c =
