@@ -4,4 +4,5 @@ pub mod Rounds
 pub mod Told
 pub mod Changes
 pub mod Stands
+pub mod Accesses
 pub mod Vectors

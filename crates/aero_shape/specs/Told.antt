@@ -1,9 +1,9 @@
 -- What the tables tell of an event. Where they stand for a list of events, it is what the rules for that list say.
-use Rattle.std.specs.Prelude.{ℕ, ◌-◌, ◌==◌, nat_lt, not, ◌&&◌, ◌||◌, if◌then◌else◌, Bool, true, false, List, length, slice_get, Option, Some, None}
+use Rattle.std.specs.Prelude.{◌≡◌, ℕ, ◌-◌, ◌==◌, nat_lt, not, ◌&&◌, ◌||◌, if◌then◌else◌, Bool, true, false, List, length, slice_get, Option, Some, None}
 use Rattle.std.specs.Option.{option_map_or}
 use Rattle.aero_model.specs.declared.numbered.Numbered.{Numbered}
 use Rattle.aero_model.specs.declared.numbered.What.{What}
-use Rattle.aero_model.specs.declared.numbered.What.TheVariants.{Acquire, Release, Fork, Join, Begin, End, Exempt}
+use Rattle.aero_model.specs.declared.numbered.What.TheVariants.{Read, Write, Acquire, Release, Fork, Join, Begin, End, Exempt}
 use Rattle.aero_model.specs.declared.verdict.ShapeFault.{ShapeFault}
 use Rattle.aero_model.specs.declared.verdict.ShapeFault.TheVariants.{ThreadJoined, LockHeldByOther, LockNotHeld, ForkSelf, ForkStarted, JoinSelf, EndWithoutBegin}
 use Rattle.aero_shape.specs.declared.admission.Admitted.{Admitted}
@@ -41,6 +41,19 @@ kind_told threads deep (Begin label) = if deep == 0 then OuterBegin else Plain t
 kind_told threads deep End = if deep == 1 then OuterEnd else Plain (nat_lt 0 deep)
 kind_told threads deep (Join u) = if (thread_at threads u).acted then Plain (nat_lt 0 deep) else IdleJoin
 kind_told threads deep _ = Plain (nat_lt 0 deep)
+
+-- whether a deed reads or writes a variable
+abbrev pub is_access : What → Bool
+is_access (Read x) = true
+is_access (Write x) = true
+is_access _ = false
+
+-- A read or a write by a thread that has acted and that nobody joined, and what it is.
+pub record IsUsualAccess (threads : List ThreadState) (e : Numbered) (admitted : Admitted) : Type 0 where
+  pub access : is_access e.what ≡ true
+  pub acted : (thread_at threads e.thread).acted ≡ true
+  pub joined : (thread_at threads e.thread).joined ≡ false
+  pub kind : admitted ≡ kind_told threads (thread_at threads e.thread).depth e.what
 
 -- whether the last of the numbers is this one
 abbrev pub is_last : ℕ → List ℕ → Bool

@@ -1,7 +1,7 @@
 //! What the tables tell of an event: its fault, if it has one, or what it is.
-ghost use Rattle.std.specs.Prelude.{◌≡◌};
+ghost use Rattle.std.specs.Prelude.{◌≡◌, IfSome};
 ghost use Rattle.aero_shape.specs.States.{thread_at};
-ghost use Rattle.aero_shape.specs.Told.{is_held_by, is_kept_from, is_started, fault_told, kind_told};
+ghost use Rattle.aero_shape.specs.Told.{is_held_by, is_kept_from, is_started, fault_told, kind_told, IsUsualAccess};
 
 use crate::admission::Admitted;
 use crate::states::{FREE, IDLE, LockState, ThreadState, state_at};
@@ -79,4 +79,22 @@ pub(crate) fn kind_of(threads: &[ThreadState], event: &Numbered) -> Admitted
             in_block: depth > 0,
         },
     }
+}
+
+// What the event is, if it is a read or a write by a thread that has acted and that nobody joined.
+#[inline(always)]
+pub(crate) fn access_of(threads: &[ThreadState], event: &Numbered) -> Option<Admitted>
+    ensures { IfSome result (IsUsualAccess threads.now event.now) }
+{
+    let Numbered { thread, what } = *event;
+    let (What::Read(_) | What::Write(_)) = what else {
+        return None;
+    };
+    let actor = state_at(threads, thread, IDLE);
+    if !actor.acted || actor.joined {
+        return None;
+    }
+    Some(Admitted::Plain {
+        in_block: actor.depth > 0,
+    })
 }

@@ -1,5 +1,5 @@
 //! The list of the events that were admitted, as far as the rules ask of it.
-ghost use Rattle.std.specs.Prelude.{◌≡◌, ◌≢◌, ◌<◌, ◌++◌, false, List, [], ◌∷◌, OnOk, OnErr};
+ghost use Rattle.std.specs.Prelude.{◌≡◌, ◌≢◌, ◌<◌, ◌++◌, Bool, false, List, [], ◌∷◌, OnOk, OnErr, OnSome, IfSome, IfNone};
 ghost use Rattle.aero_model.specs.Exempt.{Marked, read_events};
 
 use crate::admission::Admitted;
@@ -7,7 +7,7 @@ use crate::exempt::{Around, close_exempt};
 use crate::growth::make_room;
 use crate::judge::judge;
 use crate::notes::{note_lock, note_threads};
-use crate::rules::{fault_of, kind_of};
+use crate::rules::{access_of, fault_of, kind_of};
 use crate::states::{LockState, ThreadState};
 use aero_model::numbered::Numbered;
 use aero_model::verdict::ShapeFault;
@@ -77,7 +77,51 @@ impl Shape {
     /// or a lock in it is above all those of its kind that admitted events have named. On any error
     /// it counts for nothing. It is never `TooManyThreads` or `TooManyNames`: limits are for the
     /// caller.
+    #[inline(always)]
     pub fn admit(&mut self, event: &Numbered, exempt: bool) -> Result<Admitted, ShapeFault>
+        requires { self.old.admitted < u32.MAX }
+        ensures told { (h : List Marked)
+            → StandsFor self.old h
+            → TellsEvent h (record { event = event.now; exempt = exempt }) result }
+        ensures ok { OnOk result ((h : List Marked)
+            → StandsFor self.old h
+            → StandsFor self.new (h ++ record { event = event.now; exempt = exempt } ∷ [])) }
+        ensures err { OnErr result (self.new ≡ self.old) }
+        ensures room { (h : List Marked)
+            → StandsFor self.old h
+            → Reaches (read_events h) event.now
+            → begins_exempt event.now.what exempt ≡ false
+            → result ≢ Err ShapeFault.Memory }
+        ensures threads_unlimited { result ≢ Err ShapeFault.TooManyThreads }
+        ensures names_unlimited { result ≢ Err ShapeFault.TooManyNames }
+    {
+        match self.admit_access(event) {
+            Some(kind) => Ok(kind),
+            None => self.admit_any(event, exempt),
+        }
+    }
+
+    // Admits a read or a write by a thread that has acted and that nobody joined, as most events
+    // are. It changes nothing but the number of events. All else is left alone.
+    #[inline(always)]
+    fn admit_access(&mut self, event: &Numbered) -> Option<Admitted>
+        requires { self.old.admitted < u32.MAX }
+        ensures told { IfSome result (λ admitted. (h : List Marked) (exempt : Bool)
+            → StandsFor self.old h
+            → TellsEvent h (record { event = event.now; exempt = exempt }) (Ok admitted)) }
+        ensures some { OnSome result ((h : List Marked) (exempt : Bool)
+            → StandsFor self.old h
+            → StandsFor self.new (h ++ record { event = event.now; exempt = exempt } ∷ [])) }
+        ensures none { IfNone result (self.new ≡ self.old) }
+    {
+        let kind = access_of(&self.threads, event)?;
+        self.admitted += 1;
+        Some(kind)
+    }
+
+    // Admits the event as `admit` does, whatever it is.
+    #[inline(never)]
+    fn admit_any(&mut self, event: &Numbered, exempt: bool) -> Result<Admitted, ShapeFault>
         requires { self.old.admitted < u32.MAX }
         ensures told { (h : List Marked)
             → StandsFor self.old h
