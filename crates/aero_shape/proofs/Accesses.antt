@@ -9,11 +9,11 @@ use Rattle.aero_model.specs.Exempt.{Marked}
 use Rattle.aero_shape.specs.declared.admission.Admitted.{Admitted}
 use Rattle.aero_shape.specs.declared.states.ThreadState.{ThreadState}
 use Rattle.aero_shape.specs.declared.states.LockState.{LockState}
-use Rattle.aero_shape.specs.States.{Tables, AreBounded, HasLockPlace, thread_at, lock_at, around_at, acting, affected, thread_after, lock_after, around_after}
+use Rattle.aero_shape.specs.States.{Tables, HasLockPlace, thread_at, lock_at, around_at, acting, affected, thread_after, lock_after, around_after}
 use Rattle.aero_shape.specs.Told.{IsUsualAccess, is_access, deed_fault_told, fault_told, exempt_told, judged_told}
 use Rattle.aero_shape.specs.Standing.{StandsFor}
 use Rattle.aero_shape.specs.Admission.{TellsEvent}
-use Rattle.aero_shape.proofs.Changes.{IsAfter, bounded_after}
+use Rattle.aero_shape.proofs.Changes.{IsAfter}
 use Rattle.aero_shape.proofs.Stands.{stands_pushed, read_fault_told, judged_kind_told}
 
 -- what a read and a write leave alone
@@ -82,9 +82,6 @@ module _ (tables : Tables) (e : Numbered) (admitted : Admitted) (usual : IsUsual
   no_fault =
       ap (λ b. if b then Some ThreadJoined else deed_fault_told tables.threads tables.locks e.thread e.what) usual.joined
       ∙ no_deed_fault e.what usual.access tables.threads tables.locks e.thread
-
-  pub counted_bounded : AreBounded tables.threads tables.locks tables.admitted → AreBounded tables.threads tables.locks (tables.admitted + 1)
-  counted_bounded bounded = bounded_after tables (counted tables) e after bounded
 
   module _ (exempt : Bool) (h : List Marked) (s : StandsFor tables h) where
     abbrev mark : Marked
