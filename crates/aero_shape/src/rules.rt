@@ -1,5 +1,5 @@
 //! What the tables tell of an event: its fault, if it has one, or what it is.
-ghost use Rattle.std.specs.Prelude.{◌≡◌, IfSome};
+ghost use Rattle.std.specs.Prelude.{◌≡◌, IfSome, IfNone};
 ghost use Rattle.aero_shape.specs.States.{thread_at};
 ghost use Rattle.aero_shape.specs.Told.{is_held_by, is_kept_from, is_started, fault_told, kind_told, IsUsualAccess};
 
@@ -84,7 +84,8 @@ pub(crate) fn kind_of(threads: &[ThreadState], event: &Numbered) -> Admitted
 // What the event is, if it is a read or a write by a thread that has acted and that nobody joined.
 #[inline(always)]
 pub(crate) fn access_of(threads: &[ThreadState], event: &Numbered) -> Option<Admitted>
-    ensures { IfSome result (IsUsualAccess threads.now event.now) }
+    ensures told { IfSome result (IsUsualAccess threads.now event.now) }
+    ensures missed { IfNone result ((admitted : Admitted) → IsUsualAccess threads.now event.now admitted → ⊥) }
 {
     let Numbered { thread, what } = *event;
     let (What::Read(_) | What::Write(_)) = what else {

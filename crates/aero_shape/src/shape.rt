@@ -44,6 +44,7 @@ impl Model for Shape {
 impl Shape {
     ghost use Rattle.aero_shape.specs.Admission.{TellsEvent};
     ghost use Rattle.aero_shape.specs.Standing.{StandsFor, Reaches, begins_exempt};
+    ghost use Rattle.aero_shape.specs.Told.{IsUsualAccess};
 
     /// Stands for the empty list, and takes no memory until an event is admitted.
     pub fn new(alloc: Global) -> Shape
@@ -113,6 +114,7 @@ impl Shape {
             → StandsFor self.old h
             → StandsFor self.new (h ++ record { event = event.now; exempt = exempt } ∷ [])) }
         ensures none { IfNone result (self.new ≡ self.old) }
+        ensures missed { IfNone result ((admitted : Admitted) → IsUsualAccess self.old.threads event.now admitted → ⊥) }
     {
         let kind = access_of(&self.threads, event)?;
         self.admitted += 1;
