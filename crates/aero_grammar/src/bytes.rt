@@ -6,6 +6,7 @@ ghost use Rattle.aero_model.specs.Names.{is_bad_byte as is_bad};
 ghost use Rattle.aero_grammar.specs.Meaning.{is_bar, is_unfit, is_blank as is_blank_byte, trimmed as trimmed_bytes, thread_field, operation_field};
 
 use aero_model::bytes::is_bad_byte;
+use memchr::memchr;
 
 // The line without one byte 13 at its end.
 #[inline(always)]
@@ -87,6 +88,18 @@ pub fn place_of(sought: u8, bytes: &[u8]) -> usize
     place
 }
 
+// The same, where the byte may be far away: many bytes are looked at at once.
+#[inline(always)]
+fn far_place_of(sought: u8, bytes: &[u8]) -> usize
+    ensures place { result ≡ position_or_len (λ b. b == sought) bytes.now }
+    ensures within { result ≤ length bytes.now }
+{
+    match memchr(sought, bytes) {
+        Some(place) => place,
+        None => bytes.len(),
+    }
+}
+
 // The bytes without the spaces and tabs at both ends.
 #[inline(always)]
 pub fn trimmed(bytes: &[u8]) -> &[u8]
@@ -125,12 +138,12 @@ pub fn fields(text: &[u8]) -> Option<(&[u8], &[u8])>
     ensures thread { IfSome result (λ fields. fields.0.now ≡ thread_field text.now) }
     ensures operation { IfSome result (λ fields. fields.1.now ≡ operation_field text.now) }
 {
-    let bar = place_of(b'|', text);
+    let bar = far_place_of(b'|', text);
     if bar == text.len() {
         return None;
     }
     let thread = trimmed(&text[..bar]);
     let behind = &text[bar + 1..];
-    let end = place_of(b'|', behind);
+    let end = far_place_of(b'|', behind);
     Some((thread, trimmed(&behind[..end])))
 }
