@@ -1,5 +1,5 @@
 //! The serial order of the transactions of a trace.
-ghost use Rattle.std.specs.Prelude.{◌≡◌, ◌↔◌, ℕ, true, length, option_map, is_some, IfOk, IfSome, IsSome, IsTrue};
+ghost use Rattle.std.specs.Prelude.{◌≡◌, ◌↔◌, ℕ, true, length, option_map, is_some, Ok, IfOk, IfSome, IsSome, IsTrue};
 ghost use Rattle.aero_model.specs.declared.verdict.Verdict.{Verdict};
 ghost use Rattle.aero_model.specs.Cycle.{IsSerializable};
 ghost use Rattle.aero_model.specs.Verdicts.{HasOwnFault};
@@ -89,12 +89,25 @@ fn judge_all(
     ensures stands { IfOk result (λ told. IfSome told.1 (λ transactions. StandsForAll (StandsFor transactions) (under limits.now except.now) parts.now)) }
 {
     let mut checker = Checker::<InOrder>::new(alloc, limits);
-    let verdict = check_parts(alloc, &mut checker, parts, limits, except)?;
-    if !is_faultless(&verdict) {
-        return Ok((verdict, None));
+    let verdict = check_parts(alloc, &mut checker, parts, limits, except);
+    told_with(checker.into_engine().into_transactions(), verdict)
+}
+
+// The verdict, and with it the transactions where nothing is wrong.
+fn told_with(
+    transactions: Transactions,
+    verdict: Result<Verdict, AllocError>,
+) -> Result<(Verdict, Option<Transactions>), AllocError>
+    ensures verdict { IfOk result (λ told. verdict ≡ Ok told.0) }
+    ensures faultless { IfOk result (λ told. is_some told.1 ≡ is_faultless told.0) }
+    ensures kept { IfOk result (λ told. IfSome told.1 (λ kept. kept ≡ transactions)) }
+{
+    let verdict = verdict?;
+    if is_faultless(&verdict) {
+        Ok((verdict, Some(transactions)))
+    } else {
+        Ok((verdict, None))
     }
-    let transactions = checker.into_engine().into_transactions();
-    Ok((verdict, Some(transactions)))
 }
 
 // Whether nothing is wrong.
