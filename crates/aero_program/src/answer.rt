@@ -77,13 +77,13 @@ fn judge<
     ensures { Judges config.except.items config.order (map string_bytes config.files.items) (S.remaining stdin) (shown_by O.contents output.old) (shown_by O.contents output.new)
         (seen_by E.contents errors.old) (seen_by E.contents errors.new) result }
 {
+    let Ok(gate) = Arc::new(alloc, NoGate) else {
+        return fail(Failure::Memory, errors);
+    };
     let Ok((plan, words)) = config.into_plan(alloc) else {
         return fail(Failure::Memory, errors);
     };
     let Ok(mut sources) = sources_of(alloc, files, stdin, &words) else {
-        return fail(Failure::Memory, errors);
-    };
-    let Ok(gate) = Arc::new(alloc, NoGate) else {
         return fail(Failure::Memory, errors);
     };
     let outcome = run(rt, alloc, &mut sources, &mut output.writer, &plan, gate);

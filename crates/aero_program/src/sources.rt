@@ -1,9 +1,9 @@
 //! The sources that the words name.
-ghost use Rattle.std.specs.Prelude.{◌≡◌, ◌≤◌, ◌^◌, IfOk, length, map, string_bytes, vec_len};
+ghost use Rattle.std.specs.Prelude.{◌≡◌, ◌≤◌, ◌^◌, [], IfOk, OnOk, codes, length, map, string_bytes, vec_len};
 ghost use Rattle.aero_model.specs.CallCounts.{inner_of};
 ghost use Rattle.aero_batch.specs.Founds.{sighted};
-ghost use Rattle.aero_program.specs.Inputs.{bytes_left, source_names, source_standings, standing_of, Unopened};
-ghost use Rattle.aero_program.specs.Sightings.{file_sighting, source_sightings};
+ghost use Rattle.aero_program.specs.Inputs.{bytes_left, source_names, source_standings, standing_of, unread, Standard, Unopened};
+ghost use Rattle.aero_program.specs.Sightings.{file_sighting, source_sightings, standard_sighting};
 
 use crate::input::Input;
 use aero_batch::source::Source;
@@ -29,13 +29,24 @@ pub fn sources_of<'a, S: Read + Drop, R: Files + Drop>(
     if !words.is_empty() {
         return files_of(alloc, files, words);
     }
-    let mut sources = Vec::new(alloc);
-    sources.push(Source {
+    let source = standard_of(alloc, stdin)?;
+    vec![in alloc; source]
+}
+
+// Standard input, named `-`.
+fn standard_of<'a, S: Read + Drop, R: Files + Drop>(
+    alloc: Global,
+    stdin: S,
+) -> Result<Source<Input<S, &'a R>>, AllocError>
+    ensures name { IfOk result (λ s. s.name.items ≡ codes "-") }
+    ensures reader { IfOk result (λ s. standing_of S.remaining (inner_of s.reader) ≡ Standard (unread (S.remaining stdin))) }
+    ensures sighted { IfOk result (λ s. sighted (λ input. bytes_left (standing_of S.remaining input)) s ≡ standard_sighting (S.remaining stdin)) }
+{
+    Ok(Source {
         name: Vec::from_slice(alloc, b"-")?,
         reader: Counting::new(Input::standard(stdin)),
         may_wait: true,
-    })?;
-    Ok(sources)
+    })
 }
 
 // The file of each word, named as its word.
@@ -49,10 +60,27 @@ fn files_of<'a, S: Read + Drop, R: Files + Drop>(
     ensures sighted { IfOk result (λ sources. map (sighted (λ input. bytes_left (standing_of S.remaining input))) sources.items ≡ map file_sighting (map string_bytes words.now)) }
 {
     let mut sources = Vec::new(alloc);
-    for word in words {
-        sources.push(file_of(alloc, files, word)?)?;
-    }
+    add_files(alloc, files, words, &mut sources)?;
     Ok(sources)
+}
+
+// Adds the file of each word.
+fn add_files<'a, S: Read + Drop, R: Files + Drop>(
+    alloc: Global,
+    files: &'a R,
+    words: &[String],
+    sources: &mut Vec<Source<Input<S, &'a R>>>,
+) -> Result<(), AllocError>
+    requires { sources.old.items ≡ [] }
+    ensures names { OnOk result (map (λ s. s.name.items) sources.new.items ≡ map string_bytes words.now) }
+    ensures readers { OnOk result (map (λ s. standing_of S.remaining (inner_of s.reader)) sources.new.items ≡ map Unopened (map string_bytes words.now)) }
+    ensures sighted { OnOk result (map (sighted (λ input. bytes_left (standing_of S.remaining input))) sources.new.items ≡ map file_sighting (map string_bytes words.now)) }
+{
+    for word in words {
+        let source = file_of(alloc, files, word)?;
+        sources.push(source)?;
+    }
+    Ok(())
 }
 
 // The file of a word, named as it.

@@ -4,7 +4,7 @@ use Rattle.aero_model.specs.CallCounts.{inner_of}
 use Rattle.aero_batch.specs.Founds.{sighted}
 use Rattle.aero_program.specs.Inputs.{standing_of, bytes_left, Unopened}
 use Rattle.aero_program.specs.Sightings.{file_sighting}
-use Rattle.aero_program.proofs.sources.files_of.Given as goal
+use Rattle.aero_program.proofs.sources.add_files.Given as goal
 
 -- the files so far
 abbrev pub invariant-loop-word : goal.invariant-loop-word
