@@ -315,6 +315,33 @@ all_next test other i l n at here so_far w h = go (cases_eq l.opener w)
         (or_cases _ _ (sym (below_lesser (least_in (take i other) w) (Some l.place) n) ∙ sym (ap (λ r. is_below r n) (least_next other i l w at ∙ cond-true _ _ _ (eq-eqb l.opener w e))) ∙ h))
     go (inr ne) = so_far w (sym (ap (λ r. is_below r n) (least_next other i l w at ∙ cond-false _ _ _ (ne_eqb l.opener w ne))) ∙ h)
 
+-- whether a thread's block leads below a place, by one more of the row's
+pub below_next : (ls : List Lead) (i : ℕ) (l : Lead) (t n : ℕ) → slice_get ls i ≡ Some l
+    → is_below (least_in (take (i + 1) ls) t) n ≡ (is_below (least_in (take i ls) t) n || ((l.opener == t) && nat_lt l.place n))
+below_next ls i l t n at = ap (λ r. is_below r n) (least_next ls i l t at) ∙ go (l.opener == t)
+  where
+    stays : (b : Bool) → b ≡ (b || false)
+    stays true = refl
+    stays false = refl
+
+    go : (b : Bool) → is_below (if b then lesser (least_in (take i ls) t) (Some l.place) else least_in (take i ls) t) n ≡ (is_below (least_in (take i ls) t) n || (b && nat_lt l.place n))
+    go true = below_lesser (least_in (take i ls) t) (Some l.place) n
+    go false = stays (is_below (least_in (take i ls) t) n)
+
+-- and by any one of them
+pub below_there : (ls : List Lead) (i : ℕ) (l : Lead) (t n : ℕ) → slice_get ls i ≡ Some l → ((l.opener == t) && nat_lt l.place n) ≡ true → is_below (least_in ls t) n ≡ true
+below_there [] i l t n at h = cc
+below_there (k ∷ ks) zero l t n at h = go (k.opener == t) (ap (λ (m : Lead). (m.opener == t) && nat_lt m.place n) (same_Some k l at) ∙ h)
+  where
+    go : (b : Bool) → (b && nat_lt k.place n) ≡ true → is_below (if b then lesser (Some k.place) (least_in ks t) else least_in ks t) n ≡ true
+    go true e = below_lesser (Some k.place) (least_in ks t) n ∙ or_left _ _ e
+    go false e = let z : false ≡ true = e in cc
+below_there (k ∷ ks) (suc i) l t n at h = go (k.opener == t) (below_there ks i l t n at h)
+  where
+    go : (b : Bool) → is_below (least_in ks t) n ≡ true → is_below (if b then lesser (Some k.place) (least_in ks t) else least_in ks t) n ≡ true
+    go true e = below_lesser (Some k.place) (least_in ks t) n ∙ or_right (nat_lt k.place n) _ e
+    go false e = e
+
 -- a block that has a place stands where an index of the row says
 pub indexed_step : (ls : List Lead) (i : ℕ) (l : Lead) (was now : ℕ → ℕ) → slice_get ls i ≡ Some l
     → ((v : ℕ) → now v ≡ (if v == l.opener then i else was v))

@@ -1,5 +1,5 @@
 //! Which open blocks lead to a thread, and from which of its events on.
-ghost use Rattle.std.specs.Prelude.{◌≡◌, ◌≢◌, ◌==◌, ◌&&◌, ◌++◌, ◌∷◌, [], ℕ, true, false, nat_lt, None, Some, OnOk, is_some, slice_get, if◌then◌else◌};
+ghost use Rattle.std.specs.Prelude.{◌≡◌, ◌≢◌, ◌==◌, ◌&&◌, ◌<◌, ◌++◌, ◌∷◌, [], ℕ, true, false, nat_lt, None, Some, OnOk, is_some, slice_get, if◌then◌else◌};
 ghost use Rattle.aero_leads.specs.Kept.{least_in, is_below, absorbed};
 ghost use Rattle.aero_leads.specs.Indexed.{IsIndexed, IsFound, opener_of};
 ghost use Rattle.aero_leads.specs.Listed.{IsListedRow, Grows, followers};
@@ -40,16 +40,6 @@ pub(crate) fn least_of(least: Option<u32>, place: u32) -> u32
     }
 }
 
-/// Whether the open block of thread `w` leads to an event of the row's thread below this place.
-pub(crate) fn is_led(row: &[Lead], w: u32, below: u32) -> bool
-    ensures { result ≡ is_below (least_in row.now w) below }
-{
-    match first(row, w) {
-        Some(place) => place < below,
-        None => false,
-    }
-}
-
 /// Whether the open block of thread `w` leads to the row's thread.
 pub(crate) fn has(row: &[Lead], w: u32) -> bool
     ensures { result ≡ is_some (least_in row.now w) }
@@ -65,20 +55,61 @@ pub(crate) fn has(row: &[Lead], w: u32) -> bool
 /// How long a row may be that is looked through for each block of another one.
 pub const SHORT: usize = 8;
 
-/// Where it is true, each block that leads to an event of the other row's thread below a place leads to
-/// this row's thread as well. Of a long row nothing is known.
-pub(crate) fn has_all(row: &[Lead], other: &[Lead], below: u32) -> bool
-    ensures { result ≡ true → (w : ℕ) → is_below (least_in other.now w) below ≡ true → is_some (least_in row.now w) ≡ true }
+/// What an event of another thread brings a thread: whether the thread's own open block leads to the event, and
+/// whether another block may that doesn't lead to the thread yet.
+#[derive(Clone, Copy)]
+pub struct Brought {
+    pub closes: bool,
+    pub news: bool,
+}
+
+/// What an event below this place of the other row's thread brings thread `t`, which has this row. A row that is
+/// long isn't looked through.
+#[inline(always)]
+pub(crate) fn brought_by(row: &[Lead], other: &[Lead], t: u32, below: u32) -> Brought
+    ensures closes { result.closes ≡ is_below (least_in other.now t) below }
+    ensures known { result.news ≡ false → (w : ℕ) → is_below (least_in other.now w) below ≡ true → is_some (least_in row.now w) ≡ true }
 {
-    if row.len() > SHORT {
+    let mut news = false;
+    for lead in other.iter() {
+        if is_of(*lead, t, below) {
+            return Brought {
+                closes: true,
+                news: true,
+            };
+        }
+        news = is_news(news, row, *lead, below);
+    }
+    Brought {
+        closes: false,
+        news,
+    }
+}
+
+// Whether this is thread t's block, and leads to an event below this place.
+#[inline(always)]
+fn is_of(lead: Lead, t: u32, below: u32) -> bool
+    ensures { result ≡ ((lead.opener == t) && nat_lt lead.place below) }
+{
+    lead.opener == t && lead.place < below
+}
+
+// Whether there may be news, once this lead of another row is looked at as well.
+#[inline(always)]
+fn is_news(news: bool, row: &[Lead], lead: Lead, below: u32) -> bool
+    ensures before { result ≡ false → news ≡ false }
+    ensures here { result ≡ false → lead.place < below → is_some (least_in row.now lead.opener) ≡ true }
+{
+    if news {
+        return true;
+    }
+    if lead.place >= below {
         return false;
     }
-    for lead in other.iter() {
-        if lead.place < below && !has(row, lead.opener) {
-            return false;
-        }
+    if row.len() > SHORT {
+        return true;
     }
-    true
+    !has(row, lead.opener)
 }
 
 // Enters the places of the row.

@@ -7,10 +7,10 @@ ghost use Rattle.aero_leads.specs.Seen.{AreSeen};
 use crate::index::{Index, no_row};
 use crate::last::Last;
 use crate::led::{Led, forget, no_block};
-use crate::row::{gain_all, has_all, settle};
+use crate::row::{Brought, brought_by, gain_all, settle};
 use crate::seen::{Seen, forget_all, has_seen, nothing_seen, see_all, unsee_all};
 use crate::thread;
-use crate::thread::{Thread, leads, leave, put_row, row_of, spread, take_row};
+use crate::thread::{Thread, leave, put_row, row_of, spread, take_row};
 use std::alloc::{AllocError, Global};
 
 /// The threads, by their numbers. With each open block the other threads are listed to whose events
@@ -47,6 +47,7 @@ pub(crate) fn reach(table: &mut Table, t: u32) -> Result<(), AllocError>
 
 /// What leads to an event of thread `o` below a place leads to thread `t`, another one, from this
 /// place on, unless it did before.
+#[inline(never)]
 pub(crate) fn gain(
     table: &mut Table,
     t: u32,
@@ -75,17 +76,51 @@ pub(crate) fn gain(
     Ok(())
 }
 
-// Where it is true, all that leads to an event of thread `o` below a place leads to thread `t` as well.
+// Where it is true, all that leads to an event of thread `o` below a place is known to lead to thread `t` as well.
 fn brings_nothing(table: &Table, t: u32, o: u32, below: u32) -> bool
     ensures { result ≡ true → (w : ℕ) → is_below (rows_in table.now.threads.items o w) below ≡ true → is_some (rows_in table.now.threads.items t w) ≡ true }
 {
+    has_seen(&table.seen, t, row_of(&table.threads, o), below)
+}
+
+// What an event of thread `o` below a place brings thread `t`.
+#[inline(always)]
+fn brings(table: &Table, t: u32, o: u32, below: u32) -> Brought
+    ensures closes { result.closes ≡ is_below (rows_in table.now.threads.items o t) below }
+    ensures known { result.news ≡ false → (w : ℕ) → is_below (rows_in table.now.threads.items o w) below ≡ true → is_some (rows_in table.now.threads.items t w) ≡ true }
+{
     let row = row_of(&table.threads, t);
     let other = row_of(&table.threads, o);
-    has_all(row, other, below) || has_seen(&table.seen, t, other, below)
+    brought_by(row, other, t, below)
+}
+
+// Thread t gains what an event brings, where that may be news.
+#[inline(always)]
+fn gain_news(
+    table: &mut Table,
+    t: u32,
+    o: u32,
+    below: u32,
+    place: u32,
+    news: bool,
+) -> Result<(), AllocError>
+    requires actor { t < vec_len table.old.threads }
+    requires other { o ≢ t }
+    requires known { news ≡ false → (w : ℕ) → is_below (rows_in table.old.threads.items o w) below ≡ true → is_some (rows_in table.old.threads.items t w) ≡ true }
+    ensures gains { OnOk result (TakesRow (rows_in table.old.threads.items) (rows_in table.new.threads.items) place t o below) }
+    ensures same { HaveSameBlocks table.old.threads.items table.new.threads.items }
+    ensures room { vec_len table.new.threads ≡ vec_len table.old.threads }
+{
+    if !news {
+        return Ok(());
+    }
+    gain(table, t, o, below, place)?;
+    Ok(())
 }
 
 /// Thread `t` takes what leads to the event, from this place on, unless the event is its own, or
 /// its own open block leads there: then the answer is true.
+#[inline(always)]
 pub(crate) fn take(table: &mut Table, t: u32, last: Last, place: u32) -> Result<bool, AllocError>
     requires { t < vec_len table.old.threads }
     ensures closing { IfOk result (λ closes. closes ≡ leads_to (rows_in table.old.threads.items) t t last) }
@@ -96,10 +131,11 @@ pub(crate) fn take(table: &mut Table, t: u32, last: Last, place: u32) -> Result<
     if last.thread == t || last.count == 0 {
         return Ok(false);
     }
-    if leads(&table.threads, t, last.thread, last.count) {
+    let brought = brings(table, t, last.thread, last.count);
+    if brought.closes {
         return Ok(true);
     }
-    gain(table, t, last.thread, last.count, place)?;
+    gain_news(table, t, last.thread, last.count, place, brought.news)?;
     Ok(false)
 }
 

@@ -1,11 +1,11 @@
 //! What is kept of the threads.
 ghost use Rattle.std.specs.Prelude.{◌≡◌, ◌<◌, ◌-◌, ◌^◌, ◌==◌, ℕ, true, false, max, None, Some, [], OnOk, OnErr, IfOk, vec_len, slice_get, length, not, is_some, ◌&&◌, if◌then◌else◌};
-ghost use Rattle.aero_leads.specs.Kept.{rows_in, thread_row, is_below, HaveSameBlocks, AreSameThreads, HasRow, BeginsBlock, IsLeastBack, absorbed, least_in, thread_in_block, thread_begins, thread_acted};
+ghost use Rattle.aero_leads.specs.Kept.{rows_in, thread_row, HaveSameBlocks, AreSameThreads, HasRow, BeginsBlock, IsLeastBack, absorbed, least_in, thread_in_block, thread_begins, thread_acted};
 ghost use Rattle.aero_leads.specs.Listed.{followers, is_listed, AreListed, Grows};
 
 use crate::index::Index;
 use crate::led::{Led, count, follower};
-use crate::row::{Lead, absorb, has, is_led, least_of};
+use crate::row::{Lead, absorb, has, least_of};
 use std::alloc::{AllocError, Global};
 use std::mem;
 
@@ -65,13 +65,6 @@ pub(crate) fn row_of(threads: &[Thread], o: u32) -> &[Lead]
         Some(thread) => &thread.row,
         None => &[],
     }
-}
-
-/// Whether the open block of thread `w` leads to an event of thread `o` below this place.
-pub(crate) fn leads(threads: &[Thread], w: u32, o: u32, below: u32) -> bool
-    ensures { result ≡ is_below (rows_in threads.now o w) below }
-{
-    is_led(row_of(threads, o), w, below)
 }
 
 /// Thread `t` begins a block at this place.

@@ -1,7 +1,0 @@
-use Rattle.std.proofs.Common.{◌≡◌, ℕ, take}
-use Rattle.std.specs.Prelude.{is_some, true}
-use Rattle.aero_leads.specs.Kept.{least_in, is_below}
-use Rattle.aero_leads.proofs.row.has_all.Given as goal
-
-abbrev pub invariant-loop-lead : goal.invariant-loop-lead
-invariant-loop-lead l = record { all : (w : ℕ) → is_below (least_in (take l.lead-index l.other) w) l.below ≡ true → is_some (least_in l.row w) ≡ true }
