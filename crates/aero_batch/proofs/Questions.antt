@@ -87,7 +87,7 @@ given_known old new [] given is known = is
 given_known old new (e ∷ more) given is known =
     (known.0, known.1, known.2, ap (λ g. g.entries) is.3, ap (λ g. g.tally.asked) is.3, ap (λ g. g.window) is.3)
 
-pub settles_known : {E : Type 0} (old new : Gathered) (r : Result (Option Value) E) → IfOk r (λ given. Settles old old.entries new given) → IfOk r (λ given. GivesKnown old.entries given) →
-    IfOk r (λ given. SettlesKnown old old.entries new given)
-settles_known old new (Ok given) is known = given_known old new old.entries given is known
-settles_known old new (Err e) is known = tt
+pub settles_known : {A E : Type 0} (value : A → Option Value) (old new : Gathered) (r : Result A E) → IfOk r (λ given. Settles old old.entries new (value given)) →
+    IfOk r (λ given. GivesKnown old.entries (value given)) → IfOk r (λ given. SettlesKnown old old.entries new (value given))
+settles_known value old new (Ok given) is known = given_known old new old.entries (value given) is known
+settles_known value old new (Err e) is known = tt

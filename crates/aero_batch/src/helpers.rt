@@ -1,8 +1,10 @@
 //! Those who may answer questions while the sources are read.
+use aero_pieces::question::Question;
 use aero_stage::{Full, Job};
 pub use aero_worker::Helpers;
 use aero_worker::Reply;
-use std::sync::Wait;
+use std::alloc::Global;
+use std::sync::{Arc, Wait};
 
 /// Nobody helps: all is worked out by the caller's own thread.
 #[derive(Drop)]
@@ -26,4 +28,6 @@ impl Helpers for Nobody {
     fn ready_answer<R: Wait>(&mut self, _rt: &R) -> Option<Reply> {
         None
     }
+
+    fn let_go<R: Wait>(&mut self, _rt: &R, _question: Arc<Question, Global>) {}
 }

@@ -2,6 +2,7 @@
 ghost use Rattle.std.specs.Prelude.{◌≡◌, ◌<◌, ◌≤◌, ◌-◌, ◌+◌, ◌*◌, ◌^◌, ◌++◌, ◌∷◌, ◌↔◌, [], ℕ, length, map, true, false, IfOk, IfSome, IfNone, OnOk, OnErr, IsTrue, MatchBool};
 ghost use Rattle.std.specs.Arc.{arc_value};
 ghost use Rattle.aero_gather.specs.Gathered.{with_missed};
+ghost use Rattle.aero_gather.specs.Given.{value_of};
 ghost use Rattle.aero_batch.specs.Inquiries.{nothing_asked, with_question, open_of, open_count, with_open, job_number, Gives, SettlesKnown, StaysOpen, TakesFront, questions_of};
 ghost use Rattle.aero_batch.specs.Replies.{of_kind};
 ghost use Rattle.aero_intake.specs.Stories.{trace_of};
@@ -10,7 +11,7 @@ use crate::gathers::Gathers;
 use crate::helpers::Helpers;
 use crate::kind::Kind;
 use crate::replies::{Listening, answered, await_oldest, hear, note};
-use aero_gather::gather::{Gather, Tally, Ticket};
+use aero_gather::gather::{Gather, Settled, Tally, Ticket};
 use aero_pieces::answer::Value;
 use aero_pieces::question::Question;
 use aero_stage::Job;
@@ -163,7 +164,8 @@ impl Inquiry {
 
     /// Takes the oldest open question of this kind away, and gives the number of its trace and its value.
     /// Waits for its answer as long as one is to be awaited, but for no more than 1,024 replies in a row
-    /// that are of no use, and else works the value out. `None` where no question of the kind is open.
+    /// that are of no use, and else works the value out. The question itself goes to the helpers to be freed.
+    /// `None` where no question of the kind is open.
     pub fn settle<H: Helpers, R: Wait>(
         &mut self,
         rt: &R,
@@ -174,9 +176,22 @@ impl Inquiry {
     {
         let oldest = oldest_ticket(&self.gathers, kind, self.blocks, self.verdicts);
         self.listening = await_oldest(rt, helpers, &mut self.gathers, kind, oldest, self.listening);
+        let is_alone = self.listening.is_alone;
         match kind {
-            Kind::Block => take_front(&mut self.gathers.blocks, &mut self.blocks),
-            Kind::Verdict => take_front(&mut self.gathers.verdicts, &mut self.verdicts),
+            Kind::Block => take_front(
+                rt,
+                helpers,
+                is_alone,
+                &mut self.gathers.blocks,
+                &mut self.blocks,
+            ),
+            Kind::Verdict => take_front(
+                rt,
+                helpers,
+                is_alone,
+                &mut self.gathers.verdicts,
+                &mut self.verdicts,
+            ),
         }
     }
 }
@@ -270,8 +285,15 @@ fn oldest_of(gather: &Gather, count: u32) -> Ticket
     }
 }
 
-// Takes the oldest open question away, and gives the number of its trace and its value. So many are open.
-fn take_front(gather: &mut Gather, count: &mut u32) -> Result<Option<(u64, Value)>, AllocError>
+// Takes the oldest open question away, and gives the number of its trace and its value. So many are open. The
+// question is let go.
+fn take_front<H: Helpers, R: Wait>(
+    rt: &R,
+    helpers: &mut H,
+    is_alone: bool,
+    gather: &mut Gather,
+    count: &mut u32,
+) -> Result<Option<(u64, Value)>, AllocError>
     requires { count.old ≡ length gather.old.entries }
     ensures front { IfOk result (λ given. TakesFront gather.old gather.old.entries gather.new given) }
     ensures count { count.new ≡ length gather.new.entries }
@@ -282,19 +304,32 @@ fn take_front(gather: &mut Gather, count: &mut u32) -> Result<Option<(u64, Value
         Some(question) => trace_number(question),
         None => return Ok(None),
     };
-    let Some(value) = settle_known(gather)? else {
+    let Some(Settled { question, value }) = settle_known(gather)? else {
         return Ok(None);
     };
     *count -= 1;
+    let_go(rt, helpers, is_alone, question);
     Ok(Some((trace, value)))
 }
 
-// Takes the oldest open question away, and gives its value.
-fn settle_known(gather: &mut Gather) -> Result<Option<Value>, AllocError>
-    ensures known { IfOk result (λ given. SettlesKnown gather.old gather.old.entries gather.new given) }
+// Takes the oldest open question away, and gives it and its value.
+fn settle_known(gather: &mut Gather) -> Result<Option<Settled>, AllocError>
+    ensures known { IfOk result (λ given. SettlesKnown gather.old gather.old.entries gather.new (value_of given)) }
     ensures unchanged { OnErr result (gather.new ≡ gather.old) }
 {
-    gather.settle()
+    gather.settle_with_question()
+}
+
+// Hands a settled question to the helpers, to be freed there. Where nobody helps it is freed here.
+fn let_go<H: Helpers, R: Wait>(
+    rt: &R,
+    helpers: &mut H,
+    is_alone: bool,
+    question: Arc<Question, Global>,
+) {
+    if !is_alone {
+        helpers.let_go(rt, question);
+    }
 }
 
 fn trace_number(question: &Question) -> u64

@@ -1,9 +1,9 @@
 -- Each call keeps what a gatherer keeps.
 use Rattle.std.proofs.Common.{◌≡◌, ℕ, zero, suc, ◌+◌, ◌-◌, ◌<◌, ◌≤◌, Bool, true, cond, List, [], ◌∷◌, length, get_or, slice_get, slice_set, Option, Some, None, is_none, is_some, IfSome, drop, refl, sym, ◌∙◌, ap, subst, arith}
-use Rattle.std.specs.Prelude.{count_by, All}
+use Rattle.std.specs.Prelude.{count_by}
 use Rattle.std.proofs.lemmas.Bool.{le-leb}
 use Rattle.std.proofs.lemmas.List.{length-set}
-use Rattle.std.proofs.lemmas.List.Elements.{All-head, All-set}
+use Rattle.std.proofs.lemmas.List.Elements.{All-set}
 use Rattle.std.proofs.lemmas.List.Sums.{sum_by-cons}
 use Rattle.std.proofs.lemmas.Option.{get_or_from_slice_get}
 use Rattle.aero_pieces.specs.declared.question.Question.{Question}
@@ -11,7 +11,7 @@ use Rattle.aero_pieces.specs.declared.answer.Value.{Value}
 use Rattle.aero_pieces.specs.Values.{IsValueOf}
 use Rattle.aero_pieces.specs.Schedule.{Entry, IsWaiting, NoneWaits, Keeps, noted, with_note}
 use Rattle.aero_gather.specs.declared.gather.Tally.{Tally}
-use Rattle.aero_gather.specs.Gathered.{Gathered, IsGathered, IsOldestWaiting, IsOpenQuestion, Settles, GivesKnown}
+use Rattle.aero_gather.specs.Gathered.{Gathered, IsGathered, IsOldestWaiting, IsOpenQuestion, Settles}
 
 abbrev pub waiting : Entry → ℕ
 waiting e = cond (is_none e.value) 1 0
@@ -124,6 +124,9 @@ kept_settles g (e ∷ tail) more f s some first same has_value rest =
 pub settles_of : (g h : Gathered) (new : Gathered) (given : Option Value) → g ≡ h → Settles g g.entries new given → Settles h h.entries new given
 settles_of g h new given same settles = subst (λ x. Settles x x.entries new given) same settles
 
+pub settles_value : (g new : Gathered) (given value : Option Value) → given ≡ value → Settles g g.entries new value → Settles g g.entries new given
+settles_value g new given value same settles = subst (λ v. Settles g g.entries new v) (sym same) settles
+
 -- the same question and entries
 pub same_open : (q p : Question) (xs ys : List Entry) → q ≡ p → xs ≡ ys → IsOpenQuestion q xs → IsOpenQuestion p ys
 same_open q p xs ys same are is_open = subst (λ r. IsOpenQuestion r ys) same (subst (IsOpenQuestion q) are is_open)
@@ -136,15 +139,3 @@ with_tally window entries t = record { window = window; entries = entries; tally
 
 pub same_tally : (window : ℕ) (entries : List Entry) (t u : Tally) → t ≡ u → with_tally window entries t ≡ with_tally window entries u
 same_tally window entries t u same = ap (with_tally window entries) same
-
-some_known : (q : Question) (value : Option Value) → is_some value ≡ true → IfSome value (IsValueOf q) → (v : Value) × IsValueOf q v × (value ≡ Some v)
-some_known q None has_value known = cc
-some_known q (Some v) has_value known = (v, known, refl)
-
--- the value that was kept for the oldest is one of it
-pub kept_known : (entries : List Entry) (f s : Entry) → 0 < length entries → f ≡ get_or entries 0 f → s ≡ get_or entries 0 s → is_some f.value ≡ true →
-    All (λ e. IfSome e.value (IsValueOf e.question)) entries → GivesKnown entries s.value
-kept_known [] f s some first same has_value known = absurd (omega (arith, some))
-kept_known (e ∷ tail) f s some first same has_value known =
-    subst (λ (x : Entry). GivesKnown (e ∷ tail) x.value) (sym same)
-    (some_known e.question e.value (subst (λ (x : Entry). is_some x.value ≡ true) first has_value) (All-head (λ d. IfSome d.value (IsValueOf d.question)) e tail known))

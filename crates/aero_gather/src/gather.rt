@@ -2,8 +2,11 @@
 ghost use Rattle.std.specs.Prelude.{◌≡◌, ◌<◌, ◌≤◌, ◌^◌, ◌+◌, ◌-◌, ◌↔◌, length, slice_get, option_map, IsTrue, IfOk, IfErr, OnOk, OnErr};
 ghost use Rattle.std.specs.Arc.{arc_value};
 ghost use Rattle.aero_gather.specs.Gathered.{IsGathered, Accepts, Settles, GivesKnown, IsAwaited, nothing_gathered, with_asked, with_missed, oldest_of};
+ghost use Rattle.aero_gather.specs.Given.{value_of};
 
-use crate::slot::{Slot, has_question, miss, oldest_waiting, state};
+use crate::slot::{
+    Slot, has_question, miss, oldest_waiting, question_alone, state, with_its_value,
+};
 use aero_pieces::answer::{Answer, Value};
 use aero_pieces::question::Question;
 use std::alloc::{AllocError, Global};
@@ -44,6 +47,13 @@ pub enum Oldest {
     Awaited,
     /// It has no answer, and none is to be awaited.
     Missed,
+}
+
+/// A question that was settled, and its value.
+#[derive(Drop)]
+pub struct Settled {
+    pub question: Arc<Question, Global>,
+    pub value: Value,
 }
 
 /// How many questions were asked, how many answers were kept, and how many values were worked out
@@ -192,19 +202,39 @@ impl Gather {
         ensures known { IfOk result (λ given. GivesKnown self.old.entries given) }
         ensures unchanged { OnErr result (self.new ≡ self.old) }
     {
+        match self.settle_with_question()? {
+            Some(settled) => Ok(Some(value_alone(settled))),
+            None => Ok(None),
+        }
+    }
+
+    /// The same, and gives the question along with its value, so that the caller says where it is freed.
+    pub fn settle_with_question(&mut self) -> Result<Option<Settled>, AllocError>
+        ensures settled { IfOk result (λ given. Settles self.old self.old.entries self.new (value_of given)) }
+        ensures known { IfOk result (λ given. GivesKnown self.old.entries (value_of given)) }
+        ensures question { IfOk result (λ given. option_map (λ settled. arc_value settled.question) given ≡ option_map (λ entry. entry.question) (slice_get self.old.entries 0)) }
+        ensures unchanged { OnErr result (self.new ≡ self.old) }
+    {
         if self.slots.is_empty() {
             return Ok(None);
         }
         let front = &self.slots[0];
         if front.value.is_none() {
             let value = front.question.value(self.alloc)?;
-            self.slots.remove(0);
+            let question = question_alone(self.slots.remove(0));
             self.tally = with_done_here(self.tally);
-            return Ok(Some(value));
+            return Ok(Some(Settled { question, value }));
         }
-        let Slot { value, .. } = self.slots.remove(0);
-        Ok(value)
+        Ok(with_its_value(self.slots.remove(0)))
     }
+}
+
+// The value of what was settled.
+fn value_alone(settled: Settled) -> Value
+    ensures { result ≡ settled.value }
+{
+    let Settled { question: _, value } = settled;
+    value
 }
 
 // With one more answer that was kept.

@@ -1,9 +1,10 @@
 //! An open question, and the search for the one that an answer is for.
-ghost use Rattle.std.specs.Prelude.{◌≡◌, ◌↔◌, length, IsTrue, IfSome, IfNone, None, true, false, is_none, if◌then◌else◌};
+ghost use Rattle.std.specs.Prelude.{◌≡◌, ◌↔◌, length, IsTrue, IfSome, IfNone, None, true, false, is_none, option_map, if◌then◌else◌};
+ghost use Rattle.std.specs.Arc.{arc_value};
 ghost use Rattle.aero_pieces.specs.Schedule.{NoneWaits};
 ghost use Rattle.aero_gather.specs.Gathered.{IsOldestWaiting, IsOpenQuestion, state_of};
 
-use crate::gather::Oldest;
+use crate::gather::{Oldest, Settled};
 use aero_pieces::answer::Value;
 use aero_pieces::question::Question;
 use aero_pieces::same;
@@ -65,6 +66,30 @@ pub fn miss(slot: &mut Slot) -> bool
         return false;
     }
     !mem::replace(&mut slot.missed, true)
+}
+
+// The slot's question.
+pub fn question_alone(slot: Slot) -> Arc<Question, Global>
+    ensures { arc_value result ≡ slot.question }
+{
+    let Slot { question, .. } = slot;
+    question
+}
+
+// The slot's question with the value that was kept, if one was.
+pub fn with_its_value(slot: Slot) -> Option<Settled>
+    ensures value { option_map (λ settled. settled.value) result ≡ slot.value }
+    ensures question { IfSome result (λ settled. arc_value settled.question ≡ slot.question) }
+{
+    let Slot {
+        question,
+        value,
+        ..
+    } = slot;
+    match value {
+        Some(value) => Some(Settled { question, value }),
+        None => None,
+    }
 }
 
 // What is known of an open question.

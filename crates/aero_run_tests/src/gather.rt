@@ -1,4 +1,4 @@
-use aero_gather::gather::{Gather, Ticket};
+use aero_gather::gather::{Gather, Settled, Ticket};
 use aero_pieces::answer::Value;
 use aero_pieces::question::{Bytes, Question};
 use std::alloc::Global;
@@ -14,6 +14,7 @@ enum Step {
     Oldest,
     Front,
     Settle,
+    SettleWithQuestion,
     Tally,
 }
 
@@ -69,6 +70,19 @@ fn settle(alloc: Global, gather: &mut Gather) -> Result<String, Fail> {
     }
 }
 
+fn settle_with_question(alloc: Global, gather: &mut Gather) -> Result<String, Fail> {
+    match gather.settle_with_question()? {
+        Some(settled) => line_and_event(alloc, &settled),
+        None => Ok(format!(in alloc; "none")?),
+    }
+}
+
+fn line_and_event(alloc: Global, settled: &Settled) -> Result<String, Fail> {
+    let line = line_of(alloc, &settled.question)?;
+    let event = event_of(alloc, &settled.value)?;
+    Ok(format!(in alloc; "{line}: {event}")?)
+}
+
 // Does the step, and says what it answered. Answers are worked out afresh.
 fn answer_to(alloc: Global, gather: &mut Gather, step: Step) -> Result<String, Fail> {
     match step {
@@ -87,6 +101,7 @@ fn answer_to(alloc: Global, gather: &mut Gather, step: Step) -> Result<String, F
             None => Ok(format!(in alloc; "none")?),
         },
         Step::Settle => settle(alloc, gather),
+        Step::SettleWithQuestion => settle_with_question(alloc, gather),
         Step::Tally => {
             let tally = gather.tally();
             Ok(format!(in alloc;
@@ -139,7 +154,7 @@ const ONLY_THE_FIRST_ANSWER_TO_AN_OPEN_QUESTION_IS_KEPT: [(Step, &str); 15] = [
     (Step::Miss(1), "true"),
     (Step::Miss(1), "false"),
     (Step::Oldest, "Missed"),
-    (Step::Settle, "Write(0)"),
+    (Step::SettleWithQuestion, "T1|w(x): Write(0)"),
     (Step::Tally, "asked 2, kept 1, done here 1"),
 ];
 
@@ -159,7 +174,7 @@ const VALUES_COME_IN_THE_ORDER_OF_THE_QUESTIONS: [(Step, &str); 13] = [
     (Step::Tally, "asked 4, kept 3, done here 1"),
 ];
 
-const AN_ANSWER_THAT_COMES_LATE_IS_KEPT: [(Step, &str); 10] = [
+const AN_ANSWER_THAT_COMES_LATE_IS_KEPT: [(Step, &str); 11] = [
     (Step::Ask("T1|r(x)"), "ticket 0"),
     (Step::Miss(1), "false"),
     (Step::Oldest, "Awaited"),
@@ -169,7 +184,8 @@ const AN_ANSWER_THAT_COMES_LATE_IS_KEPT: [(Step, &str); 10] = [
     (Step::Oldest, "Kept"),
     (Step::Miss(0), "false"),
     (Step::Oldest, "Kept"),
-    (Step::Settle, "Read(0)"),
+    (Step::SettleWithQuestion, "T1|r(x): Read(0)"),
+    (Step::SettleWithQuestion, "none"),
 ];
 
 #[test]

@@ -481,3 +481,39 @@ fn what_has_no_worker_or_no_memory(rt: HostRuntime) -> Result<(), Fail> {
     assert_eq!(rt; is_missed(rt.alloc()), Some(true));
     Ok(())
 }
+
+// Lets a question go to a crew of one worker: how many handles of it there are as long as the worker has no job,
+// whether a job is answered that is posted then, and how many handles there are after that.
+fn let_one_go<R: Threads + Wait + Copy + Send + 'static>(
+    rt: R,
+    alloc: Global,
+    gate: Arc<NoGate>,
+    only: Job,
+    (kept, other): (&Arc<Question>, Arc<Question>),
+) -> Option<(usize, bool, usize)> {
+    let mut crew = Crew::start(rt, alloc, 1, gate).ok()?;
+    crew.let_go(&rt, other);
+    let before = Arc::strong_count(kept);
+    let is_answered = crew.post(&rt, only).is_ok() & is_done(crew.next_answer(&rt));
+    let after = Arc::strong_count(kept);
+    crew.close(&rt);
+    Some((before, is_answered, after))
+}
+
+// The same, with what it needs.
+fn let_a_question_go<R: Threads + Wait + Copy + Send + 'static>(
+    rt: R,
+    alloc: Global,
+) -> Option<(usize, bool, usize)> {
+    let kept = block_question(alloc)?;
+    let other = Arc::try_clone(&kept).ok()?;
+    let only = job(0, &block_question(alloc)?)?;
+    let gate = Arc::new(alloc, NoGate).ok()?;
+    let_one_go(rt, alloc, gate, only, (&kept, other))
+}
+
+// The caller makes no call between the two counts that frees a question, so the worker does: before it answers.
+#[test]
+fn what_is_let_go_is_freed_by_a_worker(rt: HostRuntime) {
+    assert_eq!(rt; let_a_question_go(rt, rt.alloc()), Some((2, true, 1)));
+}

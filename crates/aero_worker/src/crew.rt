@@ -7,9 +7,10 @@ ghost use Rattle.aero_worker.specs.Shifts.{lists_of, number_of, Tells};
 use crate::gate::Gate;
 use crate::reply::Reply;
 use crate::seed::{hire, make_seeds};
-use crate::shift::{Honest, Shift};
+use crate::shift::{Channels, Honest, LET_GO, Shift};
+use aero_pieces::question::Question;
 use aero_stage::{Full, Job, Poster, Taker, stage};
-use crossbeam_channel::Receiver;
+use crossbeam_channel::{Receiver, Sender};
 use std::alloc::{AllocError, Global};
 use std::marker::Model;
 use std::sync::{Arc, Wait};
@@ -101,6 +102,11 @@ fn queue_for(alloc: Global, workers: u32) -> Result<(Poster, Vec<Taker>), AllocE
     stage(alloc, PLACES, workers)
 }
 
+// Sends what is to be freed by a worker. Where that can't be it is dropped here.
+fn send_or_drop<T: Drop, R: Wait>(rt: &R, let_go: &Sender<T>, last: T) {
+    let _ = let_go.try_send(rt, last);
+}
+
 /// Workers, and the queue of their jobs. `close` joins the workers, and a drop doesn't.
 #[derive(Drop)]
 pub struct Crew {
@@ -109,6 +115,7 @@ pub struct Crew {
     by_worker: Vec<Vec<u64>>,
     left: Vec<u64>,
     replies: Receiver<Reply>,
+    let_go: Sender<Arc<Question, Global>>,
 }
 
 impl Model for Crew {
@@ -127,8 +134,8 @@ impl Model for Crew {
 
 impl Crew {
     /// Starts as many of the `n` workers, 1 to 16, as the system gives, perhaps none. Nothing is posted
-    /// yet. Memory for the jobs and for the replies is taken here. The call may wait, as each call
-    /// that takes jobs may.
+    /// yet. Memory for the jobs, for the replies and for questions that are let go is taken here. The call
+    /// may wait, as each call that takes jobs may.
     ///
     /// # Errors
     ///
@@ -171,8 +178,13 @@ impl Crew {
         let mut running = Vec::with_capacity(alloc, n as usize)?;
         // A place for the reply to each job that may be posted and of each worker: a send takes no memory.
         let (sender, replies) = crossbeam_channel::bounded(alloc, (PLACES + n) as usize)?;
-        let mut seeds = make_seeds(alloc, &poster, takers, &sender, &gate)?;
-        drop(sender);
+        let (let_go, last) = crossbeam_channel::bounded(alloc, LET_GO as usize)?;
+        let channels = Channels {
+            replies: sender,
+            let_go: last,
+        };
+        let mut seeds = make_seeds(alloc, &poster, takers, &channels, &gate)?;
+        drop(channels);
         while let Some(seed) = seeds.pop() {
             hire(
                 rt,
@@ -190,6 +202,7 @@ impl Crew {
             by_worker,
             left,
             replies,
+            let_go,
         })
     }
 
@@ -230,8 +243,18 @@ impl Crew {
         self.replies.try_recv(rt).ok()
     }
 
+    /// Lets a question go that the caller needs no more: it is handed to the workers, and one of them frees it as
+    /// soon as it takes a job or has replied to one. Where 64 of them are still to be freed, or no worker is
+    /// left, it is freed here. The call waits for nobody. Who frees it isn't proved.
+    pub fn let_go<R: Wait>(&mut self, rt: &R, question: Arc<Question, Global>)
+        ensures { self.new ≡ self.old }
+    {
+        send_or_drop(rt, &self.let_go, question);
+    }
+
     /// Takes back what no worker has taken, gives up the replies that nobody has received yet, waits
-    /// until each worker has ended, and says where each job went that was posted.
+    /// until each worker has ended, and says where each job went that was posted. What was let go is
+    /// freed by then.
     pub fn close<R: Threads + Wait>(self, rt: &R) -> CrewReport
         ensures workers { vec_len result.by_worker ≡ self.workers }
         ensures each { (n : ℕ) → sum_by (λ list. times n list.items) result.by_worker.items + times n result.left.items ≡ times n self.posted }
@@ -244,10 +267,13 @@ impl Crew {
             mut by_worker,
             mut left,
             replies,
+            let_go,
         } = self;
         take_all_back(rt, &mut poster, &mut left);
         // No worker waits any more for room for its reply.
         drop(replies);
+        // What was let go and isn't freed yet is freed by the last worker as it ends, or here where there is none.
+        drop(let_go);
         stop_all(rt, &mut poster, running.len());
         join_all(rt, &mut poster, running, &mut by_worker);
         take_all_back(rt, &mut poster, &mut left);

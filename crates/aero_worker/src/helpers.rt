@@ -3,8 +3,10 @@ ghost use Rattle.std.specs.Prelude.{◌≡◌, ℕ};
 
 use crate::crew::Crew;
 use crate::reply::Reply;
+use aero_pieces::question::Question;
 use aero_stage::{Full, Job};
-use std::sync::Wait;
+use std::alloc::Global;
+use std::sync::{Arc, Wait};
 
 /// Those to whom jobs are posted, and who may reply, in any order, more than once, or never. Nothing
 /// is promised of them but that they say how many they are.
@@ -23,6 +25,9 @@ pub trait Helpers {
 
     /// A reply that has come, without waiting for one. `None` doesn't say that none is to come.
     fn ready_answer<R: Wait>(&mut self, rt: &R) -> Option<Reply>;
+
+    /// Takes a question that the caller needs no more, to free it.
+    fn let_go<R: Wait>(&mut self, rt: &R, question: Arc<Question, Global>);
 }
 
 impl Helpers for Crew {
@@ -42,5 +47,9 @@ impl Helpers for Crew {
 
     fn ready_answer<R: Wait>(&mut self, rt: &R) -> Option<Reply> {
         self.ready_answer(rt)
+    }
+
+    fn let_go<R: Wait>(&mut self, rt: &R, question: Arc<Question, Global>) {
+        self.let_go(rt, question)
     }
 }

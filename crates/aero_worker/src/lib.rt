@@ -5,9 +5,11 @@
 //! the workers keep account of the numbers that they take: after `close` each number that was posted
 //! stands in the list of one worker, or among those that were left, as often as it was posted.
 //!
-//! Memory for the jobs and for the replies is taken where the crew starts. A worker to which memory is
-//! refused later says that it missed its job, or takes no more jobs, and a reply needs no memory: so a run
-//! in which memory stays refused ends.
+//! Memory for the jobs, for the replies and for what is let go is taken where the crew starts. A worker to which
+//! memory is refused later says that it missed its job, or takes no more jobs, and a reply needs no memory: so a
+//! run in which memory stays refused ends.
+//!
+//! `Crew::let_go` hands a question that was settled to the workers, so that one of them frees it.
 //!
 //! A `Gate` is a caller's own code, which each worker runs before it works an answer out, and after.
 //!

@@ -4,10 +4,8 @@ ghost use Rattle.aero_stage.specs.Ends.{new_taker};
 ghost use Rattle.aero_worker.specs.Shifts.{lists_of, IsShiftOf, Tells};
 
 use crate::gate::Gate;
-use crate::reply::Reply;
-use crate::shift::{Honest, Shift, work};
+use crate::shift::{Channels, Honest, Shift, work};
 use aero_stage::{Poster, Taker};
-use crossbeam_channel::Sender;
 use std::alloc::{AllocError, Global};
 use std::snapshot::Snapshot;
 use std::sync::atomic::{AtomicBool, Ordering};
@@ -18,7 +16,7 @@ use std::thread::{Builder, PromisedHandle, Threads};
 #[derive(Drop)]
 pub(crate) struct Seed<G: Drop> {
     pub(crate) taker: Taker,
-    replies: Sender<Reply>,
+    channels: Channels,
     gate: Arc<G>,
     unused: Arc<AtomicBool>,
     flag: Arc<AtomicBool>,
@@ -27,7 +25,7 @@ pub(crate) struct Seed<G: Drop> {
 fn make_seed<G: Gate + Drop>(
     alloc: Global,
     taker: Taker,
-    replies: &Sender<Reply>,
+    channels: &Channels,
     gate: &Arc<G>,
 ) -> Result<Seed<G>, AllocError>
     ensures { IfOk result (λ seed. seed.taker ≡ taker) }
@@ -36,7 +34,7 @@ fn make_seed<G: Gate + Drop>(
     let flag = Arc::try_clone(&unused)?;
     Ok(Seed {
         taker,
-        replies: replies.clone()?,
+        channels: channels.try_clone()?,
         gate: Arc::try_clone(gate)?,
         unused,
         flag,
@@ -48,7 +46,7 @@ pub(crate) fn make_seeds<G: Gate + Drop>(
     alloc: Global,
     poster: &Poster,
     takers: Vec<Taker>,
-    replies: &Sender<Reply>,
+    channels: &Channels,
     gate: &Arc<G>,
 ) -> Result<Vec<Seed<G>>, AllocError>
     requires { All (λ taker. taker ≡ new_taker poster.now.stage) takers.items }
@@ -58,7 +56,7 @@ pub(crate) fn make_seeds<G: Gate + Drop>(
     let mut takers = takers;
     let mut seeds = Vec::with_capacity(alloc, takers.len())?;
     while let Some(taker) = takers.pop() {
-        seeds.push(make_seed(alloc, taker, replies, gate)?)?;
+        seeds.push(make_seed(alloc, taker, channels, gate)?)?;
     }
     Ok(seeds)
 }
@@ -89,7 +87,7 @@ pub(crate) fn hire<G: Gate + Drop + 'static, R: Threads + Wait + Copy + Send + '
 {
     let Seed {
         taker,
-        replies,
+        channels,
         gate,
         unused,
         flag,
@@ -100,7 +98,7 @@ pub(crate) fn hire<G: Gate + Drop + 'static, R: Threads + Wait + Copy + Send + '
         ensures { IsShiftOf taker result }
     {
         let own = taker;
-        work(&rt, alloc, own, &replies, &*gate, &*unused)
+        work(&rt, alloc, own, &channels, &*gate, &*unused)
     };
     match Builder::new()
         .stack_size(stack)

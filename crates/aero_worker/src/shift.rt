@@ -4,13 +4,34 @@ ghost use Rattle.aero_worker.specs.Shifts.{IsShiftOf, number_of};
 
 use crate::gate::Gate;
 use crate::reply::{Reply, reply_to};
+use aero_pieces::question::Question;
 use aero_stage::{Job, Taker};
-use crossbeam_channel::Sender;
-use std::alloc::Global;
+use crossbeam_channel::{Receiver, Sender};
+use std::alloc::{AllocError, Global};
 use std::snapshot::Snapshot;
-use std::sync::Wait;
 use std::sync::atomic::{AtomicBool, Ordering};
+use std::sync::{Arc, Wait};
 use std::thread::Promise;
+
+// How many questions that were let go may be still to be freed.
+pub(crate) const LET_GO: u32 = 64;
+
+// A worker's ends of the channels: where its replies go, and where questions come from that it is to free.
+#[derive(Drop)]
+pub(crate) struct Channels {
+    pub(crate) replies: Sender<Reply>,
+    pub(crate) let_go: Receiver<Arc<Question, Global>>,
+}
+
+impl Channels {
+    // The same ends once more.
+    pub(crate) fn try_clone(&self) -> Result<Channels, AllocError> {
+        Ok(Channels {
+            replies: self.replies.clone()?,
+            let_go: self.let_go.clone()?,
+        })
+    }
+}
 
 // What a worker gives back: its Taker, and the numbers of the jobs that it took, in order.
 #[derive(Drop)]
@@ -28,8 +49,17 @@ impl Promise<Shift> for Honest {
 }
 
 // Sends a reply, which takes no memory. It waits for room, and where the receiver is gone the reply is dropped.
-fn tell<R: Wait>(rt: &R, replies: &Sender<Reply>, reply: Reply) {
+fn tell<T: Drop, R: Wait>(rt: &R, replies: &Sender<T>, reply: T) {
     let _ = replies.send(rt, reply);
+}
+
+// Frees what was let go, without waiting for more.
+fn free_all<T: Drop, R: Wait>(rt: &R, let_go: &Receiver<T>) {
+    for _ in 0..LET_GO {
+        if let_go.try_recv(rt).is_err() {
+            return;
+        }
+    }
 }
 
 // Notes the number of a job that was taken, for which there is room.
@@ -40,13 +70,22 @@ fn note(numbers: &mut Vec<u64>, job: &Job)
     numbers.push_reserved(job.number);
 }
 
+// Replies to a job, and lets it go. What was let go before is freed first, since the answer may take long, and then
+// what was let go meanwhile.
+fn serve<G: Gate, R: Wait>(rt: &R, alloc: Global, channels: &Channels, gate: &G, job: Job) {
+    free_all(rt, &channels.let_go);
+    tell(rt, &channels.replies, reply_to(alloc, gate, &job));
+    drop(job);
+    free_all(rt, &channels.let_go);
+}
+
 // Takes jobs and replies to them until there are none, or memory for one number more is refused.
 // With the flag set it takes none.
 pub(crate) fn work<G: Gate, R: Wait>(
     rt: &R,
     alloc: Global,
     taker: Taker,
-    replies: &Sender<Reply>,
+    channels: &Channels,
     gate: &G,
     unused: &AtomicBool,
 ) -> Shift
@@ -66,7 +105,7 @@ pub(crate) fn work<G: Gate, R: Wait>(
             break;
         };
         note(&mut numbers, &job);
-        tell(rt, replies, reply_to(alloc, gate, &job));
+        serve(rt, alloc, channels, gate, job);
     }
     Shift { taker, numbers }
 }

@@ -3,7 +3,7 @@ use aero_pieces::question::{Bytes, Question};
 use aero_stage::{Full, Job};
 use aero_worker::{Helpers, Reply};
 use std::alloc::{AllocError, Global};
-use std::sync::Wait;
+use std::sync::{Arc, Wait};
 
 // What a helper does with the jobs that are posted.
 #[derive(Clone, Copy, PartialEq, Eq)]
@@ -140,4 +140,6 @@ impl Helpers for Helper {
             _ => None,
         }
     }
+
+    fn let_go<R: Wait>(&mut self, _rt: &R, _question: Arc<Question>) {}
 }

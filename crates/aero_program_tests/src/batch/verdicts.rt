@@ -12,7 +12,7 @@ use aero_stage::{Full, Job};
 use aero_worker::{Helpers, Reply};
 use std::alloc::Global;
 use std::io::{Read, Write};
-use std::sync::Wait;
+use std::sync::{Arc, Wait};
 use std::test::Fail;
 
 // What is written of five sources, each with one block.
@@ -75,6 +75,8 @@ impl Helpers for Slow {
         let job = self.blocks.pop()?;
         Some(self.answer(&job))
     }
+
+    fn let_go<R: Wait>(&mut self, _rt: &R, _question: Arc<Question>) {}
 }
 
 // Runs over at most nine sources, and gives how many verdicts were owed at once, at most.
