@@ -1,72 +1,14 @@
+use crate::leads::{event_of, make_by_clocks};
 use aero_access::clocks::{Clocks, Spent};
-use aero_end::end;
 use std::alloc::Global;
-
-fn digit(byte: u8) -> u32 {
-    byte.wrapping_sub(b'0') as u32
-}
-
-// Begins a block, or one within the block.
-fn begin(clocks: &mut Clocks, t: u32) -> Result<Option<u32>, Spent> {
-    if clocks.closed().is_some() || clocks.begins(t) == u32::MAX {
-        return Err(Spent);
-    }
-    if clocks.in_block(t) {
-        clocks.plain(t)?;
-        return Ok(None);
-    }
-    clocks.begin(t)
-}
-
-// Forks thread `u`, which has to have made no event.
-fn fork(clocks: &mut Clocks, t: u32, u: u32) -> Result<Option<u32>, Spent> {
-    if clocks.closed().is_some() || t == u || clocks.acted(u) {
-        return Err(Spent);
-    }
-    clocks.fork(t, u)
-}
-
-// Joins thread `u`, which may have made no event.
-fn join(clocks: &mut Clocks, t: u32, u: u32) -> Result<Option<u32>, Spent> {
-    if clocks.closed().is_some() || t == u {
-        return Err(Spent);
-    }
-    if clocks.acted(u) {
-        return clocks.join(t, u);
-    }
-    clocks.plain(t)?;
-    Ok(None)
-}
-
-// Makes the event of this line, as `0|w(1)`, where threads, variables and locks are digits, or
-// refuses one that the clocks do not allow.
-fn make(clocks: &mut Clocks, line: &[u8]) -> Result<Option<u32>, Spent> {
-    if clocks.closed().is_some() {
-        return Err(Spent);
-    }
-    let [thread, b'|', what @ ..] = line else {
-        return Err(Spent);
-    };
-    let t = digit(*thread);
-    match what {
-        b"begin" => begin(clocks, t),
-        b"end" if clocks.in_block(t) => end(clocks, t),
-        [b'r', b'(', x, b')'] => clocks.read(t, digit(*x)),
-        [b'w', b'(', x, b')'] => clocks.write(t, digit(*x)),
-        [b'a', b'c', b'q', b'(', l, b')'] => clocks.acquire(t, digit(*l)),
-        [b'r', b'e', b'l', b'(', l, b')'] => clocks.release(t, digit(*l)),
-        [b'f', b'o', b'r', b'k', b'(', u, b')'] => fork(clocks, t, digit(*u)),
-        [b'j', b'o', b'i', b'n', b'(', u, b')'] => join(clocks, t, digit(*u)),
-        _ => Err(Spent),
-    }
-}
 
 // The answer to the last event of the trace, with `/` between its lines. Each before it has to answer
 // that nothing is told.
 fn run(clocks: &mut Clocks, trace: &str) -> Result<Option<u32>, Spent> {
     let mut last = None;
     for line in trace.split('/') {
-        last = make(clocks, line.as_bytes())?;
+        let (t, event) = event_of(line.as_bytes()).ok_or(Spent)?;
+        last = make_by_clocks(clocks, t, event)?;
     }
     Ok(last)
 }
@@ -227,8 +169,10 @@ fn ends_its_block(clocks: &mut Clocks) -> bool {
 #[test]
 fn slots_are_threads_and_then_last_events(rt: HostRuntime) {
     let mut clocks = Clocks::new(rt.alloc());
-    assert!(rt; has_two_threads_and_two_last_events(&mut clocks)
-        && are_led(&clocks)
-        && absorbs_thread_1(&mut clocks)
-        && ends_its_block(&mut clocks));
+    assert!(rt;
+        has_two_threads_and_two_last_events(&mut clocks)
+            && are_led(&clocks)
+            && absorbs_thread_1(&mut clocks)
+            && ends_its_block(&mut clocks)
+    );
 }

@@ -125,9 +125,7 @@ fn says_in_block(alloc: Global, block: &Parsed, wanted: &[u8]) -> bool {
 // Whether the line says this alone, and so it does in such a block.
 fn says(alloc: Global, line: &[u8], wanted: &[u8]) -> bool {
     match block_of(alloc, line) {
-        Some(block) => {
-            says_alone(alloc, line, wanted) && says_in_block(alloc, &block, wanted)
-        }
+        Some(block) => { says_alone(alloc, line, wanted) && says_in_block(alloc, &block, wanted) }
         None => false,
     }
 }

@@ -176,11 +176,7 @@ fn said_of(leads: &Leads, t: u32) -> Said {
 fn is_said(alloc: Global, row: &Tested) -> bool {
     let mut leads = Leads::new(alloc);
     run(&mut leads, row.0).is_ok()
-        && [
-            said_of(&leads, 0),
-            said_of(&leads, 1),
-            said_of(&leads, 2),
-        ] == row.1
+        && [said_of(&leads, 0), said_of(&leads, 1), said_of(&leads, 2)] == row.1
 }
 
 // The first row that doesn't hold.
@@ -249,7 +245,11 @@ fn join_by_clocks(clocks: &mut Clocks, t: u32, u: u32) -> Result<Option<u32>, Sp
     Ok(None)
 }
 
-fn make_by_clocks(clocks: &mut Clocks, t: u32, event: Event) -> Result<Option<u32>, Spent> {
+pub(crate) fn make_by_clocks(
+    clocks: &mut Clocks,
+    t: u32,
+    event: Event,
+) -> Result<Option<u32>, Spent> {
     if clocks.closed().is_some() {
         return Err(Spent);
     }

@@ -126,9 +126,7 @@ fn up_to_64_labels_are_listed(rt: HostRuntime) {
 // Whether the list has the label or not as wanted, as a name and as bytes alike.
 fn is_had_so(alloc: Global, except: &Except, label: &str, wanted: bool) -> bool {
     match Name::read(alloc, label.as_bytes()) {
-        Ok(name) => {
-            except.has(&name) == wanted && except.has_bytes(label.as_bytes()) == wanted
-        }
+        Ok(name) => { except.has(&name) == wanted && except.has_bytes(label.as_bytes()) == wanted }
         Err(_) => false,
     }
 }

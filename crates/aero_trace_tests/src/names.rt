@@ -194,6 +194,8 @@ fn tells(alloc: Global, fault: NamesFault, wanted: &str) -> bool {
 #[test]
 fn the_faults_tell_themselves(rt: HostRuntime) {
     let alloc = rt.alloc();
-    assert!(rt; tells(alloc, NamesFault::Full, "too many different names")
-        && tells(alloc, NamesFault::Memory, "out of memory"));
+    assert!(rt;
+        tells(alloc, NamesFault::Full, "too many different names")
+            && tells(alloc, NamesFault::Memory, "out of memory")
+    );
 }

@@ -93,8 +93,7 @@ impl Trace {
                     && push_line(alloc, &mut self.replaced, t, deed)
             }
             Some(Reading::Exempt) => {
-                push_line(alloc, &mut self.parts, t, deed)
-                    && push_own(alloc, &mut self.replaced, t)
+                push_line(alloc, &mut self.parts, t, deed) && push_own(alloc, &mut self.replaced, t)
             }
             None => false,
         }

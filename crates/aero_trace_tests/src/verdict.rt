@@ -134,7 +134,11 @@ fn has_verdict(
     wanted: &str,
 ) -> bool {
     says(alloc, verdict_of(alloc, parts, limits, except), wanted)
-        && says(alloc, verdict_by::<Clocks>(alloc, parts, limits, except), wanted)
+        && says(
+            alloc,
+            verdict_by::<Clocks>(alloc, parts, limits, except),
+            wanted,
+        )
 }
 
 fn is_judged(alloc: Global, limits: &Limits, row: (&str, &str, &str)) -> Option<bool> {
@@ -243,7 +247,6 @@ fn serializable_and_pending_traces(rt: HostRuntime) {
     assert_eq!(rt; first_misjudged(rt.alloc(), &WITHOUT_A_VIOLATION), None);
 }
 
-
 // A violation is told by its line, with the thread and the begin of the block in which its cycle begins.
 const VIOLATIONS: [Row; 12] = [
     (
@@ -343,7 +346,6 @@ fn the_first_fault_by_line_with_its_cause(rt: HostRuntime) {
     assert_eq!(rt; first_misjudged(rt.alloc(), &FAULTS), None);
 }
 
-
 // A line past the limit doesn't count, and the one after the limit may have a fault of its own.
 const LIMITS_ON_LINES: [Limited; 18] = [
     (
@@ -423,7 +425,6 @@ fn limits_on_lines(rt: HostRuntime) {
     assert_eq!(rt; first_misjudged_under(rt.alloc(), &LIMITS_ON_LINES), None);
 }
 
-
 // The limits are looked at first, and the actor before the target.
 const LIMITS_ON_THREADS_AND_NAMES: [Limited; 12] = [
     (
@@ -490,7 +491,10 @@ const LIMITS_ON_THREADS_AND_NAMES: [Limited; 12] = [
 
 #[test]
 fn limits_on_threads_and_names(rt: HostRuntime) {
-    assert_eq!(rt; first_misjudged_under(rt.alloc(), &LIMITS_ON_THREADS_AND_NAMES), None);
+    assert_eq!(rt;
+        first_misjudged_under(rt.alloc(), &LIMITS_ON_THREADS_AND_NAMES),
+        None
+    );
 }
 
 const OPEN_AND_CLOSE_NO_BLOCK: [Labelled; 14] = [
@@ -637,10 +641,16 @@ fn are_many_blocks_judged(alloc: Global) -> bool {
     let mut row = String::new(alloc);
     let mut fits = true;
     for _ in 0..15000 {
-        fits &= row.push_str("T1|begin/T1|w(x)/T1|end/T2|begin/T2|w(x)/T2|end/").is_ok();
+        fits &= row
+            .push_str("T1|begin/T1|w(x)/T1|end/T2|begin/T2|w(x)/T2|end/")
+            .is_ok();
     }
     fits &= row.push_str("+").is_ok();
-    fits && is_judged(alloc, &Limits::greatest(), ("", &row, "serializable 90000 30000")) == Some(true)
+    fits && is_judged(
+        alloc,
+        &Limits::greatest(),
+        ("", &row, "serializable 90000 30000"),
+    ) == Some(true)
 }
 
 fn push_thread(alloc: Global, row: &mut String, i: u32) -> bool {
@@ -664,7 +674,9 @@ fn are_many_threads_judged(alloc: Global, threads: u32, wanted: &str) -> bool {
 #[test]
 fn many_blocks_and_many_threads(rt: HostRuntime) {
     let alloc = rt.alloc();
-    assert!(rt; are_many_blocks_judged(alloc)
-        && are_many_threads_judged(alloc, 1024, "serializable 3072 1024")
-        && are_many_threads_judged(alloc, 1025, "serializable 3075 1025"));
+    assert!(rt;
+        are_many_blocks_judged(alloc)
+            && are_many_threads_judged(alloc, 1024, "serializable 3072 1024")
+            && are_many_threads_judged(alloc, 1025, "serializable 3075 1025")
+    );
 }
