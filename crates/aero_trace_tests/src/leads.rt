@@ -395,7 +395,7 @@ fn counts_of_ends(alloc: Global, seeds: u32) -> Result<[u32; 3], u32> {
 // Each kind has to come.
 fn has_each_end(counts: Result<[u32; 3], u32>) -> bool {
     match counts {
-        Ok([own, other, none]) => own >= 8 && other >= 4 && none >= 8,
+        Ok(counts) => counts[0] >= 8 && counts[1] >= 4 && counts[2] >= 8,
         Err(_) => false,
     }
 }
@@ -485,7 +485,7 @@ fn counts_of_many(alloc: Global, seeds: u32) -> Result<[u32; 2], u32> {
 // Each kind has to come.
 fn has_each_of_many(counts: Result<[u32; 2], u32>) -> bool {
     match counts {
-        Ok([closed, none]) => closed >= 4 && none >= 4,
+        Ok(counts) => counts[0] >= 4 && counts[1] >= 4,
         Err(_) => false,
     }
 }

@@ -22,6 +22,28 @@ fn has_number(names: &Names, row: &Row) -> bool {
     }
 }
 
+// Whether the names are numbered so.
+fn are_numbered(alloc: Global, names: &mut Names, rows: &[Row]) -> bool {
+    let mut fits = true;
+    for row in rows {
+        fits &= is_numbered(alloc, names, row);
+    }
+    fits
+}
+
+// Whether each name stands by its number.
+fn have_numbers(names: &Names, rows: &[Row]) -> bool {
+    let mut fits = true;
+    for row in rows {
+        fits &= has_number(names, row);
+    }
+    fits
+}
+
+fn has_just(names: &Names, len: u32) -> bool {
+    names.name(len).is_none() && names.len() == len && names.is_empty() == (len == 0)
+}
+
 // A limit, names and how they are numbered up to it, and how many they are in the end.
 type Table<'a> = (u32, &'a [Row<'a>], u32);
 
@@ -29,14 +51,10 @@ type Table<'a> = (u32, &'a [Row<'a>], u32);
 fn numbers(alloc: Global, table: &Table) -> bool {
     let (limit, rows, len) = *table;
     let mut names = Names::new(alloc, limit);
-    let mut fits = names.is_empty();
-    for row in rows {
-        fits &= is_numbered(alloc, &mut names, row);
-    }
-    for row in rows {
-        fits &= has_number(&names, row);
-    }
-    fits && names.name(len).is_none() && names.len() == len && names.is_empty() == (len == 0)
+    names.is_empty()
+        && are_numbered(alloc, &mut names, rows)
+        && have_numbers(&names, rows)
+        && has_just(&names, len)
 }
 
 // The first table that isn't so.
@@ -165,12 +183,12 @@ fn lists_are_the_same_where_each_name_is(rt: HostRuntime) {
 // Whether a list of this text has its names in order, and a new one none.
 fn is_in_order(alloc: Global, text: &str, names: [&[u8]; 3]) -> bool {
     match listed(alloc, text) {
-        Some(list) => has_just(&list, names) && NameList::new(alloc).is_empty(),
+        Some(list) => lists_just(&list, names) && NameList::new(alloc).is_empty(),
         None => false,
     }
 }
 
-fn has_just(list: &NameList, names: [&[u8]; 3]) -> bool {
+fn lists_just(list: &NameList, names: [&[u8]; 3]) -> bool {
     list.len() == 3
         && !list.is_empty()
         && list.name(0) == Some(names[0])

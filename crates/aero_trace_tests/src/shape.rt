@@ -61,25 +61,31 @@ const AN_EXEMPT_BLOCK_IS_NONE: [Row; 7] = [
     ("0 End", "EndWithoutBegin"),
 ];
 
+fn what_of(deed: &str, target: u32) -> Option<What> {
+    match deed {
+        "Write" => Some(What::Write(target)),
+        "Acquire" => Some(What::Acquire(target)),
+        "Release" => Some(What::Release(target)),
+        "Fork" => Some(What::Fork(target)),
+        "Join" => Some(What::Join(target)),
+        "Begin" | "ExemptBegin" => Some(What::Begin(None)),
+        "End" => Some(What::End),
+        _ => None,
+    }
+}
+
+// What such a text does behind its thread: with the target if there is one.
+fn deed_of(text: &str) -> Option<What> {
+    let (deed, target) = text.split_once(' ').unwrap_or((text, "0"));
+    what_of(deed, target.parse::<u32>().ok()?)
+}
+
 // The event of such a text: a thread, what it does, and the target if there is one.
 fn event_of(text: &str) -> Option<Numbered> {
     let (thread, deed) = text.split_once(' ')?;
-    let (deed, target) = deed.split_once(' ').unwrap_or((deed, "0"));
-    let target = target.parse::<u32>().ok()?;
-    let what = match deed {
-        "Write" => What::Write(target),
-        "Acquire" => What::Acquire(target),
-        "Release" => What::Release(target),
-        "Fork" => What::Fork(target),
-        "Join" => What::Join(target),
-        "Begin" | "ExemptBegin" => What::Begin(None),
-        "End" => What::End,
-        _ => return None,
-    };
-    Some(Numbered {
-        thread: thread.parse::<u32>().ok()?,
-        what,
-    })
+    let thread = thread.parse::<u32>().ok()?;
+    let what = deed_of(deed)?;
+    Some(Numbered { thread, what })
 }
 
 fn told(answer: Result<Admitted, ShapeFault>) -> &'static str {
