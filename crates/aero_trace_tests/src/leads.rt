@@ -19,23 +19,35 @@ fn digit(byte: u8) -> u32 {
     byte.wrapping_sub(b'0') as u32
 }
 
+// The event with this deed, as `w(`, on what the digit names.
+fn event_on(deed: &[u8], target: u8) -> Option<Event> {
+    let target = digit(target);
+    match deed {
+        b"r(" => Some(Event::Read(target)),
+        b"w(" => Some(Event::Write(target)),
+        b"acq(" => Some(Event::Acquire(target)),
+        b"rel(" => Some(Event::Release(target)),
+        b"fork(" => Some(Event::Fork(target)),
+        b"join(" => Some(Event::Join(target)),
+        _ => None,
+    }
+}
+
+fn deed_of(what: &[u8]) -> Option<Event> {
+    match what {
+        b"begin" => Some(Event::Begin),
+        b"end" => Some(Event::End),
+        [deed @ .., target, b')'] => event_on(deed, *target),
+        _ => None,
+    }
+}
+
 // The event of this line, as `0|w(1)`, where threads, variables and locks are digits, and its thread.
 pub(crate) fn event_of(line: &[u8]) -> Option<(u32, Event)> {
-    let [thread, b'|', what @ ..] = line else {
-        return None;
-    };
-    let event = match what {
-        b"begin" => Event::Begin,
-        b"end" => Event::End,
-        [b'r', b'(', x, b')'] => Event::Read(digit(*x)),
-        [b'w', b'(', x, b')'] => Event::Write(digit(*x)),
-        [b'a', b'c', b'q', b'(', l, b')'] => Event::Acquire(digit(*l)),
-        [b'r', b'e', b'l', b'(', l, b')'] => Event::Release(digit(*l)),
-        [b'f', b'o', b'r', b'k', b'(', u, b')'] => Event::Fork(digit(*u)),
-        [b'j', b'o', b'i', b'n', b'(', u, b')'] => Event::Join(digit(*u)),
-        _ => return None,
-    };
-    Some((digit(*thread), event))
+    match line {
+        [thread, b'|', what @ ..] => Some((digit(*thread), deed_of(what)?)),
+        _ => None,
+    }
 }
 
 // Begins a block that is in no other.
