@@ -90,7 +90,7 @@ fn first_wrong(alloc: Global, rows: &[Row]) -> Option<usize> {
     None
 }
 
-const ROWS: [Row; 8] = [
+static ROWS: [Row; 8] = [
     ("", "", (true, true), [0, 0, 0], &[]),
     ("", "2", (true, false), [0, 0, 1], &[(2, 1)]),
     ("2", "20", (true, false), [1, 0, 1], &[(0, 1), (2, 1)]),

@@ -31,7 +31,7 @@ fn first_wrong(alloc: Global, rows: &[Row]) -> Option<usize> {
     None
 }
 
-const ROWS: [Row; 14] = [
+static ROWS: [Row; 14] = [
     // A read comes back from a second thread, whose block is open too.
     ("0|begin/1|begin/0|w(0)/1|r(0)/1|w(1)/0|r(1)", Some(0)),
     // An acquire, and a join.
@@ -104,7 +104,7 @@ fn first_missaid(alloc: Global, rows: &[Tested]) -> Option<usize> {
     None
 }
 
-const TESTED: [Tested; 5] = [
+static TESTED: [Tested; 5] = [
     (
         "0|begin/0|w(0)/1|r(0)",
         [(true, true, 1), (false, true, 0), (false, false, 0)],

@@ -140,7 +140,7 @@ fn first_misread(alloc: Global, rows: &[(&str, &str)]) -> Option<usize> {
     None
 }
 
-const LINES: [(&str, &str); 43] = [
+static LINES: [(&str, &str); 43] = [
     ("T0|r(V123)|345", "T0 Read V123"),
     (" T0 \t| w(a b) ", "T0 Write a b"),
     ("T0|r(a(b))|1|2", "T0 Read a(b)"),
@@ -233,7 +233,7 @@ fn first_misread_of_long(alloc: Global, rows: &[LongRow]) -> Option<usize> {
     None
 }
 
-const LONG: [LongRow; 10] = [
+static LONG: [LongRow; 10] = [
     ("T0|begin(#)", b'a', 255, "T0 Begin #"),
     ("T0|begin(#)", b'a', 256, "T0 Begin"),
     ("T0|begin(#)", b'a', 300, "T0 Begin"),
@@ -347,7 +347,7 @@ fn first_block_misread(alloc: Global, rows: &[(&str, &str)]) -> Option<usize> {
     None
 }
 
-const BLOCKS: [(&str, &str); 6] = [
+static BLOCKS: [(&str, &str); 6] = [
     ("", "lines 0, threads, variables, locks, labels"),
     ("/", "lines 1, threads, variables, locks, labels"),
     (
@@ -373,7 +373,7 @@ fn blocks_are_read_up_to_their_first_fault(rt: HostRuntime) {
     assert_eq!(rt; first_block_misread(rt.alloc(), &BLOCKS), None);
 }
 
-const DEEDS: [What; 11] = [
+static DEEDS: [What; 11] = [
     What::Read(1),
     What::Write(2),
     What::Acquire(3),

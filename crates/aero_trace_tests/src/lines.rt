@@ -68,7 +68,7 @@ fn comes_byte_by_byte(alloc: Global, line: &[u8]) -> bool {
     fits && gives(&mut cutter, &[last], line) && ends_with(cutter, b"")
 }
 
-const WHOLE_LINES: [Row; 4] = [
+static WHOLE_LINES: [Row; 4] = [
     (&[b"ab", b"c\nd"], &[b"", b"abc\n"], b"d"),
     (&[b"a\nb\n"], &[b"a\nb\n"], b""),
     (&[b"", b"\n"], &[b"", b"\n"], b""),

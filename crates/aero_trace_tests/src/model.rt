@@ -40,7 +40,7 @@ fn first_length_misread(alloc: Global, letters: &[u8; 256]) -> Option<usize> {
 
 const LETTERS: [u8; 256] = [b'a'; 256];
 
-const NAMES: [NameRow; 8] = [
+static NAMES: [NameRow; 8] = [
     (b"", Some(NameFault::Empty)),
     (&LETTERS, Some(NameFault::TooLong)),
     (&[0u8; 256], Some(NameFault::TooLong)),
@@ -144,7 +144,7 @@ fn first_mislisted(alloc: Global, text: &str, rows: &[(&str, bool)]) -> Option<u
     None
 }
 
-const LABELS: [(&str, bool); 6] = [
+static LABELS: [(&str, bool); 6] = [
     ("f", true),
     ("g.h()", true),
     ("F", false),
@@ -180,7 +180,7 @@ fn first_miscompared(alloc: Global, rows: &[(&str, &str, bool)]) -> Option<usize
     None
 }
 
-const LISTS: [(&str, &str, bool); 6] = [
+static LISTS: [(&str, &str, bool); 6] = [
     ("", "", true),
     ("ab c", "ab c", true),
     ("ab c", "c ab", false),

@@ -165,7 +165,7 @@ fn first_miscompared(alloc: Global, rows: &[(&str, &str, bool)]) -> Option<usize
     None
 }
 
-const LISTS: [(&str, &str, bool); 7] = [
+static LISTS: [(&str, &str, bool); 7] = [
     ("ab c", "ab c", true),
     ("x x", "x x", true),
     ("ab c", "a bc", false),

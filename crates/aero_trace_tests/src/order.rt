@@ -182,7 +182,7 @@ fn first_wrong(alloc: Global, rows: &[Row]) -> Option<usize> {
 }
 
 // Traces, and the first place of each transaction in their serial orders. None is a cycle.
-const ROWS: [Row; 16] = [
+static ROWS: [Row; 16] = [
     ("", Some(&[])),
     // Events outside of blocks are transactions of their own.
     ("0|w(0)/1|r(0)/0|r(0)", Some(&[0, 1, 2])),

@@ -121,7 +121,7 @@ fn first_wrong(alloc: Global, limits: &Limits, rows: &[Row]) -> Option<usize> {
     None
 }
 
-const ORDERED: [Row; 12] = [
+static ORDERED: [Row; 12] = [
     ("", "", "", "serializable 0 0/"),
     ("", "+//+", "", "serializable 0 0/"),
     (
@@ -190,7 +190,7 @@ const ORDERED: [Row; 12] = [
 ];
 
 // Open blocks have an order, if there is no cycle, and it isn't told with the verdict.
-const NOT_TOLD: [Row; 11] = [
+static NOT_TOLD: [Row; 11] = [
     ("", "T1|begin/T1|w(x)/+", "1/", "pending 2 1 1"),
     ("", "T1|begin/T2|w(x)/T1|r(x)/+", "2/1/", "pending 3 1 1"),
     (
@@ -235,7 +235,7 @@ const NOT_TOLD: [Row; 11] = [
 ];
 
 // The events of a block that is no transaction are transactions by themselves, but for those in other blocks.
-const WITH_LABELS: [Row; 5] = [
+static WITH_LABELS: [Row; 5] = [
     (
         "a",
         "T1|begin(a)/T1|w(x)/T2|w(x)/T1|r(x)/T1|end/+",
@@ -269,7 +269,7 @@ const WITH_LABELS: [Row; 5] = [
 ];
 
 // Under limits of two lines, threads and names.
-const LIMITED: [Row; 2] = [
+static LIMITED: [Row; 2] = [
     ("", "T1|begin/T1|end//+", "none", "malformed 3 TooManyLines"),
     (
         "",
@@ -333,7 +333,7 @@ fn first_other_actor(alloc: Global, rows: &[Actors]) -> Option<usize> {
     None
 }
 
-const ACTORS: [Actors; 6] = [
+static ACTORS: [Actors; 6] = [
     ("", 3, "-/-/-/"),
     ("T1|w(x)/T2|r(x)/+", 4, "-/T1/T2/-/"),
     // The target is none, and a blank line has none.

@@ -7,7 +7,7 @@ use std::alloc::Global;
 // An event, and what is told of it.
 type Row = (&'static str, &'static str);
 
-const EACH_CAUSE_AND_EACH_KIND: [Row; 15] = [
+static EACH_CAUSE_AND_EACH_KIND: [Row; 15] = [
     ("0 Begin", "OuterBegin"),
     ("0 Begin", "in a block"),
     ("0 Acquire 0", "in a block"),
@@ -25,7 +25,7 @@ const EACH_CAUSE_AND_EACH_KIND: [Row; 15] = [
     ("0 Release 0", "outside"),
 ];
 
-const A_LOCK_IS_FREE_AFTER_AS_MANY_RELEASES_AS_ACQUIRES: [Row; 9] = [
+static A_LOCK_IS_FREE_AFTER_AS_MANY_RELEASES_AS_ACQUIRES: [Row; 9] = [
     ("3 Acquire 9", "outside"),
     ("3 Acquire 9", "outside"),
     ("3 Release 9", "outside"),
@@ -37,7 +37,7 @@ const A_LOCK_IS_FREE_AFTER_AS_MANY_RELEASES_AS_ACQUIRES: [Row; 9] = [
     ("3 Acquire 2", "LockHeldByOther"),
 ];
 
-const A_JOINED_THREAD_DOES_NOTHING_MORE: [Row; 11] = [
+static A_JOINED_THREAD_DOES_NOTHING_MORE: [Row; 11] = [
     ("40 Begin", "OuterBegin"),
     ("40 Acquire 5", "in a block"),
     ("7 Join 40", "outside"),
@@ -51,7 +51,7 @@ const A_JOINED_THREAD_DOES_NOTHING_MORE: [Row; 11] = [
     ("7 Fork 41", "ForkStarted"),
 ];
 
-const AN_EXEMPT_BLOCK_IS_NONE: [Row; 7] = [
+static AN_EXEMPT_BLOCK_IS_NONE: [Row; 7] = [
     ("0 ExemptBegin", "outside"),
     ("0 Begin", "OuterBegin"),
     ("0 ExemptBegin", "in a block"),

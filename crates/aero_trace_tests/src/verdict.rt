@@ -192,7 +192,7 @@ fn first_misjudged_under(alloc: Global, rows: &[Limited]) -> Option<usize> {
 }
 
 // Events and outermost begins are counted, and so are open blocks.
-const WITHOUT_A_VIOLATION: [Row; 14] = [
+static WITHOUT_A_VIOLATION: [Row; 14] = [
     ("", "serializable 0 0"),
     (
         "T1|begin/T1|w(x)/T1|r(x)/T1|w(x)/T1|end/+",
@@ -248,7 +248,7 @@ fn serializable_and_pending_traces(rt: HostRuntime) {
 }
 
 // A violation is told by its line, with the thread and the begin of the block in which its cycle begins.
-const VIOLATIONS: [Row; 12] = [
+static VIOLATIONS: [Row; 12] = [
     (
         "T1|begin/T2|begin/T1|w(x)/T2|r(x)/T2|w(y)/T1|r(y)/+",
         "violation 6 T1 1",
@@ -304,7 +304,7 @@ fn violations_where_a_cycle_closes(rt: HostRuntime) {
     assert_eq!(rt; first_misjudged(rt.alloc(), &VIOLATIONS), None);
 }
 
-const FAULTS: [Row; 19] = [
+static FAULTS: [Row; 19] = [
     (
         "T1|begin/T2|begin/T1|w(x)/T2|r(x)/T2|w(y)/T+T1|r(y)/+",
         "malformed 6 NoOperation",
@@ -347,7 +347,7 @@ fn the_first_fault_by_line_with_its_cause(rt: HostRuntime) {
 }
 
 // A line past the limit doesn't count, and the one after the limit may have a fault of its own.
-const LIMITS_ON_LINES: [Limited; 18] = [
+static LIMITS_ON_LINES: [Limited; 18] = [
     (
         (5, 10, 10),
         "T1|begin/T2|begin/T1|w(x)/T2|r(x)/T2|w(y)/T1|r(y)/+",
@@ -426,7 +426,7 @@ fn limits_on_lines(rt: HostRuntime) {
 }
 
 // The limits are looked at first, and the actor before the target.
-const LIMITS_ON_THREADS_AND_NAMES: [Limited; 12] = [
+static LIMITS_ON_THREADS_AND_NAMES: [Limited; 12] = [
     (
         (100, 2, 100),
         "T1|w(x)/T2|w(x)/T3|w(x)/+",
@@ -497,7 +497,7 @@ fn limits_on_threads_and_names(rt: HostRuntime) {
     );
 }
 
-const OPEN_AND_CLOSE_NO_BLOCK: [Labelled; 14] = [
+static OPEN_AND_CLOSE_NO_BLOCK: [Labelled; 14] = [
     (
         "a",
         "T1|begin(a)/T2|begin/T1|w(x)/T2|r(x)/T2|w(y)/T1|r(y)/+",
@@ -559,7 +559,7 @@ const OPEN_AND_CLOSE_NO_BLOCK: [Labelled; 14] = [
     ("a", "T1|begin(a)/T2|end/+", "ill-formed 2 EndWithoutBegin"),
 ];
 
-const WHICH_LABELS_AND_OVER_PARTS: [Labelled; 12] = [
+static WHICH_LABELS_AND_OVER_PARTS: [Labelled; 12] = [
     // No begin has the label: a variable has it, or a label begins or ends with it.
     (
         "b",
