@@ -104,7 +104,7 @@ fn first_missaid(alloc: Global, rows: &[Tested]) -> Option<usize> {
     None
 }
 
-static TESTED: [Tested; 5] = [
+const TESTED: [Tested; 5] = [
     (
         "0|begin/0|w(0)/1|r(0)",
         [(true, true, 1), (false, true, 0), (false, false, 0)],
