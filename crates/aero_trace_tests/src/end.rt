@@ -1,177 +1,178 @@
+use crate::leads::{event_of, make_by_clocks};
 use aero_access::clocks::{Clocks, Spent};
-use aero_end::end;
 use std::alloc::Global;
-use std::test::Fail;
-
-fn digit(byte: u8) -> u32 {
-    byte.wrapping_sub(b'0') as u32
-}
-
-// Begins a block, or one within the block.
-fn begin(clocks: &mut Clocks, t: u32) -> Result<Option<u32>, Spent> {
-    if clocks.closed().is_some() || clocks.begins(t) == u32::MAX {
-        return Err(Spent);
-    }
-    if clocks.in_block(t) {
-        clocks.plain(t)?;
-        return Ok(None);
-    }
-    clocks.begin(t)
-}
-
-// Forks thread `u`, which has to have made no event.
-fn fork(clocks: &mut Clocks, t: u32, u: u32) -> Result<Option<u32>, Spent> {
-    if clocks.closed().is_some() || t == u || clocks.acted(u) {
-        return Err(Spent);
-    }
-    clocks.fork(t, u)
-}
-
-// Joins thread `u`, which may have made no event.
-fn join(clocks: &mut Clocks, t: u32, u: u32) -> Result<Option<u32>, Spent> {
-    if clocks.closed().is_some() || t == u {
-        return Err(Spent);
-    }
-    if clocks.acted(u) {
-        return clocks.join(t, u);
-    }
-    clocks.plain(t)?;
-    Ok(None)
-}
-
-// Makes the event of this line, as `0|w(1)`, where threads, variables and locks are digits, or
-// refuses one that the clocks do not allow.
-fn make(clocks: &mut Clocks, line: &[u8]) -> Result<Option<u32>, Spent> {
-    if clocks.closed().is_some() {
-        return Err(Spent);
-    }
-    let [thread, b'|', what @ ..] = line else {
-        return Err(Spent);
-    };
-    let t = digit(*thread);
-    match what {
-        b"begin" => begin(clocks, t),
-        b"end" if clocks.in_block(t) => end(clocks, t),
-        [b'r', b'(', x, b')'] => clocks.read(t, digit(*x)),
-        [b'w', b'(', x, b')'] => clocks.write(t, digit(*x)),
-        [b'a', b'c', b'q', b'(', l, b')'] => clocks.acquire(t, digit(*l)),
-        [b'r', b'e', b'l', b'(', l, b')'] => clocks.release(t, digit(*l)),
-        [b'f', b'o', b'r', b'k', b'(', u, b')'] => fork(clocks, t, digit(*u)),
-        [b'j', b'o', b'i', b'n', b'(', u, b')'] => join(clocks, t, digit(*u)),
-        _ => Err(Spent),
-    }
-}
 
 // The answer to the last event of the trace, with `/` between its lines. Each before it has to answer
 // that nothing is told.
 fn run(clocks: &mut Clocks, trace: &str) -> Result<Option<u32>, Spent> {
     let mut last = None;
     for line in trace.split('/') {
-        last = make(clocks, line.as_bytes())?;
+        let (t, event) = event_of(line.as_bytes()).ok_or(Spent)?;
+        last = make_by_clocks(clocks, t, event)?;
     }
     Ok(last)
 }
 
-// Traces, and the thread that is answered to the last event of each.
-#[test]
-fn the_last_event_closes_a_cycle_or_none(rt: HostRuntime) -> Result<(), Fail> {
-    let rows = [
-        // A read comes back from a second thread, whose block is open too.
-        ("0|begin/1|begin/0|w(0)/1|r(0)/1|w(1)/0|r(1)", Some(0)),
-        // An acquire, and a join.
-        (
-            "0|begin/0|acq(0)/0|rel(0)/1|acq(0)/1|rel(0)/0|acq(0)",
-            Some(0),
-        ),
-        ("0|begin/0|fork(1)/1|w(0)/0|join(1)", Some(0)),
-        // A write: only the clock of the reader shows it.
-        ("0|begin/0|w(0)/1|r(0)/1|r(1)/0|w(1)", Some(0)),
-        // A thread closes none by itself.
-        ("0|begin/0|w(0)/0|r(0)/0|w(0)", None),
-        ("0|begin/0|acq(0)/0|rel(0)/0|acq(0)", None),
-        // There is a cycle, but it passes two open blocks, until one ends.
-        ("0|begin/1|begin/1|w(1)/0|w(0)/1|r(0)/0|r(1)", None),
-        ("0|begin/1|begin/1|w(1)/0|w(0)/1|r(0)/0|r(1)/0|end", Some(1)),
-        // A thread that has made no event is joined, and the block ends.
-        ("0|begin/0|fork(1)/0|join(1)", None),
-        ("0|begin/0|fork(1)/0|join(1)/0|end", None),
-        // Thread 0 joins such a thread and takes nothing of the block that forked it, so what it then
-        // writes doesn't come after that block. Where the thread has made an event, it does.
-        ("2|begin/2|fork(1)/0|join(1)/0|w(0)/2|r(0)", None),
-        ("2|begin/2|fork(1)/1|w(1)/0|join(1)/0|w(0)/2|r(0)", Some(2)),
-        // The blocks of threads 1 and 2 both close.
-        (
-            "0|begin/1|begin/2|begin/1|w(0)/2|w(1)/0|w(2)/1|r(2)/2|r(2)/0|r(0)/0|r(1)/0|end",
-            Some(1),
-        ),
-        // Thread 2 wrote variable 1 after it had read of thread 1's block, into which thread 0 led
-        // only later. The end of the block brings thread 0's block to that last write.
-        (
-            "0|begin/1|begin/1|w(0)/2|r(0)/2|w(1)/0|w(2)/1|r(2)/1|end/0|r(1)",
-            Some(0),
-        ),
-    ];
-    for (trace, told) in rows {
-        let mut clocks = Clocks::new(rt.alloc());
-        let answer = run(&mut clocks, trace);
-        assert!(rt; answer == Ok(told) && clocks.closed() == told, "{trace}");
-    }
-    Ok(())
+// A trace, and the thread that is answered to its last event.
+type Row = (&'static str, Option<u32>);
+
+fn is_answered(alloc: Global, row: &Row) -> bool {
+    let mut clocks = Clocks::new(alloc);
+    run(&mut clocks, row.0) == Ok(row.1) && clocks.closed() == row.1
 }
 
-// Traces, and of each thread of 0 to 2 then: whether it is in a block, whether it has made an event,
-// and how many outermost begins it has made.
-#[test]
-fn the_tests_answer_for_each_thread(rt: HostRuntime) -> Result<(), Fail> {
-    let rows = [
-        (
-            "0|begin/0|w(0)/1|r(0)",
-            [(true, true, 1), (false, true, 0), (false, false, 0)],
-        ),
-        // A thread is answered, by an event and by an end: what the tests say stays.
-        (
-            "0|begin/0|w(0)/1|r(0)/1|r(1)/0|w(1)",
-            [(true, true, 1), (false, true, 0), (false, false, 0)],
-        ),
-        (
-            "0|begin/1|begin/1|w(1)/0|w(0)/1|r(0)/0|r(1)/0|end",
-            [(true, true, 1), (true, true, 1), (false, false, 0)],
-        ),
-        // A thread that is forked and joined has made no event.
-        (
-            "0|begin/0|fork(1)/0|join(1)/0|end",
-            [(false, true, 1), (false, false, 0), (false, false, 0)],
-        ),
-        (
-            "0|begin/0|w(0)/1|r(0)/0|end",
-            [(false, true, 1), (false, true, 0), (false, false, 0)],
-        ),
-    ];
-    for (trace, threads) in rows {
-        let mut clocks = Clocks::new(rt.alloc());
-        assert!(rt; run(&mut clocks, trace).is_ok(), "{trace}");
-        for (t, says) in (0..).zip(threads) {
-            let answers = (clocks.in_block(t), clocks.acted(t), clocks.begins(t));
-            assert!(rt; answers == says, "{t} after {trace}");
+// The first row that doesn't hold.
+fn first_wrong(alloc: Global, rows: &[Row]) -> Option<usize> {
+    for i in 0..rows.len() {
+        if !is_answered(alloc, &rows[i]) {
+            return Some(i);
         }
     }
-    Ok(())
+    None
+}
+
+static ROWS: [Row; 14] = [
+    // A read comes back from a second thread, whose block is open too.
+    ("0|begin/1|begin/0|w(0)/1|r(0)/1|w(1)/0|r(1)", Some(0)),
+    // An acquire, and a join.
+    (
+        "0|begin/0|acq(0)/0|rel(0)/1|acq(0)/1|rel(0)/0|acq(0)",
+        Some(0),
+    ),
+    ("0|begin/0|fork(1)/1|w(0)/0|join(1)", Some(0)),
+    // A write: only the clock of the reader shows it.
+    ("0|begin/0|w(0)/1|r(0)/1|r(1)/0|w(1)", Some(0)),
+    // A thread closes none by itself.
+    ("0|begin/0|w(0)/0|r(0)/0|w(0)", None),
+    ("0|begin/0|acq(0)/0|rel(0)/0|acq(0)", None),
+    // There is a cycle, but it passes two open blocks, until one ends.
+    ("0|begin/1|begin/1|w(1)/0|w(0)/1|r(0)/0|r(1)", None),
+    ("0|begin/1|begin/1|w(1)/0|w(0)/1|r(0)/0|r(1)/0|end", Some(1)),
+    // A thread that has made no event is joined, and the block ends.
+    ("0|begin/0|fork(1)/0|join(1)", None),
+    ("0|begin/0|fork(1)/0|join(1)/0|end", None),
+    // Thread 0 joins such a thread and takes nothing of the block that forked it, so what it then
+    // writes doesn't come after that block. Where the thread has made an event, it does.
+    ("2|begin/2|fork(1)/0|join(1)/0|w(0)/2|r(0)", None),
+    ("2|begin/2|fork(1)/1|w(1)/0|join(1)/0|w(0)/2|r(0)", Some(2)),
+    // The blocks of threads 1 and 2 both close.
+    (
+        "0|begin/1|begin/2|begin/1|w(0)/2|w(1)/0|w(2)/1|r(2)/2|r(2)/0|r(0)/0|r(1)/0|end",
+        Some(1),
+    ),
+    // Thread 2 wrote variable 1 after it had read of thread 1's block, into which thread 0 led
+    // only later. The end of the block brings thread 0's block to that last write.
+    (
+        "0|begin/1|begin/1|w(0)/2|r(0)/2|w(1)/0|w(2)/1|r(2)/1|end/0|r(1)",
+        Some(0),
+    ),
+];
+
+#[test]
+fn the_last_event_closes_a_cycle_or_none(rt: HostRuntime) {
+    assert_eq!(rt; first_wrong(rt.alloc(), &ROWS), None);
+}
+
+// What the tests say of a thread: whether it is in a block, whether it has made an event, and how many
+// outermost begins it has made.
+type Said = (bool, bool, u32);
+
+// A trace, and what they say of threads 0 to 2 then.
+type Tested = (&'static str, [Said; 3]);
+
+fn said_of(clocks: &Clocks, t: u32) -> Said {
+    (clocks.in_block(t), clocks.acted(t), clocks.begins(t))
+}
+
+fn is_said(alloc: Global, row: &Tested) -> bool {
+    let mut clocks = Clocks::new(alloc);
+    run(&mut clocks, row.0).is_ok()
+        && [
+            said_of(&clocks, 0),
+            said_of(&clocks, 1),
+            said_of(&clocks, 2),
+        ] == row.1
+}
+
+// The first row that doesn't hold.
+fn first_missaid(alloc: Global, rows: &[Tested]) -> Option<usize> {
+    for i in 0..rows.len() {
+        if !is_said(alloc, &rows[i]) {
+            return Some(i);
+        }
+    }
+    None
+}
+
+const TESTED: [Tested; 5] = [
+    (
+        "0|begin/0|w(0)/1|r(0)",
+        [(true, true, 1), (false, true, 0), (false, false, 0)],
+    ),
+    // A thread is answered, by an event and by an end: what the tests say stays.
+    (
+        "0|begin/0|w(0)/1|r(0)/1|r(1)/0|w(1)",
+        [(true, true, 1), (false, true, 0), (false, false, 0)],
+    ),
+    (
+        "0|begin/1|begin/1|w(1)/0|w(0)/1|r(0)/0|r(1)/0|end",
+        [(true, true, 1), (true, true, 1), (false, false, 0)],
+    ),
+    // A thread that is forked and joined has made no event.
+    (
+        "0|begin/0|fork(1)/0|join(1)/0|end",
+        [(false, true, 1), (false, false, 0), (false, false, 0)],
+    ),
+    (
+        "0|begin/0|w(0)/1|r(0)/0|end",
+        [(false, true, 1), (false, true, 0), (false, false, 0)],
+    ),
+];
+
+#[test]
+fn the_tests_answer_for_each_thread(rt: HostRuntime) {
+    assert_eq!(rt; first_missaid(rt.alloc(), &TESTED), None);
+}
+
+// Whether thread 0 leads to thread 1, the last write and the last read. These are listed, and thread 0 itself.
+fn are_led(clocks: &Clocks) -> bool {
+    clocks.in_block(0)
+        && clocks.closed().is_none()
+        && clocks.slots() == 4
+        && clocks.leads(0, 1)
+        && clocks.leads(0, 2)
+        && clocks.leads(0, 3)
+        && clocks.led(0) == 4
+        && (clocks.led_slot(0, 0), clocks.led_slot(0, 1)) == (0, 1)
+}
+
+fn has_two_threads_and_two_last_events(clocks: &mut Clocks) -> bool {
+    (clocks.threads(), clocks.slots()) == (0, 0)
+        && run(clocks, "0|begin/0|w(0)/1|r(0)") == Ok(None)
+        && (clocks.threads(), clocks.slots()) == (2, 4)
+}
+
+fn absorbs_thread_1(clocks: &mut Clocks) -> bool {
+    clocks.in_block(0)
+        && clocks.closed().is_none()
+        && clocks.slots() == 4
+        && clocks.absorb(0, 1) == Ok(None)
+}
+
+fn ends_its_block(clocks: &mut Clocks) -> bool {
+    run(clocks, "0|end") == Ok(None)
+        && !clocks.in_block(0)
+        && clocks.acted(0)
+        && clocks.begins(0) == 1
 }
 
 #[test]
-fn slots_are_threads_and_then_last_events(rt: HostRuntime) -> Result<(), Fail> {
+fn slots_are_threads_and_then_last_events(rt: HostRuntime) {
     let mut clocks = Clocks::new(rt.alloc());
-    assert!(rt; (clocks.threads(), clocks.slots()) == (0, 0));
-    assert!(rt; run(&mut clocks, "0|begin/0|w(0)/1|r(0)") == Ok(None));
-    assert!(rt; (clocks.threads(), clocks.slots()) == (2, 4));
-    assert!(rt; clocks.in_block(0) && clocks.closed().is_none() && clocks.slots() == 4);
-    // Thread 1, the last write and the last read.
-    assert!(rt; clocks.leads(0, 1) && clocks.leads(0, 2) && clocks.leads(0, 3));
-    // These are listed, and thread 0 itself.
-    assert!(rt; clocks.led(0) == 4);
-    assert!(rt; (clocks.led_slot(0, 0), clocks.led_slot(0, 1)) == (0, 1));
-    assert!(rt; clocks.absorb(0, 1) == Ok(None));
-    assert!(rt; run(&mut clocks, "0|end") == Ok(None));
-    assert!(rt; !clocks.in_block(0) && clocks.acted(0) && clocks.begins(0) == 1);
-    Ok(())
+    assert!(rt;
+        has_two_threads_and_two_last_events(&mut clocks)
+            && are_led(&clocks)
+            && absorbs_thread_1(&mut clocks)
+            && ends_its_block(&mut clocks)
+    );
 }

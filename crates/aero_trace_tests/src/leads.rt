@@ -1,8 +1,7 @@
 use aero_access::clocks::{Clocks, Spent};
 use aero_end::end;
 use aero_leads::leads::Leads;
-use std::alloc::{AllocError, Global};
-use std::test::Fail;
+use std::alloc::Global;
 
 #[derive(Clone, Copy)]
 pub(crate) enum Event {
@@ -20,23 +19,35 @@ fn digit(byte: u8) -> u32 {
     byte.wrapping_sub(b'0') as u32
 }
 
+// The event with this deed, as `w(`, on what the digit names.
+fn event_on(deed: &[u8], target: u8) -> Option<Event> {
+    let target = digit(target);
+    match deed {
+        b"r(" => Some(Event::Read(target)),
+        b"w(" => Some(Event::Write(target)),
+        b"acq(" => Some(Event::Acquire(target)),
+        b"rel(" => Some(Event::Release(target)),
+        b"fork(" => Some(Event::Fork(target)),
+        b"join(" => Some(Event::Join(target)),
+        _ => None,
+    }
+}
+
+fn deed_of(what: &[u8]) -> Option<Event> {
+    match what {
+        b"begin" => Some(Event::Begin),
+        b"end" => Some(Event::End),
+        [deed @ .., target, b')'] => event_on(deed, *target),
+        _ => None,
+    }
+}
+
 // The event of this line, as `0|w(1)`, where threads, variables and locks are digits, and its thread.
 pub(crate) fn event_of(line: &[u8]) -> Option<(u32, Event)> {
-    let [thread, b'|', what @ ..] = line else {
-        return None;
-    };
-    let event = match what {
-        b"begin" => Event::Begin,
-        b"end" => Event::End,
-        [b'r', b'(', x, b')'] => Event::Read(digit(*x)),
-        [b'w', b'(', x, b')'] => Event::Write(digit(*x)),
-        [b'a', b'c', b'q', b'(', l, b')'] => Event::Acquire(digit(*l)),
-        [b'r', b'e', b'l', b'(', l, b')'] => Event::Release(digit(*l)),
-        [b'f', b'o', b'r', b'k', b'(', u, b')'] => Event::Fork(digit(*u)),
-        [b'j', b'o', b'i', b'n', b'(', u, b')'] => Event::Join(digit(*u)),
-        _ => return None,
-    };
-    Some((digit(*thread), event))
+    match line {
+        [thread, b'|', what @ ..] => Some((digit(*thread), deed_of(what)?)),
+        _ => None,
+    }
 }
 
 // Begins a block that is in no other.
@@ -96,97 +107,128 @@ fn run(leads: &mut Leads, trace: &str) -> Result<Option<u32>, Spent> {
     Ok(last)
 }
 
-// Traces, and the thread that is answered to the last event of each.
-#[test]
-fn the_last_event_closes_a_cycle_or_none(rt: HostRuntime) -> Result<(), Fail> {
-    let rows = [
-        // A read comes back from a second thread, whose block is open too.
-        ("0|begin/1|begin/0|w(0)/1|r(0)/1|w(1)/0|r(1)", Some(0)),
-        // An acquire, and a join.
-        (
-            "0|begin/0|acq(0)/0|rel(0)/1|acq(0)/1|rel(0)/0|acq(0)",
-            Some(0),
-        ),
-        ("0|begin/0|fork(1)/1|w(0)/0|join(1)", Some(0)),
-        // A write: only the reader shows it.
-        ("0|begin/0|w(0)/1|r(0)/1|r(1)/0|w(1)", Some(0)),
-        // A write between the read and the write back forgets the read, and shows the same.
-        ("0|begin/0|w(0)/1|r(0)/1|r(1)/2|w(1)/0|w(1)", Some(0)),
-        // A thread closes none by itself.
-        ("0|begin/0|w(0)/0|r(0)/0|w(0)", None),
-        ("0|begin/0|acq(0)/0|rel(0)/0|acq(0)", None),
-        // There is a cycle, but it passes two open blocks, until one ends.
-        ("0|begin/1|begin/1|w(1)/0|w(0)/1|r(0)/0|r(1)", None),
-        ("0|begin/1|begin/1|w(1)/0|w(0)/1|r(0)/0|r(1)/0|end", Some(1)),
-        // A thread that has made no event is joined, and the block ends.
-        ("0|begin/0|fork(1)/0|join(1)", None),
-        ("0|begin/0|fork(1)/0|join(1)/0|end", None),
-        // The blocks of threads 1 and 2 both close, in either order in which they came to lead.
-        (
-            "0|begin/1|begin/2|begin/1|w(0)/2|w(1)/0|w(2)/1|r(2)/2|r(2)/0|r(0)/0|r(1)/0|end",
-            Some(1),
-        ),
-        (
-            "0|begin/1|begin/2|begin/1|w(0)/2|w(1)/0|w(2)/1|r(2)/2|r(2)/0|r(1)/0|r(0)/0|end",
-            Some(1),
-        ),
-        // Thread 2 wrote variable 1 after it had read of thread 1's block, into which thread 0 led
-        // only later. The end of the block brings thread 0's block to that last write.
-        (
-            "0|begin/1|begin/1|w(0)/2|r(0)/2|w(1)/0|w(2)/1|r(2)/1|end/0|r(1)",
-            Some(0),
-        ),
-        // The same where thread 2's write stands before it read of thread 1's block.
-        (
-            "0|begin/1|begin/1|w(0)/2|w(1)/2|r(0)/0|w(2)/1|r(2)/1|end/0|r(1)",
-            None,
-        ),
-    ];
-    for (trace, told) in rows {
-        let mut leads = Leads::new(rt.alloc());
-        let answer = run(&mut leads, trace);
-        assert!(rt; answer == Ok(told) && leads.closed() == told, "{trace}");
-    }
-    Ok(())
+// A trace, and the thread that is answered to its last event.
+type Row = (&'static str, Option<u32>);
+
+fn is_answered(alloc: Global, row: &Row) -> bool {
+    let mut leads = Leads::new(alloc);
+    run(&mut leads, row.0) == Ok(row.1) && leads.closed() == row.1
 }
 
-// Traces, and of each thread of 0 to 2 then: whether it is in a block, whether it has made an event,
-// and how many outermost begins it has made.
-#[test]
-fn the_tests_answer_for_each_thread(rt: HostRuntime) -> Result<(), Fail> {
-    let rows = [
-        (
-            "0|begin/0|w(0)/1|r(0)",
-            [(true, true, 1), (false, true, 0), (false, false, 0)],
-        ),
-        // A thread is answered, by an event and by an end: what the tests say stays.
-        (
-            "0|begin/0|w(0)/1|r(0)/1|r(1)/0|w(1)",
-            [(true, true, 1), (false, true, 0), (false, false, 0)],
-        ),
-        (
-            "0|begin/1|begin/1|w(1)/0|w(0)/1|r(0)/0|r(1)/0|end",
-            [(true, true, 1), (true, true, 1), (false, false, 0)],
-        ),
-        // A thread that is forked and joined has made no event.
-        (
-            "0|begin/0|fork(1)/0|join(1)/0|end",
-            [(false, true, 1), (false, false, 0), (false, false, 0)],
-        ),
-        (
-            "0|begin/0|w(0)/1|r(0)/0|end",
-            [(false, true, 1), (false, true, 0), (false, false, 0)],
-        ),
-    ];
-    for (trace, threads) in rows {
-        let mut leads = Leads::new(rt.alloc());
-        assert!(rt; run(&mut leads, trace).is_ok(), "{trace}");
-        for (t, says) in (0..).zip(threads) {
-            let answers = (leads.in_block(t), leads.acted(t), leads.begins(t));
-            assert!(rt; answers == says, "{t} after {trace}");
+// The first row that doesn't hold.
+fn first_wrong(alloc: Global, rows: &[Row]) -> Option<usize> {
+    for i in 0..rows.len() {
+        if !is_answered(alloc, &rows[i]) {
+            return Some(i);
         }
     }
-    Ok(())
+    None
+}
+
+static ROWS: [Row; 15] = [
+    // A read comes back from a second thread, whose block is open too.
+    ("0|begin/1|begin/0|w(0)/1|r(0)/1|w(1)/0|r(1)", Some(0)),
+    // An acquire, and a join.
+    (
+        "0|begin/0|acq(0)/0|rel(0)/1|acq(0)/1|rel(0)/0|acq(0)",
+        Some(0),
+    ),
+    ("0|begin/0|fork(1)/1|w(0)/0|join(1)", Some(0)),
+    // A write: only the reader shows it.
+    ("0|begin/0|w(0)/1|r(0)/1|r(1)/0|w(1)", Some(0)),
+    // A write between the read and the write back forgets the read, and shows the same.
+    ("0|begin/0|w(0)/1|r(0)/1|r(1)/2|w(1)/0|w(1)", Some(0)),
+    // A thread closes none by itself.
+    ("0|begin/0|w(0)/0|r(0)/0|w(0)", None),
+    ("0|begin/0|acq(0)/0|rel(0)/0|acq(0)", None),
+    // There is a cycle, but it passes two open blocks, until one ends.
+    ("0|begin/1|begin/1|w(1)/0|w(0)/1|r(0)/0|r(1)", None),
+    ("0|begin/1|begin/1|w(1)/0|w(0)/1|r(0)/0|r(1)/0|end", Some(1)),
+    // A thread that has made no event is joined, and the block ends.
+    ("0|begin/0|fork(1)/0|join(1)", None),
+    ("0|begin/0|fork(1)/0|join(1)/0|end", None),
+    // The blocks of threads 1 and 2 both close, in either order in which they came to lead.
+    (
+        "0|begin/1|begin/2|begin/1|w(0)/2|w(1)/0|w(2)/1|r(2)/2|r(2)/0|r(0)/0|r(1)/0|end",
+        Some(1),
+    ),
+    (
+        "0|begin/1|begin/2|begin/1|w(0)/2|w(1)/0|w(2)/1|r(2)/2|r(2)/0|r(1)/0|r(0)/0|end",
+        Some(1),
+    ),
+    // Thread 2 wrote variable 1 after it had read of thread 1's block, into which thread 0 led
+    // only later. The end of the block brings thread 0's block to that last write.
+    (
+        "0|begin/1|begin/1|w(0)/2|r(0)/2|w(1)/0|w(2)/1|r(2)/1|end/0|r(1)",
+        Some(0),
+    ),
+    // The same where thread 2's write stands before it read of thread 1's block.
+    (
+        "0|begin/1|begin/1|w(0)/2|w(1)/2|r(0)/0|w(2)/1|r(2)/1|end/0|r(1)",
+        None,
+    ),
+];
+
+#[test]
+fn the_last_event_closes_a_cycle_or_none(rt: HostRuntime) {
+    assert_eq!(rt; first_wrong(rt.alloc(), &ROWS), None);
+}
+
+// What the tests say of a thread: whether it is in a block, whether it has made an event, and how many
+// outermost begins it has made.
+type Said = (bool, bool, u32);
+
+// A trace, and what they say of threads 0 to 2 then.
+type Tested = (&'static str, [Said; 3]);
+
+fn said_of(leads: &Leads, t: u32) -> Said {
+    (leads.in_block(t), leads.acted(t), leads.begins(t))
+}
+
+fn is_said(alloc: Global, row: &Tested) -> bool {
+    let mut leads = Leads::new(alloc);
+    run(&mut leads, row.0).is_ok()
+        && [said_of(&leads, 0), said_of(&leads, 1), said_of(&leads, 2)] == row.1
+}
+
+// The first row that doesn't hold.
+fn first_missaid(alloc: Global, rows: &[Tested]) -> Option<usize> {
+    for i in 0..rows.len() {
+        if !is_said(alloc, &rows[i]) {
+            return Some(i);
+        }
+    }
+    None
+}
+
+const TESTED: [Tested; 5] = [
+    (
+        "0|begin/0|w(0)/1|r(0)",
+        [(true, true, 1), (false, true, 0), (false, false, 0)],
+    ),
+    // A thread is answered, by an event and by an end: what the tests say stays.
+    (
+        "0|begin/0|w(0)/1|r(0)/1|r(1)/0|w(1)",
+        [(true, true, 1), (false, true, 0), (false, false, 0)],
+    ),
+    (
+        "0|begin/1|begin/1|w(1)/0|w(0)/1|r(0)/0|r(1)/0|end",
+        [(true, true, 1), (true, true, 1), (false, false, 0)],
+    ),
+    // A thread that is forked and joined has made no event.
+    (
+        "0|begin/0|fork(1)/0|join(1)/0|end",
+        [(false, true, 1), (false, false, 0), (false, false, 0)],
+    ),
+    (
+        "0|begin/0|w(0)/1|r(0)/0|end",
+        [(false, true, 1), (false, true, 0), (false, false, 0)],
+    ),
+];
+
+#[test]
+fn the_tests_answer_for_each_thread(rt: HostRuntime) {
+    assert_eq!(rt; first_missaid(rt.alloc(), &TESTED), None);
 }
 
 // The same through clocks.
@@ -215,7 +257,11 @@ fn join_by_clocks(clocks: &mut Clocks, t: u32, u: u32) -> Result<Option<u32>, Sp
     Ok(None)
 }
 
-fn make_by_clocks(clocks: &mut Clocks, t: u32, event: Event) -> Result<Option<u32>, Spent> {
+pub(crate) fn make_by_clocks(
+    clocks: &mut Clocks,
+    t: u32,
+    event: Event,
+) -> Result<Option<u32>, Spent> {
     if clocks.closed().is_some() {
         return Err(Spent);
     }
@@ -336,23 +382,39 @@ fn compare(
     Some((last, None))
 }
 
-#[test]
-fn both_engines_answer_the_same(rt: HostRuntime) -> Result<(), Fail> {
-    // Traces whose last event closes its own thread's block, another's at an end, or none.
-    let (mut own, mut other, mut none) = (0_u32, 0_u32, 0_u32);
-    for seed in 0..160 {
-        let mut leads = Leads::new(rt.alloc());
-        let mut clocks = Clocks::new(rt.alloc());
-        match compare(&mut leads, &mut clocks, seed, 4 + seed % 96) {
-            Some((t, Some(u))) if t == u => own = own.saturating_add(1),
-            Some((_, Some(_))) => other = other.saturating_add(1),
-            Some((_, None)) => none = none.saturating_add(1),
-            None => assert!(rt; false, "seed {seed}"),
-        }
+fn compare_new(alloc: Global, seed: u32, events: u32) -> Option<(u32, Option<u32>)> {
+    let mut leads = Leads::new(alloc);
+    let mut clocks = Clocks::new(alloc);
+    compare(&mut leads, &mut clocks, seed, events)
+}
+
+// How many traces there are whose last event closes its own thread's block, another's at an end, or none, or
+// the first seed with which the engines differ.
+fn counts_of_ends(alloc: Global, seeds: u32) -> Result<[u32; 3], u32> {
+    let mut counts = [0_u32; 3];
+    for seed in 0..seeds {
+        let kind = match compare_new(alloc, seed, 4 + seed % 96) {
+            Some((t, Some(u))) if t == u => 0,
+            Some((_, Some(_))) => 1,
+            Some((_, None)) => 2,
+            None => return Err(seed),
+        };
+        counts[kind] = counts[kind].saturating_add(1);
     }
-    // Each kind has to come.
-    assert!(rt; own >= 8 && other >= 4 && none >= 8, "{own} {other} {none}");
-    Ok(())
+    Ok(counts)
+}
+
+// Each kind has to come.
+fn has_each_end(counts: Result<[u32; 3], u32>) -> bool {
+    match counts {
+        Ok(counts) => counts[0] >= 8 && counts[1] >= 4 && counts[2] >= 8,
+        Err(_) => false,
+    }
+}
+
+#[test]
+fn both_engines_answer_the_same(rt: HostRuntime) {
+    assert!(rt; has_each_end(counts_of_ends(rt.alloc(), 160)));
 }
 
 // How many threads there are where rows get long.
@@ -360,67 +422,87 @@ const MANY: u32 = 24;
 
 // The next event of threads that hold blocks open: each writes variables that nobody wrote before, and reads
 // what threads before it wrote, and seldom what a later one did. `owners` has who wrote each variable.
-fn next_of_many(
-    state: &mut u32,
-    leads: &Leads,
-    owners: &mut Vec<u32>,
-) -> Result<(u32, Event), AllocError> {
+fn next_of_many(state: &mut u32, leads: &Leads, owners: &mut Vec<u32>) -> Option<(u32, Event)> {
     let t = roll(state, MANY);
     if !leads.in_block(t) {
-        return Ok((t, Event::Begin));
+        return Some((t, Event::Begin));
     }
     // No more than there are events.
     let made = (owners.len() % 65_536) as u32;
     let x = roll(state, made);
     let luck = roll(state, 64);
     if luck == 0 {
-        return Ok((t, Event::End));
+        return Some((t, Event::End));
     }
     match owners.get(x as usize) {
-        Some(owner) if *owner < t || luck < 3 => Ok((t, Event::Read(x))),
+        Some(owner) if *owner < t || luck < 3 => Some((t, Event::Read(x))),
         _ => {
-            owners.push(t)?;
-            Ok((t, Event::Write(made)))
+            owners.push(t).ok()?;
+            Some((t, Event::Write(made)))
         }
     }
+}
+
+// Gives both one event of many threads: what both answer, or `None` where they differ or memory is refused.
+fn step_of_many(
+    leads: &mut Leads,
+    clocks: &mut Clocks,
+    state: &mut u32,
+    owners: &mut Vec<u32>,
+) -> Option<Result<Option<u32>, Spent>> {
+    let (t, event) = next_of_many(state, leads, owners)?;
+    let answer = make(leads, t, event);
+    (answer == make_by_clocks(clocks, t, event) && agree(leads, clocks, t)).then_some(answer)
 }
 
 // Gives both up to so many events of many threads: whether one closed a block, where both always gave the same.
 fn compare_many(
-    alloc: Global,
     leads: &mut Leads,
     clocks: &mut Clocks,
     seed: u32,
+    owners: &mut Vec<u32>,
     events: u32,
-) -> Result<Option<bool>, AllocError> {
-    let mut owners = Vec::new(alloc);
+) -> Option<bool> {
     let mut state = seed;
     for _ in 0..events {
-        let (t, event) = next_of_many(&mut state, leads, &mut owners)?;
-        let answer = make(leads, t, event);
-        if answer != make_by_clocks(clocks, t, event) || !agree(leads, clocks, t) {
-            return Ok(None);
-        }
-        if answer != Ok(None) {
-            return Ok(Some(true));
+        if step_of_many(leads, clocks, &mut state, owners)? != Ok(None) {
+            return Some(true);
         }
     }
-    Ok(Some(false))
+    Some(false)
+}
+
+fn compare_many_new(alloc: Global, seed: u32, events: u32) -> Option<bool> {
+    let mut leads = Leads::new(alloc);
+    let mut clocks = Clocks::new(alloc);
+    let mut owners = Vec::new(alloc);
+    compare_many(&mut leads, &mut clocks, seed, &mut owners, events)
+}
+
+// How many traces there are with which a block closes, and with which none does, or the first seed with which the
+// engines differ.
+fn counts_of_many(alloc: Global, seeds: u32) -> Result<[u32; 2], u32> {
+    let mut counts = [0_u32; 2];
+    for seed in 0..seeds {
+        let kind = match compare_many_new(alloc, seed, 100 + seed % 24 * 16) {
+            Some(true) => 0,
+            Some(false) => 1,
+            None => return Err(seed),
+        };
+        counts[kind] = counts[kind].saturating_add(1);
+    }
+    Ok(counts)
+}
+
+// Each kind has to come.
+fn has_each_of_many(counts: Result<[u32; 2], u32>) -> bool {
+    match counts {
+        Ok(counts) => counts[0] >= 4 && counts[1] >= 4,
+        Err(_) => false,
+    }
 }
 
 #[test]
-fn both_engines_answer_the_same_where_many_blocks_are_open(rt: HostRuntime) -> Result<(), Fail> {
-    let (mut closed, mut none) = (0_u32, 0_u32);
-    for seed in 0..24 {
-        let mut leads = Leads::new(rt.alloc());
-        let mut clocks = Clocks::new(rt.alloc());
-        match compare_many(rt.alloc(), &mut leads, &mut clocks, seed, 100 + seed * 16)? {
-            Some(true) => closed = closed.saturating_add(1),
-            Some(false) => none = none.saturating_add(1),
-            None => assert!(rt; false, "seed {seed}"),
-        }
-    }
-    // Each kind has to come.
-    assert!(rt; closed >= 4 && none >= 4, "{closed} {none}");
-    Ok(())
+fn both_engines_answer_the_same_where_many_blocks_are_open(rt: HostRuntime) {
+    assert!(rt; has_each_of_many(counts_of_many(rt.alloc(), 24)));
 }

@@ -5,40 +5,60 @@ use aero_model::name::{Name, NameFault};
 use std::alloc::Global;
 use std::io;
 use std::io::{Read, Write};
-use std::test::Fail;
 
-// The fault of the bytes, or `None` where they are read as a name of the same bytes.
-fn fault_of(alloc: Global, bytes: &[u8]) -> Result<Option<NameFault>, Fail> {
+// The helpers below say that a row doesn't hold where memory is refused.
+
+// Bytes, and the fault that they have as a name. Without one they are read as a name of the same bytes.
+type NameRow = (&'static [u8], Option<NameFault>);
+
+fn is_read_so(alloc: Global, bytes: &[u8], wanted: Option<NameFault>) -> bool {
     match Name::read(alloc, bytes) {
-        Err(fault) => Ok(Some(fault)),
-        Ok(name) if name.bytes() == bytes => Ok(None),
-        Ok(_) => Err("a name of other bytes".into()),
+        Err(fault) => wanted == Some(fault),
+        Ok(name) => wanted.is_none() && name.bytes() == bytes,
     }
 }
 
-#[test]
-fn a_name_is_its_bytes_or_has_its_first_fault(rt: HostRuntime) -> Result<(), Fail> {
-    let letters = [b'a'; 256];
-    let rows: [(&[u8], Option<NameFault>); 8] = [
-        (b"", Some(NameFault::Empty)),
-        (&letters, Some(NameFault::TooLong)),
-        (&[0u8; 256], Some(NameFault::TooLong)),
-        (b"a|b", Some(NameFault::BadByte)),
-        (b"a\x7f", Some(NameFault::BadByte)),
-        (b"a\tb", None),
-        (b"\xff\x80", None),
-        (b"x", None),
-    ];
-    for (bytes, wanted) in rows {
-        assert!(rt; fault_of(rt.alloc(), bytes)? == wanted, "{bytes:?}");
+// The first row that doesn't hold.
+fn first_misread(alloc: Global, rows: &[NameRow]) -> Option<usize> {
+    for i in 0..rows.len() {
+        if !is_read_so(alloc, rows[i].0, rows[i].1) {
+            return Some(i);
+        }
     }
+    None
+}
+
+// The first length from 1 to 255 of which a name isn't read.
+fn first_length_misread(alloc: Global, letters: &[u8; 256]) -> Option<usize> {
     for length in 1..=255usize {
-        assert!(rt;
-            fault_of(rt.alloc(), &letters[..length])?.is_none(),
-            "{length} bytes"
-        );
+        if !is_read_so(alloc, &letters[..length], None) {
+            return Some(length);
+        }
     }
-    Ok(())
+    None
+}
+
+const LETTERS: [u8; 256] = [b'a'; 256];
+
+static NAMES: [NameRow; 8] = [
+    (b"", Some(NameFault::Empty)),
+    (&LETTERS, Some(NameFault::TooLong)),
+    (&[0u8; 256], Some(NameFault::TooLong)),
+    (b"a|b", Some(NameFault::BadByte)),
+    (b"a\x7f", Some(NameFault::BadByte)),
+    (b"a\tb", None),
+    (b"\xff\x80", None),
+    (b"x", None),
+];
+
+#[test]
+fn a_name_is_its_bytes_or_has_its_first_fault(rt: HostRuntime) {
+    let alloc = rt.alloc();
+    let misread = (
+        first_misread(alloc, &NAMES),
+        first_length_misread(alloc, &LETTERS),
+    );
+    assert!(rt; misread == (None, None));
 }
 
 // Whether limits of these four numbers are made.
@@ -46,108 +66,151 @@ fn are_made(numbers: [u32; 4]) -> bool {
     Limits::new(numbers[0], numbers[1], numbers[2], numbers[3]).is_some()
 }
 
-#[test]
-fn limits_are_made_up_to_the_greatest(rt: HostRuntime) {
-    let most: [u32; 4] = [1 << 30, 1 << 28, 65_536, 1 << 26];
-    assert!(rt; Limits::new(most[0], most[1], most[2], most[3]) == Some(Limits::greatest()));
+const MOST: [u32; 4] = [1 << 30, 1 << 28, 65_536, 1 << 26];
+
+// The first of the four numbers that may be 0 or more than the most, if there is one.
+fn first_unlimited() -> Option<usize> {
     for at in 0..4usize {
-        for wrong in [0, most[at] + 1] {
-            let mut numbers = most;
-            numbers[at] = wrong;
-            assert!(rt; !are_made(numbers), "{wrong} at {at}");
+        let mut none = MOST;
+        let mut more = MOST;
+        none[at] = 0;
+        more[at] = MOST[at] + 1;
+        if are_made(none) || are_made(more) {
+            return Some(at);
         }
     }
+    None
 }
 
-// The list of a text's labels, which stand between its spaces.
-pub(crate) fn except_of(alloc: Global, text: &str) -> Result<Except, Fail> {
+#[test]
+fn limits_are_made_up_to_the_greatest(rt: HostRuntime) {
+    let most = Limits::new(MOST[0], MOST[1], MOST[2], MOST[3]);
+    assert!(rt; most == Some(Limits::greatest()) && first_unlimited() == None);
+}
+
+fn push_label(alloc: Global, labels: &mut Vec<Name>, label: &str) -> Option<()> {
+    labels.push(Name::read(alloc, label.as_bytes()).ok()?).ok()
+}
+
+// The list of a text's labels, which stand between its spaces. `None` where memory is refused.
+pub(crate) fn except_of(alloc: Global, text: &str) -> Option<Except> {
     let mut labels = Vec::new(alloc);
     for label in text.split(' ') {
         if !label.is_empty() {
-            labels.push(Name::read(alloc, label.as_bytes())?)?;
+            push_label(alloc, &mut labels, label)?;
         }
     }
-    match Except::new(labels) {
-        Some(except) => Ok(except),
-        None => Err("too many labels".into()),
-    }
+    Except::new(labels)
 }
 
 // Whether a list of so many labels is made.
-fn is_listed(alloc: Global, count: usize) -> Result<bool, Fail> {
+fn is_listed(alloc: Global, count: usize) -> Option<bool> {
     let mut labels = Vec::new(alloc);
     for _ in 0..count {
-        labels.push(Name::read(alloc, b"f")?)?;
+        push_label(alloc, &mut labels, "f")?;
     }
-    Ok(Except::new(labels).is_some())
+    Some(Except::new(labels).is_some())
 }
 
 #[test]
-fn up_to_64_labels_are_listed(rt: HostRuntime) -> Result<(), Fail> {
-    for (count, wanted) in [(0, true), (64, true), (65, false)] {
-        assert!(rt; is_listed(rt.alloc(), count)? == wanted, "{count}");
-    }
-    Ok(())
-}
-
-// Whether the list has the label, as a name and as bytes alike.
-fn has(alloc: Global, except: &Except, label: &str) -> Result<Option<bool>, Fail> {
-    let name = Name::read(alloc, label.as_bytes())?;
-    let has = except.has(&name);
-    Ok((except.has_bytes(label.as_bytes()) == has).then_some(has))
-}
-
-#[test]
-fn a_list_has_the_labels_that_are_listed(rt: HostRuntime) -> Result<(), Fail> {
-    let except = except_of(rt.alloc(), "f g.h() f")?;
-    let rows = [
-        ("f", true),
-        ("g.h()", true),
-        ("F", false),
-        ("ff", false),
-        ("g.h", false),
-        ("g", false),
+fn up_to_64_labels_are_listed(rt: HostRuntime) {
+    let alloc = rt.alloc();
+    let listed = [
+        is_listed(alloc, 0),
+        is_listed(alloc, 64),
+        is_listed(alloc, 65),
     ];
-    for (label, wanted) in rows {
-        assert!(rt; has(rt.alloc(), &except, label)? == Some(wanted), "{label}");
-    }
-    let none = except_of(rt.alloc(), "")?;
-    assert!(rt; has(rt.alloc(), &none, "f")? == Some(false));
-    Ok(())
+    assert!(rt; listed == [Some(true), Some(true), Some(false)]);
 }
 
-// Whether lists of these labels are the same, in both directions alike.
-fn are_same(alloc: Global, a: &str, b: &str) -> Result<Option<bool>, Fail> {
-    let (a, b) = (except_of(alloc, a)?, except_of(alloc, b)?);
-    let are_same = a.has_same_labels(&b);
-    Ok((b.has_same_labels(&a) == are_same).then_some(are_same))
+// Whether the list has the label or not as wanted, as a name and as bytes alike.
+fn is_had_so(alloc: Global, except: &Except, label: &str, wanted: bool) -> bool {
+    match Name::read(alloc, label.as_bytes()) {
+        Ok(name) => { except.has(&name) == wanted && except.has_bytes(label.as_bytes()) == wanted }
+        Err(_) => false,
+    }
+}
+
+// The first label that the list of the text has where it shouldn't, or doesn't have where it should.
+fn first_mislisted(alloc: Global, text: &str, rows: &[(&str, bool)]) -> Option<usize> {
+    let Some(except) = except_of(alloc, text) else {
+        return Some(0);
+    };
+    for i in 0..rows.len() {
+        if !is_had_so(alloc, &except, rows[i].0, rows[i].1) {
+            return Some(i);
+        }
+    }
+    None
+}
+
+static LABELS: [(&str, bool); 6] = [
+    ("f", true),
+    ("g.h()", true),
+    ("F", false),
+    ("ff", false),
+    ("g.h", false),
+    ("g", false),
+];
+
+#[test]
+fn a_list_has_the_labels_that_are_listed(rt: HostRuntime) {
+    let alloc = rt.alloc();
+    let mislisted = (
+        first_mislisted(alloc, "f g.h() f", &LABELS),
+        first_mislisted(alloc, "", &[("f", false)]),
+    );
+    assert!(rt; mislisted == (None, None));
+}
+
+// Whether lists of these labels are the same or not as wanted, in both directions alike.
+fn are_same_as_wanted(alloc: Global, row: &(&str, &str, bool)) -> Option<bool> {
+    let a = except_of(alloc, row.0)?;
+    let b = except_of(alloc, row.1)?;
+    Some(a.has_same_labels(&b) == row.2 && b.has_same_labels(&a) == row.2)
+}
+
+// The first row that doesn't hold.
+fn first_miscompared(alloc: Global, rows: &[(&str, &str, bool)]) -> Option<usize> {
+    for i in 0..rows.len() {
+        if are_same_as_wanted(alloc, &rows[i]) != Some(true) {
+            return Some(i);
+        }
+    }
+    None
+}
+
+static LISTS: [(&str, &str, bool); 6] = [
+    ("", "", true),
+    ("ab c", "ab c", true),
+    ("ab c", "c ab", false),
+    ("ab c", "a bc", false),
+    ("ab c", "ab", false),
+    ("ab", "ab ab", false),
+];
+
+#[test]
+fn lists_of_labels_are_the_same_in_their_order(rt: HostRuntime) {
+    assert_eq!(rt; first_miscompared(rt.alloc(), &LISTS), None);
+}
+
+// Whether a shared list has these labels, and still has them where one of two that share it is gone.
+fn is_shared(alloc: Global, labels: &str) -> Option<bool> {
+    let except = except_of(alloc, labels)?;
+    let (is_first, second) = shared_twice(alloc, labels, &except)?;
+    Some(is_first && second.get().has_same_labels(&except))
+}
+
+// Whether the first of two that share the list has the labels, and the second, once the first is gone.
+fn shared_twice(alloc: Global, labels: &str, except: &Except) -> Option<(bool, SharedExcept)> {
+    let first = SharedExcept::new(alloc, except_of(alloc, labels)?).ok()?;
+    let second = first.share().ok()?;
+    Some((first.get().has_same_labels(except), second))
 }
 
 #[test]
-fn lists_of_labels_are_the_same_in_their_order(rt: HostRuntime) -> Result<(), Fail> {
-    let rows = [
-        ("", "", true),
-        ("ab c", "ab c", true),
-        ("ab c", "c ab", false),
-        ("ab c", "a bc", false),
-        ("ab c", "ab", false),
-        ("ab", "ab ab", false),
-    ];
-    for (a, b, wanted) in rows {
-        assert!(rt; are_same(rt.alloc(), a, b)? == Some(wanted), "{a}, {b}");
-    }
-    Ok(())
-}
-
-#[test]
-fn a_list_of_labels_is_shared(rt: HostRuntime) -> Result<(), Fail> {
-    let except = except_of(rt.alloc(), "f g")?;
-    let first = SharedExcept::new(rt.alloc(), except_of(rt.alloc(), "f g")?)?;
-    let second = first.share()?;
-    assert!(rt; first.get().has_same_labels(&except));
-    drop(first);
-    assert!(rt; second.get().has_same_labels(&except));
-    Ok(())
+fn a_list_of_labels_is_shared(rt: HostRuntime) {
+    assert!(rt; is_shared(rt.alloc(), "f g") == Some(true));
 }
 
 // Fails at its first call and at every other one after it, of `read`, `write` and `flush` alike, and
@@ -199,18 +262,24 @@ fn calls_in_turn() -> Option<u32> {
     None
 }
 
-#[test]
-fn counting_hands_its_calls_on(rt: HostRuntime) -> Result<(), Fail> {
+// Whether a read through it gives what the reader gives, and leaves what the reader leaves.
+fn is_read_through() -> bool {
     let mut reader = Counting::new(b"abc".as_slice());
     let mut room = [0u8; 2];
-    let count = reader.read(&mut room)?;
-    assert!(rt; (count, room) == (2, *b"ab"));
-    assert!(rt; reader.into_inner() == b"c".as_slice());
+    let count = reader.read(&mut room).ok();
+    count == Some(2) && room == *b"ab" && reader.into_inner() == b"c".as_slice()
+}
 
-    let mut writer = Counting::new(Vec::new(rt.alloc()));
-    let count = writer.write(b"ab")?;
-    writer.flush()?;
-    assert!(rt; count == 2 && writer.into_inner().as_slice() == b"ab".as_slice());
-    assert!(rt; calls_in_turn() == Some(6));
-    Ok(())
+// Whether a write through it comes to the writer.
+fn is_written_through(alloc: Global) -> bool {
+    let mut writer = Counting::new(Vec::new(alloc));
+    let count = writer.write(b"ab").ok();
+    let is_flushed = writer.flush().is_ok();
+    count == Some(2) && is_flushed && writer.into_inner().as_slice() == b"ab".as_slice()
+}
+
+#[test]
+fn counting_hands_its_calls_on(rt: HostRuntime) {
+    let is_handed_on = (is_read_through(), is_written_through(rt.alloc()));
+    assert!(rt; is_handed_on == (true, true) && calls_in_turn() == Some(6));
 }

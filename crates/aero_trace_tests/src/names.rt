@@ -2,137 +2,218 @@ use aero_model::name::Name;
 use aero_names::list::NameList;
 use aero_names::names::{Names, NamesFault};
 use std::alloc::Global;
-use std::test::Fail;
+
+// The helpers below say that a row doesn't hold where memory is refused.
 
 // A name, and what it is numbered as.
 type Row<'a> = (&'a [u8], Result<u32, NamesFault>);
 
-// Whether a new table up to the limit numbers the names so, and has so many in the end, each by its
-// number.
-fn numbers(alloc: Global, limit: u32, rows: &[Row], len: u32) -> Result<bool, Fail> {
-    let mut names = Names::new(alloc, limit);
-    let mut fits = names.is_empty();
-    for (bytes, wanted) in rows {
-        fits &= names.number(&Name::read(alloc, bytes)?) == *wanted;
+fn is_numbered(alloc: Global, names: &mut Names, row: &Row) -> bool {
+    match Name::read(alloc, row.0) {
+        Ok(name) => names.number(&name) == row.1,
+        Err(_) => false,
     }
-    for (bytes, wanted) in rows {
-        if let Ok(number) = wanted {
-            fits &= names.name(*number) == Some(*bytes);
-        }
-    }
-    Ok(fits && names.name(len).is_none() && names.len() == len && names.is_empty() == (len == 0))
 }
 
-#[test]
-fn names_are_numbered_in_order_of_first_appearance_up_to_a_limit(
-    rt: HostRuntime,
-) -> Result<(), Fail> {
-    let long = [b'a'; 255];
-    let few: [Row; 4] = [
-        (b"x", Ok(0)),
-        (b"y", Ok(1)),
-        (b"x", Ok(0)),
-        (b"z", Err(NamesFault::Full)),
-    ];
-    let none: [Row; 1] = [(b"x", Err(NamesFault::Full))];
-    let of_254_and_255_bytes: [Row; 3] = [
-        (&long[..254], Ok(0)),
-        (&long, Ok(1)),
-        (&long[..254], Ok(0)),
-    ];
-    // each two have the same hash
-    let at_the_same_place: [Row; 8] = [
-        (b"x33152", Ok(0)),
-        (b"x127045", Ok(1)),
-        (b"Lcom/foo/Bar;.field[62438]", Ok(2)),
-        (b"Lcom/foo/Bar;.field[168327]", Ok(3)),
-        (b"x33152", Ok(0)),
-        (b"x127045", Ok(1)),
-        (b"Lcom/foo/Bar;.field[62438]", Ok(2)),
-        (b"Lcom/foo/Bar;.field[168327]", Ok(3)),
-    ];
-    let tables: [(u32, &[Row], u32); 4] = [
-        (2, &few, 2),
-        (0, &none, 0),
-        (9, &of_254_and_255_bytes, 2),
-        (4, &at_the_same_place, 4),
-    ];
-    for (limit, rows, len) in tables {
-        assert!(rt; numbers(rt.alloc(), limit, rows, len)?, "up to {limit}");
+fn has_number(names: &Names, row: &Row) -> bool {
+    match row.1 {
+        Ok(number) => names.name(number) == Some(row.0),
+        Err(_) => true,
     }
-    Ok(())
+}
+
+// Whether the names are numbered so.
+fn are_numbered(alloc: Global, names: &mut Names, rows: &[Row]) -> bool {
+    let mut fits = true;
+    for row in rows {
+        fits &= is_numbered(alloc, names, row);
+    }
+    fits
+}
+
+// Whether each name stands by its number.
+fn have_numbers(names: &Names, rows: &[Row]) -> bool {
+    let mut fits = true;
+    for row in rows {
+        fits &= has_number(names, row);
+    }
+    fits
+}
+
+fn has_just(names: &Names, len: u32) -> bool {
+    names.name(len).is_none() && names.len() == len && names.is_empty() == (len == 0)
+}
+
+// A limit, names and how they are numbered up to it, and how many they are in the end.
+type Table<'a> = (u32, &'a [Row<'a>], u32);
+
+// Whether a new table numbers the names so, and has so many in the end, each by its number.
+fn numbers(alloc: Global, table: &Table) -> bool {
+    let (limit, rows, len) = *table;
+    let mut names = Names::new(alloc, limit);
+    names.is_empty()
+        && are_numbered(alloc, &mut names, rows)
+        && have_numbers(&names, rows)
+        && has_just(&names, len)
+}
+
+// The first table that isn't so.
+fn first_misnumbered(alloc: Global, tables: &[Table]) -> Option<usize> {
+    for i in 0..tables.len() {
+        if !numbers(alloc, &tables[i]) {
+            return Some(i);
+        }
+    }
+    None
+}
+
+const FEW: [Row; 4] = [
+    (b"x", Ok(0)),
+    (b"y", Ok(1)),
+    (b"x", Ok(0)),
+    (b"z", Err(NamesFault::Full)),
+];
+
+const NONE: [Row; 1] = [(b"x", Err(NamesFault::Full))];
+
+const OF_254_BYTES: [u8; 254] = [b'a'; 254];
+
+const OF_255_BYTES: [u8; 255] = [b'a'; 255];
+
+const LONG: [Row; 3] = [
+    (&OF_254_BYTES, Ok(0)),
+    (&OF_255_BYTES, Ok(1)),
+    (&OF_254_BYTES, Ok(0)),
+];
+
+// Each two have the same hash.
+const AT_THE_SAME_PLACE: [Row; 8] = [
+    (b"x33152", Ok(0)),
+    (b"x127045", Ok(1)),
+    (b"Lcom/foo/Bar;.field[62438]", Ok(2)),
+    (b"Lcom/foo/Bar;.field[168327]", Ok(3)),
+    (b"x33152", Ok(0)),
+    (b"x127045", Ok(1)),
+    (b"Lcom/foo/Bar;.field[62438]", Ok(2)),
+    (b"Lcom/foo/Bar;.field[168327]", Ok(3)),
+];
+
+const TABLES: [Table; 4] = [
+    (2, &FEW, 2),
+    (0, &NONE, 0),
+    (9, &LONG, 2),
+    (4, &AT_THE_SAME_PLACE, 4),
+];
+
+#[test]
+fn names_are_numbered_in_order_of_first_appearance_up_to_a_limit(rt: HostRuntime) {
+    assert_eq!(rt; first_misnumbered(rt.alloc(), &TABLES), None);
+}
+
+fn is_numbered_in_turn(alloc: Global, names: &mut Names, number: u32) -> bool {
+    match format!(in alloc; "obj{number}.field") {
+        Ok(name) => names.number_of_bytes(name.as_bytes()) == Ok(number),
+        Err(_) => false,
+    }
 }
 
 // Whether so many names in turn have their places as numbers.
-fn number_in_turn(alloc: Global, names: &mut Names, count: u32) -> Result<bool, Fail> {
+fn are_numbered_in_turn(alloc: Global, names: &mut Names, count: u32) -> bool {
     let mut fits = true;
     for number in 0..count {
-        let name = format!(in alloc; "obj{number}.field")?;
-        fits &= names.number_of_bytes(name.as_bytes()) == Ok(number);
+        fits &= is_numbered_in_turn(alloc, names, number);
     }
-    Ok(fits)
+    fits
+}
+
+// The same for the first time and again. As many are listed.
+fn do_many_keep_their_numbers(alloc: Global, count: u32) -> bool {
+    let mut names = Names::new(alloc, count);
+    are_numbered_in_turn(alloc, &mut names, count)
+        && are_numbered_in_turn(alloc, &mut names, count)
+        && names.into_list().len() == count
 }
 
 #[test]
-fn many_names_keep_their_numbers(rt: HostRuntime) -> Result<(), Fail> {
-    let mut names = Names::new(rt.alloc(), 1000);
-    assert!(rt; number_in_turn(rt.alloc(), &mut names, 1000)?);
-    assert!(rt; number_in_turn(rt.alloc(), &mut names, 1000)?);
-    assert!(rt; names.into_list().len() == 1000);
-    Ok(())
+fn many_names_keep_their_numbers(rt: HostRuntime) {
+    assert!(rt; do_many_keep_their_numbers(rt.alloc(), 1000));
 }
 
-// The names of a text, which stand between its spaces.
-fn listed(alloc: Global, text: &str) -> Result<NameList, Fail> {
+// The names of a text, which stand between its spaces. `None` where memory is refused.
+fn listed(alloc: Global, text: &str) -> Option<NameList> {
     let mut list = NameList::new(alloc);
     for name in text.split(' ') {
-        list.push(name.as_bytes())?;
+        list.push(name.as_bytes()).ok()?;
     }
-    Ok(list)
+    Some(list)
 }
 
-fn are_same(alloc: Global, a: &str, b: &str) -> Result<bool, Fail> {
-    Ok(listed(alloc, a)?.has_same_names(&listed(alloc, b)?))
+// Whether lists of these names are the same or not as wanted, in both directions alike.
+fn are_same_as_wanted(alloc: Global, row: &(&str, &str, bool)) -> Option<bool> {
+    let a = listed(alloc, row.0)?;
+    let b = listed(alloc, row.1)?;
+    Some(a.has_same_names(&b) == row.2 && b.has_same_names(&a) == row.2)
+}
+
+// The first row that doesn't hold.
+fn first_miscompared(alloc: Global, rows: &[(&str, &str, bool)]) -> Option<usize> {
+    for i in 0..rows.len() {
+        if are_same_as_wanted(alloc, &rows[i]) != Some(true) {
+            return Some(i);
+        }
+    }
+    None
+}
+
+static LISTS: [(&str, &str, bool); 7] = [
+    ("ab c", "ab c", true),
+    ("x x", "x x", true),
+    ("ab c", "a bc", false),
+    ("ab c", "abc", false),
+    ("ab c", "ab d", false),
+    ("ab c", "c ab", false),
+    ("ab c", "ab c d", false),
+];
+
+#[test]
+fn lists_are_the_same_where_each_name_is(rt: HostRuntime) {
+    assert_eq!(rt; first_miscompared(rt.alloc(), &LISTS), None);
+}
+
+// Whether a list of this text has its names in order, and a new one none.
+fn is_in_order(alloc: Global, text: &str, names: [&[u8]; 3]) -> bool {
+    match listed(alloc, text) {
+        Some(list) => lists_just(&list, names) && NameList::new(alloc).is_empty(),
+        None => false,
+    }
+}
+
+fn lists_just(list: &NameList, names: [&[u8]; 3]) -> bool {
+    list.len() == 3
+        && !list.is_empty()
+        && list.name(0) == Some(names[0])
+        && list.name(1) == Some(names[1])
+        && list.name(2) == Some(names[2])
+        && list.name(3).is_none()
 }
 
 #[test]
-fn lists_are_the_same_where_each_name_is(rt: HostRuntime) -> Result<(), Fail> {
-    let rows = [
-        ("ab c", "ab c", true),
-        ("x x", "x x", true),
-        ("ab c", "a bc", false),
-        ("ab c", "abc", false),
-        ("ab c", "ab d", false),
-        ("ab c", "c ab", false),
-        ("ab c", "ab c d", false),
-    ];
-    for (a, b, wanted) in rows {
-        assert!(rt; are_same(rt.alloc(), a, b)? == wanted);
-        assert!(rt; are_same(rt.alloc(), b, a)? == wanted);
+fn a_list_has_its_names_in_order(rt: HostRuntime) {
+    assert!(rt; is_in_order(rt.alloc(), "ab c ab", [b"ab", b"c", b"ab"]));
+}
+
+fn tells(alloc: Global, fault: NamesFault, wanted: &str) -> bool {
+    match fault.to_string(alloc) {
+        Ok(text) => text.as_str() == wanted,
+        Err(_) => false,
     }
-    Ok(())
 }
 
 #[test]
-fn a_list_has_its_names_in_order(rt: HostRuntime) -> Result<(), Fail> {
-    let list = listed(rt.alloc(), "ab c ab")?;
-    assert!(rt; list.len() == 3 && !list.is_empty());
-    assert!(rt; list.name(0) == Some(b"ab"));
-    assert!(rt; list.name(1) == Some(b"c"));
-    assert!(rt; list.name(2) == Some(b"ab"));
-    assert!(rt; list.name(3).is_none());
-    assert!(rt; NameList::new(rt.alloc()).is_empty());
-    Ok(())
-}
-
-#[test]
-fn the_faults_tell_themselves(rt: HostRuntime) -> Result<(), Fail> {
-    let rows = [
-        (NamesFault::Full, "too many different names"),
-        (NamesFault::Memory, "out of memory"),
-    ];
-    for (fault, wanted) in rows {
-        assert!(rt; fault.to_string(rt.alloc())?.as_str() == wanted);
-    }
-    Ok(())
+fn the_faults_tell_themselves(rt: HostRuntime) {
+    let alloc = rt.alloc();
+    assert!(rt;
+        tells(alloc, NamesFault::Full, "too many different names")
+            && tells(alloc, NamesFault::Memory, "out of memory")
+    );
 }

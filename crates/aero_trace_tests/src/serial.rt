@@ -1,72 +1,127 @@
 use crate::model::except_of;
-use crate::verdict::{parts_of, words_of};
+use crate::verdict::{parts_of, push_words};
 use aero_grammar::parsed::Parsed;
 use aero_model::except::Except;
 use aero_model::limits::Limits;
-use aero_model::verdict::Step;
+use aero_model::verdict::{Step, Verdict};
 use aero_verdict::{actor_at, check_trace_in_order, serial_order};
 use std::alloc::Global;
-use std::test::Fail;
 
-// The lines of a serial order, behind each of them a `/`, or `none`.
-fn lines_in_order(
+// The helpers below say that a row doesn't hold where memory is refused.
+
+fn push_line(alloc: Global, words: &mut String, line: u32) -> bool {
+    match format!(in alloc; "{line}/") {
+        Ok(word) => words.push_str(&word).is_ok(),
+        Err(_) => false,
+    }
+}
+
+fn push_lines(alloc: Global, words: &mut String, lines: &[u32]) -> bool {
+    let mut fits = true;
+    for line in lines {
+        fits &= push_line(alloc, words, *line);
+    }
+    fits
+}
+
+// Whether these are the lines of its serial order, behind each of them a `/`, or `none`.
+fn has_order(
     alloc: Global,
     parts: &[Parsed],
     limits: &Limits,
     except: &Except,
-) -> Result<String, Fail> {
-    let mut words = String::new(alloc);
-    match serial_order(alloc, parts, limits, except)? {
-        Some(lines) => {
-            for line in lines.iter() {
-                let word = format!(in alloc; "{line}/")?;
-                words.push_str(&word)?;
-            }
-        }
-        None => words.push_str("none")?,
+    wanted: &str,
+) -> bool {
+    match serial_order(alloc, parts, limits, except) {
+        Ok(Some(lines)) => are_lines(alloc, &lines, wanted),
+        Ok(None) => wanted == "none",
+        Err(_) => false,
     }
-    Ok(words)
 }
 
-fn push_step(alloc: Global, words: &mut String, step: &Step) -> Result<(), Fail> {
+fn are_lines(alloc: Global, lines: &[u32], wanted: &str) -> bool {
+    let mut words = String::new(alloc);
+    push_lines(alloc, &mut words, lines) && words.as_str() == wanted
+}
+
+fn push_step(alloc: Global, words: &mut String, step: &Step) -> bool {
     let line = step.line;
-    let thread = str::from_utf8(step.thread.bytes())?;
-    let word = format!(in alloc; "{line} {thread}/")?;
-    words.push_str(&word)?;
-    Ok(())
+    let Ok(thread) = str::from_utf8(step.thread.bytes()) else {
+        return false;
+    };
+    match format!(in alloc; "{line} {thread}/") {
+        Ok(word) => words.push_str(&word).is_ok(),
+        Err(_) => false,
+    }
+}
+
+fn push_steps(alloc: Global, words: &mut String, steps: &[Step]) -> bool {
+    let mut fits = words.push_str("/").is_ok();
+    for step in steps {
+        fits &= push_step(alloc, words, step);
+    }
+    fits
 }
 
 // The verdict, and where it has an order a `/` and its steps, behind each of them a `/`.
-fn told_in_order(
+fn push_told(
+    alloc: Global,
+    words: &mut String,
+    verdict: &Verdict,
+    steps: &Option<Vec<Step>>,
+) -> bool {
+    if !push_words(alloc, words, verdict) {
+        return false;
+    }
+    match steps {
+        Some(steps) => push_steps(alloc, words, steps),
+        None => true,
+    }
+}
+
+fn says(alloc: Global, verdict: &Verdict, steps: &Option<Vec<Step>>, wanted: &str) -> bool {
+    let mut words = String::new(alloc);
+    push_told(alloc, &mut words, verdict, steps) && words.as_str() == wanted
+}
+
+// Whether this is told of it with its order.
+fn is_told(
     alloc: Global,
     parts: &[Parsed],
     limits: &Limits,
     except: &Except,
-) -> Result<String, Fail> {
-    let (verdict, steps) = check_trace_in_order(alloc, parts, limits, except)?;
-    let mut words = words_of(alloc, &verdict)?;
-    if let Some(steps) = steps {
-        words.push_str("/")?;
-        for step in steps.iter() {
-            push_step(alloc, &mut words, step)?;
-        }
+    wanted: &str,
+) -> bool {
+    match check_trace_in_order(alloc, parts, limits, except) {
+        Ok((verdict, steps)) => says(alloc, &verdict, &steps, wanted),
+        Err(_) => false,
     }
-    Ok(words)
 }
 
 // Labels whose blocks are no transactions, a trace, its order, and what is told of it with that.
 type Row = (&'static str, &'static str, &'static str, &'static str);
 
-fn is_in_order(alloc: Global, limits: &Limits, row: &Row) -> Result<bool, Fail> {
+fn is_in_order(alloc: Global, limits: &Limits, row: &Row) -> Option<bool> {
     let (labels, text, order, told) = *row;
     let parts = parts_of(alloc, text)?;
     let except = except_of(alloc, labels)?;
-    let lines = lines_in_order(alloc, &parts, limits, &except)?;
-    let words = told_in_order(alloc, &parts, limits, &except)?;
-    Ok(lines.as_str() == order && words.as_str() == told)
+    Some(
+        has_order(alloc, &parts, limits, &except, order)
+            && is_told(alloc, &parts, limits, &except, told),
+    )
 }
 
-const ORDERED: [Row; 12] = [
+// The first row that doesn't hold.
+fn first_wrong(alloc: Global, limits: &Limits, rows: &[Row]) -> Option<usize> {
+    for i in 0..rows.len() {
+        if is_in_order(alloc, limits, &rows[i]) != Some(true) {
+            return Some(i);
+        }
+    }
+    None
+}
+
+static ORDERED: [Row; 12] = [
     ("", "", "", "serializable 0 0/"),
     ("", "+//+", "", "serializable 0 0/"),
     (
@@ -135,7 +190,7 @@ const ORDERED: [Row; 12] = [
 ];
 
 // Open blocks have an order, if there is no cycle, and it isn't told with the verdict.
-const NOT_TOLD: [Row; 11] = [
+static NOT_TOLD: [Row; 11] = [
     ("", "T1|begin/T1|w(x)/+", "1/", "pending 2 1 1"),
     ("", "T1|begin/T2|w(x)/T1|r(x)/+", "2/1/", "pending 3 1 1"),
     (
@@ -180,7 +235,7 @@ const NOT_TOLD: [Row; 11] = [
 ];
 
 // The events of a block that is no transaction are transactions by themselves, but for those in other blocks.
-const WITH_LABELS: [Row; 5] = [
+static WITH_LABELS: [Row; 5] = [
     (
         "a",
         "T1|begin(a)/T1|w(x)/T2|w(x)/T1|r(x)/T1|end/+",
@@ -213,77 +268,92 @@ const WITH_LABELS: [Row; 5] = [
     ),
 ];
 
-#[test]
-fn transactions_stand_in_the_serial_order(rt: HostRuntime) -> Result<(), Fail> {
-    let tables: [&[Row]; 3] = [&ORDERED, &NOT_TOLD, &WITH_LABELS];
-    for rows in tables {
-        for row in rows {
-            assert!(rt;
-                is_in_order(rt.alloc(), &Limits::greatest(), row)?,
-                "{}",
-                row.1
-            );
-        }
-    }
-    let limits = Limits::new(1000, 2, 2, 2).ok_or("limits")?;
-    let rows: [Row; 2] = [
-        ("", "T1|begin/T1|end//+", "none", "malformed 3 TooManyLines"),
-        (
-            "",
-            "T1|w(x)/T2|w(y)/+",
-            "1/2/",
-            "serializable 2 0/1 T1/2 T2/",
-        ),
-    ];
-    for row in &rows {
-        assert!(rt; is_in_order(rt.alloc(), &limits, row)?, "{}", row.1);
-    }
-    Ok(())
+// Under limits of two lines, threads and names.
+static LIMITED: [Row; 2] = [
+    ("", "T1|begin/T1|end//+", "none", "malformed 3 TooManyLines"),
+    (
+        "",
+        "T1|w(x)/T2|w(y)/+",
+        "1/2/",
+        "serializable 2 0/1 T1/2 T2/",
+    ),
+];
+
+// The first rows of each table that don't hold.
+fn first_of_each(alloc: Global) -> Option<[Option<usize>; 4]> {
+    let greatest = Limits::greatest();
+    let limits = Limits::new(1000, 2, 2, 2)?;
+    Some([
+        first_wrong(alloc, &greatest, &ORDERED),
+        first_wrong(alloc, &greatest, &NOT_TOLD),
+        first_wrong(alloc, &greatest, &WITH_LABELS),
+        first_wrong(alloc, &limits, &LIMITED),
+    ])
 }
 
-// Who made the events on the lines from 0 on, as many as are wanted, behind each a `/`; `-` where there is none.
-fn actors(alloc: Global, text: &str, lines: u32) -> Result<String, Fail> {
-    let parts = parts_of(alloc, text)?;
-    let mut words = String::new(alloc);
+#[test]
+fn transactions_stand_in_the_serial_order(rt: HostRuntime) {
+    assert!(rt; first_of_each(rt.alloc()) == Some([None, None, None, None]));
+}
+
+fn push_actor(words: &mut String, parts: &[Parsed], line: u32) -> bool {
+    let name = actor_at(parts, line).unwrap_or(b"-");
+    match str::from_utf8(name) {
+        Ok(name) => words.push_str(name).is_ok() && words.push_str("/").is_ok(),
+        Err(_) => false,
+    }
+}
+
+fn push_actors(words: &mut String, parts: &[Parsed], lines: u32) -> bool {
+    let mut fits = true;
     for line in 0..lines {
-        match actor_at(&parts, line) {
-            Some(name) => words.push_str(str::from_utf8(name)?)?,
-            None => words.push_str("-")?,
-        }
-        words.push_str("/")?;
+        fits &= push_actor(words, parts, line);
     }
-    Ok(words)
+    fits
 }
 
-#[test]
-fn an_event_has_its_actor(rt: HostRuntime) -> Result<(), Fail> {
-    // a trace, how many lines are asked about, and their actors
-    let rows = [
-        ("", 3, "-/-/-/"),
-        ("T1|w(x)/T2|r(x)/+", 4, "-/T1/T2/-/"),
-        // The target is none, and a blank line has none.
-        (
-            "/T1|fork(T2)// T2 |begin(T1)/T1|join(T2)/+",
-            7,
-            "-/-/T1/-/T2/T1/-/",
-        ),
-        // Parts name their threads in orders of their own.
-        (
-            "T1|w(x)/T2|w(x)/+T2|w(x)/T1|w(x)/+/T3|end/+",
-            8,
-            "-/T1/T2/T2/T1/-/T3/-/",
-        ),
-        // Nothing counts from a fault on.
-        ("T1|w(x)/T/T2|w(x)/+T3|w(x)/+", 6, "-/T1/-/-/-/-/"),
-        ("T1|w(x)/+T+T3|w(x)/+", 5, "-/T1/-/-/-/"),
-    ];
-    for (text, lines, wanted) in rows {
-        assert!(rt;
-            actors(rt.alloc(), text, lines)?.as_str() == wanted,
-            "{text}"
-        );
+// A trace, how many lines are asked about, from 0 on, and who made the events on them, behind each a `/`;
+// `-` where there is none.
+type Actors = (&'static str, u32, &'static str);
+
+fn are_actors(alloc: Global, row: &Actors) -> Option<bool> {
+    let parts = parts_of(alloc, row.0)?;
+    let mut words = String::new(alloc);
+    let is_pushed = push_actors(&mut words, &parts, row.1);
+    Some(is_pushed && words.as_str() == row.2 && actor_at(&parts, u32::MAX).is_none())
+}
+
+// The first row that doesn't hold.
+fn first_other_actor(alloc: Global, rows: &[Actors]) -> Option<usize> {
+    for i in 0..rows.len() {
+        if are_actors(alloc, &rows[i]) != Some(true) {
+            return Some(i);
+        }
     }
-    let parts = parts_of(rt.alloc(), "T1|w(x)/+")?;
-    assert!(rt; actor_at(&parts, u32::MAX).is_none());
-    Ok(())
+    None
+}
+
+static ACTORS: [Actors; 6] = [
+    ("", 3, "-/-/-/"),
+    ("T1|w(x)/T2|r(x)/+", 4, "-/T1/T2/-/"),
+    // The target is none, and a blank line has none.
+    (
+        "/T1|fork(T2)// T2 |begin(T1)/T1|join(T2)/+",
+        7,
+        "-/-/T1/-/T2/T1/-/",
+    ),
+    // Parts name their threads in orders of their own.
+    (
+        "T1|w(x)/T2|w(x)/+T2|w(x)/T1|w(x)/+/T3|end/+",
+        8,
+        "-/T1/T2/T2/T1/-/T3/-/",
+    ),
+    // Nothing counts from a fault on.
+    ("T1|w(x)/T/T2|w(x)/+T3|w(x)/+", 6, "-/T1/-/-/-/-/"),
+    ("T1|w(x)/+T+T3|w(x)/+", 5, "-/T1/-/-/-/"),
+];
+
+#[test]
+fn an_event_has_its_actor(rt: HostRuntime) {
+    assert_eq!(rt; first_other_actor(rt.alloc(), &ACTORS), None);
 }

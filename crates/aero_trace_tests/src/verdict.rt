@@ -8,412 +8,496 @@ use aero_model::verdict::Verdict;
 use aero_verdict::engine::Engine;
 use aero_verdict::{check_trace, check_trace_by};
 use std::alloc::Global;
-use std::process::Abort;
-use std::test::Fail;
 
-fn parsed(alloc: Global, text: &[u8]) -> Result<Parsed, Fail> {
+// The helpers below say that a row doesn't hold where memory is refused.
+
+// What the text says as a block.
+fn parsed(alloc: Global, text: &[u8]) -> Option<Parsed> {
     if text.len() > 1 << 30 {
-        return Err("too many bytes".into());
+        return None;
     }
-    Ok(parse_block(alloc, text)?)
+    parse_block(alloc, text).ok()
 }
 
-// The parts of a row's text, in which a `/` stands for the end of a line and a `+` ends a part.
-pub(crate) fn parts_of(alloc: Global, row: &str) -> Result<Vec<Parsed>, Fail> {
+fn push_part(alloc: Global, parts: &mut Vec<Parsed>, text: &[u8]) -> bool {
+    match parsed(alloc, text) {
+        Some(part) => parts.push(part).is_ok(),
+        None => false,
+    }
+}
+
+// Takes a byte of a row's text: a `/` stands for the end of a line, and a `+` ends a part.
+fn take_byte(alloc: Global, parts: &mut Vec<Parsed>, text: &mut Vec<u8>, byte: u8) -> bool {
+    if byte == b'+' {
+        let is_pushed = push_part(alloc, parts, text);
+        text.clear();
+        return is_pushed;
+    }
+    text.push(if byte == b'/' { b'\n' } else { byte }).is_ok()
+}
+
+// The parts of a row's text.
+pub(crate) fn parts_of(alloc: Global, row: &str) -> Option<Vec<Parsed>> {
     let mut parts = Vec::new(alloc);
     let mut text = Vec::new(alloc);
+    let mut fits = true;
     for byte in row.as_bytes() {
-        match *byte {
-            b'+' => {
-                parts.push(parsed(alloc, &text)?)?;
-                text.clear();
-            }
-            b'/' => text.push(b'\n')?,
-            other => text.push(other)?,
-        }
+        fits &= take_byte(alloc, &mut parts, &mut text, *byte);
     }
-    Ok(parts)
+    fits.then_some(parts)
 }
 
 // A verdict in words: its variant, and its numbers and names in the order of their fields.
-pub(crate) fn words_of(alloc: Global, verdict: &Verdict) -> Result<String, Fail> {
-    Ok(match verdict {
+pub(crate) fn words_of(alloc: Global, verdict: &Verdict) -> Option<String> {
+    match verdict {
         Verdict::Serializable { events, blocks } => {
-            format!(in alloc; "serializable {events} {blocks}")?
+            format!(in alloc; "serializable {events} {blocks}").ok()
         }
         Verdict::Pending {
             events,
             blocks,
             pending,
-        } => format!(in alloc; "pending {events} {blocks} {pending}")?,
+        } => format!(in alloc; "pending {events} {blocks} {pending}").ok(),
         Verdict::Violation {
             line,
             thread,
             begun,
         } => {
-            let thread = str::from_utf8(thread.bytes())?;
-            format!(in alloc; "violation {line} {thread} {begun}")?
+            let thread = str::from_utf8(thread.bytes()).ok()?;
+            format!(in alloc; "violation {line} {thread} {begun}").ok()
         }
-        Verdict::Malformed { line, fault } => format!(in alloc; "malformed {line} {fault:?}")?,
-        Verdict::IllFormed { line, fault } => format!(in alloc; "ill-formed {line} {fault:?}")?,
-    })
+        Verdict::Malformed { line, fault } => format!(in alloc; "malformed {line} {fault:?}").ok(),
+        Verdict::IllFormed { line, fault } => format!(in alloc; "ill-formed {line} {fault:?}").ok(),
+    }
 }
 
-// The verdict that this engine leads to, in words.
+// Puts it behind the words so far.
+pub(crate) fn push_words(alloc: Global, words: &mut String, verdict: &Verdict) -> bool {
+    match words_of(alloc, verdict) {
+        Some(text) => words.push_str(&text).is_ok(),
+        None => false,
+    }
+}
+
+fn verdict_of(
+    alloc: Global,
+    parts: &[Parsed],
+    limits: &Limits,
+    except: &Except,
+) -> Option<Verdict> {
+    check_trace(alloc, parts, limits, except).ok()
+}
+
+// The verdict that this engine leads to.
+fn verdict_by<E: Engine>(
+    alloc: Global,
+    parts: &[Parsed],
+    limits: &Limits,
+    except: &Except,
+) -> Option<Verdict> {
+    check_trace_by::<E>(alloc, parts, limits, except).ok()
+}
+
+// The same in words.
 pub(crate) fn judged_by<E: Engine>(
     alloc: Global,
     parts: &[Parsed],
     limits: &Limits,
     except: &Except,
-) -> Result<String, Fail> {
-    let verdict = check_trace_by::<E>(alloc, parts, limits, except)?;
-    words_of(alloc, &verdict)
+) -> Option<String> {
+    words_of(alloc, &verdict_by::<E>(alloc, parts, limits, except)?)
 }
 
-// Checks that the row has the verdict under the limits, and has it by clocks too, where blocks with
-// these labels are no transactions.
-fn expect(
-    rt: &impl Abort,
-    alloc: Global,
-    limits: &Limits,
-    labels: &str,
-    row: &str,
-    wanted: &str,
-) -> Result<(), Fail> {
-    let parts = parts_of(alloc, row)?;
-    let except = except_of(alloc, labels)?;
-    let verdict = check_trace(alloc, &parts, limits, &except)?;
-    let words = words_of(alloc, &verdict)?;
-    assert!(rt; words.as_str() == wanted, "{words}");
-    let by_clocks = judged_by::<Clocks>(alloc, &parts, limits, &except)?;
-    assert!(rt; by_clocks.as_str() == wanted, "by clocks {by_clocks}");
-    Ok(())
-}
-
-// Checks rows under limits on lines, threads, and variables and locks.
-fn expect_under(
-    rt: &impl Abort,
-    alloc: Global,
-    rows: &[((u32, u32, u32), &str, &str)],
-) -> Result<(), Fail> {
-    for ((lines, threads, names), row, wanted) in rows {
-        let limits = Limits::new(1000, *lines, *threads, *names).expect(rt, "limits");
-        expect(rt, alloc, &limits, "", row, wanted)?;
+fn says(alloc: Global, verdict: Option<Verdict>, wanted: &str) -> bool {
+    match verdict {
+        Some(verdict) => says_so(words_of(alloc, &verdict), wanted),
+        None => false,
     }
-    Ok(())
 }
 
-// Events and outermost begins are counted, and so are open blocks.
-#[test]
-fn serializable_and_pending_traces(rt: HostRuntime) -> Result<(), Fail> {
-    let rows = [
-        ("", "serializable 0 0"),
-        (
-            "T1|begin/T1|w(x)/T1|r(x)/T1|w(x)/T1|end/+",
-            "serializable 5 1",
-        ),
-        (
-            "T1|begin/T1|begin/T1|end/T1|begin/T1|end/T1|end/T1|begin/T1|end/+",
-            "serializable 8 2",
-        ),
-        (
-            "T1|begin/T1|begin/T1|acq(l)/T1|acq(l)/T1|rel(l)/T1|rel(l)/T1|end/T1|end/+",
-            "serializable 8 1",
-        ),
-        (
-            "T1|fork(T2)/T2|w(x)/T1|join(T2)/T1|w(x)/+",
-            "serializable 4 0",
-        ),
-        ("T1|join(T9)/T1|join(T9)/+", "serializable 2 0"),
-        (
-            "T1|begin/T1|w(x)/T1|r(x)/T1|w(x)/T1|end//++T1|begin/T1|w(x)/T1|r(x)/T1|w(x)/T1|end/+",
-            "serializable 10 2",
-        ),
-        (
-            "T1|begin/T1|fork(T2)/T1|join(T2)/T1|end/+",
-            "serializable 4 1",
-        ),
-        (
-            "T1|begin/T2|begin/T1|w(x)/T2|w(y)/T1|r(y)/+",
-            "pending 5 2 2",
-        ),
-        (
-            "T1|begin/T2|begin/T2|w(y)/T1|w(x)/T2|r(x)/T1|r(y)/+",
-            "pending 6 2 2",
-        ),
-        (
-            "T3|begin/T2|begin/T2|w(y)/T1|r(y)/T1|w(v)/T3|w(x)/T2|r(x)/T2|end/+",
-            "pending 8 2 1",
-        ),
-        (
-            "T3|begin/T2|begin/T2|w(y)/T1|r(y)/T1|w(v)/T3|w(x)/T2|r(x)/+",
-            "pending 7 2 2",
-        ),
-        ("T1|begin/+T1|begin/T1|end/+", "pending 3 1 1"),
-        (
-            "T1|begin/T1|w(x)/T1|r(x)/T1|w(x)/T1|end/+T1|begin/+",
-            "pending 6 2 1",
-        ),
-    ];
-    for (row, wanted) in rows {
-        expect(&rt, rt.alloc(), &Limits::greatest(), "", row, wanted)?;
+fn says_so(words: Option<String>, wanted: &str) -> bool {
+    match words {
+        Some(words) => words.as_str() == wanted,
+        None => false,
     }
-    Ok(())
-}
-
-// A violation is told by its line, with the thread and the begin of the block in which its cycle begins.
-#[test]
-fn violations_where_a_cycle_closes(rt: HostRuntime) -> Result<(), Fail> {
-    let rows = [
-        (
-            "T1|begin/T2|begin/T1|w(x)/T2|r(x)/T2|w(y)/T1|r(y)/+",
-            "violation 6 T1 1",
-        ),
-        (
-            "T1|begin/+T2|begin/+T1|w(x)/+T2|r(x)/+T2|w(y)/+T1|r(y)/+",
-            "violation 6 T1 1",
-        ),
-        (
-            "T1|begin/T2|begin/T2|w(y)/T1|w(x)/T2|r(x)/T1|r(y)/T1|end/+",
-            "violation 7 T2 2",
-        ),
-        (
-            "T1|begin/T2|begin/T3|begin/T2|w(a)/T3|w(b)/T1|w(x)/T2|r(x)/T3|r(x)/T1|r(a)/T1|r(b)/T1|end/+",
-            "violation 11 T2 2",
-        ),
-        (
-            "T3|begin/T2|begin/T2|w(y)/T1|r(y)/T1|w(v)/T3|w(x)/T2|r(x)/T2|end/T3|r(v)/+",
-            "violation 9 T3 1",
-        ),
-        (
-            "T1|begin/T1|acq(l)/T1|rel(l)/T2|acq(l)/T2|rel(l)/T1|acq(l)/+",
-            "violation 6 T1 1",
-        ),
-        (
-            "T1|begin/T1|w(y)/T2|r(y)/T2|r(x)/T1|w(x)/+",
-            "violation 5 T1 1",
-        ),
-        (
-            "T1|begin/T1|fork(T2)/T2|w(x)/T1|join(T2)/T1|end/+",
-            "violation 4 T1 1",
-        ),
-        (
-            "T1|begin/T2|begin/T1|w(x)/T2|r(x)/T2|w(y)/T1|r(y)/T+",
-            "violation 6 T1 1",
-        ),
-        (
-            "T1|begin/T2|begin/T1|w(x)/T2|r(x)/T2|w(y)/T1|r(y)/+T1|end/T1|end/+",
-            "violation 6 T1 1",
-        ),
-        (
-            "T1|begin/T1|w(x)/T1|r(x)/T1|w(x)/T1|end/+/+T1|begin/T2|begin/T1|w(x)/T2|r(x)/T2|w(y)/T1|r(y)/+",
-            "violation 12 T1 7",
-        ),
-        (
-            "T1|begin/T2|begin/T1|w(x)/T2|r(x)//+T2|w(y)/T1|r(y)/+",
-            "violation 7 T1 1",
-        ),
-    ];
-    for (row, wanted) in rows {
-        expect(&rt, rt.alloc(), &Limits::greatest(), "", row, wanted)?;
-    }
-    Ok(())
-}
-
-#[test]
-fn the_first_fault_by_line_with_its_cause(rt: HostRuntime) -> Result<(), Fail> {
-    let rows = [
-        (
-            "T1|begin/T2|begin/T1|w(x)/T2|r(x)/T2|w(y)/T+T1|r(y)/+",
-            "malformed 6 NoOperation",
-        ),
-        ("T+", "malformed 1 NoOperation"),
-        ("T1|begin/T1|r(x)/T+", "malformed 3 NoOperation"),
-        ("T1|r(x)//+T+", "malformed 3 NoOperation"),
-        ("T1|r(x)/+T1|r(x)/T+T1|end/+", "malformed 3 NoOperation"),
-        (
-            "T1|rel(l)/+T1|begin/T2|begin/T1|w(x)/T2|r(x)/T2|w(y)/T1|r(y)/+",
-            "ill-formed 1 LockNotHeld",
-        ),
-        ("T1|rel(l)/+", "ill-formed 1 LockNotHeld"),
-        ("T1|acq(l)/T2|acq(l)/+", "ill-formed 2 LockHeldByOther"),
-        ("T1|acq(l)/T2|rel(l)/+", "ill-formed 2 LockNotHeld"),
-        (
-            "T1|join(T9)/T1|join(T9)/T9|w(x)/+",
-            "ill-formed 3 ThreadJoined",
-        ),
-        (
-            "T1|join(T9)/T1|join(T9)/T1|fork(T9)/+",
-            "ill-formed 3 ForkStarted",
-        ),
-        ("T1|r(x)/T1|fork(T1)/+", "ill-formed 2 ForkSelf"),
-        ("T1|join(T1)/+", "ill-formed 1 JoinSelf"),
-        ("T1|begin/T1|end/T1|end/+", "ill-formed 3 EndWithoutBegin"),
-        ("T1|begin/T2|end/+", "ill-formed 2 EndWithoutBegin"),
-        ("T1|r(x)//+T1|r(x)/T1|end/+", "ill-formed 4 EndWithoutBegin"),
-        (
-            "T1|acq(l)//+T2|acq(l)/T1|end/+",
-            "ill-formed 3 LockHeldByOther",
-        ),
-        ("T1|end/T+", "ill-formed 1 EndWithoutBegin"),
-        ("T1|end/+T+", "ill-formed 1 EndWithoutBegin"),
-    ];
-    for (row, wanted) in rows {
-        expect(&rt, rt.alloc(), &Limits::greatest(), "", row, wanted)?;
-    }
-    Ok(())
-}
-
-// A line past the limit doesn't count, and the one after the limit may have a fault of its own.
-#[test]
-fn limits_on_lines(rt: HostRuntime) -> Result<(), Fail> {
-    let rows = [
-        (
-            (5, 10, 10),
-            "T1|begin/T2|begin/T1|w(x)/T2|r(x)/T2|w(y)/T1|r(y)/+",
-            "malformed 6 TooManyLines",
-        ),
-        (
-            (1, 1, 1),
-            "T1|end/T1|r(x)/T1|r(x)/+",
-            "ill-formed 1 EndWithoutBegin",
-        ),
-        (
-            (2, 10, 10),
-            "T1|r(x)/T1|r(x)//+",
-            "malformed 3 TooManyLines",
-        ),
-        (
-            (2, 10, 10),
-            "T1|r(x)/T1|r(x)/T1|end/+",
-            "malformed 3 TooManyLines",
-        ),
-        ((2, 10, 10), "T1|r(x)/T1|r(x)/T+", "malformed 3 NoOperation"),
-        (
-            (2, 10, 10),
-            "T1|r(x)/T1|r(x)/T1|end/T+",
-            "malformed 3 TooManyLines",
-        ),
-        (
-            (2, 10, 10),
-            "T1|r(x)/+T1|r(x)//+",
-            "malformed 3 TooManyLines",
-        ),
-        (
-            (2, 10, 10),
-            "T1|r(x)/T1|r(x)/+/+",
-            "malformed 3 TooManyLines",
-        ),
-        (
-            (2, 10, 10),
-            "T1|r(x)/T1|r(x)/+T+",
-            "malformed 3 NoOperation",
-        ),
-        (
-            (2, 10, 10),
-            "T1|r(x)/++T1|r(x)/T+",
-            "malformed 3 NoOperation",
-        ),
-        (
-            (2, 10, 10),
-            "T1|r(x)/+T1|r(x)/T1|end/+T+",
-            "malformed 3 TooManyLines",
-        ),
-        (
-            (2, 10, 10),
-            "T1|r(x)/T1|r(x)/+T1|end/+T1|end/+",
-            "malformed 3 TooManyLines",
-        ),
-        (
-            (2, 10, 10),
-            "T1|r(x)//+T+T1|end/T1|end/+",
-            "malformed 3 NoOperation",
-        ),
-        ((2, 10, 10), "T1|r(x)/T1|r(x)/+", "serializable 2 0"),
-        ((2, 10, 10), "T1|r(x)//++", "serializable 1 0"),
-        ((2, 10, 10), "T1|r(x)/++T1|r(x)/+", "serializable 2 0"),
-        ((2, 10, 10), "/+/+", "serializable 0 0"),
-        (
-            (2, 10, 10),
-            "T1|r(x)/+T1|end/T1|r(x)/+",
-            "ill-formed 2 EndWithoutBegin",
-        ),
-    ];
-    expect_under(&rt, rt.alloc(), &rows)
-}
-
-// The limits are looked at first, and the actor before the target.
-#[test]
-fn limits_on_threads_and_names(rt: HostRuntime) -> Result<(), Fail> {
-    let rows = [
-        (
-            (100, 2, 100),
-            "T1|w(x)/T2|w(x)/T3|w(x)/+",
-            "ill-formed 3 TooManyThreads",
-        ),
-        (
-            (100, 2, 100),
-            "T1|w(x)/T2|w(x)/+/+T1|r(x)/T3|w(x)/+",
-            "ill-formed 5 TooManyThreads",
-        ),
-        (
-            (100, 2, 100),
-            "T1|w(x)/T1|fork(T2)/T2|fork(T3)/+",
-            "ill-formed 3 TooManyThreads",
-        ),
-        (
-            (100, 2, 100),
-            "T2|w(x)/T1|join(T9)/T1|end/+",
-            "ill-formed 2 TooManyThreads",
-        ),
-        (
-            (100, 100, 1),
-            "T1|w(x)/T1|acq(x)/T1|w(y)/+",
-            "ill-formed 3 TooManyNames",
-        ),
-        (
-            (100, 100, 1),
-            "T1|acq(l)/T1|w(x)/T1|r(x)/T1|acq(x)/+",
-            "ill-formed 4 TooManyNames",
-        ),
-        (
-            (100, 100, 1),
-            "T1|w(x)/+T1|acq(l)/T1|rel(l)/T1|r(l)/+",
-            "ill-formed 4 TooManyNames",
-        ),
-        (
-            (100, 100, 1),
-            "T1|join(x)/T1|w(x)/T1|w(y)/+",
-            "ill-formed 3 TooManyNames",
-        ),
-        (
-            (100, 1, 1),
-            "T1|w(x)/T2|w(y)/+",
-            "ill-formed 2 TooManyThreads",
-        ),
-        (
-            (100, 1, 1),
-            "T1|w(x)/T2|end/+",
-            "ill-formed 2 TooManyThreads",
-        ),
-        (
-            (100, 1, 1),
-            "T1|acq(l)/T1|rel(m)/+",
-            "ill-formed 2 TooManyNames",
-        ),
-        (
-            (100, 1, 1),
-            "T1|acq(l)/T2|acq(l)/+",
-            "ill-formed 2 TooManyThreads",
-        ),
-    ];
-    expect_under(&rt, rt.alloc(), &rows)
 }
 
 // Labels, a trace, and its verdict where blocks with these labels are no transactions.
 type Labelled = (&'static str, &'static str, &'static str);
 
-const OPEN_AND_CLOSE_NO_BLOCK: [Labelled; 14] = [
+// Whether the trace has the verdict under the limits, and has it by clocks too.
+fn has_verdict(
+    alloc: Global,
+    parts: &[Parsed],
+    limits: &Limits,
+    except: &Except,
+    wanted: &str,
+) -> bool {
+    says(alloc, verdict_of(alloc, parts, limits, except), wanted)
+        && says(
+            alloc,
+            verdict_by::<Clocks>(alloc, parts, limits, except),
+            wanted,
+        )
+}
+
+fn is_judged(alloc: Global, limits: &Limits, row: (&str, &str, &str)) -> Option<bool> {
+    let (labels, text, wanted) = row;
+    let parts = parts_of(alloc, text)?;
+    let except = except_of(alloc, labels)?;
+    Some(has_verdict(alloc, &parts, limits, &except, wanted))
+}
+
+// The first row that doesn't hold.
+fn first_misjudged_by_labels(alloc: Global, rows: &[Labelled]) -> Option<usize> {
+    for i in 0..rows.len() {
+        if is_judged(alloc, &Limits::greatest(), rows[i]) != Some(true) {
+            return Some(i);
+        }
+    }
+    None
+}
+
+// A trace, and its verdict.
+type Row = (&'static str, &'static str);
+
+// The first row that doesn't hold.
+fn first_misjudged(alloc: Global, rows: &[Row]) -> Option<usize> {
+    for i in 0..rows.len() {
+        let (row, wanted) = rows[i];
+        if is_judged(alloc, &Limits::greatest(), ("", row, wanted)) != Some(true) {
+            return Some(i);
+        }
+    }
+    None
+}
+
+// Limits on lines, threads, and variables and locks, a trace, and its verdict.
+type Limited = ((u32, u32, u32), &'static str, &'static str);
+
+fn is_judged_under(alloc: Global, row: &Limited) -> Option<bool> {
+    let ((lines, threads, names), text, wanted) = *row;
+    let limits = Limits::new(1000, lines, threads, names)?;
+    is_judged(alloc, &limits, ("", text, wanted))
+}
+
+// The first row that doesn't hold.
+fn first_misjudged_under(alloc: Global, rows: &[Limited]) -> Option<usize> {
+    for i in 0..rows.len() {
+        if is_judged_under(alloc, &rows[i]) != Some(true) {
+            return Some(i);
+        }
+    }
+    None
+}
+
+// Events and outermost begins are counted, and so are open blocks.
+static WITHOUT_A_VIOLATION: [Row; 14] = [
+    ("", "serializable 0 0"),
+    (
+        "T1|begin/T1|w(x)/T1|r(x)/T1|w(x)/T1|end/+",
+        "serializable 5 1",
+    ),
+    (
+        "T1|begin/T1|begin/T1|end/T1|begin/T1|end/T1|end/T1|begin/T1|end/+",
+        "serializable 8 2",
+    ),
+    (
+        "T1|begin/T1|begin/T1|acq(l)/T1|acq(l)/T1|rel(l)/T1|rel(l)/T1|end/T1|end/+",
+        "serializable 8 1",
+    ),
+    (
+        "T1|fork(T2)/T2|w(x)/T1|join(T2)/T1|w(x)/+",
+        "serializable 4 0",
+    ),
+    ("T1|join(T9)/T1|join(T9)/+", "serializable 2 0"),
+    (
+        "T1|begin/T1|w(x)/T1|r(x)/T1|w(x)/T1|end//++T1|begin/T1|w(x)/T1|r(x)/T1|w(x)/T1|end/+",
+        "serializable 10 2",
+    ),
+    (
+        "T1|begin/T1|fork(T2)/T1|join(T2)/T1|end/+",
+        "serializable 4 1",
+    ),
+    (
+        "T1|begin/T2|begin/T1|w(x)/T2|w(y)/T1|r(y)/+",
+        "pending 5 2 2",
+    ),
+    (
+        "T1|begin/T2|begin/T2|w(y)/T1|w(x)/T2|r(x)/T1|r(y)/+",
+        "pending 6 2 2",
+    ),
+    (
+        "T3|begin/T2|begin/T2|w(y)/T1|r(y)/T1|w(v)/T3|w(x)/T2|r(x)/T2|end/+",
+        "pending 8 2 1",
+    ),
+    (
+        "T3|begin/T2|begin/T2|w(y)/T1|r(y)/T1|w(v)/T3|w(x)/T2|r(x)/+",
+        "pending 7 2 2",
+    ),
+    ("T1|begin/+T1|begin/T1|end/+", "pending 3 1 1"),
+    (
+        "T1|begin/T1|w(x)/T1|r(x)/T1|w(x)/T1|end/+T1|begin/+",
+        "pending 6 2 1",
+    ),
+];
+
+#[test]
+fn serializable_and_pending_traces(rt: HostRuntime) {
+    assert_eq!(rt; first_misjudged(rt.alloc(), &WITHOUT_A_VIOLATION), None);
+}
+
+// A violation is told by its line, with the thread and the begin of the block in which its cycle begins.
+static VIOLATIONS: [Row; 12] = [
+    (
+        "T1|begin/T2|begin/T1|w(x)/T2|r(x)/T2|w(y)/T1|r(y)/+",
+        "violation 6 T1 1",
+    ),
+    (
+        "T1|begin/+T2|begin/+T1|w(x)/+T2|r(x)/+T2|w(y)/+T1|r(y)/+",
+        "violation 6 T1 1",
+    ),
+    (
+        "T1|begin/T2|begin/T2|w(y)/T1|w(x)/T2|r(x)/T1|r(y)/T1|end/+",
+        "violation 7 T2 2",
+    ),
+    (
+        "T1|begin/T2|begin/T3|begin/T2|w(a)/T3|w(b)/T1|w(x)/T2|r(x)/T3|r(x)/T1|r(a)/T1|r(b)/T1|end/+",
+        "violation 11 T2 2",
+    ),
+    (
+        "T3|begin/T2|begin/T2|w(y)/T1|r(y)/T1|w(v)/T3|w(x)/T2|r(x)/T2|end/T3|r(v)/+",
+        "violation 9 T3 1",
+    ),
+    (
+        "T1|begin/T1|acq(l)/T1|rel(l)/T2|acq(l)/T2|rel(l)/T1|acq(l)/+",
+        "violation 6 T1 1",
+    ),
+    (
+        "T1|begin/T1|w(y)/T2|r(y)/T2|r(x)/T1|w(x)/+",
+        "violation 5 T1 1",
+    ),
+    (
+        "T1|begin/T1|fork(T2)/T2|w(x)/T1|join(T2)/T1|end/+",
+        "violation 4 T1 1",
+    ),
+    (
+        "T1|begin/T2|begin/T1|w(x)/T2|r(x)/T2|w(y)/T1|r(y)/T+",
+        "violation 6 T1 1",
+    ),
+    (
+        "T1|begin/T2|begin/T1|w(x)/T2|r(x)/T2|w(y)/T1|r(y)/+T1|end/T1|end/+",
+        "violation 6 T1 1",
+    ),
+    (
+        "T1|begin/T1|w(x)/T1|r(x)/T1|w(x)/T1|end/+/+T1|begin/T2|begin/T1|w(x)/T2|r(x)/T2|w(y)/T1|r(y)/+",
+        "violation 12 T1 7",
+    ),
+    (
+        "T1|begin/T2|begin/T1|w(x)/T2|r(x)//+T2|w(y)/T1|r(y)/+",
+        "violation 7 T1 1",
+    ),
+];
+
+#[test]
+fn violations_where_a_cycle_closes(rt: HostRuntime) {
+    assert_eq!(rt; first_misjudged(rt.alloc(), &VIOLATIONS), None);
+}
+
+static FAULTS: [Row; 19] = [
+    (
+        "T1|begin/T2|begin/T1|w(x)/T2|r(x)/T2|w(y)/T+T1|r(y)/+",
+        "malformed 6 NoOperation",
+    ),
+    ("T+", "malformed 1 NoOperation"),
+    ("T1|begin/T1|r(x)/T+", "malformed 3 NoOperation"),
+    ("T1|r(x)//+T+", "malformed 3 NoOperation"),
+    ("T1|r(x)/+T1|r(x)/T+T1|end/+", "malformed 3 NoOperation"),
+    (
+        "T1|rel(l)/+T1|begin/T2|begin/T1|w(x)/T2|r(x)/T2|w(y)/T1|r(y)/+",
+        "ill-formed 1 LockNotHeld",
+    ),
+    ("T1|rel(l)/+", "ill-formed 1 LockNotHeld"),
+    ("T1|acq(l)/T2|acq(l)/+", "ill-formed 2 LockHeldByOther"),
+    ("T1|acq(l)/T2|rel(l)/+", "ill-formed 2 LockNotHeld"),
+    (
+        "T1|join(T9)/T1|join(T9)/T9|w(x)/+",
+        "ill-formed 3 ThreadJoined",
+    ),
+    (
+        "T1|join(T9)/T1|join(T9)/T1|fork(T9)/+",
+        "ill-formed 3 ForkStarted",
+    ),
+    ("T1|r(x)/T1|fork(T1)/+", "ill-formed 2 ForkSelf"),
+    ("T1|join(T1)/+", "ill-formed 1 JoinSelf"),
+    ("T1|begin/T1|end/T1|end/+", "ill-formed 3 EndWithoutBegin"),
+    ("T1|begin/T2|end/+", "ill-formed 2 EndWithoutBegin"),
+    ("T1|r(x)//+T1|r(x)/T1|end/+", "ill-formed 4 EndWithoutBegin"),
+    (
+        "T1|acq(l)//+T2|acq(l)/T1|end/+",
+        "ill-formed 3 LockHeldByOther",
+    ),
+    ("T1|end/T+", "ill-formed 1 EndWithoutBegin"),
+    ("T1|end/+T+", "ill-formed 1 EndWithoutBegin"),
+];
+
+#[test]
+fn the_first_fault_by_line_with_its_cause(rt: HostRuntime) {
+    assert_eq!(rt; first_misjudged(rt.alloc(), &FAULTS), None);
+}
+
+// A line past the limit doesn't count, and the one after the limit may have a fault of its own.
+static LIMITS_ON_LINES: [Limited; 18] = [
+    (
+        (5, 10, 10),
+        "T1|begin/T2|begin/T1|w(x)/T2|r(x)/T2|w(y)/T1|r(y)/+",
+        "malformed 6 TooManyLines",
+    ),
+    (
+        (1, 1, 1),
+        "T1|end/T1|r(x)/T1|r(x)/+",
+        "ill-formed 1 EndWithoutBegin",
+    ),
+    (
+        (2, 10, 10),
+        "T1|r(x)/T1|r(x)//+",
+        "malformed 3 TooManyLines",
+    ),
+    (
+        (2, 10, 10),
+        "T1|r(x)/T1|r(x)/T1|end/+",
+        "malformed 3 TooManyLines",
+    ),
+    ((2, 10, 10), "T1|r(x)/T1|r(x)/T+", "malformed 3 NoOperation"),
+    (
+        (2, 10, 10),
+        "T1|r(x)/T1|r(x)/T1|end/T+",
+        "malformed 3 TooManyLines",
+    ),
+    (
+        (2, 10, 10),
+        "T1|r(x)/+T1|r(x)//+",
+        "malformed 3 TooManyLines",
+    ),
+    (
+        (2, 10, 10),
+        "T1|r(x)/T1|r(x)/+/+",
+        "malformed 3 TooManyLines",
+    ),
+    (
+        (2, 10, 10),
+        "T1|r(x)/T1|r(x)/+T+",
+        "malformed 3 NoOperation",
+    ),
+    (
+        (2, 10, 10),
+        "T1|r(x)/++T1|r(x)/T+",
+        "malformed 3 NoOperation",
+    ),
+    (
+        (2, 10, 10),
+        "T1|r(x)/+T1|r(x)/T1|end/+T+",
+        "malformed 3 TooManyLines",
+    ),
+    (
+        (2, 10, 10),
+        "T1|r(x)/T1|r(x)/+T1|end/+T1|end/+",
+        "malformed 3 TooManyLines",
+    ),
+    (
+        (2, 10, 10),
+        "T1|r(x)//+T+T1|end/T1|end/+",
+        "malformed 3 NoOperation",
+    ),
+    ((2, 10, 10), "T1|r(x)/T1|r(x)/+", "serializable 2 0"),
+    ((2, 10, 10), "T1|r(x)//++", "serializable 1 0"),
+    ((2, 10, 10), "T1|r(x)/++T1|r(x)/+", "serializable 2 0"),
+    ((2, 10, 10), "/+/+", "serializable 0 0"),
+    (
+        (2, 10, 10),
+        "T1|r(x)/+T1|end/T1|r(x)/+",
+        "ill-formed 2 EndWithoutBegin",
+    ),
+];
+
+#[test]
+fn limits_on_lines(rt: HostRuntime) {
+    assert_eq!(rt; first_misjudged_under(rt.alloc(), &LIMITS_ON_LINES), None);
+}
+
+// The limits are looked at first, and the actor before the target.
+static LIMITS_ON_THREADS_AND_NAMES: [Limited; 12] = [
+    (
+        (100, 2, 100),
+        "T1|w(x)/T2|w(x)/T3|w(x)/+",
+        "ill-formed 3 TooManyThreads",
+    ),
+    (
+        (100, 2, 100),
+        "T1|w(x)/T2|w(x)/+/+T1|r(x)/T3|w(x)/+",
+        "ill-formed 5 TooManyThreads",
+    ),
+    (
+        (100, 2, 100),
+        "T1|w(x)/T1|fork(T2)/T2|fork(T3)/+",
+        "ill-formed 3 TooManyThreads",
+    ),
+    (
+        (100, 2, 100),
+        "T2|w(x)/T1|join(T9)/T1|end/+",
+        "ill-formed 2 TooManyThreads",
+    ),
+    (
+        (100, 100, 1),
+        "T1|w(x)/T1|acq(x)/T1|w(y)/+",
+        "ill-formed 3 TooManyNames",
+    ),
+    (
+        (100, 100, 1),
+        "T1|acq(l)/T1|w(x)/T1|r(x)/T1|acq(x)/+",
+        "ill-formed 4 TooManyNames",
+    ),
+    (
+        (100, 100, 1),
+        "T1|w(x)/+T1|acq(l)/T1|rel(l)/T1|r(l)/+",
+        "ill-formed 4 TooManyNames",
+    ),
+    (
+        (100, 100, 1),
+        "T1|join(x)/T1|w(x)/T1|w(y)/+",
+        "ill-formed 3 TooManyNames",
+    ),
+    (
+        (100, 1, 1),
+        "T1|w(x)/T2|w(y)/+",
+        "ill-formed 2 TooManyThreads",
+    ),
+    (
+        (100, 1, 1),
+        "T1|w(x)/T2|end/+",
+        "ill-formed 2 TooManyThreads",
+    ),
+    (
+        (100, 1, 1),
+        "T1|acq(l)/T1|rel(m)/+",
+        "ill-formed 2 TooManyNames",
+    ),
+    (
+        (100, 1, 1),
+        "T1|acq(l)/T2|acq(l)/+",
+        "ill-formed 2 TooManyThreads",
+    ),
+];
+
+#[test]
+fn limits_on_threads_and_names(rt: HostRuntime) {
+    assert_eq!(rt;
+        first_misjudged_under(rt.alloc(), &LIMITS_ON_THREADS_AND_NAMES),
+        None
+    );
+}
+
+static OPEN_AND_CLOSE_NO_BLOCK: [Labelled; 14] = [
     (
         "a",
         "T1|begin(a)/T2|begin/T1|w(x)/T2|r(x)/T2|w(y)/T1|r(y)/+",
@@ -475,7 +559,7 @@ const OPEN_AND_CLOSE_NO_BLOCK: [Labelled; 14] = [
     ("a", "T1|begin(a)/T2|end/+", "ill-formed 2 EndWithoutBegin"),
 ];
 
-const WHICH_LABELS_AND_OVER_PARTS: [Labelled; 12] = [
+static WHICH_LABELS_AND_OVER_PARTS: [Labelled; 12] = [
     // No begin has the label: a variable has it, or a label begins or ends with it.
     (
         "b",
@@ -543,45 +627,56 @@ const WHICH_LABELS_AND_OVER_PARTS: [Labelled; 12] = [
 ];
 
 #[test]
-fn blocks_with_listed_labels_are_no_transactions(rt: HostRuntime) -> Result<(), Fail> {
-    let tables: [&[Labelled]; 2] = [&OPEN_AND_CLOSE_NO_BLOCK, &WHICH_LABELS_AND_OVER_PARTS];
-    for rows in tables {
-        for (labels, row, wanted) in rows {
-            expect(&rt, rt.alloc(), &Limits::greatest(), labels, row, wanted)?;
-        }
-    }
-    Ok(())
+fn blocks_with_listed_labels_are_no_transactions(rt: HostRuntime) {
+    let alloc = rt.alloc();
+    let misjudged = (
+        first_misjudged_by_labels(alloc, &OPEN_AND_CLOSE_NO_BLOCK),
+        first_misjudged_by_labels(alloc, &WHICH_LABELS_AND_OVER_PARTS),
+    );
+    assert!(rt; misjudged == (None, None));
 }
 
-// Two threads make blocks of one write in turn, and each of many threads makes one, to a variable of its own.
-#[test]
-fn many_blocks_and_many_threads(rt: HostRuntime) -> Result<(), Fail> {
-    let alloc = rt.alloc();
+// Two threads make blocks of one write in turn.
+fn are_many_blocks_judged(alloc: Global) -> bool {
     let mut row = String::new(alloc);
+    let mut fits = true;
     for _ in 0..15000 {
-        row.push_str("T1|begin/T1|w(x)/T1|end/T2|begin/T2|w(x)/T2|end/")?;
+        fits &= row
+            .push_str("T1|begin/T1|w(x)/T1|end/T2|begin/T2|w(x)/T2|end/")
+            .is_ok();
     }
-    row.push_str("+")?;
-    expect(
-        &rt,
+    fits &= row.push_str("+").is_ok();
+    fits && is_judged(
         alloc,
         &Limits::greatest(),
-        "",
-        &row,
-        "serializable 90000 30000",
-    )?;
-    let rows = [
-        (1024, "serializable 3072 1024"),
-        (1025, "serializable 3075 1025"),
-    ];
-    for (threads, wanted) in rows {
-        let mut row = String::new(alloc);
-        for i in 1..=threads {
-            let lines = format!(in alloc; "T{i}|begin/T{i}|w(v{i})/T{i}|end/")?;
-            row.push_str(&lines)?;
-        }
-        row.push_str("+")?;
-        expect(&rt, alloc, &Limits::greatest(), "", &row, wanted)?;
+        ("", &row, "serializable 90000 30000"),
+    ) == Some(true)
+}
+
+fn push_thread(alloc: Global, row: &mut String, i: u32) -> bool {
+    match format!(in alloc; "T{i}|begin/T{i}|w(v{i})/T{i}|end/") {
+        Ok(lines) => row.push_str(&lines).is_ok(),
+        Err(_) => false,
     }
-    Ok(())
+}
+
+// Each of so many threads makes a block of one write, to a variable of its own.
+fn are_many_threads_judged(alloc: Global, threads: u32, wanted: &str) -> bool {
+    let mut row = String::new(alloc);
+    let mut fits = true;
+    for i in 1..=threads {
+        fits &= push_thread(alloc, &mut row, i);
+    }
+    fits &= row.push_str("+").is_ok();
+    fits && is_judged(alloc, &Limits::greatest(), ("", &row, wanted)) == Some(true)
+}
+
+#[test]
+fn many_blocks_and_many_threads(rt: HostRuntime) {
+    let alloc = rt.alloc();
+    assert!(rt;
+        are_many_blocks_judged(alloc)
+            && are_many_threads_judged(alloc, 1024, "serializable 3072 1024")
+            && are_many_threads_judged(alloc, 1025, "serializable 3075 1025")
+    );
 }
