@@ -1,5 +1,5 @@
 //! The sources that the words name.
-ghost use Rattle.std.specs.Prelude.{◌≡◌, ◌≤◌, ◌^◌, [], IfOk, OnOk, codes, length, map, string_bytes, vec_len};
+ghost use Rattle.std.specs.Prelude.{◌≡◌, ◌≤◌, ◌^◌, ◌∷◌, [], IfOk, OnOk, codes, length, map, string_bytes, vec_len};
 ghost use Rattle.aero_model.specs.CallCounts.{inner_of};
 ghost use Rattle.aero_batch.specs.Founds.{sighted};
 ghost use Rattle.aero_program.specs.Inputs.{bytes_left, source_names, source_standings, standing_of, unread, Standard, Unopened};
@@ -30,7 +30,16 @@ pub fn sources_of<'a, S: Read + Drop, R: Files + Drop>(
         return files_of(alloc, files, words);
     }
     let source = standard_of(alloc, stdin)?;
-    vec![in alloc; source]
+    alone(alloc, source)
+}
+
+// One item alone.
+fn alone<T: Drop>(alloc: Global, item: T) -> Result<Vec<T>, AllocError>
+    ensures { IfOk result (λ items. items.items ≡ item ∷ []) }
+{
+    let mut items = Vec::new(alloc);
+    items.push(item)?;
+    Ok(items)
 }
 
 // Standard input, named `-`.

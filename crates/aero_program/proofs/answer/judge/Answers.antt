@@ -15,17 +15,17 @@ pub returns : goal.returns
 returns g c =
     let kept : length c.run-outcome.new.sources ≡ c.in-Ok-sources_of.sources.len = omega (arith, c.run-outcome.auto.sources, c.deref_mut.ensures.len) in
     let given = g.S.Read.remaining c.args.stdin in
-    let words_are : source_sightings (map string_bytes c.in-Ok.words.items) given ≡ source_sightings (map string_bytes c.args.config.files.items) given =
-    subst (λ w. source_sightings (map string_bytes c.in-Ok.words.items) given ≡ source_sightings (map string_bytes w.items) given) c.in-Ok.ensures.files refl in
+    let words_are : source_sightings (map string_bytes c.in-Ok-into_plan.words.items) given ≡ source_sightings (map string_bytes c.args.config.files.items) given =
+    subst (λ w. source_sightings (map string_bytes c.in-Ok-into_plan.words.items) given ≡ source_sightings (map string_bytes w.items) given) c.in-Ok-into_plan.ensures.files refl in
     let files_are : source_sightings (map string_bytes c.deref.result.now) given ≡ source_sightings (map string_bytes c.args.config.files.items) given =
     ap (λ l. source_sightings (map string_bytes l) given) c.deref.ensures.value ∙ words_are in
     inl (judged (λ input. bytes_left (standing_of g.S.Read.remaining input)) c.args.config.except.items c.args.config.order (map string_bytes c.args.config.files.items) (g.S.Read.remaining c.args.stdin)
-    c.in-Ok.plan.limits c.in-Ok-sources_of.sources.items c.deref_mut.result.now c.run-outcome.new.sources _
+    c.in-Ok-into_plan.plan.limits c.in-Ok-sources_of.sources.items c.deref_mut.result.now c.run-outcome.new.sources _
     (shown_by g.O.Write.contents c.args.output.now)
     (record { writer = seen_by (λ w. g.O.Write.contents (tried_by w)) c.run-outcome.new.writer; unflushed = c.args.output.now.unflushed.number })
     (shown_by g.O.Write.contents c.flush-flushed.new.self)
-    c.run-outcome.result.endings.items c.run-outcome.result.counts c.run-outcome.result.cause (is_err c.flush-flushed.result) c.status_after-end.result _ _ c.finish.result (terms_of c.in-Ok.plan)
-    (ap₂ (asking c.in-Ok.plan.limits) c.in-Ok.ensures.except c.in-Ok.ensures.order) c.in-Ok.ensures.limits
+    c.run-outcome.result.endings.items c.run-outcome.result.counts c.run-outcome.result.cause (is_err c.flush-flushed.result) c.status_after-end.result _ _ c.finish.result (terms_of c.in-Ok-into_plan.plan)
+    (ap₂ (asking c.in-Ok-into_plan.plan.limits) c.in-Ok-into_plan.ensures.except c.in-Ok-into_plan.ensures.order) c.in-Ok-into_plan.ensures.limits
     (◌∙◌ {b = source_sightings (map string_bytes c.deref.result.now) (g.S.Read.remaining c.args.stdin)} c.in-Ok-sources_of.ensures.sighted files_are)
     c.deref_mut.ensures.value (with_items_is c.in-Ok-sources_of.sources c.run-outcome.new.sources kept)
     c.run-outcome.ensures.ran refl
@@ -34,8 +34,5 @@ returns g c =
 
 pub run-outcome-requires-after_bounds : goal.run-outcome-requires-after_bounds
 run-outcome-requires-after_bounds g c = λ κs within.
-    let few : length c.deref.result.now ≤ 2 ^ 16 = subst (λ n. n ≤ 2 ^ 16) (sym (c.deref.ensures.len ∙ ap vec_len c.in-Ok.ensures.files)) c.args.config.most_files in
+    let few : length c.deref.result.now ≤ 2 ^ 16 = subst (λ n. n ≤ 2 ^ 16) (sym (c.deref.ensures.len ∙ ap vec_len c.in-Ok-into_plan.ensures.files)) c.args.config.most_files in
     subst (λ n. n ≤ 2 ^ 16) (sym c.deref_mut.ensures.len) (c.in-Ok-sources_of.ensures.few few)
-
-pub returns-in_default-new : goal.returns-in_default-new
-returns-in_default-new g c = inr (refl, c.fail-in_default-new.ensures)
