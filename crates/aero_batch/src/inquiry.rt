@@ -164,8 +164,8 @@ impl Inquiry {
 
     /// Takes the oldest open question of this kind away, and gives the number of its trace and its value.
     /// Waits for its answer as long as one is to be awaited, but for no more than 1,024 replies in a row
-    /// that are of no use, and else works the value out. The question itself goes to the helpers to be freed.
-    /// `None` where no question of the kind is open.
+    /// that are of no use, and else works the value out. `None` where no question of the kind is open. What
+    /// was parsed goes to the helpers to be freed, where one of them does that soon.
     pub fn settle<H: Helpers, R: Wait>(
         &mut self,
         rt: &R,
@@ -176,23 +176,29 @@ impl Inquiry {
     {
         let oldest = oldest_ticket(&self.gathers, kind, self.blocks, self.verdicts);
         self.listening = await_oldest(rt, helpers, &mut self.gathers, kind, oldest, self.listening);
-        let is_alone = self.listening.is_alone;
+        let hands_on = self.is_freed_soon(helpers);
         match kind {
             Kind::Block => take_front(
                 rt,
                 helpers,
-                is_alone,
+                false,
                 &mut self.gathers.blocks,
                 &mut self.blocks,
             ),
             Kind::Verdict => take_front(
                 rt,
                 helpers,
-                is_alone,
+                hands_on,
                 &mut self.gathers.verdicts,
                 &mut self.verdicts,
             ),
         }
+    }
+
+    // Whether a helper frees soon what is let go at a verdict: blocks are asked about, and not each helper can be
+    // at another verdict, which may take long. Else more sources would be kept at once.
+    fn is_freed_soon<H: Helpers>(&self, helpers: &H) -> bool {
+        !self.listening.is_alone && self.blocks > 0 && self.verdicts <= helpers.workers()
     }
 }
 
@@ -286,11 +292,11 @@ fn oldest_of(gather: &Gather, count: u32) -> Ticket
 }
 
 // Takes the oldest open question away, and gives the number of its trace and its value. So many are open. The
-// question is let go.
+// question is freed, by the helpers if it is handed on.
 fn take_front<H: Helpers, R: Wait>(
     rt: &R,
     helpers: &mut H,
-    is_alone: bool,
+    hands_on: bool,
     gather: &mut Gather,
     count: &mut u32,
 ) -> Result<Option<(u64, Value)>, AllocError>
@@ -308,7 +314,7 @@ fn take_front<H: Helpers, R: Wait>(
         return Ok(None);
     };
     *count -= 1;
-    let_go(rt, helpers, is_alone, question);
+    let_go(rt, helpers, hands_on, question);
     Ok(Some((trace, value)))
 }
 
@@ -320,14 +326,14 @@ fn settle_known(gather: &mut Gather) -> Result<Option<Settled>, AllocError>
     gather.settle_with_question()
 }
 
-// Hands a settled question to the helpers, to be freed there. Where nobody helps it is freed here.
+// Frees a settled question, or hands it to the helpers, to be freed there.
 fn let_go<H: Helpers, R: Wait>(
     rt: &R,
     helpers: &mut H,
-    is_alone: bool,
+    hands_on: bool,
     question: Arc<Question, Global>,
 ) {
-    if !is_alone {
+    if hands_on {
         helpers.let_go(rt, question);
     }
 }
