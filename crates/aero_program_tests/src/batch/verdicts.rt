@@ -1,4 +1,5 @@
-// Helpers whose verdicts come late: those on later sources are asked for meanwhile.
+// Helpers whose verdicts come late: those on later sources are asked for meanwhile. And such whose words on blocks
+// come late: what was parsed of a source that is judged meanwhile is theirs to free.
 use crate::batch::runs::{Who, plan_by};
 use crate::batch::{ONE_BLOCK, lines_of, source_of};
 use aero_batch::outcome::Outcome;
@@ -19,17 +20,28 @@ use std::test::Fail;
 const REPORT_OF_FIVE: &str =
     "a: serializable (5 events, 1 blocks)/b: serializable (5 events, 1 blocks)/c: serializable (5 events, 1 blocks)/d: serializable (5 events, 1 blocks)/e: serializable (5 events, 1 blocks)/traces 5: serializable 5, open 0, violations 0, faults 0/";
 
-// Two helpers, who answer what a block says at once, and give a verdict when they are waited for.
+// Two helpers, who answer questions of one kind at once, and those of the other when they are waited for.
 #[derive(Drop)]
 struct Slow {
     alloc: Global,
-    blocks: Vec<Job>,
-    verdicts: Vec<Job>,
-    // How many verdicts they owed at once, at most.
+    are_blocks_late: bool,
+    early: Vec<Job>,
+    late: Vec<Job>,
+    // How many late answers they owed at once, at most.
     held: usize,
+    // How many questions they were given to free.
+    freed: usize,
 }
 
 impl Slow {
+    // The oldest job on a block, or the newest on a verdict, whichever come late.
+    fn next_late(&mut self) -> Option<Job> {
+        if self.are_blocks_late && !self.late.is_empty() {
+            return Some(self.late.remove(0));
+        }
+        self.late.pop()
+    }
+
     // The answer to a job.
     fn answer(&self, job: &Job) -> Reply {
         match Question::answer(&job.question, self.alloc) {
@@ -51,10 +63,10 @@ impl Helpers for Slow {
             Question::Parse { .. } => true,
             Question::Check { .. } => false,
         };
-        let pushed = if is_block {
-            self.blocks.push(job)
+        let pushed = if is_block == self.are_blocks_late {
+            self.late.push(job)
         } else {
-            self.verdicts.push(job)
+            self.early.push(job)
         };
         match pushed {
             Ok(()) => Ok(()),
@@ -66,41 +78,50 @@ impl Helpers for Slow {
         if let Some(reply) = self.ready_answer(rt) {
             return Some(reply);
         }
-        self.held = self.held.max(self.verdicts.len());
-        let job = self.verdicts.pop()?;
+        self.held = self.held.max(self.late.len());
+        let job = self.next_late()?;
         Some(self.answer(&job))
     }
 
     fn ready_answer<R: Wait>(&mut self, _rt: &R) -> Option<Reply> {
-        let job = self.blocks.pop()?;
+        let job = self.early.pop()?;
         Some(self.answer(&job))
     }
 
-    fn let_go<R: Wait>(&mut self, _rt: &R, _question: Arc<Question>) {}
+    fn let_go<R: Wait>(&mut self, _rt: &R, _question: Arc<Question>) {
+        self.freed = self.freed.saturating_add(1);
+    }
 }
 
-// Runs over at most nine sources, and gives how many verdicts were owed at once, at most.
+// Runs over at most nine sources, and gives how many late answers were owed at once, at most, and how many
+// questions were given to be freed.
 fn run_slowly<R: Read, W: Write, T: AllocGlobal + Wait>(
     rt: &T,
+    are_blocks_late: bool,
     sources: &mut [Source<R>],
     writer: &mut Counting<W>,
     plan: &Plan,
-) -> Option<(Outcome, usize)> {
+) -> Option<(Outcome, usize, usize)> {
     if sources.len() > 9 {
         return None;
     }
     let mut slow = Slow {
         alloc: rt.alloc(),
-        blocks: Vec::new(rt.alloc()),
-        verdicts: Vec::new(rt.alloc()),
+        are_blocks_late,
+        early: Vec::new(rt.alloc()),
+        late: Vec::new(rt.alloc()),
         held: 0,
+        freed: 0,
     };
     let outcome = run_over(rt, rt.alloc(), sources, writer, plan, &mut slow);
-    Some((outcome, slow.held))
+    Some((outcome, slow.held, slow.freed))
 }
 
-#[test]
-fn a_verdict_that_is_late_holds_no_later_one_up(rt: HostRuntime) -> Result<(), Fail> {
+// The same over five sources, each with one block. Fails where the report isn't theirs, or an answer was worked out here.
+fn run_over_five<T: AllocGlobal + Wait>(
+    rt: &T,
+    are_blocks_late: bool,
+) -> Result<(usize, usize), Fail> {
     let text = lines_of(rt.alloc(), ONE_BLOCK)?;
     let mut sources = Vec::new(rt.alloc());
     for name in ["a", "b", "c", "d", "e"] {
@@ -108,12 +129,34 @@ fn a_verdict_that_is_late_holds_no_later_one_up(rt: HostRuntime) -> Result<(), F
     }
     let mut writer = Counting::new(Vec::new(rt.alloc()));
     let plan = plan_by(rt.alloc(), Who::Crew(2), Limits::greatest(), 7, ("", false))?;
-    let Some((outcome, held)) = run_slowly(&rt, &mut sources, &mut writer, &plan) else {
+    let Some((outcome, held, freed)) = run_slowly(
+        rt,
+        are_blocks_late,
+        &mut sources,
+        &mut writer,
+        &plan,
+    ) else {
         return Err("too many sources".into());
     };
-    assert_eq!(rt; outcome.cause, None);
-    assert_eq!(rt; held, 5);
-    assert_eq!(rt; outcome.tally.done_here, 0);
-    assert_eq!(rt; writer.into_inner(), lines_of(rt.alloc(), REPORT_OF_FIVE)?);
+    let is_told = writer.into_inner() == lines_of(rt.alloc(), REPORT_OF_FIVE)?;
+    if outcome.cause.is_some() || outcome.tally.done_here != 0 || !is_told {
+        return Err("another report, or work done here".into());
+    }
+    Ok((held, freed))
+}
+
+#[test]
+fn a_verdict_that_is_late_holds_no_later_one_up(rt: HostRuntime) -> Result<(), Fail> {
+    // No block is asked about any more where a verdict comes, so what was parsed is freed by the run.
+    assert_eq!(rt; run_over_five(&rt, false)?, (5, 0));
+    Ok(())
+}
+
+#[test]
+fn what_was_parsed_is_given_to_the_helpers_while_blocks_are_asked_about(
+    rt: HostRuntime,
+) -> Result<(), Fail> {
+    // Two questions on blocks for each source, since its last line has no end, and all verdicts but the last.
+    assert_eq!(rt; run_over_five(&rt, true)?, (10, 4));
     Ok(())
 }
