@@ -93,7 +93,8 @@ pub fn settle_next<H: Helpers, T: Wait>(
 ) -> Result<(), AllocError>
     ensures { OnOk result (SettlesNext kind progress.old progress.new) }
 {
-    let Some((trace, value)) = progress.inquiry.settle(rt, helpers, kind)? else {
+    let is_last = progress.read == progress.tracks.len();
+    let Some((trace, value)) = progress.inquiry.settle(rt, helpers, kind, is_last)? else {
         return Ok(());
     };
     give_value(&mut progress.tracks, trace, value)

@@ -165,18 +165,20 @@ impl Inquiry {
     /// Takes the oldest open question of this kind away, and gives the number of its trace and its value.
     /// Waits for its answer as long as one is to be awaited, but for no more than 1,024 replies in a row
     /// that are of no use, and else works the value out. `None` where no question of the kind is open. What
-    /// was parsed goes to the helpers to be freed, where one of them does that soon.
+    /// was parsed goes to the helpers to be freed, where one of them does that before more is kept:
+    /// `is_last` says that no source is left to be read.
     pub fn settle<H: Helpers, R: Wait>(
         &mut self,
         rt: &R,
         helpers: &mut H,
         kind: Kind,
+        is_last: bool,
     ) -> Result<Option<(u64, Value)>, AllocError>
         ensures { IfOk result (λ given. Gives (open_of kind self.old) (with_open kind self.old) self.new given) }
     {
         let oldest = oldest_ticket(&self.gathers, kind, self.blocks, self.verdicts);
         self.listening = await_oldest(rt, helpers, &mut self.gathers, kind, oldest, self.listening);
-        let hands_on = self.is_freed_soon(helpers);
+        let hands_on = self.is_freed_soon(helpers, is_last);
         match kind {
             Kind::Block => take_front(
                 rt,
@@ -195,10 +197,12 @@ impl Inquiry {
         }
     }
 
-    // Whether a helper frees soon what is let go at a verdict: blocks are asked about, and not each helper can be
-    // at another verdict, which may take long. Else more sources would be kept at once.
-    fn is_freed_soon<H: Helpers>(&self, helpers: &H) -> bool {
-        !self.listening.is_alone && self.blocks > 0 && self.verdicts <= helpers.workers()
+    // Whether a helper frees what is let go at a verdict before more is kept. Not each may be at another verdict,
+    // which can take long; and either blocks are asked about, before which it is freed, or nothing more is read. Before
+    // the first block of a source that may be slow it would be kept meanwhile.
+    fn is_freed_soon<H: Helpers>(&self, helpers: &H, is_last: bool) -> bool {
+        let is_one_free = self.verdicts <= helpers.workers();
+        !self.listening.is_alone && is_one_free && (self.blocks > 0 || is_last)
     }
 }
 

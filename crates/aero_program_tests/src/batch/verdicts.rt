@@ -1,5 +1,5 @@
 // Helpers whose verdicts come late: those on later sources are asked for meanwhile. And such whose words on blocks
-// come late: what was parsed of a source that is judged meanwhile is theirs to free.
+// come late: what was parsed of a source that is judged meanwhile is theirs to free. So is that of the last source.
 use crate::batch::runs::{Who, plan_by};
 use crate::batch::{ONE_BLOCK, lines_of, source_of};
 use aero_batch::outcome::Outcome;
@@ -145,18 +145,18 @@ fn run_over_five<T: AllocGlobal + Wait>(
     Ok((held, freed))
 }
 
+// A late verdict holds none up that is asked for later. Once all sources are read, what was parsed is given to the
+// helpers where one of the two is at no verdict, so that of the last two, and else is freed by the run.
 #[test]
 fn a_verdict_that_is_late_holds_no_later_one_up(rt: HostRuntime) -> Result<(), Fail> {
-    // No block is asked about any more where a verdict comes, so what was parsed is freed by the run.
-    assert_eq!(rt; run_over_five(&rt, false)?, (5, 0));
+    assert_eq!(rt; run_over_five(&rt, false)?, (5, 2));
     Ok(())
 }
 
+// Two questions on blocks for each source, since its last line has no end, and all five verdicts: blocks are asked about
+// at the first four, and at the last no source is left.
 #[test]
-fn what_was_parsed_is_given_to_the_helpers_while_blocks_are_asked_about(
-    rt: HostRuntime,
-) -> Result<(), Fail> {
-    // Two questions on blocks for each source, since its last line has no end, and all verdicts but the last.
-    assert_eq!(rt; run_over_five(&rt, true)?, (10, 4));
+fn what_was_parsed_is_given_to_the_helpers(rt: HostRuntime) -> Result<(), Fail> {
+    assert_eq!(rt; run_over_five(&rt, true)?, (10, 5));
     Ok(())
 }
