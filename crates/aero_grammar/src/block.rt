@@ -5,7 +5,7 @@ ghost use Rattle.aero_model.specs.Lines.{lines_of};
 ghost use Rattle.aero_model.specs.Names.{is_bad_byte};
 ghost use Rattle.aero_grammar.specs.Meaning.{is_unfit, meaning};
 ghost use Rattle.aero_grammar.specs.Words.{ReadsMeaning};
-ghost use Rattle.aero_grammar.specs.Lists.{lists_in, labels_in};
+ghost use Rattle.aero_grammar.specs.Lists.{lists_in, labels_in, HasRoom};
 ghost use Rattle.aero_grammar.specs.Reading.{reading_of};
 ghost use Rattle.aero_grammar.specs.Tabled.{lines_in, IsBlock};
 
@@ -38,6 +38,33 @@ pub fn parse_block(alloc: Global, bytes: &[u8]) -> Result<Parsed, AllocError>
 {
     let mut tables = Tables::new(alloc);
     let mut events = room_for(alloc, bytes.len());
+    let LinesRead { lines, fault } = read_lines(&mut tables, &mut events, bytes)?;
+    Ok(parsed(tables, events, lines, fault))
+}
+
+// How many lines were read, and the fault of the last of them, if it has one.
+struct LinesRead {
+    lines: u32,
+    fault: Option<(u32, LineFault)>,
+}
+
+// Reads a block's lines up to its first fault, and adds its names and events to what has none yet.
+#[inline(always)]
+fn read_lines(
+    tables: &mut Tables,
+    events: &mut Vec<LineEvent>,
+    bytes: &[u8],
+) -> Result<LinesRead, AllocError>
+    requires short { length bytes.now ≤ 2 ^ 30 }
+    requires none { lists_in tables.old ≡ record { threads = []; variables = []; locks = [] } }
+    requires unlabelled { labels_in tables.old ≡ [] }
+    requires room { HasRoom tables.old u32.MAX }
+    requires empty { events.old.items ≡ [] }
+    ensures block { IfOk result (λ read. IsBlock (lists_in tables.new) (labels_in tables.new) events.new.items read.lines read.fault) }
+    ensures reading { IfOk result (λ read. record { events = lines_in (lists_in tables.new) (labels_in tables.new) events.new.items; lines = read.lines; fault = read.fault } ≡ reading_of bytes.now) }
+    ensures lines { IfOk result (λ read. read.lines ≤ length bytes.now) }
+    ensures refused { OnErr result (0 < length (reading_of bytes.now).events) }
+{
     let mut lines = 0;
     let is_clean = has_clean_lines(bytes);
     let mut rest = bytes;
@@ -50,10 +77,14 @@ pub fn parse_block(alloc: Global, bytes: &[u8]) -> Result<Parsed, AllocError>
                 None => {}
                 Some(words) => events.push(LineEvent::new(lines, tables.number(words)?))?,
             },
-            Err(fault) => return Ok(parsed(tables, events, lines, Some((lines, fault)))),
+            Err(fault) => {
+                let fault = Some((lines, fault));
+                return Ok(LinesRead { lines, fault });
+            }
         }
     }
-    Ok(parsed(tables, events, lines, None))
+    let fault = None;
+    Ok(LinesRead { lines, fault })
 }
 
 // Room for the events of a block of so many bytes, where most of its lines are longer than a few bytes and

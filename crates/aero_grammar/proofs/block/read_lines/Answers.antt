@@ -10,18 +10,18 @@ use Rattle.aero_grammar.proofs.Joined.{reading, nothing_followed_by}
 use Rattle.aero_grammar.proofs.LinesRead.{has_event, one_more_line, after_blank, after_event, read_to_end, read_to_fault}
 use Rattle.aero_grammar.proofs.Readings.{IsReading-of}
 use Rattle.aero_grammar.proofs.TablesGrown.{numbered_next, room_within, room_left, nothing_tabled, tabled_as, no_names, names_as, lines_pushed, tabled_pushed, names_added, numbered_by_turns}
-use Rattle.aero_grammar.proofs.block.parse_block.Goals as goal
+use Rattle.aero_grammar.proofs.block.read_lines.Goals as goal
 
 pub lines-init : goal.lines-init
 lines-init c = record {
   read =
-      sym ((λ i. followed_by (reading (lines_in (c.new-tables.ensures.none i) (c.new-tables.ensures.unlabelled i) (c.room_for-events.ensures i)) 0 None) (reading_of c.args.bytes.now))
+      sym ((λ i. followed_by (reading (lines_in (c.requires.none i) (c.requires.unlabelled i) (c.requires.empty i)) 0 None) (reading_of c.args.bytes.now))
       ∙ nothing_followed_by (reading_of c.args.bytes.now));
-  tabled = tabled_as _ _ _ _ _ _ c.new-tables.ensures.none c.new-tables.ensures.unlabelled c.room_for-events.ensures nothing_tabled;
-  names = names_as _ _ _ _ c.new-tables.ensures.none c.new-tables.ensures.unlabelled no_names;
+  tabled = tabled_as _ _ _ _ _ _ c.requires.none c.requires.unlabelled c.requires.empty nothing_tabled;
+  names = names_as _ _ _ _ c.requires.none c.requires.unlabelled no_names;
   counted = omega arith;
   fit = c.has_clean_lines-is_clean.ensures;
-  room = room_within (c.new-tables.result) (2 ^ 32 - 1) (2 * length c.args.bytes.now) (omega (arith, c.requires)) c.new-tables.ensures.room;
+  room = room_within c.args.tables.now (2 ^ 32 - 1) (2 * length c.args.bytes.now) (omega (arith, c.requires.short)) c.requires.room;
 }
 
 pub lines-preserved-in-None : goal.lines-preserved-in-None
@@ -73,8 +73,18 @@ lines-preserved c =
       counted = omega (arith, c.lines.invariant.counted, c.read_line.ensures.shorter);
     }
 
-pub parsed-requires : goal.parsed-requires
-parsed-requires c =
+pub returns-in_err-number-in-Some-clause-refused : goal.returns-in_err-number-in-Some-clause-refused
+returns-in_err-number-in-Some-clause-refused c =
+    has_event _ c.lines.lines (reading_of c.args.bytes.now) c.lines.rest.now c.read_line.result.line.now c.read_line.result.behind.now (named_of c.in-Some.words) c.lines.invariant.read c.read_line.ensures.lines
+    (subst (λ o. ReadsMeaning (Ok o) (meaning c.read_line.result.line.now)) c.in-Some.is (subst (λ r. ReadsMeaning r (meaning c.read_line.result.line.now)) c.in-Ok.is c.read_line.ensures.meaning)) c.from_residual.result
+
+pub returns-in_err-push-in-Some-clause-refused : goal.returns-in_err-push-in-Some-clause-refused
+returns-in_err-push-in-Some-clause-refused c =
+    has_event _ c.lines.lines (reading_of c.args.bytes.now) c.lines.rest.now c.read_line.result.line.now c.read_line.result.behind.now (named_of c.in-Some.words) c.lines.invariant.read c.read_line.ensures.lines
+    (subst (λ o. ReadsMeaning (Ok o) (meaning c.read_line.result.line.now)) c.in-Some.is (subst (λ r. ReadsMeaning r (meaning c.read_line.result.line.now)) c.in-Ok.is c.read_line.ensures.meaning)) c.from_residual-in_err-push-in-Some.result
+
+pub returns-in-Err-clause-block : goal.returns-in-Err-clause-block
+returns-in-Err-clause-block c =
     record {
       reading =
           subst IsReading
@@ -85,8 +95,8 @@ parsed-requires c =
       names = c.lines.invariant.names;
     }
 
-pub parsed-requires-2 : goal.parsed-requires-2
-parsed-requires-2 c =
+pub returns-clause-block : goal.returns-clause-block
+returns-clause-block c =
     let end : (length c.lines.rest.now == 0) ≡ true = cc in
     record {
       reading =
@@ -94,19 +104,3 @@ parsed-requires-2 c =
       tabled = c.lines.invariant.tabled;
       names = c.lines.invariant.names;
     }
-
-pub returns-clause-reading : goal.returns-clause-reading
-returns-clause-reading c =
-    let end : (length c.lines.rest.now == 0) ≡ true = cc in
-    c.parsed-2.ensures
-    ∙ sym (read_to_end (lines_in (lists_in c.lines.tables) (labels_in c.lines.tables) c.lines.events.items) c.lines.lines (reading_of c.args.bytes.now) c.lines.rest.now c.lines.invariant.read end)
-
-pub returns-in_err-number-in-Some-clause-refused : goal.returns-in_err-number-in-Some-clause-refused
-returns-in_err-number-in-Some-clause-refused c =
-    has_event _ c.lines.lines (reading_of c.args.bytes.now) c.lines.rest.now c.read_line.result.line.now c.read_line.result.behind.now (named_of c.in-Some.words) c.lines.invariant.read c.read_line.ensures.lines
-    (subst (λ o. ReadsMeaning (Ok o) (meaning c.read_line.result.line.now)) c.in-Some.is (subst (λ r. ReadsMeaning r (meaning c.read_line.result.line.now)) c.in-Ok.is c.read_line.ensures.meaning)) c.from_residual.result
-
-pub returns-in_err-push-in-Some-clause-refused : goal.returns-in_err-push-in-Some-clause-refused
-returns-in_err-push-in-Some-clause-refused c =
-    has_event _ c.lines.lines (reading_of c.args.bytes.now) c.lines.rest.now c.read_line.result.line.now c.read_line.result.behind.now (named_of c.in-Some.words) c.lines.invariant.read c.read_line.ensures.lines
-    (subst (λ o. ReadsMeaning (Ok o) (meaning c.read_line.result.line.now)) c.in-Some.is (subst (λ r. ReadsMeaning r (meaning c.read_line.result.line.now)) c.in-Ok.is c.read_line.ensures.meaning)) c.from_residual-in_err-push-in-Some.result

@@ -4,7 +4,7 @@ use Rattle.aero_grammar.specs.Meaning.{is_unfit}
 use Rattle.aero_grammar.specs.Lists.{lists_in, labels_in, HasRoom}
 use Rattle.aero_grammar.specs.Reading.{followed_by, reading_of}
 use Rattle.aero_grammar.specs.Tabled.{lines_in, IsTabled, AreNames}
-use Rattle.aero_grammar.proofs.block.parse_block.Given as goal
+use Rattle.aero_grammar.proofs.block.read_lines.Given as goal
 
 abbrev pub invariant-lines : goal.invariant-lines
 invariant-lines l = record {
