@@ -112,35 +112,77 @@ struct Row<'a> {
     last: &'a str,
 }
 
-// The first call that gives something else, if there is one, or else what is wrong at the end.
-fn fault_of(alloc: Global, row: &Row) -> Result<Option<String>, Fail> {
+// What is wrong with the source's calls or its end, if anything is.
+fn fault_of(alloc: Global, row: &Row) -> Result<Option<&'static str>, Fail> {
     let text = lines_of(alloc, row.text)?;
+    fault_in(alloc, &text, row)
+}
+
+// The same of its bytes.
+fn fault_in(alloc: Global, text: &[u8], row: &Row) -> Result<Option<&'static str>, Fail> {
+    let mut intake = new_intake(alloc, row.piece)?;
+    fault_at(alloc, &mut intake, text, row)
+}
+
+// The same by an intake of which nothing was asked.
+fn fault_at(
+    alloc: Global,
+    intake: &mut Intake,
+    text: &[u8],
+    row: &Row,
+) -> Result<Option<&'static str>, Fail> {
     let mut reader = Counting::new(BreaksOnce {
-        text: &text,
+        text,
         left: row.fails_after,
         has_failed: false,
     });
-    let mut intake = new_intake(alloc, row.piece)?;
     if intake.count() != 0 {
-        return Ok(Some(format!(in alloc; "bytes before the first call")?));
+        return Ok(Some("bytes before the first call"));
     }
-    let by = (row.piece, row.limit);
-    for (call, wanted, count) in row.calls {
-        let text = given(&mut intake, &mut reader, by, *call, alloc)?;
-        if text != lines_of(alloc, wanted)? || intake.count() != *count {
-            return Ok(Some(format!(in alloc; "not {wanted} of {}", row.text)?));
+    for call in row.calls {
+        if !is_given(alloc, intake, &mut reader, row, *call)? {
+            return Ok(Some("a call gives something else"));
         }
     }
-    let left = reader.into_inner().text;
-    let last = intake.finish()?;
+    if reader.into_inner().text != row.left.as_bytes() {
+        return Ok(Some("other bytes are left"));
+    }
+    if !has_last(intake, row.last)? {
+        return Ok(Some("another last line"));
+    }
     // Then another source may be read.
-    let is_new = intake.count() == 0 && intake.is_cut();
-    match last {
-        Some(last)
-            if is_new && left == row.left.as_bytes() && last.bytes() == row.last.as_bytes() => {
-            Ok(None)
-        }
-        _ => Ok(Some(format!(in alloc; "another end of {}", row.text)?)),
+    if intake.count() != 0 || !intake.is_cut() {
+        return Ok(Some("it isn't new"));
+    }
+    Ok(None)
+}
+
+// Whether the call gives what it should, and as many bytes have come then.
+fn is_given<R: Read>(
+    alloc: Global,
+    intake: &mut Intake,
+    reader: &mut Counting<R>,
+    row: &Row,
+    (call, wanted, count): (Call, &str, u32),
+) -> Result<bool, Fail> {
+    let text = given(intake, reader, (row.piece, row.limit), call, alloc)?;
+    Ok(is_text(&text, wanted) && intake.count() == count)
+}
+
+// Whether these are the bytes of a text that is written with `/` for each byte 10.
+fn is_text(bytes: &[u8], text: &str) -> bool {
+    let mut is_same = bytes.len() == text.len();
+    for (byte, wanted) in bytes.iter().zip(text.as_bytes()) {
+        is_same &= *byte == if *wanted == b'/' { b'\n' } else { *wanted };
+    }
+    is_same
+}
+
+// Whether the source has this last line, which no byte 10 ended.
+fn has_last(intake: &mut Intake, wanted: &str) -> Result<bool, Fail> {
+    match intake.finish()? {
+        Some(last) => Ok(last.bytes() == wanted.as_bytes()),
+        None => Ok(false),
     }
 }
 
@@ -189,9 +231,8 @@ fn a_source_comes_in_pieces_until_it_ends(rt: HostRuntime) -> Result<(), Fail> {
         },
     ];
     for row in &rows {
-        if let Some(fault) = fault_of(rt.alloc(), row)? {
-            assert!(rt; false, "{fault}");
-        }
+        let fault = fault_of(rt.alloc(), row)?;
+        assert!(rt; fault == None, "{}: {fault:?}", row.text);
     }
     Ok(())
 }
@@ -199,18 +240,30 @@ fn a_source_comes_in_pieces_until_it_ends(rt: HostRuntime) -> Result<(), Fail> {
 // How many reads there were until a source was full, of so many bytes a read, how many bytes had come then, and how
 // many the lines have that were whole.
 fn filled(alloc: Global, text: &[u8], piece: u32) -> Result<(u32, u32, usize), Fail> {
-    let mut reader = Counting::new(text);
     let mut intake = new_intake(alloc, piece)?;
+    fill(&mut intake, text, piece)
+}
+
+fn fill(intake: &mut Intake, text: &[u8], piece: u32) -> Result<(u32, u32, usize), Fail> {
+    let mut reader = Counting::new(text);
     for reads in 0..1_000u32 {
         if intake.is_full() {
-            let block = intake.cut()?.ok_or("no line")?;
-            return Ok((reads, intake.count(), block.bytes().len()));
+            let bytes = bytes_cut(intake)?;
+            return Ok((reads, intake.count(), bytes));
         }
-        let Taken::Piece = take(&mut intake, &mut reader, piece, 1_000_000)? else {
+        let Taken::Piece = take(intake, &mut reader, piece, 1_000_000)? else {
             return Err("the source has ended".into());
         };
     }
     Err("too many reads".into())
+}
+
+// How many bytes the block has that is cut.
+fn bytes_cut(intake: &mut Intake) -> Result<usize, Fail> {
+    match intake.cut()? {
+        Some(block) => Ok(block.bytes().len()),
+        None => Err("no line".into()),
+    }
 }
 
 // A read asks for no more than what is lacking, unless a whole read has room for more.

@@ -67,33 +67,42 @@ fn is_read(value: &Value) -> bool {
     }
 }
 
-// Whether the value is a serializable trace with so many events and no block.
-fn is_serializable(value: Value, many: u32) -> bool {
+// How many events a trace has whose value this is, where it is serializable and has no block.
+fn events_in(value: &Value) -> Option<u32> {
     match value {
-        Value::Judged(Verdict::Serializable { events, blocks }) => events == many && blocks == 0,
-        _ => false,
+        Value::Judged(Verdict::Serializable { events, blocks: 0 }) => Some(*events),
+        _ => None,
     }
+}
+
+// The same of a trace of one block of lines, where these labels are listed.
+fn events_of(alloc: Global, labels: &str, block: &str) -> Result<Option<u32>, Fail> {
+    let most = Limits::greatest();
+    let question = trace_question(alloc, 0, most, labels, block, false)?.share(alloc)?;
+    let answer = Question::answer(&question, alloc)?;
+    Ok(events_in(answer.value()))
+}
+
+// Whether the answer to a question on the block `T1|r(x)` is to that question, and its value is the one event.
+fn is_read_told(alloc: Global) -> Result<bool, Fail> {
+    let question = block_question(alloc, 0, 0, "T1|r(x)")?.share(alloc)?;
+    let answer = Question::answer(&question, alloc)?;
+    let is_told = same(answer.question(), &question) && is_read(answer.value());
+    Ok(is_told & is_read(&answer.into_value()))
+}
+
+// Whether bytes are given back as they came.
+fn are_bytes_kept(alloc: Global) -> Result<bool, Fail> {
+    let bytes = Bytes::new(b"ab".to_vec(alloc)?).ok_or("too many bytes")?;
+    Ok(bytes.get() == b"ab".as_slice())
 }
 
 #[test]
 fn a_question_is_answered_by_its_value(rt: HostRuntime) -> Result<(), Fail> {
-    let alloc = rt.alloc();
-    let bytes = Bytes::new(b"ab".to_vec(alloc)?).ok_or("too many bytes")?;
-    assert!(rt; bytes.get() == b"ab".as_slice());
-
-    let question = block_question(alloc, 0, 0, "T1|r(x)")?.share(alloc)?;
-    let answer = Question::answer(&question, alloc)?;
-    assert!(rt; same(answer.question(), &question) && is_read(answer.value()));
-    assert!(rt; is_read(&answer.into_value()));
-
-    let question = trace_question(alloc, 0, Limits::greatest(), "", "T1|r(x)", false)?.share(
-        alloc,
-    )?;
-    assert!(rt; is_serializable(Question::answer(&question, alloc)?.into_value(), 1));
-
-    let block = "T1|begin(a)/T1|end";
-    let question = trace_question(alloc, 0, Limits::greatest(), "a", block, false)?.share(alloc)?;
-    assert!(rt; is_serializable(Question::answer(&question, alloc)?.into_value(), 2));
+    assert!(rt; are_bytes_kept(rt.alloc())?);
+    assert!(rt; is_read_told(rt.alloc())?);
+    assert_eq!(rt; events_of(rt.alloc(), "", "T1|r(x)")?, Some(1));
+    assert_eq!(rt; events_of(rt.alloc(), "a", "T1|begin(a)/T1|end")?, Some(2));
     Ok(())
 }
 
@@ -157,11 +166,40 @@ fn the_order_of_a_serializable_trace_is_given_where_it_is_asked_for(
     Ok(())
 }
 
+// What is asked: about a block, by the numbers of its trace and of itself and its lines; or about a trace, by its number,
+// its limits, the labels that are listed, its blocks, and whether its order is asked for.
+#[derive(Clone, Copy)]
+enum Asked<'a> {
+    Block(u64, u64, &'a str),
+    Trace(u64, Limits, &'a str, &'a str, bool),
+}
+
+fn question_of(alloc: Global, asked: Asked) -> Result<Question, Fail> {
+    match asked {
+        Asked::Block(trace, number, lines) => block_question(alloc, trace, number, lines),
+        Asked::Trace(trace, limits, labels, blocks, order) => {
+            trace_question(alloc, trace, limits, labels, blocks, order)
+        }
+    }
+}
+
+// Whether the first question is the same as the other, and the other as the first.
+fn are_same(alloc: Global, first: Asked, other: Asked) -> Result<(bool, bool), Fail> {
+    let first = question_of(alloc, first)?;
+    let other = question_of(alloc, other)?;
+    Ok((same(&first, &other), same(&other, &first)))
+}
+
+// Whether the question is the same as itself.
+fn is_same(alloc: Global, asked: Asked) -> Result<bool, Fail> {
+    let question = question_of(alloc, asked)?;
+    Ok(same(&question, &question))
+}
+
 #[test]
 fn blocks_with_the_same_bytes_are_the_same_question(rt: HostRuntime) -> Result<(), Fail> {
-    let alloc = rt.alloc();
-    let read = block_question(alloc, 0, 0, "T1|r(x)")?;
-    assert!(rt; same(&read, &read));
+    let read = Asked::Block(0, 0, "T1|r(x)");
+    assert!(rt; is_same(rt.alloc(), read)?);
     // the trace, the block's number, its lines, and whether it is the same as the first
     let rows = [
         (0, 0, "T1|r(x)", true),
@@ -170,17 +208,15 @@ fn blocks_with_the_same_bytes_are_the_same_question(rt: HostRuntime) -> Result<(
         (1, 0, "T1|r(x)", false),
         (0, 1, "T1|r(x)", false),
     ];
-    for (trace, number, block, is_same) in rows {
-        let other = block_question(alloc, trace, number, block)?;
-        let both = (same(&read, &other), same(&other, &read));
-        assert!(rt; both == (is_same, is_same), "{trace} {number} {block:?}");
+    for (trace, number, block, wanted) in rows {
+        let both = are_same(rt.alloc(), read, Asked::Block(trace, number, block))?;
+        assert!(rt; both == (wanted, wanted), "{trace} {number} {block:?}");
     }
     Ok(())
 }
 
 #[test]
 fn traces_with_the_same_parts_are_the_same_question(rt: HostRuntime) -> Result<(), Fail> {
-    let alloc = rt.alloc();
     let most = Limits::greatest();
     let fewer = Limits::new(1 << 30, 1 << 24, 1024, 1).ok_or("limits")?;
     let two = "T1|r(x)/T2|begin;T1|end/T1";
@@ -203,14 +239,15 @@ fn traces_with_the_same_parts_are_the_same_question(rt: HostRuntime) -> Result<(
         (one, 0, most, "/T1|acq(l)/", false),
         (one, 0, most, "T1|acq(l)///", false),
     ];
-    for (blocks, trace, limits, other_blocks, is_same) in rows {
-        let check = trace_question(alloc, 0, most, "a", blocks, false)?;
-        let other = trace_question(alloc, trace, limits, "a", other_blocks, false)?;
-        let both = (same(&check, &other), same(&other, &check));
-        assert!(rt; both == (is_same, is_same), "{blocks:?} {other_blocks:?}");
+    for (blocks, trace, limits, other_blocks, wanted) in rows {
+        let first = Asked::Trace(0, most, "a", blocks, false);
+        let other = Asked::Trace(trace, limits, "a", other_blocks, false);
+        let both = are_same(rt.alloc(), first, other)?;
+        assert!(rt; both == (wanted, wanted), "{blocks:?} {other_blocks:?}");
     }
-    let check = trace_question(alloc, 0, most, "a", two, false)?;
-    assert!(rt; !same(&check, &block_question(alloc, 0, 0, "T1|r(x)")?));
+    let trace = Asked::Trace(0, most, "a", two, false);
+    let both = are_same(rt.alloc(), trace, Asked::Block(0, 0, "T1|r(x)"))?;
+    assert!(rt; both == (false, false));
     Ok(())
 }
 
@@ -218,9 +255,8 @@ fn traces_with_the_same_parts_are_the_same_question(rt: HostRuntime) -> Result<(
 fn traces_with_the_same_labels_and_order_are_the_same_question(
     rt: HostRuntime,
 ) -> Result<(), Fail> {
-    let alloc = rt.alloc();
     let most = Limits::greatest();
-    let check = trace_question(alloc, 0, most, "a b", "T1|begin(a)", false)?;
+    let first = Asked::Trace(0, most, "a b", "T1|begin(a)", false);
     // the labels that are listed, the block, whether its order is asked for, and whether it is the same
     // as the first
     let rows = [
@@ -233,12 +269,15 @@ fn traces_with_the_same_labels_and_order_are_the_same_question(
         ("a b c", "T1|begin(a)", false, false),
         ("", "T1|begin(a)", false, false),
     ];
-    for (labels, block, order, is_same) in rows {
-        let other = trace_question(alloc, 0, most, labels, block, order)?;
-        let both = (same(&check, &other), same(&other, &check));
-        assert!(rt; both == (is_same, is_same));
+    for (labels, block, order, wanted) in rows {
+        let both = are_same(
+            rt.alloc(),
+            first,
+            Asked::Trace(0, most, labels, block, order),
+        )?;
+        assert!(rt; both == (wanted, wanted), "{labels:?} {block:?}");
     }
-    let ordered = trace_question(alloc, 0, most, "a b", "T1|begin(a)", true)?;
-    assert!(rt; same(&ordered, &ordered));
+    let ordered = Asked::Trace(0, most, "a b", "T1|begin(a)", true);
+    assert!(rt; is_same(rt.alloc(), ordered)?);
     Ok(())
 }

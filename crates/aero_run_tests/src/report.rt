@@ -79,6 +79,12 @@ fn is_put(alloc: Global, row: &Row) -> Result<bool, Fail> {
     )
 }
 
+// Whether a vector takes the whole text.
+fn is_put_to_a_vector(alloc: Global) -> bool {
+    let mut vector = Counting::new(Vec::new(alloc));
+    put(&mut vector, b"abc").is_ok() && vector.into_inner().as_slice() == b"abc".as_slice()
+}
+
 const CUT_AT_0: Result<(), Cut> = Err(Cut { written: 0 });
 
 const CUT_AT_1: Result<(), Cut> = Err(Cut { written: 1 });
@@ -87,10 +93,7 @@ const CUT_AT_2: Result<(), Cut> = Err(Cut { written: 2 });
 
 #[test]
 fn put_stops_where_a_write_first_fails_or_takes_nothing(rt: HostRuntime) -> Result<(), Fail> {
-    let mut vector = Counting::new(Vec::new(rt.alloc()));
-    assert!(rt; put(&mut vector, b"abc").is_ok());
-    assert!(rt; vector.into_inner().as_slice() == b"abc".as_slice());
-
+    assert!(rt; is_put_to_a_vector(rt.alloc()));
     let rows: [Row; 8] = [
         ("abc", "", Ok(()), "abc", "w"),
         ("abc", "111", Ok(()), "abc", "www"),
@@ -159,38 +162,53 @@ fn each_step_has_its_line(rt: HostRuntime) -> Result<(), Fail> {
     Ok(())
 }
 
+fn violation(alloc: Global) -> Result<Finding, Fail> {
+    Ok(Finding::Judged(Verdict::Violation {
+        line: 6,
+        thread: Name::read(alloc, b"T1")?,
+        begun: 1,
+    }))
+}
+
+fn serializable(events: u32, blocks: u32) -> Finding {
+    Finding::Judged(Verdict::Serializable { events, blocks })
+}
+
 #[test]
 fn each_finding_has_its_line(rt: HostRuntime) -> Result<(), Fail> {
     let alloc = rt.alloc();
-    let serializable = |events, blocks| Finding::Judged(Verdict::Serializable { events, blocks });
+    expect_line(
+        &rt,
+        alloc,
+        Finding::Broken(20),
+        "n: broken after 20 bytes\n",
+    )?;
+    expect_line(&rt, alloc, Finding::TooLarge, "n: too large\n")?;
+    let rows = [
+        (0, 0, "n: serializable (0 events, 0 blocks)\n"),
+        (1, 1, "n: serializable (1 events, 1 blocks)\n"),
+        (
+            90000,
+            30000,
+            "n: serializable (90000 events, 30000 blocks)\n",
+        ),
+    ];
+    for (events, blocks, line) in rows {
+        expect_line(&rt, alloc, serializable(events, blocks), line)?;
+    }
     let pending = Verdict::Pending {
         events: 5,
         blocks: 2,
         pending: 2,
     };
-    let violation = Verdict::Violation {
-        line: 6,
-        thread: Name::read(alloc, b"T1")?,
-        begun: 1,
-    };
-    let findings = [
-        (Finding::Broken(20), "n: broken after 20 bytes\n"),
-        (Finding::TooLarge, "n: too large\n"),
-        (serializable(0, 0), "n: serializable (0 events, 0 blocks)\n"),
-        (serializable(1, 1), "n: serializable (1 events, 1 blocks)\n"),
-        (
-            serializable(90000, 30000),
-            "n: serializable (90000 events, 30000 blocks)\n",
-        ),
-        (
-            Finding::Judged(pending),
-            "n: no violation, 2 blocks open (5 events, 2 blocks)\n",
-        ),
-        (
-            Finding::Judged(violation),
-            "n: violation at line 6: block of T1 from line 1\n",
-        ),
-    ];
+    let line = "n: no violation, 2 blocks open (5 events, 2 blocks)\n";
+    expect_line(&rt, alloc, Finding::Judged(pending), line)?;
+    let line = "n: violation at line 6: block of T1 from line 1\n";
+    expect_line(&rt, alloc, violation(alloc)?, line)
+}
+
+#[test]
+fn each_fault_has_its_line(rt: HostRuntime) -> Result<(), Fail> {
     let malformed = [
         (Line::TooLong, "n:2: malformed: TooLong\n"),
         (Line::BadByte, "n:2: malformed: BadByte\n"),
@@ -203,6 +221,10 @@ fn each_finding_has_its_line(rt: HostRuntime) -> Result<(), Fail> {
         (Line::TooManyLines, "n:2: malformed: TooManyLines\n"),
         (Line::Memory, "n:2: malformed: Memory\n"),
     ];
+    for (fault, line) in malformed {
+        let verdict = Verdict::Malformed { line: 2, fault };
+        expect_line(&rt, rt.alloc(), Finding::Judged(verdict), line)?;
+    }
     let ill_formed = [
         (Shape::TooManyThreads, "n:3: ill-formed: TooManyThreads\n"),
         (Shape::TooManyNames, "n:3: ill-formed: TooManyNames\n"),
@@ -215,16 +237,9 @@ fn each_finding_has_its_line(rt: HostRuntime) -> Result<(), Fail> {
         (Shape::EndWithoutBegin, "n:3: ill-formed: EndWithoutBegin\n"),
         (Shape::Memory, "n:3: ill-formed: Memory\n"),
     ];
-    for (finding, line) in findings {
-        expect_line(&rt, alloc, finding, line)?;
-    }
-    for (fault, line) in malformed {
-        let verdict = Verdict::Malformed { line: 2, fault };
-        expect_line(&rt, alloc, Finding::Judged(verdict), line)?;
-    }
     for (fault, line) in ill_formed {
         let verdict = Verdict::IllFormed { line: 3, fault };
-        expect_line(&rt, alloc, Finding::Judged(verdict), line)?;
+        expect_line(&rt, rt.alloc(), Finding::Judged(verdict), line)?;
     }
     Ok(())
 }

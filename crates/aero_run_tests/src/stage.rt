@@ -2,7 +2,8 @@ ghost use Rattle.std.specs.Prelude.{◌≡◌};
 
 use aero_pieces::question::{Bytes, Question};
 use aero_stage::{Job, Poster, Taker, stage};
-use std::alloc::Global;
+use std::alloc::{AllocError, Global};
+use std::process::Abort;
 use std::sync::Wait;
 use std::test::Fail;
 
@@ -56,59 +57,94 @@ fn post<R: Wait + AllocGlobal>(
     poster.post(rt, job).map_err(|full| Some(numbers(full.job)))
 }
 
-#[test]
-fn one_taker_of_a_full_a_stopped_and_an_abandoned_queue(rt: HostRuntime) -> Result<(), Fail> {
-    let alloc = rt.alloc();
-    // a full queue gives the job back
-    let (mut poster, mut takers) = stage(alloc, 2, 1)?;
-    let mut taker = takers.remove(0);
-    assert_eq!(rt; post(&rt, &mut poster, 1, 11), Ok(()));
-    assert_eq!(rt; post(&rt, &mut poster, 2, 12), Ok(()));
-    assert_eq!(rt; post(&rt, &mut poster, 3, 13), Err(Some((3, 13))));
-    assert!(rt; !poster.stop(&rt));
-    assert_eq!(rt; take(&rt, &mut taker), Some((1, 11)));
-    assert!(rt; poster.stop(&rt));
-    assert_eq!(rt; take(&rt, &mut taker), Some((2, 12)));
-    assert_eq!(rt; take(&rt, &mut taker), None);
-    assert_eq!(rt; take(&rt, &mut taker), None);
+// Posts, takes and stops of a queue of two places with one taker, which was full.
+fn expect_full<T: Abort + AllocGlobal + Wait>(rt: &T, poster: &mut Poster, taker: &mut Taker)
+    ensures poster { poster.new.stage ≡ poster.old.stage }
+    ensures taker { taker.new.stage ≡ taker.old.stage }
+{
+    assert_eq!(rt; post(rt, poster, 1, 11), Ok(()));
+    assert_eq!(rt; post(rt, poster, 2, 12), Ok(()));
+    assert_eq!(rt; post(rt, poster, 3, 13), Err(Some((3, 13))));
+    assert!(rt; !poster.stop(rt));
+    assert_eq!(rt; take(rt, taker), Some((1, 11)));
+    assert!(rt; poster.stop(rt));
+    assert_eq!(rt; take(rt, taker), Some((2, 12)));
+    assert_eq!(rt; take(rt, taker), None);
+    assert_eq!(rt; take(rt, taker), None);
     // a queue that was full has room again once it is drained
-    assert_eq!(rt; post(&rt, &mut poster, 4, 14), Ok(()));
-    assert!(rt; poster.stop(&rt));
-    poster.rejoin(taker);
-    assert_eq!(rt; take_back(&rt, &mut poster), Some((4, 14)));
-    assert_eq!(rt; take_back(&rt, &mut poster), None);
-    // a stop that nobody took is dropped
-    let (mut poster, _takers) = stage(alloc, 2, 1)?;
-    assert!(rt; poster.stop(&rt));
-    assert_eq!(rt; post(&rt, &mut poster, 1, 11), Ok(()));
-    assert_eq!(rt; take_back(&rt, &mut poster), Some((1, 11)));
-    assert_eq!(rt; take_back(&rt, &mut poster), None);
-    // a Taker takes what a Poster left
-    let (mut poster, mut takers) = stage(alloc, 1, 1)?;
+    assert_eq!(rt; post(rt, poster, 4, 14), Ok(()));
+    assert!(rt; poster.stop(rt));
+}
+
+// A full queue gives the job back.
+fn expect_job_back<T: Abort + AllocGlobal + Wait>(rt: &T) -> Result<(), AllocError> {
+    let (mut poster, mut takers) = stage(rt.alloc(), 2, 1)?;
     let mut taker = takers.remove(0);
-    assert_eq!(rt; post(&rt, &mut poster, 7, 17), Ok(()));
+    expect_full(rt, &mut poster, &mut taker);
+    poster.rejoin(taker);
+    assert_eq!(rt; take_back(rt, &mut poster), Some((4, 14)));
+    assert_eq!(rt; take_back(rt, &mut poster), None);
+    Ok(())
+}
+
+// A stop that nobody took is dropped.
+fn expect_stop_dropped<T: Abort + AllocGlobal + Wait>(rt: &T) -> Result<(), AllocError> {
+    let (mut poster, _takers) = stage(rt.alloc(), 2, 1)?;
+    assert!(rt; poster.stop(rt));
+    assert_eq!(rt; post(rt, &mut poster, 1, 11), Ok(()));
+    assert_eq!(rt; take_back(rt, &mut poster), Some((1, 11)));
+    assert_eq!(rt; take_back(rt, &mut poster), None);
+    Ok(())
+}
+
+// A Taker takes what a Poster left.
+fn expect_left_taken<T: Abort + AllocGlobal + Wait>(rt: &T) -> Result<(), AllocError> {
+    let (mut poster, mut takers) = stage(rt.alloc(), 1, 1)?;
+    let mut taker = takers.remove(0);
+    assert_eq!(rt; post(rt, &mut poster, 7, 17), Ok(()));
     drop(poster);
-    assert_eq!(rt; take(&rt, &mut taker), Some((7, 17)));
-    assert_eq!(rt; take(&rt, &mut taker), None);
+    assert_eq!(rt; take(rt, &mut taker), Some((7, 17)));
+    assert_eq!(rt; take(rt, &mut taker), None);
     Ok(())
 }
 
 #[test]
+fn one_taker_of_a_full_a_stopped_and_an_abandoned_queue(rt: HostRuntime) -> Result<(), Fail> {
+    expect_job_back(&rt)?;
+    expect_stop_dropped(&rt)?;
+    expect_left_taken(&rt)?;
+    Ok(())
+}
+
+// Posts and takes of a queue with two takers, of which the second is told to stop.
+fn expect_shared<T: Abort + AllocGlobal + Wait>(
+    rt: &T,
+    poster: &mut Poster,
+    first: &mut Taker,
+    second: &mut Taker,
+)
+    ensures poster { poster.new.stage ≡ poster.old.stage }
+    ensures first { first.new.stage ≡ first.old.stage }
+    ensures second { second.new.stage ≡ second.old.stage }
+{
+    assert_eq!(rt; post(rt, poster, 1, 11), Ok(()));
+    assert_eq!(rt; post(rt, poster, 2, 12), Ok(()));
+    assert_eq!(rt; post(rt, poster, 3, 13), Ok(()));
+    assert_eq!(rt; post(rt, poster, 4, 14), Ok(()));
+    assert_eq!(rt; take(rt, second), Some((1, 11)));
+    assert_eq!(rt; take(rt, first), Some((2, 12)));
+    assert_eq!(rt; take_back(rt, poster), Some((3, 13)));
+    assert!(rt; poster.stop(rt));
+    assert_eq!(rt; take(rt, second), Some((4, 14)));
+    assert_eq!(rt; take(rt, second), None);
+}
+
+#[test]
 fn two_takers_and_the_poster_share_a_queue(rt: HostRuntime) -> Result<(), Fail> {
-    let alloc = rt.alloc();
-    let (mut poster, mut takers) = stage(alloc, 64, 2)?;
+    let (mut poster, mut takers) = stage(rt.alloc(), 64, 2)?;
     let mut first = takers.remove(0);
     let mut second = takers.remove(0);
-    assert_eq!(rt; post(&rt, &mut poster, 1, 11), Ok(()));
-    assert_eq!(rt; post(&rt, &mut poster, 2, 12), Ok(()));
-    assert_eq!(rt; post(&rt, &mut poster, 3, 13), Ok(()));
-    assert_eq!(rt; post(&rt, &mut poster, 4, 14), Ok(()));
-    assert_eq!(rt; take(&rt, &mut second), Some((1, 11)));
-    assert_eq!(rt; take(&rt, &mut first), Some((2, 12)));
-    assert_eq!(rt; take_back(&rt, &mut poster), Some((3, 13)));
-    assert!(rt; poster.stop(&rt));
-    assert_eq!(rt; take(&rt, &mut second), Some((4, 14)));
-    assert_eq!(rt; take(&rt, &mut second), None);
+    expect_shared(&rt, &mut poster, &mut first, &mut second);
     poster.rejoin(second);
     assert_eq!(rt; post(&rt, &mut poster, 5, 15), Ok(()));
     assert_eq!(rt; take(&rt, &mut first), Some((5, 15)));

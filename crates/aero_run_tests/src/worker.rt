@@ -1,6 +1,7 @@
 // What no clause says: that workers answer, that they work at once, and that a crew ends where nobody receives,
 // where no thread can be made and where memory is refused.
 use crate::except::listed;
+use aero_grammar::block::parse_block;
 use aero_model::limits::Limits;
 use aero_model::numbered::What;
 use aero_model::verdict::Verdict;
@@ -39,23 +40,12 @@ fn text_question(alloc: Global, text: &[u8]) -> Option<Arc<Question>> {
     question.share(alloc).ok()
 }
 
-fn value_of(alloc: Global, question: &Arc<Question>) -> Result<Value, AllocError> {
-    Ok(Question::answer(question, alloc)?.into_value())
-}
-
-fn parts_of(alloc: Global, value: Value) -> Result<Parts, AllocError> {
-    let mut parts = Vec::with_capacity(alloc, 1)?;
-    if let Value::Parsed(parsed) = value {
-        parts.push(parsed)?;
-    }
-    Ok(Parts::new(parts))
-}
-
 fn trace_question(alloc: Global) -> Option<Arc<Question>> {
-    let value = value_of(alloc, &text_question(alloc, CYCLE)?).ok()?;
+    let mut parts = Vec::with_capacity(alloc, 1).ok()?;
+    parts.push(parse_block(alloc, CYCLE).ok()?).ok()?;
     let question = Question::Check {
         trace: 0,
-        parsed: parts_of(alloc, value).ok()?,
+        parsed: Parts::new(parts),
         limits: Limits::greatest(),
         except: listed(alloc, "")?,
         order: false,
@@ -278,18 +268,17 @@ fn two_work<R: Threads + Wait + Copy + Send + 'static>(
     gate: Arc<Meet>,
     alloc: Global,
     (one, other): (Job, Job),
+    block: &Question,
 ) -> Option<(bool, bool, usize)> {
     let mut crew = Crew::start(rt, alloc, 2, gate).ok()?;
     let are_posted = crew.post(&rt, one).is_ok() & crew.post(&rt, other).is_ok();
-    let are_done = is_done(crew.next_answer(&rt)) & is_done(crew.next_answer(&rt));
+    let are_done = is_done(crew.next_answer(&rt), block) & is_done(crew.next_answer(&rt), block);
     Some((are_posted, are_done, crew.close(&rt).by_worker.len()))
 }
 
-fn is_done(reply: Option<Reply>) -> bool {
-    match reply {
-        Some(Reply::Done(_)) => true,
-        _ => false,
-    }
+// Whether the reply answers the question on the block, as is right.
+fn is_done(reply: Option<Reply>, block: &Question) -> bool {
+    letter(reply, block, block) == 'b'
 }
 
 // Whether two workers are at once in the gate, before or after, and nobody has it afterwards.
@@ -302,7 +291,7 @@ fn do_two_meet<R: Threads + Wait + Copy + Send + 'static>(
     let jobs = (job(0, &block)?, job(1, &block)?);
     let gate = Arc::new(alloc, nobody_yet(is_after)).ok()?;
     let shared = Arc::try_clone(&gate).ok()?;
-    let told = two_work(rt, shared, alloc, jobs)?;
+    let told = two_work(rt, shared, alloc, jobs, &block)?;
     Some(told == (true, true, 2) && gate.has_met() && Arc::strong_count(&gate) == 1)
 }
 
@@ -448,14 +437,20 @@ fn is_missed_with(reply: &Reply, number: u64) -> bool {
     }
 }
 
-// Whether a refused answer is missed, and an answer done.
-fn is_missed(alloc: Global) -> Option<bool> {
-    let gate = &no_calls();
-    let answer = Question::answer(&block_question(alloc)?, alloc).ok()?;
-    let is_missed = is_missed_with(&reply_with(gate, 7, Err(AllocError)), 7);
-    let calls = gate.after.load(Ordering::SeqCst);
-    let is_done = is_done(Some(reply_with(gate, 7, Ok(answer))));
-    Some(is_missed && calls == 0 && is_done && gate.after.load(Ordering::SeqCst) == 1)
+// Whether a refused answer is missed, and the gate isn't entered.
+fn is_refusal_missed() -> bool {
+    let gate = no_calls();
+    let is_missed = is_missed_with(&reply_with(&gate, 7, Err(AllocError)), 7);
+    is_missed && gate.after.load(Ordering::SeqCst) == 0
+}
+
+// Whether an answer is done, and the gate was entered once.
+fn is_answer_done(alloc: Global) -> Option<bool> {
+    let block = block_question(alloc)?;
+    let answer = Question::answer(&block, alloc).ok()?;
+    let gate = no_calls();
+    let is_done = is_done(Some(reply_with(&gate, 7, Ok(answer))), &block);
+    Some(is_done && gate.after.load(Ordering::SeqCst) == 1)
 }
 
 // What a crew makes of one job where no thread can be made, and how often the gate was entered.
@@ -478,7 +473,8 @@ fn what_has_no_worker_or_no_memory(rt: HostRuntime) -> Result<(), Fail> {
     assert_eq!(rt; entered, 0);
     assert!(rt; report.by_worker.is_empty());
     assert_eq!(rt; report.left.as_slice(), [7].as_slice());
-    assert_eq!(rt; is_missed(rt.alloc()), Some(true));
+    assert!(rt; is_refusal_missed());
+    assert_eq!(rt; is_answer_done(rt.alloc()), Some(true));
     Ok(())
 }
 
@@ -494,7 +490,7 @@ fn let_one_go<R: Threads + Wait + Copy + Send + 'static>(
     let mut crew = Crew::start(rt, alloc, 1, gate).ok()?;
     crew.let_go(&rt, other);
     let before = Arc::strong_count(kept);
-    let is_answered = crew.post(&rt, only).is_ok() & is_done(crew.next_answer(&rt));
+    let is_answered = crew.post(&rt, only).is_ok() & is_done(crew.next_answer(&rt), kept);
     let after = Arc::strong_count(kept);
     crew.close(&rt);
     Some((before, is_answered, after))
