@@ -570,13 +570,24 @@ fn what_was_written_whole_is_told(rt: HostRuntime) -> Result<(), Fail> {
     Ok(())
 }
 
+// One source more.
+fn add_source<'a>(
+    sources: &mut Vec<Source<&'a [u8]>>,
+    alloc: Global,
+    name: &str,
+    text: &'a [u8],
+) -> Result<(), AllocError> {
+    sources.push(source_of(alloc, name, text)?)?;
+    Ok(())
+}
+
 // The sources a, b and c of the report of three.
 fn three_sources(texts: &[u8], alloc: Global) -> Result<Vec<Source<&[u8]>>, AllocError> {
     let (crossed, closed) = texts.split_at(texts.len().min(CROSSED.len()));
     let mut sources = Vec::new(alloc);
-    sources.push(source_of(alloc, "a", crossed)?)?;
-    sources.push(source_of(alloc, "b", crossed.split_at(0).0)?)?;
-    sources.push(source_of(alloc, "c", closed)?)?;
+    add_source(&mut sources, alloc, "a", crossed)?;
+    add_source(&mut sources, alloc, "b", crossed.split_at(0).0)?;
+    add_source(&mut sources, alloc, "c", closed)?;
     Ok(sources)
 }
 

@@ -10,10 +10,12 @@ use aero_progress::ticker::{Pace, Ticker};
 use std::alloc::Global;
 use std::fs::File;
 use std::io::{ErrorKind, Read, Write};
+use std::process::Abort;
 use std::sync::atomic::{AtomicU64, Ordering};
 use std::sync::{Arc, Mutex, Wait};
 use std::test::Fail;
-use std::time::Duration;
+use std::thread::Threads;
+use std::time::{Clock, Duration};
 use std::{io, thread};
 
 #[test]
@@ -134,11 +136,9 @@ fn narrow(alloc: Global, room: usize, failures: u32) -> Narrow {
 
 const BLANK: &[u8] = b"\r                                                    \r";
 
-// A line is cleared where it stands alone, and isn't shown once it is over.
-#[test]
-fn a_line_is_written_again_in_place(rt: HostRuntime) -> Result<(), Fail> {
-    let mut screen = narrow(rt.alloc(), 2, 0);
-    let mut line = Line::new(&mut screen);
+// Shows lines, clears them, and ends.
+fn show_and_end(rt: &impl Abort, screen: &mut Narrow) -> io::Result<()> {
+    let mut line = Line::new(screen);
     line.clear()?;
     line.show(b"\rab")?;
     line.show(b"\rabc")?;
@@ -149,13 +149,21 @@ fn a_line_is_written_again_in_place(rt: HostRuntime) -> Result<(), Fail> {
     line.end()?;
     assert!(rt; line.is_over());
     line.show(b"\re")?;
-    line.clear()?;
-    drop(line);
-    let mut expected = Vec::from_slice(rt.alloc(), b"\rab\rabc")?;
-    expected.extend_from_slice(BLANK)?;
-    expected.extend_from_slice(b"\rd")?;
-    expected.extend_from_slice(BLANK)?;
-    assert!(rt; screen.taken == expected);
+    line.clear()
+}
+
+// A line is cleared where it stands alone, and isn't shown once it is over.
+#[test]
+fn a_line_is_written_again_in_place(rt: HostRuntime) -> Result<(), Fail> {
+    let mut screen = narrow(rt.alloc(), 2, 0);
+    show_and_end(&rt, &mut screen)?;
+    let parts = [b"\rab\rabc".as_slice(), BLANK, b"\rd", BLANK];
+    let mut rest = screen.taken.as_slice();
+    for part in parts {
+        assert!(rt; rest.starts_with(part));
+        rest = &rest[part.len()..];
+    }
+    assert!(rt; rest.is_empty());
     Ok(())
 }
 
@@ -201,29 +209,45 @@ impl Write for Tape {
     }
 }
 
-// The line has 38 bytes, and what clears it 54.
+// How many bytes a line of so many sources had written when it was stopped, once it had written so many or a minute had
+// passed.
+fn written_until<R: Threads + Wait + Clock + Copy + Send + 'static>(
+    rt: R,
+    alloc: Global,
+    taken: &Arc<AtomicU64>,
+    (sources, pace): (u64, Pace),
+    least: u64,
+) -> Result<u64, Fail> {
+    let tape = Tape {
+        taken: Arc::try_clone(taken)?,
+    };
+    let Some(ticker) = Ticker::start(rt, alloc, tape, sources, pace) else {
+        return Err(Fail::from("no ticker"));
+    };
+    await_bytes(&rt, taken, least);
+    ticker.stop(&rt);
+    Ok(taken.load(Ordering::SeqCst))
+}
+
+// Waits until so many bytes are taken, for a minute at most.
+fn await_bytes<R: Clock>(rt: &R, taken: &AtomicU64, least: u64) {
+    for _ in 0..60_000 {
+        if taken.load(Ordering::SeqCst) >= least {
+            return;
+        }
+        thread::sleep(rt, Duration::from_millis(1));
+    }
+}
+
+// The line has 38 bytes, and what clears it 54. Two ticks are awaited.
 #[test]
 fn the_line_comes_at_each_tick_and_goes(rt: HostRuntime) -> Result<(), Fail> {
     let taken = Arc::new(rt.alloc(), AtomicU64::new(0))?;
-    let tape = Tape {
-        taken: Arc::try_clone(&taken)?,
-    };
     let pace = Pace {
         first_after: 1,
         tick: 1,
     };
-    let Some(ticker) = Ticker::start(rt, rt.alloc(), tape, 3, pace) else {
-        return Err(Fail::from("no ticker"));
-    };
-    // Two ticks are awaited for a minute at most.
-    for _ in 0..60_000 {
-        if taken.load(Ordering::SeqCst) >= 76 {
-            break;
-        }
-        thread::sleep(&rt, Duration::from_millis(1));
-    }
-    ticker.stop(&rt);
-    let all = taken.load(Ordering::SeqCst);
+    let all = written_until(rt, rt.alloc(), &taken, (3, pace), 76)?;
     assert!(rt; all >= 76 + 54);
     assert_eq!(rt; (all - 54) % 38, 0);
     thread::sleep(&rt, Duration::from_millis(20));
@@ -235,17 +259,10 @@ fn the_line_comes_at_each_tick_and_goes(rt: HostRuntime) -> Result<(), Fail> {
 #[test]
 fn a_short_run_has_no_line(rt: HostRuntime) -> Result<(), Fail> {
     let taken = Arc::new(rt.alloc(), AtomicU64::new(0))?;
-    let tape = Tape {
-        taken: Arc::try_clone(&taken)?,
-    };
     let pace = Pace {
         first_after: 600_000,
         tick: 200,
     };
-    let Some(ticker) = Ticker::start(rt, rt.alloc(), tape, 1, pace) else {
-        return Err(Fail::from("no ticker"));
-    };
-    ticker.stop(&rt);
-    assert_eq!(rt; taken.load(Ordering::SeqCst), 0);
+    assert_eq!(rt; written_until(rt, rt.alloc(), &taken, (1, pace), 0)?, 0);
     Ok(())
 }

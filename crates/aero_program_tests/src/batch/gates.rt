@@ -1,9 +1,10 @@
 // Runs with a crew, under gates.
 use crate::batch::runs::run_gated;
-use crate::batch::{CROSSED, REPORT_OF_THREE, lines_of, source_of, texts_of_two, three_sources};
+use crate::batch::{CROSSED, REPORT_OF_THREE, add_source, lines_of, texts_of_two, three_sources};
 use crate::except::listed;
 use aero_batch::outcome::Outcome;
 use aero_intake::plan::Plan;
+use aero_intake::source::Source;
 use aero_model::counting::Counting;
 use aero_model::limits::Limits;
 use aero_pieces::answer::Answer;
@@ -119,6 +120,32 @@ fn ran(outcome: Option<Outcome>) -> Result<Outcome, Fail> {
     }
 }
 
+// The report of a run under this gate, and what else it tells.
+fn report_under<G: Gate + Drop + 'static, T: AllocGlobal + Threads + Wait + Copy + Send + 'static>(
+    rt: T,
+    gate: Arc<G>,
+    sources: &mut [Source<&[u8]>],
+    plan: &Plan,
+) -> Result<(Vec<u8>, Outcome), Fail> {
+    let mut writer = Counting::new(Vec::new(rt.alloc()));
+    let outcome = ran(run_gated(rt, sources, &mut writer, plan, gate))?;
+    Ok((writer.into_inner(), outcome))
+}
+
+// Whether three sources have their report under this gate, by so many workers and nobody else.
+fn has_report_of_three<T: AllocGlobal + Threads + Wait + Copy + Send + 'static>(
+    rt: T,
+    gate: Arc<SecondFirst>,
+    workers: u32,
+) -> Result<bool, Fail> {
+    let plan = plan_with(rt.alloc(), workers, 7)?;
+    let texts = texts_of_two(rt.alloc())?;
+    let mut sources = three_sources(&texts, rt.alloc())?;
+    let (report, outcome) = report_under(rt, gate, &mut sources, &plan)?;
+    let is_told = report == lines_of(rt.alloc(), REPORT_OF_THREE)?;
+    Ok(is_told && outcome.cause.is_none() && outcome.tally.done_here == 0)
+}
+
 // Three sources, by so many workers of which the second is the first to answer.
 fn expect_second_first<T: Abort + AllocGlobal + Threads + Wait + Copy + Send + 'static>(
     rt: T,
@@ -126,17 +153,23 @@ fn expect_second_first<T: Abort + AllocGlobal + Threads + Wait + Copy + Send + '
 ) -> Result<(), Fail> {
     let meeting = nobody_yet();
     let gate = Arc::new(rt.alloc(), SecondFirst { meeting })?;
-    let texts = texts_of_two(rt.alloc())?;
-    let mut sources = three_sources(&texts, rt.alloc())?;
-    let mut writer = Counting::new(Vec::new(rt.alloc()));
-    let plan = plan_with(rt.alloc(), workers, 7)?;
-    let shared = Arc::try_clone(&gate)?;
-    let outcome = ran(run_gated(rt, &mut sources, &mut writer, &plan, shared))?;
-    assert_eq!(rt; writer.into_inner(), lines_of(rt.alloc(), REPORT_OF_THREE)?);
-    assert_eq!(rt; outcome.cause, None);
-    assert_eq!(rt; outcome.tally.done_here, 0);
+    assert!(rt; has_report_of_three(rt, Arc::try_clone(&gate)?, workers)?);
     assert!(rt; gate.meeting.was_met(1));
     Ok(())
+}
+
+// How many violations two sources have under this gate, and how many answers were worked out by the run itself.
+fn violations_under<T: AllocGlobal + Threads + Wait + Copy + Send + 'static>(
+    rt: T,
+    gate: Arc<TwoAtOnce>,
+) -> Result<(u64, u64), Fail> {
+    let plan = plan_with(rt.alloc(), 2, 65_536)?;
+    let crossed = lines_of(rt.alloc(), CROSSED)?;
+    let mut sources = Vec::new(rt.alloc());
+    add_source(&mut sources, rt.alloc(), "n", &crossed)?;
+    add_source(&mut sources, rt.alloc(), "n", &crossed)?;
+    let (_, outcome) = report_under(rt, gate, &mut sources, &plan)?;
+    Ok((outcome.counts.violations, outcome.tally.done_here))
 }
 
 // Two sources, by two workers that meet in the gate.
@@ -146,18 +179,8 @@ fn expect_two_at_once<T: Abort + AllocGlobal + Threads + Wait + Copy + Send + 's
 ) -> Result<(), Fail> {
     let meeting = nobody_yet();
     let gate = Arc::new(rt.alloc(), TwoAtOnce { is_after, meeting })?;
-    let crossed = lines_of(rt.alloc(), CROSSED)?;
-    let mut sources = [
-        source_of(rt.alloc(), "n", crossed.as_slice())?,
-        source_of(rt.alloc(), "n", crossed.as_slice())?,
-    ];
-    let mut writer = Counting::new(Vec::new(rt.alloc()));
-    let plan = plan_with(rt.alloc(), 2, 65_536)?;
-    let shared = Arc::try_clone(&gate)?;
-    let outcome = ran(run_gated(rt, &mut sources, &mut writer, &plan, shared))?;
+    assert_eq!(rt; violations_under(rt, Arc::try_clone(&gate)?)?, (2, 0));
     assert!(rt; gate.meeting.was_met(2));
-    assert_eq!(rt; outcome.tally.done_here, 0);
-    assert_eq!(rt; outcome.counts.violations, 2);
     Ok(())
 }
 

@@ -1,7 +1,7 @@
 // Helpers whose verdicts come late: those on later sources are asked for meanwhile. And such whose words on blocks
 // come late: what was parsed of a source that is judged meanwhile is theirs to free. So is that of the last source.
 use crate::batch::runs::{Who, plan_by};
-use crate::batch::{ONE_BLOCK, lines_of, source_of};
+use crate::batch::{ONE_BLOCK, add_source, lines_of};
 use aero_batch::outcome::Outcome;
 use aero_batch::run::run_over;
 use aero_intake::plan::Plan;
@@ -11,7 +11,7 @@ use aero_model::limits::Limits;
 use aero_pieces::question::Question;
 use aero_stage::{Full, Job};
 use aero_worker::{Helpers, Reply};
-use std::alloc::Global;
+use std::alloc::{AllocError, Global};
 use std::io::{Read, Write};
 use std::sync::{Arc, Wait};
 use std::test::Fail;
@@ -117,25 +117,35 @@ fn run_slowly<R: Read, W: Write, T: AllocGlobal + Wait>(
     Some((outcome, slow.held, slow.freed))
 }
 
+// Five sources, each with this text.
+fn five_sources(alloc: Global, text: &[u8]) -> Result<Vec<Source<&[u8]>>, AllocError> {
+    let mut sources = Vec::new(alloc);
+    for name in ["a", "b", "c", "d", "e"] {
+        add_source(&mut sources, alloc, name, text)?;
+    }
+    Ok(sources)
+}
+
 // The same over five sources, each with one block. Fails where the report isn't theirs, or an answer was worked out here.
 fn run_over_five<T: AllocGlobal + Wait>(
     rt: &T,
     are_blocks_late: bool,
 ) -> Result<(usize, usize), Fail> {
     let text = lines_of(rt.alloc(), ONE_BLOCK)?;
-    let mut sources = Vec::new(rt.alloc());
-    for name in ["a", "b", "c", "d", "e"] {
-        sources.push(source_of(rt.alloc(), name, text.as_slice())?)?;
-    }
-    let mut writer = Counting::new(Vec::new(rt.alloc()));
+    let mut sources = five_sources(rt.alloc(), &text)?;
     let plan = plan_by(rt.alloc(), Who::Crew(2), Limits::greatest(), 7, ("", false))?;
-    let Some((outcome, held, freed)) = run_slowly(
-        rt,
-        are_blocks_late,
-        &mut sources,
-        &mut writer,
-        &plan,
-    ) else {
+    run_over_these(rt, are_blocks_late, &mut sources, &plan)
+}
+
+fn run_over_these<T: AllocGlobal + Wait>(
+    rt: &T,
+    are_blocks_late: bool,
+    sources: &mut [Source<&[u8]>],
+    plan: &Plan,
+) -> Result<(usize, usize), Fail> {
+    let mut writer = Counting::new(Vec::new(rt.alloc()));
+    let Some((outcome, held, freed)) = run_slowly(rt, are_blocks_late, sources, &mut writer, plan)
+    else {
         return Err("too many sources".into());
     };
     let is_told = writer.into_inner() == lines_of(rt.alloc(), REPORT_OF_FIVE)?;
