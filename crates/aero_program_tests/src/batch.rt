@@ -12,6 +12,7 @@ use crate::batch::habits::Habit;
 use crate::batch::runs::{Who, plan_by, run_by, run_planned};
 use crate::batch::streams::{BreaksOnce, CutsOnce, Either, Endless, Later, Tells};
 use aero_batch::outcome::{Cause, Outcome};
+use aero_intake::plan::Plan;
 use aero_intake::source::Source;
 use aero_model::counting::Counting;
 use aero_model::limits::Limits;
@@ -134,26 +135,48 @@ fn expect_text<T: Abort + AllocGlobal + Threads + Wait + Copy + Send + 'static>(
     Ok(())
 }
 
+// What a run by this plan writes of these sources, whoever helps, and what else it tells.
+fn report_by<T: AllocGlobal + Threads + Wait + Copy + Send + 'static>(
+    rt: &T,
+    who: Who,
+    sources: &mut [Source<&[u8]>],
+    plan: &Plan,
+) -> Result<(Vec<u8>, Outcome), Fail> {
+    let mut writer = Counting::new(Vec::new(rt.alloc()));
+    let outcome = run_planned(*rt, who, sources, &mut writer, plan)?;
+    Ok((writer.into_inner(), outcome))
+}
+
 // Whether what is written of the text begins so, where these labels are listed and its order is asked for or
 // not, whoever helps.
 fn has_line<T: AllocGlobal + Threads + Wait + Copy + Send + 'static>(
     rt: &T,
     text: &[u8],
-    (labels, order): (&str, bool),
+    asked: (&str, bool),
     line: &str,
 ) -> Result<bool, Fail> {
     let start = lines_of(rt.alloc(), line)?;
     for who in EVERYBODY {
-        let mut sources = Vec::new(rt.alloc());
-        sources.push(source_of(rt.alloc(), "n", text)?)?;
-        let mut writer = Counting::new(Vec::new(rt.alloc()));
-        let plan = plan_by(rt.alloc(), who, Limits::greatest(), 7, (labels, order))?;
-        let outcome = run_planned(*rt, who, &mut sources, &mut writer, &plan)?;
-        if outcome.cause.is_some() || !writer.into_inner().as_slice().starts_with(&start) {
+        if !has_start(rt, who, text, asked, &start)? {
             return Ok(false);
         }
     }
     Ok(true)
+}
+
+// The same where these help, and the beginning is given as bytes.
+fn has_start<T: AllocGlobal + Threads + Wait + Copy + Send + 'static>(
+    rt: &T,
+    who: Who,
+    text: &[u8],
+    asked: (&str, bool),
+    start: &[u8],
+) -> Result<bool, Fail> {
+    let plan = plan_by(rt.alloc(), who, Limits::greatest(), 7, asked)?;
+    let mut sources = Vec::new(rt.alloc());
+    add_source(&mut sources, rt.alloc(), "n", text)?;
+    let (report, outcome) = report_by(rt, who, &mut sources, &plan)?;
+    Ok(outcome.cause.is_none() && report.as_slice().starts_with(start))
 }
 
 // A block that begins with a listed label is no transaction.
@@ -596,11 +619,11 @@ fn expect_three<T: Abort + AllocGlobal + Threads + Wait + Copy + Send + 'static>
     rt: &T,
     who: Who,
 ) -> Result<(), Fail> {
+    let plan = plan_by(rt.alloc(), who, Limits::greatest(), 1, ("", false))?;
     let texts = texts_of_two(rt.alloc())?;
     let mut sources = three_sources(&texts, rt.alloc())?;
-    let mut writer = Counting::new(Vec::new(rt.alloc()));
-    let outcome = run_by(*rt, who, &mut sources, &mut writer, Limits::greatest(), 1)?;
-    assert_eq!(rt; writer.into_inner(), lines_of(rt.alloc(), REPORT_OF_THREE)?);
+    let (report, outcome) = report_by(rt, who, &mut sources, &plan)?;
+    assert_eq!(rt; report, lines_of(rt.alloc(), REPORT_OF_THREE)?);
     assert_eq!(rt; outcome.cause, None);
     let endings = [
         (CROSSED.len() as u64, Ending::Whole),
@@ -643,14 +666,12 @@ fn has_order_of_two<T: AllocGlobal + Threads + Wait + Copy + Send + 'static>(
     text: &[u8],
     who: Who,
 ) -> Result<bool, Fail> {
-    let mut sources = Vec::new(rt.alloc());
-    sources.push(source_of(rt.alloc(), "a", text)?)?;
-    sources.push(source_of(rt.alloc(), "b", text)?)?;
-    let mut writer = Counting::new(Vec::new(rt.alloc()));
     let plan = plan_by(rt.alloc(), who, Limits::greatest(), 1, ("", true))?;
-    let outcome = run_planned(*rt, who, &mut sources, &mut writer, &plan)?;
-    let report = lines_of(rt.alloc(), ORDER_OF_TWO)?;
-    Ok(outcome.cause.is_none() && writer.into_inner().as_slice() == report.as_slice())
+    let mut sources = Vec::new(rt.alloc());
+    add_source(&mut sources, rt.alloc(), "a", text)?;
+    add_source(&mut sources, rt.alloc(), "b", text)?;
+    let (report, outcome) = report_by(rt, who, &mut sources, &plan)?;
+    Ok(outcome.cause.is_none() && report == lines_of(rt.alloc(), ORDER_OF_TWO)?)
 }
 
 // What is written of two sources of which the second gives its text once the first is told: until then it gives so many
