@@ -92,6 +92,17 @@ fn source_of<R: Drop>(alloc: Global, name: &str, reader: R) -> Result<Source<R>,
     })
 }
 
+// One source more.
+fn add_source<'a>(
+    sources: &mut Vec<Source<&'a [u8]>>,
+    alloc: Global,
+    name: &str,
+    text: &'a [u8],
+) -> Result<(), AllocError> {
+    sources.push(source_of(alloc, name, text)?)?;
+    Ok(())
+}
+
 // Runs over one source with the name n, and expects that what is written begins so.
 fn expect_start<R: Read + Drop, T: Abort + AllocGlobal + Threads + Wait + Copy + Send + 'static>(
     rt: &T,
@@ -590,17 +601,6 @@ fn what_was_written_whole_is_told(rt: HostRuntime) -> Result<(), Fail> {
             }
         }
     }
-    Ok(())
-}
-
-// One source more.
-fn add_source<'a>(
-    sources: &mut Vec<Source<&'a [u8]>>,
-    alloc: Global,
-    name: &str,
-    text: &'a [u8],
-) -> Result<(), AllocError> {
-    sources.push(source_of(alloc, name, text)?)?;
     Ok(())
 }
 

@@ -1,5 +1,6 @@
 // Helpers whose verdicts come late: those on later sources are asked for meanwhile. And such whose words on blocks
-// come late: what was parsed of a source that is judged meanwhile is theirs to free. So is that of the last source.
+// come late: what was parsed of a source that is judged meanwhile is theirs to free. So is that of the last source,
+// but none of a source that is judged before a read that may wait.
 use crate::batch::runs::{Who, plan_by};
 use crate::batch::{ONE_BLOCK, add_source, lines_of};
 use aero_batch::outcome::Outcome;
@@ -117,11 +118,18 @@ fn run_slowly<R: Read, W: Write, T: AllocGlobal + Wait>(
     Some((outcome, slow.held, slow.freed))
 }
 
-// Five sources, each with this text.
-fn five_sources(alloc: Global, text: &[u8]) -> Result<Vec<Source<&[u8]>>, AllocError> {
+// Five sources, each with this text, whose reads may wait or don't.
+fn five_sources(
+    alloc: Global,
+    text: &[u8],
+    may_wait: bool,
+) -> Result<Vec<Source<&[u8]>>, AllocError> {
     let mut sources = Vec::new(alloc);
     for name in ["a", "b", "c", "d", "e"] {
         add_source(&mut sources, alloc, name, text)?;
+    }
+    for source in sources.iter_mut() {
+        source.may_wait = may_wait;
     }
     Ok(sources)
 }
@@ -130,9 +138,10 @@ fn five_sources(alloc: Global, text: &[u8]) -> Result<Vec<Source<&[u8]>>, AllocE
 fn run_over_five<T: AllocGlobal + Wait>(
     rt: &T,
     are_blocks_late: bool,
+    may_wait: bool,
 ) -> Result<(usize, usize), Fail> {
     let text = lines_of(rt.alloc(), ONE_BLOCK)?;
-    let mut sources = five_sources(rt.alloc(), &text)?;
+    let mut sources = five_sources(rt.alloc(), &text, may_wait)?;
     let plan = plan_by(rt.alloc(), Who::Crew(2), Limits::greatest(), 7, ("", false))?;
     run_over_these(rt, are_blocks_late, &mut sources, &plan)
 }
@@ -159,7 +168,7 @@ fn run_over_these<T: AllocGlobal + Wait>(
 // helpers where one of the two is at no verdict, so that of the last two, and else is freed by the run.
 #[test]
 fn a_verdict_that_is_late_holds_no_later_one_up(rt: HostRuntime) -> Result<(), Fail> {
-    assert_eq!(rt; run_over_five(&rt, false)?, (5, 2));
+    assert_eq!(rt; run_over_five(&rt, false, false)?, (5, 2));
     Ok(())
 }
 
@@ -167,6 +176,15 @@ fn a_verdict_that_is_late_holds_no_later_one_up(rt: HostRuntime) -> Result<(), F
 // at the first four, and at the last no source is left.
 #[test]
 fn what_was_parsed_is_given_to_the_helpers(rt: HostRuntime) -> Result<(), Fail> {
-    assert_eq!(rt; run_over_five(&rt, true)?, (10, 5));
+    assert_eq!(rt; run_over_five(&rt, true, false)?, (10, 5));
+    Ok(())
+}
+
+// Each source is told before the next is read, when no block is asked about: what was parsed is freed by the run then, and
+// given to the helpers at the last source alone.
+#[test]
+fn what_was_parsed_is_freed_before_a_read_that_may_wait(rt: HostRuntime) -> Result<(), Fail> {
+    assert_eq!(rt; run_over_five(&rt, false, true)?, (1, 1));
+    assert_eq!(rt; run_over_five(&rt, true, true)?, (2, 1));
     Ok(())
 }
