@@ -13,7 +13,7 @@ use Rattle.aero_model.proofs.Depths.{AtOpening, AtClosing, AtOther, step}
 use Rattle.aero_model.proofs.Ends.{begin_in}
 use Rattle.aero_model.proofs.Begins.{blocks_rise, open_number}
 use Rattle.aero_model.proofs.Next.{reach_from_last, reach_before, reach_last}
-use Rattle.aero_model.proofs.Walks.{Reaches}
+use Rattle.aero_model.proofs.Walks.{Reaches, leads_from_reaches}
 use Rattle.aero_access.specs.declared.slot.Slot.TheVariants.{OfThread}
 use Rattle.aero_access.specs.Slots.{of_slot}
 use Rattle.aero_access.specs.Takes.{Among, here, there}
@@ -24,7 +24,7 @@ use Rattle.aero_leads.specs.Leads.{Rows, is_led, IsPlaceOf, IsFirst, AreFirst}
 use Rattle.aero_leads.specs.Marks.{Mark}
 use Rattle.aero_leads.specs.Steps.{led_by, gains, arrives, event_rows}
 use Rattle.aero_leads.proofs.FirstPlaces.{first_some, first_of, first_reaches, first_least, none_from, none_at, some_from, led_reaches, reaches_led, place_more, place_less}
-use Rattle.aero_leads.proofs.Marked.{ReachesOwn, ReachesMark, Stood, taken_place, last_place}
+use Rattle.aero_leads.proofs.Marked.{ReachesOwn, ReachesMark, ReachesPassed, Stood, taken_place, last_place}
 
 -- marks and what leads to them
 pub led_mark : (rows : Rows) (w : ℕ) (ms : List Mark) → led_by rows w ms ≡ true → (m : Mark) × Among m ms × (is_led (rows m.thread w) m.place ≡ true)
@@ -165,10 +165,12 @@ module _ (trace : List Numbered) (ok : IsWellFormed trace) (n : ℕ) (e : Number
             let to : Reaches trace n old p.0 = record { from = r.from; inside = r.inside; reach = p.1 } in
             ⊎_elim
             (λ (v : ReachesOwn trace n e p.0). own_some v.place (last_place trace n e.thread v.place v.last) (reaches_on trace n old p.0 v.place to v.reach))
+            (⊎_elim
             (λ (v : ReachesMark trace n ms p.0).
             let m = v.it in
             or_right (is_some (rows e.thread w)) _ (or_left (led_by rows w ms) _ (mark_led rows w m ms v.among
             (reaches_led trace n old m.thread (rows m.thread w) (is_first m.thread) m.place (taken_place trace n e m (st.each m v.among)) (reaches_on trace n old p.0 m.place to v.reach)))))
+            (λ (v : ReachesPassed trace n p.0). absurd (v.passed w d (leads_from_reaches trace n old v.place (reaches_on trace n old p.0 v.place to v.reach)))))
             (st.all p.0 p.2)
 
         of_new : n ≤ r.from → comes w ≡ true

@@ -1,24 +1,27 @@
 -- The marks of the events that are kept, and what leads to them.
 use Rattle.std.proofs.Common.{◌≡◌, ◌≢◌, ◌⊎◌, inl, inr, ⊎_elim, ℕ, zero, suc, ◌<◌, List, [], ◌∷◌, ◌++◌, length, Option, Some, None, refl, sym, ap, ap₂, ◌∙◌, subst, arith}
 use Rattle.std.specs.Prelude.{◌==◌, ◌&&◌, ◌||◌, not, Bool, true, false, if◌then◌else◌, slice_get}
-use Rattle.std.proofs.lemmas.Bool.{cases_eq, cases_lt, both_ways, eq-eqb, ne_eqb, lt-ltb, le-ltb, le-leb, lt-leb, cond-true, cond-false}
+use Rattle.std.proofs.lemmas.Bool.{cases_eq, cases_lt, both_ways, and_parts, eqb-true, eq-eqb, ne_eqb, lt-ltb, le-ltb, le-leb, lt-leb, cond-true, cond-false}
 use Rattle.std.proofs.lemmas.Option.{same_Some}
 use Rattle.aero_model.specs.declared.numbered.Numbered.{Numbered}
 use Rattle.aero_access.specs.declared.slot.Slot.{Slot}
 use Rattle.aero_access.specs.declared.slot.Slot.TheVariants.{LastWrite, LastRead}
-use Rattle.aero_access.specs.Slots.{of_slot, last_event}
+use Rattle.aero_model.specs.Blocks.{blocks, Block}
+use Rattle.aero_model.proofs.Walks.{reaches_from_leads}
+use Rattle.aero_access.specs.Slots.{of_slot, is_read_of, last_event}
 use Rattle.aero_access.specs.States.{thread_of}
 use Rattle.aero_access.specs.Takes.{Among, here, there}
-use Rattle.aero_access.proofs.LastEvents.{is_last}
+use Rattle.aero_access.proofs.LastEvents.{is_last, to_thread}
 use Rattle.aero_access.proofs.LongerTraces.{last_event_same}
 use Rattle.aero_access.proofs.Taken.{among_left, among_right, among_first, among_parts}
 use Rattle.aero_leads.specs.declared.last.Last.{Last}
-use Rattle.aero_leads.specs.Leads.{Rows, is_led}
-use Rattle.aero_leads.specs.Marks.{Mark, mark, IfOther, nobodys, its_own, other, AreReads}
+use Rattle.aero_leads.specs.Leads.{Rows, is_led, IsUnled}
+use Rattle.aero_leads.specs.Marks.{Mark, mark, IsPassed, IfOther, nobodys, its_own, other, AreReads}
 use Rattle.aero_leads.specs.Steps.{led_by}
 use Rattle.aero_leads.specs.Kept.{last, is_below, leads_to, leads_to_any}
 use Rattle.aero_leads.specs.States.{State, IsLastAt, IsLastOf, AreReadsSince, IsStateOf}
-use Rattle.aero_leads.proofs.StateSteps.{agree}
+use Rattle.aero_leads.proofs.FirstPlaces.{reaches_led}
+use Rattle.aero_leads.proofs.StateSteps.{agree, first}
 
 -- the mark of an event of another thread than t
 abbrev pub mark_at : ℕ → ℕ → ℕ → List Mark
@@ -126,12 +129,21 @@ module _ (old : State) (before : List Numbered) (e : Numbered) (stands : IsState
               (other p f.0 (same_last s ∙ at) f.1 (λ h. k (sym f.2 ∙ h)))
 
   -- the reads that are kept
-  pub are_reads : (t x : ℕ) (ls : List Last) → AreReadsSince before x ls → AreReads more n t x (marks_of t ls)
+  passed : (x u q : ℕ) → last_event more n (LastRead x u) ≡ Some q → IsUnled old.rows u q → IsPassed more n q
+  passed x u q at unled w d leads =
+      let i = is_last (of_slot (LastRead x u)) more n q at in
+      let parts = and_parts (i.event.thread == u) (is_read_of x i.event.what) i.passed in
+      both_ways (is_led (old.rows u w) q) (unled w)
+      (reaches_led more n (Block w (blocks more w n)) u (old.rows u w) ((first old before e stands).is_open u w d) q
+      (record { below = i.below; event = i.event; event_at = i.event_at; of_thread = to_thread u i.event (eqb-true i.event.thread u parts.0) })
+      (reaches_from_leads more n (Block w (blocks more w n)) q leads))
+
+  pub are_reads : (t x : ℕ) (ls : List Last) → AreReadsSince before old.rows x ls → AreReads more n t x (marks_of t ls)
   are_reads t x ls h = record {
     each = λ m a.
         let r = among_marks t ls m a in
         let i = h.each r.0 r.1 in
         let place : i.0 ≡ m.place = omega (arith, i.1, r.3) in
         (r.4, same_last (LastRead x m.thread) ∙ ap (λ u. last_event before n (LastRead x u)) r.2 ∙ i.2 ∙ ap Some place);
-    all = λ u q ne at after. marks_among t u q ls ne (h.all u q (sym (same_last (LastRead x u)) ∙ at) (λ p k. after p (same_last (LastWrite x) ∙ k)));
+    all = λ u q ne at after. ⊎_elim (λ a. inl (marks_among t u q ls ne a)) (λ k. inr (passed x u q at k)) (h.all u q (sym (same_last (LastRead x u)) ∙ at) (λ p k. after p (same_last (LastWrite x) ∙ k)));
   }

@@ -10,8 +10,10 @@ pub mod Takings
 pub mod StateSteps
 pub mod Lasts
 pub mod Moving
+pub mod Readings
 pub mod Standings
 pub mod ThreadSteps
 pub mod Ends
 pub mod Seeing
+pub mod Lowering
 pub mod Variables

@@ -17,7 +17,7 @@ use Rattle.aero_access.proofs.LastEvents.{read_is, write_is, to_thread, IsLast, 
 use Rattle.aero_access.proofs.Sources.{Source, own, read, write, write_after_read, acquire, join, source_conflicts, Covered, covered, latest, reach_latest, reach_later}
 use Rattle.aero_access.proofs.Taken.{among_left, among_right, among_first, among_parts}
 use Rattle.aero_leads.specs.Leads.{IsPlaceOf}
-use Rattle.aero_leads.specs.Marks.{Mark, mark, IfOther, nobodys, its_own, other, AreReads, TakesMarks}
+use Rattle.aero_leads.specs.Marks.{Mark, mark, IsPassed, IfOther, nobodys, its_own, other, AreReads, TakesMarks}
 use Rattle.aero_leads.specs.Marks as takes
 
 -- the mark's place is of its thread, which is another than the event's, and conflicts with the event
@@ -39,9 +39,15 @@ pub record ReachesMark (trace : List Numbered) (n : ℕ) (ms : List Mark) (p : �
   pub among : Among it ms
   pub reach : Reach trace n p it.place
 
+-- place p reaches one to which no open block leads
+pub record ReachesPassed (trace : List Numbered) (n p : ℕ) : Type 0 where
+  pub place : ℕ
+  pub passed : IsPassed trace n place
+  pub reach : Reach trace n p place
+
 pub record Stood (trace : List Numbered) (n : ℕ) (e : Numbered) (ms : List Mark) : Type 0 where
   pub each : (m : Mark) → Among m ms → IsTaken trace n e m
-  pub all : (p : ℕ) → Conflict trace p n → ReachesOwn trace n e p ⊎ ReachesMark trace n ms p
+  pub all : (p : ℕ) → Conflict trace p n → ReachesOwn trace n e p ⊎ (ReachesMark trace n ms p ⊎ ReachesPassed trace n p)
 
 pub taken_place : (trace : List Numbered) (n : ℕ) (e : Numbered) (m : Mark) → IsTaken trace n e m → IsPlaceOf trace n m.thread m.place
 taken_place trace n e m i = let c = i.conflict in record { below = c.earlier; event = i.event; event_at = i.event_at; of_thread = to_thread m.thread i.event i.thread }
@@ -51,7 +57,13 @@ last_place trace n o q last = let r = is_last (of_slot (OfThread o)) trace n q l
 
 module _ (trace : List Numbered) (ok : IsWellFormed trace) (n : ℕ) (e : Numbered) (at : slice_get trace n ≡ Some e) where
   abbrev Way : List Mark → ℕ → Type 0
-  Way ms q = ReachesOwn trace n e q ⊎ ReachesMark trace n ms q
+  Way ms q = ReachesOwn trace n e q ⊎ (ReachesMark trace n ms q ⊎ ReachesPassed trace n q)
+
+  -- what reaches a place goes on from there
+  way_from : (ms : List Mark) (p q : ℕ) → Reach trace n p q → Way ms q → Way ms p
+  way_from ms p q to (inl w) = inl (record { place = w.place; last = w.last; reach = reach_trans trace n p q w.place to w.reach })
+  way_from ms p q to (inr (inl w)) = inr (inl (record { it = w.it; among = w.among; reach = let m = w.it in reach_trans trace n p q m.place to w.reach }))
+  way_from ms p q to (inr (inr w)) = inr (inr (record { place = w.place; passed = w.passed; reach = reach_trans trace n p q w.place to w.reach }))
 
   -- from the last event of each source there is a way
   stood_from : (ms : List Mark) → ((m : Mark) → Among m ms → IsTaken trace n e m) → ((s : Slot) (q : ℕ) → Source trace n e s → last_event trace n s ≡ Some q → Way ms q) → Stood trace n e ms
@@ -59,10 +71,7 @@ module _ (trace : List Numbered) (ok : IsWellFormed trace) (n : ℕ) (e : Number
     where
       found : (p : ℕ) → Covered trace ok n e at p → Way ms p
       found p v =
-          ⊎_elim
-          (λ (w : ReachesOwn trace n e v.place). inl (record { place = w.place; last = w.last; reach = reach_trans trace n p v.place w.place v.reach w.reach }))
-          (λ (w : ReachesMark trace n ms v.place). inr (record { it = w.it; among = w.among; reach = let m = w.it in reach_trans trace n p v.place m.place v.reach w.reach }))
-          (ways v.slot v.place v.source v.last)
+          way_from ms p v.place v.reach (ways v.slot v.place v.source v.last)
 
   -- the last event of the own thread
   own_way : (ms : List Mark) (q : ℕ) → last_event trace n (OfThread e.thread) ≡ Some q → Way ms q
@@ -76,7 +85,7 @@ module _ (trace : List Numbered) (ok : IsWellFormed trace) (n : ℕ) (e : Number
 
   -- a mark itself
   mark_way : (ms : List Mark) (o q : ℕ) → q < n → Among (mark o q) ms → Way ms q
-  mark_way ms o q l a = inr (record { it = mark o q; among = a; reach = stay l })
+  mark_way ms o q l a = inr (inl (record { it = mark o q; among = a; reach = stay l }))
 
   -- a slot's last event, if it is of another thread
   other_each : (s : Slot) (ms : List Mark) → Source trace n e s → IfOther trace n e.thread s ms → (m : Mark) → Among m ms → IsTaken trace n e m
@@ -174,7 +183,8 @@ module _ (trace : List Numbered) (ok : IsWellFormed trace) (n : ℕ) (e : Number
 
     left : (q : ℕ) → Way ms q → Way (ms ++ rs) q
     left q (inl w) = inl w
-    left q (inr w) = inr (record { it = w.it; among = among_left w.it ms rs w.among; reach = w.reach })
+    left q (inr (inl w)) = inr (inl (record { it = w.it; among = among_left w.it ms rs w.among; reach = w.reach }))
+    left q (inr (inr w)) = inr (inr w)
 
     -- a last read is a mark, or reaches the last write
     read_way : (u q : ℕ) → last_event trace n (LastRead x u) ≡ Some q → Way (ms ++ rs) q
@@ -184,7 +194,7 @@ module _ (trace : List Numbered) (ok : IsWellFormed trace) (n : ℕ) (e : Number
         g = by_reader u q last
 
         marked : u ≢ e.thread → ((p : ℕ) → last_event trace n (LastWrite x) ≡ Some p → p < q) → Way (ms ++ rs) q
-        marked apart after = mark_way (ms ++ rs) u q g.1 (among_right (mark u q) ms rs (reads.all u q apart last after))
+        marked apart after = ⊎_elim (λ a. mark_way (ms ++ rs) u q g.1 (among_right (mark u q) ms rs a)) (λ passed. inr (inr (record { place = q; passed = passed; reach = stay g.1 }))) (reads.all u q apart last after)
 
         go : u ≢ e.thread → (w : Option ℕ) → last_event trace n (LastWrite x) ≡ w → Way (ms ++ rs) q
         go apart None none = marked apart (λ p some. cc)
@@ -196,10 +206,7 @@ module _ (trace : List Numbered) (ok : IsWellFormed trace) (n : ℕ) (e : Number
             superseded : q ≤ p → Way (ms ++ rs) q
             superseded le =
                 let to = reach_later trace n q p g.0 r.event le r.below g.2 r.event_at (λ l. read_write x g.4 (write_is x r.event.what r.passed)) in
-                ⊎_elim
-                (λ (w : ReachesOwn trace n e p). inl (record { place = w.place; last = w.last; reach = reach_trans trace n q p w.place to w.reach }))
-                (λ (w : ReachesMark trace n (ms ++ rs) p). inr (record { it = w.it; among = w.among; reach = let m = w.it in reach_trans trace n q p m.place to w.reach }))
-                (left p (other_way (LastWrite x) ms p iff some))
+                way_from (ms ++ rs) q p to (left p (other_way (LastWrite x) ms p iff some))
 
     stood_write : Stood trace n e (ms ++ rs)
     stood_write =

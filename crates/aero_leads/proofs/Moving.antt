@@ -1,7 +1,7 @@
 -- How what is kept moves with each kind of event.
 use Rattle.std.proofs.Common.{◌≡◌, ◌≢◌, ◌↔◌, ◌⊎◌, inl, inr, ⊎_elim, ℕ, zero, suc, ◌+◌, ◌<◌, ◌≤◌, List, [], ◌∷◌, ◌++◌, length, Option, Some, None, refl, sym, ap, ap₂, ◌∙◌, subst, le_refl, arith}
-use Rattle.std.specs.Prelude.{◌==◌, ◌&&◌, ◌||◌, not, Bool, true, false, if◌then◌else◌, slice_get, is_some}
-use Rattle.std.proofs.lemmas.Bool.{cases_eq, both_ways, eqb-true, eq-eqb, ne_eqb, ltb-false, lt-ltb, le-leb, cond-true, cond-false, and_from, and_left, and_right, or_cases, or_left, or_right}
+use Rattle.std.specs.Prelude.{◌==◌, ◌&&◌, ◌||◌, not, min, Bool, true, false, if◌then◌else◌, slice_get, is_some}
+use Rattle.std.proofs.lemmas.Bool.{cases_eq, both_ways, eqb-true, eq-eqb, ne_eqb, ltb-false, leb-false, lt-ltb, lt-leb, le-leb, cond-true, cond-false, and_from, and_left, and_right, or_cases, or_left, or_right}
 use Rattle.std.proofs.lemmas.List.{append-nil}
 use Rattle.aero_model.specs.declared.numbered.Numbered.{Numbered}
 use Rattle.aero_model.specs.declared.numbered.What.{What}
@@ -22,7 +22,7 @@ use Rattle.aero_access.proofs.LastEvents.{last_covers, to_thread}
 use Rattle.aero_access.proofs.LongerTraces.{slice_get-push}
 use Rattle.aero_access.proofs.OwnSteps.{no_end, no_begin}
 use Rattle.aero_leads.specs.declared.last.Last.{Last}
-use Rattle.aero_leads.specs.Leads.{Rows, is_led, AreFirst, IsPlaceOf, IsFirst}
+use Rattle.aero_leads.specs.Leads.{Rows, is_led, IsUnled, AreFirst, IsPlaceOf, IsFirst}
 use Rattle.aero_leads.specs.Marks.{Mark, mark, TakesMarks}
 use Rattle.aero_leads.specs.Marks as takes
 use Rattle.aero_leads.specs.Steps.{led_by, gains, lesser, IsNamed, IsNamedAtEnd, IsClosedAtEnd, taken_rows, begin_rows, fork_rows, end_rows}
@@ -35,7 +35,7 @@ use Rattle.aero_leads.proofs.Marked.{stood}
 use Rattle.aero_leads.proofs.Told.{rows_tell, rows_tell_at_end}
 use Rattle.aero_leads.proofs.Takings.{takes_nothing}
 use Rattle.aero_leads.proofs.Lasts.{mark_at, marks_of, led_marks, if_other, are_reads}
-use Rattle.aero_leads.proofs.StateSteps.{IsAfter, depth_more, stands_after}
+use Rattle.aero_leads.proofs.StateSteps.{IsAfter, AreNoted, depth_more, stands_after}
 use Rattle.aero_leads.proofs.StateSteps as steps
 
 -- rows that are right have no place that isn't there yet
@@ -112,13 +112,28 @@ place_acted h e u a =
 acted_last : (trace : List Numbered) (n u : ℕ) → HasActed trace n u → (q : ℕ) × (last_event trace n (OfThread u) ≡ Some q)
 acted_last trace n u a = let c = last_covers (of_slot (OfThread u)) trace n a.place a.event a.event_at (to_thread u a.event a.thread) a.below in (c.0, c.1)
 
+-- nothing comes to lead to a place to which nothing led
+unled_gains : (r : Option ℕ) (b : Bool) (n q : ℕ) → q < n → is_led r q ≡ false → is_led (gains r b n) q ≡ false
+unled_gains (Some p) b n q l h = h
+unled_gains None true n q l h = lt-leb n q l
+unled_gains None false n q l h = refl
+
+unled_lesser : (r s : Option ℕ) (q : ℕ) → is_led r q ≡ false → is_led s q ≡ false → is_led (lesser r s) q ≡ false
+unled_lesser None s q a b = b
+unled_lesser (Some p) None q a b = a
+unled_lesser (Some p) (Some m) q a b = lt-leb (min p m) q (omega (arith, leb-false p q a, leb-false m q b))
+
+unled_if : (c : Bool) (r s : Option ℕ) (q : ℕ) → is_led r q ≡ false → is_led s q ≡ false → is_led (if c then r else s) q ≡ false
+unled_if true r s q a b = a
+unled_if false r s q a b = b
+
 -- blocks stay but that thread t has acted
-pub after_quiet : (old new : State) (e : Numbered)
+pub after_reads : (old new : State) (e : Numbered)
     → ((x : ℕ) → new.write x ≡ (if is_write_of x e.what then last e.thread (suc old.now) else old.write x))
-    → ((x : ℕ) → new.reads x ≡ (if is_write_of x e.what then [] else if is_read_of x e.what then reads_but e.thread (old.reads x) ++ last e.thread (suc old.now) ∷ [] else old.reads x))
+    → ((x : ℕ) → (new.reads x ≡ (if is_write_of x e.what then [] else if is_read_of x e.what then reads_but e.thread (old.reads x) ++ last e.thread (suc old.now) ∷ [] else old.reads x)) ⊎ ((is_write_of x e.what ≡ false) × (is_read_of x e.what ≡ true) × AreNoted old.rows e.thread old.now (old.reads x) (new.reads x)))
     → ((l : ℕ) → new.release l ≡ (if is_release_of l e.what then last e.thread (suc old.now) else old.release l))
     → new.now ≡ old.now → HaveSameBlocks old new → IsAfter old (acting new e.thread) e false false
-after_quiet old new e write reads release now same = record {
+after_reads old new e write reads release now same = record {
   write = write;
   reads = reads;
   release = release;
@@ -131,6 +146,13 @@ after_quiet old new e write reads release now same = record {
     pass : {X : Type 0} (b : Bool) (y z : X) → z ≡ (if b && false then y else z)
     pass true y z = refl
     pass false y z = refl
+
+pub after_quiet : (old new : State) (e : Numbered)
+    → ((x : ℕ) → new.write x ≡ (if is_write_of x e.what then last e.thread (suc old.now) else old.write x))
+    → ((x : ℕ) → new.reads x ≡ (if is_write_of x e.what then [] else if is_read_of x e.what then reads_but e.thread (old.reads x) ++ last e.thread (suc old.now) ∷ [] else old.reads x))
+    → ((l : ℕ) → new.release l ≡ (if is_release_of l e.what then last e.thread (suc old.now) else old.release l))
+    → new.now ≡ old.now → HaveSameBlocks old new → IsAfter old (acting new e.thread) e false false
+after_quiet old new e write reads release now same = after_reads old new e write (λ x. inl (reads x)) release now same
 
 -- what an event that ends and begins no block takes
 pub record IsTaken (old : State) (h : List Numbered) (e : Numbered) (ls : List Last) : Type 0 where
@@ -161,12 +183,17 @@ module _ (old : State) (h : List Numbered) (e : Numbered) (stands : IsStateOf ol
 
     pub taken_stands : leads_to_any old.rows e.thread e.thread ls ≡ false → ((u : ℕ) → is_fork_of u e.what ≡ false) → (new : State) → TakesAll old.rows new.rows old.now e.thread ls → IsAfter old new e false false → IsStateOf new more
     taken_stands none_led no_fork new takes after =
-        steps.stands_after old h e stands new false false taken.begins taken.ends after
+        steps.stands_after old h e stands new false false taken.begins taken.ends after still
         (first_as more (suc n) (taken_rows n e.thread taken.marks old.rows) new.rows same (first_taken more ok n e (slice_get-push h e) old.rows first taken.marks taken.ends taken.begins no_fork taken.takes))
         ((tells None).0 (λ c. both_ways _ none_led (taken.same e.thread ∙ c.1)))
       where
         others : (k : Mark) → Among k taken.marks → k.thread ≢ e.thread
         others k a = let i = (stood more ok n e (slice_get-push h e) taken.marks taken.takes).each k a in i.apart
+
+        still : (u q : ℕ) → q < n → IsUnled old.rows u q → IsUnled new.rows u q
+        still u q l unled w =
+            ap (λ r. is_led r q) (takes.rows u w)
+            ∙ unled_if (u == e.thread) _ _ q (unled_gains (old.rows u w) (leads_to_any old.rows e.thread w ls) old.now q (omega (arith, l, stands.now)) (unled w)) (unled w)
 
         same : (o w : ℕ) → taken_rows n e.thread taken.marks old.rows o w ≡ new.rows o w
         same o w = ⊎_elim own other (cases_eq o e.thread)
@@ -307,7 +334,7 @@ moves_fork old new t u gained after = record {
 
     forked : (h : List Numbered) → IsStateOf old h → IsWellFormed (h ++ e ∷ []) → IsStateOf (acting new t) (h ++ e ∷ [])
     forked h stands ok =
-        steps.stands_after old h e stands (acting new t) false false (no_begin h t (Fork u) refl) ends after
+        steps.stands_after old h e stands (acting new t) false false (no_begin h t (Fork u) refl) ends after still
         (first_as more (suc (length h)) (fork_rows (length h) t u old.rows) new.rows same (first_forked more ok (length h) e (slice_get-push h e) old.rows first u refl))
         ((rows_tell more ok (length h) e (slice_get-push h e) old.rows first (steps.none old h e stands) [] (takes.plain refl) ends None).0 (λ c. both_ways _ refl c.1))
       where
@@ -319,6 +346,11 @@ moves_fork old new t u gained after = record {
 
         first : AreFirst more (length h) old.rows
         first = steps.first old h e stands
+
+        still : (v q : ℕ) → q < length h → IsUnled old.rows v q → IsUnled new.rows v q
+        still v q l unled w =
+            ap (λ r. is_led r q) (gained.rows v w)
+            ∙ unled_if (v == u) _ _ q (unled_gains (old.rows v w) (is_below (old.rows t w) old.now) old.now q (omega (arith, l, stands.now)) (unled w)) (unled w)
 
         same : (o w : ℕ) → fork_rows (length h) t u old.rows o w ≡ new.rows o w
         same o w =
@@ -337,7 +369,7 @@ moves_begin old new t outside rows after = record {
 
     begun : (h : List Numbered) → IsStateOf old h → IsWellFormed (h ++ e ∷ []) → IsStateOf (acting new t) (h ++ e ∷ [])
     begun h stands ok =
-        steps.stands_after old h e stands (acting new t) true false up ends after
+        steps.stands_after old h e stands (acting new t) true false up ends after still
         (first_as more (suc (length h)) (begin_rows (length h) t old.rows) new.rows same (first_begun more ok (length h) e (slice_get-push h e) old.rows first up))
         ((rows_tell more ok (length h) e (slice_get-push h e) old.rows first (steps.none old h e stands) [] (takes.plain refl) ends None).0 (λ c. both_ways _ refl c.1))
       where
@@ -357,6 +389,11 @@ moves_begin old new t outside rows after = record {
 
         first : AreFirst more (length h) old.rows
         first = steps.first old h e stands
+
+        still : (v q : ℕ) → q < length h → IsUnled old.rows v q → IsUnled new.rows v q
+        still v q l unled w =
+            ap (λ r. is_led r q) (rows v w)
+            ∙ unled_if ((v == t) && (t == w)) _ _ q (unled_lesser (old.rows v w) (Some old.now) q (unled w) (lt-leb old.now q (omega (arith, l, stands.now)))) (unled w)
 
         same : (o w : ℕ) → begin_rows (length h) t old.rows o w ≡ new.rows o w
         same o w = go (cases_eq o t) (cases_eq w t) ∙ sym (rows o w)
@@ -381,7 +418,7 @@ pub after_begin : (old new : State) (t : ℕ) → ((x : ℕ) → new.write x ≡
     → ((u : ℕ) → new.acted u ≡ old.acted u) → ((u : ℕ) → new.begins u ≡ (if t == u then old.begins u + 1 else old.begins u)) → ((u : ℕ) → new.in_block u ≡ (if t == u then true else old.in_block u)) → IsAfter old (acting new t) (event t (Begin None)) true false
 after_begin old new t write reads release now acted begins in_block = record {
   write = write;
-  reads = reads;
+  reads = λ x. inl (reads x);
   release = release;
   now = ap suc now;
   acted = λ u. ap (λ b. if t == u then true else b) (acted u);
@@ -399,7 +436,10 @@ state_same w v h same is = record {
   first = first_as h (length h) w.rows v.rows (λ o u. sym (same.rows o u)) is.first;
   none = is.none;
   write = λ x. subst (IsLastOf h (LastWrite x)) (sym (same.write x)) (is.write x);
-  reads = λ x. subst (AreReadsSince h x) (sym (same.reads x)) (is.reads x);
+  reads = λ x. subst (AreReadsSince h v.rows x) (sym (same.reads x)) (let r = is.reads x in record {
+    each = r.each;
+    all = λ u q at after. ⊎_elim (λ a. inl a) (λ k. inr (λ o. ap (λ p. is_led p q) (same.rows u o) ∙ k o)) (r.all u q at after);
+  });
   release = λ l. subst (IsLastOf h (LastRelease l)) (sym (same.release l)) (is.release l);
   now = same.now ∙ is.now;
   acted = λ t. same.blocks.acted t ∙ is.acted t;
@@ -449,7 +489,7 @@ module _ (old : State) (h : List Numbered) (t : ℕ) (stands : IsStateOf old h) 
 
   pub end_stands : (new : State) → IsLeastBack old.rows t None → EndsState old new t → IsStateOf (acting new t) longer
   end_stands new none ends =
-      steps.stands_after old h ending stands (acting new t) false true (let c = closing_at longer t (length h) closing in c.opens) closing after
+      steps.stands_after old h ending stands (acting new t) false true (let c = closing_at longer t (length h) closing in c.opens) closing after still
       (first_as longer (suc (length h)) (end_rows t old.rows) new.rows (λ o w. sym (ends.rows o w)) (first_after_end longer ok (length h) ending (slice_get-push h ending) closing old.rows rows_first))
       (end_told None none)
     where
@@ -457,10 +497,15 @@ module _ (old : State) (h : List Numbered) (t : ℕ) (stands : IsStateOf old h) 
       pass true y z = refl
       pass false y z = refl
 
+      still : (v q : ℕ) → q < length h → IsUnled old.rows v q → IsUnled new.rows v q
+      still v q l unled w =
+          ap (λ r. is_led r q) (ends.rows v w)
+          ∙ unled_if (w == t) None _ q refl (unled_if (is_some (old.rows t w)) _ _ q (unled_lesser (old.rows v w) (old.rows v t) q (unled w) (unled t)) (unled w))
+
       after : IsAfter old (acting new t) ending false true
       after = record {
         write = ends.write;
-        reads = ends.reads;
+        reads = λ x. inl (ends.reads x);
         release = ends.release;
         now = ap suc ends.now;
         acted = λ u. ap (λ b. if t == u then true else b) (ends.acted u);

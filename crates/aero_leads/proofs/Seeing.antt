@@ -7,10 +7,10 @@ use Rattle.aero_leads.specs.declared.row.Lead.{Lead}
 use Rattle.aero_leads.specs.declared.thread.Thread.{Thread}
 use Rattle.aero_leads.specs.declared.led.Led.{Led}
 use Rattle.aero_leads.specs.declared.seen.Seen.{Seen}
-use Rattle.aero_leads.specs.Kept.{least_in, thread_row, rows_in, absorbed, HasRow, EndsBlock}
+use Rattle.aero_leads.specs.Kept.{least_in, is_below, thread_row, rows_in, absorbed, HasRow, TakesRow, EndsBlock}
 use Rattle.aero_leads.specs.Listed.{followers, is_listed, AreListed, Grows}
 use Rattle.aero_leads.specs.Seen.{is_seen, AreSeen}
-use Rattle.aero_leads.specs.Steps.{lesser}
+use Rattle.aero_leads.specs.Steps.{gains, lesser}
 use Rattle.aero_leads.proofs.ThreadSteps.{any_take_next}
 
 -- what wasn't so before isn't so where nothing became so
@@ -28,6 +28,15 @@ unseen_next now new us i u w at kept gone so_far o h =
 
 pub unseen_still : (now new : Seen) (w : ℕ) → ((o v : ℕ) → is_seen new o v ≡ true → is_seen now o v ≡ true) → is_seen now w w ≡ false → is_seen new w w ≡ false
 unseen_still now new w kept = stays_false (is_seen new w w) (is_seen now w w) (kept w w)
+
+-- a thread that gains leads keeps those that it has
+pub seen_taken : (old new : List Thread) (seen : Seen) (t o below n : ℕ) → TakesRow (rows_in old) (rows_in new) n t o below → AreSeen old seen → AreSeen new seen
+seen_taken old new seen t o below n takes are v w h = ap is_some (takes.rows v w) ∙ go (v == t) (is_below (rows_in old o w) below) (rows_in old v w) (are v w h)
+  where
+    go : (b c : Bool) (r : Option ℕ) → is_some r ≡ true → is_some (if b then gains r c n else r) ≡ true
+    go true c None k = let z : false ≡ true = k in cc
+    go true c (Some p) k = refl
+    go false c r k = k
 
 -- at an end each row that has the block loses it, and no other
 pub seen_ended : (old new : List Thread) (led : Led) (was now : Seen) (t : ℕ) → EndsBlock old new t → AreListed old led

@@ -1,7 +1,7 @@
 -- What is kept of a trace, after one more event.
-use Rattle.std.proofs.Common.{◌≡◌, ◌≢◌, ◌⊎◌, inl, inr, ⊎_elim, ℕ, zero, suc, ◌+◌, ◌<◌, List, [], ◌∷◌, ◌++◌, length, Some, refl, sym, ap, ap₂, ◌∙◌, subst, le_refl, arith, length-append}
+use Rattle.std.proofs.Common.{◌≡◌, ◌≢◌, ◌⊎◌, inl, inr, ⊎_elim, ℕ, zero, suc, ◌+◌, ◌<◌, List, [], ◌∷◌, ◌++◌, length, Option, None, Some, refl, sym, ap, ap₂, ◌∙◌, subst, le_refl, arith, length-append}
 use Rattle.std.specs.Prelude.{◌==◌, ◌&&◌, ◌||◌, not, nat_lt, Bool, true, false, if◌then◌else◌}
-use Rattle.std.proofs.lemmas.Bool.{cases_Bool, cases_eq, both_ways, eqb-true, eq-eqb, ne_eqb, lt-ltb, le-ltb, cond-true, cond-false, and_left, and_right, and_from}
+use Rattle.std.proofs.lemmas.Bool.{cases_Bool, cases_eq, both_ways, eqb-true, eq-eqb, ne_eqb, lt-ltb, le-ltb, lt-leb, ltb-false, cond-true, cond-false, and_left, and_right, and_from}
 use Rattle.std.proofs.lemmas.Option.{same_Some}
 use Rattle.std.proofs.lemmas.List.Folds.{list_any-append}
 use Rattle.aero_model.specs.declared.numbered.Numbered.{Numbered}
@@ -20,15 +20,22 @@ use Rattle.aero_access.proofs.LastEvents.{is_last, last_new, last_kept}
 use Rattle.aero_access.proofs.LongerTraces.{slice_get-push, last_event_same}
 use Rattle.aero_access.proofs.Taken.{among_left, among_right, among_first, among_parts}
 use Rattle.aero_leads.specs.declared.last.Last.{Last}
-use Rattle.aero_leads.specs.Leads.{AreFirst}
-use Rattle.aero_leads.specs.Kept.{last, reads_but}
+use Rattle.aero_leads.specs.Leads.{Rows, is_led, IsUnled, AreFirst}
+use Rattle.aero_leads.specs.Kept.{last, is_below, reads_but}
 use Rattle.aero_leads.specs.States.{State, IsLastAt, IsLastOf, AreReadsSince, IsStateOf}
 use Rattle.aero_leads.proofs.FirstPlaces.{rows_same}
+
+-- the reads of a variable after one more by thread t: those by other threads, but some to which nothing leads
+pub record AreNoted (rows : Rows) (t n : ℕ) (old new : List Last) : Type 0 where
+  pub kept : List Last
+  pub is : new ≡ kept ++ last t (suc n) ∷ []
+  pub each : (l : Last) → Among l kept → Among l old × (l.thread ≢ t)
+  pub all : (l : Last) → Among l old → l.thread ≢ t → Among l kept ⊎ ((w : ℕ) → is_below (rows l.thread w) l.count ≡ false)
 
 -- after event e, which opens a block or ends one or neither
 pub record IsAfter (old new : State) (e : Numbered) (up down : Bool) : Type 0 where
   pub write : (x : ℕ) → new.write x ≡ (if is_write_of x e.what then last e.thread (suc old.now) else old.write x)
-  pub reads : (x : ℕ) → new.reads x ≡ (if is_write_of x e.what then [] else if is_read_of x e.what then reads_but e.thread (old.reads x) ++ last e.thread (suc old.now) ∷ [] else old.reads x)
+  pub reads : (x : ℕ) → (new.reads x ≡ (if is_write_of x e.what then [] else if is_read_of x e.what then reads_but e.thread (old.reads x) ++ last e.thread (suc old.now) ∷ [] else old.reads x)) ⊎ ((is_write_of x e.what ≡ false) × (is_read_of x e.what ≡ true) × AreNoted old.rows e.thread old.now (old.reads x) (new.reads x))
   pub release : (l : ℕ) → new.release l ≡ (if is_release_of l e.what then last e.thread (suc old.now) else old.release l)
   pub now : new.now ≡ suc old.now
   pub acted : (t : ℕ) → new.acted t ≡ (if e.thread == t then true else old.acted t)
@@ -57,6 +64,10 @@ but_among t l (k ∷ ks) a ne = go (λ m. but_among t l ks m ne) (k.thread == t)
     go on true e (inr m) = on m
     go on false e (inl same) = subst (λ j. Among l (j ∷ reads_but t ks)) same here
     go on false e (inr m) = there (on m)
+
+unled : (r : Option ℕ) (q : ℕ) → is_below r (suc q) ≡ false → is_led r q ≡ false
+unled None q h = refl
+unled (Some p) q h = lt-leb p q (omega (arith, ltb-false p (suc q) h))
 
 module _ (old : State) (before : List Numbered) (e : Numbered) (stands : IsStateOf old before) where
   abbrev more : List Numbered
@@ -100,61 +111,77 @@ module _ (old : State) (before : List Numbered) (e : Numbered) (stands : IsState
           subst (IsLastOf more s) (sym now) (new_last s b, ap thread_of (slice_get-push before e))
       go (inr b) = subst (IsLastOf more s) (sym (is ∙ cond-false (of_slot s e) _ _ b)) (carried s l.thread l.count b h)
 
-  -- the reads of a variable
-  reads_pushed : (x : ℕ) (new : List Last) → new ≡ (if is_write_of x e.what then [] else if is_read_of x e.what then reads_but e.thread (old.reads x) ++ last e.thread (suc old.now) ∷ [] else old.reads x) → AreReadsSince more x new
-  reads_pushed x new is = go (cases_Bool (is_write_of x e.what)) (cases_Bool (is_read_of x e.what))
-    where
-      was : AreReadsSince before x (old.reads x)
-      was = stands.reads x
+  -- the reads of a variable, where nothing comes to lead to what nothing led to
+  module _ (rows : Rows) (still : (u q : ℕ) → q < n → IsUnled old.rows u q → IsUnled rows u q) where
+    reads_pushed : (x : ℕ) (new : List Last)
+        → (new ≡ (if is_write_of x e.what then [] else if is_read_of x e.what then reads_but e.thread (old.reads x) ++ last e.thread (suc old.now) ∷ [] else old.reads x)) ⊎ ((is_write_of x e.what ≡ false) × (is_read_of x e.what ≡ true) × AreNoted old.rows e.thread old.now (old.reads x) new)
+        → AreReadsSince more rows x new
+    reads_pushed x new either = ⊎_elim (λ is. go is (cases_Bool (is_write_of x e.what)) (cases_Bool (is_read_of x e.what))) (λ by. read by.0 by.1 by.2) either
+      where
+        was : AreReadsSince before old.rows x (old.reads x)
+        was = stands.reads x
 
-      other_read : (u : ℕ) → e.thread ≢ u → of_slot (LastRead x u) e ≡ false
-      other_read u ne = and_left (e.thread == u) (is_read_of x e.what) (ne_eqb e.thread u ne)
+        other_read : (u : ℕ) → e.thread ≢ u → of_slot (LastRead x u) e ≡ false
+        other_read u ne = and_left (e.thread == u) (is_read_of x e.what) (ne_eqb e.thread u ne)
 
-      no_read : (u : ℕ) → is_read_of x e.what ≡ false → of_slot (LastRead x u) e ≡ false
-      no_read u b = and_right (e.thread == u) (is_read_of x e.what) b
+        no_read : (u : ℕ) → is_read_of x e.what ≡ false → of_slot (LastRead x u) e ≡ false
+        no_read u b = and_right (e.thread == u) (is_read_of x e.what) b
 
-      written : is_write_of x e.what ≡ true → AreReadsSince more x []
-      written b = record {
-        each = λ l a. elim a [ ];
-        all = λ u q at after.
-            let less = after n (new_last (LastWrite x) b) in
-            let i = is_last (of_slot (LastRead x u)) more (length more) q at in
-            absurd (omega (arith, less, i.below, length_more));
-      }
+        -- a last read before the event is a kept one, or nothing leads to it
+        before_all : (u q : ℕ) → last_event before n (LastRead x u) ≡ Some q → ((p : ℕ) → last_event before n (LastWrite x) ≡ Some p → p < q) → Among (last u (suc q)) (old.reads x) ⊎ IsUnled rows u q
+        before_all u q at after = ⊎_elim (λ a. inl a) (λ k. inr (still u q (is_last (of_slot (LastRead x u)) before n q at).below k)) (was.all u q at after)
 
-      read : is_write_of x e.what ≡ false → is_read_of x e.what ≡ true → AreReadsSince more x (reads_but e.thread (old.reads x) ++ last e.thread (suc n) ∷ [])
-      read quiet b = record {
-        each = λ l a. ⊎_elim
-            (λ m. let r = among_but e.thread l (old.reads x) m in let i = was.each l r.0 in (i.0, i.1, kept_last (LastRead x l.thread) (other_read l.thread (λ h. r.1 (sym h))) ∙ i.2))
-            (λ m. ⊎_elim
-            (λ same. (n, ap (λ (j : Last). j.count) same, ap (λ (j : Last). last_event more (length more) (LastRead x j.thread)) same ∙ new_last (LastRead x e.thread) (and_from _ _ (eq-eqb e.thread e.thread refl) b)))
-            (λ m. elim m [ ])
-            (among_first l (last e.thread (suc n)) [] m))
-            (among_parts l (reads_but e.thread (old.reads x)) (last e.thread (suc n) ∷ []) a);
-        all = λ u q at after. ⊎_elim
-            (λ same.
-            let place : n ≡ q = same_Some n q (sym (new_last (LastRead x u) (and_from _ _ (eq-eqb e.thread u same) b)) ∙ at) in
-            among_right (last u (suc q)) (reads_but e.thread (old.reads x)) (last e.thread (suc n) ∷ [])
-            (subst (λ (l : Last). Among (last u (suc q)) (l ∷ [])) (ap₂ (λ (v m : ℕ). last v (suc m)) (sym same) (sym place)) here))
-            (λ ne.
-            among_left (last u (suc q)) (reads_but e.thread (old.reads x)) (last e.thread (suc n) ∷ [])
-            (but_among e.thread (last u (suc q)) (old.reads x)
-            (was.all u q (sym (kept_last (LastRead x u) (other_read u ne)) ∙ at) (λ p h. after p (kept_last (LastWrite x) quiet ∙ h)))
-            (λ h. ne (sym h))))
-            (cases_eq e.thread u);
-      }
+        written : is_write_of x e.what ≡ true → AreReadsSince more rows x []
+        written b = record {
+          each = λ l a. elim a [ ];
+          all = λ u q at after.
+              let less = after n (new_last (LastWrite x) b) in
+              let i = is_last (of_slot (LastRead x u)) more (length more) q at in
+              absurd (omega (arith, less, i.below, length_more));
+        }
 
-      neither : is_write_of x e.what ≡ false → is_read_of x e.what ≡ false → AreReadsSince more x (old.reads x)
-      neither quiet b = record {
-        each = λ l a. let i = was.each l a in (i.0, i.1, kept_last (LastRead x l.thread) (no_read l.thread b) ∙ i.2);
-        all = λ u q at after. was.all u q (sym (kept_last (LastRead x u) (no_read u b)) ∙ at) (λ p h. after p (kept_last (LastWrite x) quiet ∙ h));
-      }
+        read : is_write_of x e.what ≡ false → is_read_of x e.what ≡ true → AreNoted old.rows e.thread old.now (old.reads x) new → AreReadsSince more rows x new
+        read quiet b noted = subst (AreReadsSince more rows x) (sym (noted.is ∙ ap (λ m. noted.kept ++ last e.thread (suc m) ∷ []) stands.now)) (record {
+          each = λ l a. ⊎_elim
+              (λ m. let r = noted.each l m in let i = was.each l r.0 in (i.0, i.1, kept_last (LastRead x l.thread) (other_read l.thread (λ h. r.1 (sym h))) ∙ i.2))
+              (λ m. ⊎_elim
+              (λ same. (n, ap (λ (j : Last). j.count) same, ap (λ (j : Last). last_event more (length more) (LastRead x j.thread)) same ∙ new_last (LastRead x e.thread) (and_from _ _ (eq-eqb e.thread e.thread refl) b)))
+              (λ m. elim m [ ])
+              (among_first l (last e.thread (suc n)) [] m))
+              (among_parts l noted.kept (last e.thread (suc n) ∷ []) a);
+          all = λ u q at after. ⊎_elim
+              (λ same.
+              let place : n ≡ q = same_Some n q (sym (new_last (LastRead x u) (and_from _ _ (eq-eqb e.thread u same) b)) ∙ at) in
+              inl (among_right (last u (suc q)) noted.kept (last e.thread (suc n) ∷ [])
+              (subst (λ (l : Last). Among (last u (suc q)) (l ∷ [])) (ap₂ (λ (v m : ℕ). last v (suc m)) (sym same) (sym place)) here)))
+              (λ ne.
+              let at_before : last_event before n (LastRead x u) ≡ Some q = sym (kept_last (LastRead x u) (other_read u ne)) ∙ at in
+              ⊎_elim
+              (λ a. ⊎_elim
+              (λ k. inl (among_left (last u (suc q)) noted.kept (last e.thread (suc n) ∷ []) k))
+              (λ none. inr (still u q (is_last (of_slot (LastRead x u)) before n q at_before).below (λ w. unled (old.rows u w) q (none w))))
+              (noted.all (last u (suc q)) a (λ h. ne (sym h))))
+              (λ k. inr k)
+              (before_all u q at_before (λ p h. after p (kept_last (LastWrite x) quiet ∙ h))))
+              (cases_eq e.thread u);
+        })
 
-      go : (is_write_of x e.what ≡ true) ⊎ (is_write_of x e.what ≡ false) → (is_read_of x e.what ≡ true) ⊎ (is_read_of x e.what ≡ false) → AreReadsSince more x new
-      go (inl b) _ = subst (AreReadsSince more x) (sym (is ∙ cond-true (is_write_of x e.what) _ _ b)) (written b)
-      go (inr a) (inl b) =
-          subst (AreReadsSince more x) (sym (is ∙ cond-false (is_write_of x e.what) _ _ a ∙ cond-true (is_read_of x e.what) _ _ b ∙ ap (λ m. reads_but e.thread (old.reads x) ++ last e.thread (suc m) ∷ []) stands.now)) (read a b)
-      go (inr a) (inr b) = subst (AreReadsSince more x) (sym (is ∙ cond-false (is_write_of x e.what) _ _ a ∙ cond-false (is_read_of x e.what) _ _ b)) (neither a b)
+        neither : is_write_of x e.what ≡ false → is_read_of x e.what ≡ false → AreReadsSince more rows x (old.reads x)
+        neither quiet b = record {
+          each = λ l a. let i = was.each l a in (i.0, i.1, kept_last (LastRead x l.thread) (no_read l.thread b) ∙ i.2);
+          all = λ u q at after. before_all u q (sym (kept_last (LastRead x u) (no_read u b)) ∙ at) (λ p h. after p (kept_last (LastWrite x) quiet ∙ h));
+        }
+
+        go : new ≡ (if is_write_of x e.what then [] else if is_read_of x e.what then reads_but e.thread (old.reads x) ++ last e.thread (suc old.now) ∷ [] else old.reads x)
+            → (is_write_of x e.what ≡ true) ⊎ (is_write_of x e.what ≡ false) → (is_read_of x e.what ≡ true) ⊎ (is_read_of x e.what ≡ false) → AreReadsSince more rows x new
+        go is (inl b) _ = subst (AreReadsSince more rows x) (sym (is ∙ cond-true (is_write_of x e.what) _ _ b)) (written b)
+        go is (inr a) (inl b) = read a b (record {
+          kept = reads_but e.thread (old.reads x);
+          is = is ∙ cond-false (is_write_of x e.what) _ _ a ∙ cond-true (is_read_of x e.what) _ _ b;
+          each = λ l m. among_but e.thread l (old.reads x) m;
+          all = λ l m ne. inl (but_among e.thread l (old.reads x) m ne);
+        })
+        go is (inr a) (inr b) = subst (AreReadsSince more rows x) (sym (is ∙ cond-false (is_write_of x e.what) _ _ a ∙ cond-false (is_read_of x e.what) _ _ b)) (neither a b)
 
   -- the threads' blocks
   module _ (new : State) (up down : Bool) (opening : opens more e.thread n ≡ up) (closing : closes more e.thread n ≡ down) (after : IsAfter old new e up down) where
@@ -226,12 +253,12 @@ module _ (old : State) (before : List Numbered) (e : Numbered) (stands : IsState
         either_one false false = refl
 
     -- with rows that are right, and no telling cycle, all is right
-    pub stands_after : AreFirst more (suc n) new.rows → ¬ HasTellingCycle more (suc n) → IsStateOf new more
-    stands_after rows no_cycle = record {
+    pub stands_after : ((u q : ℕ) → q < n → IsUnled old.rows u q → IsUnled new.rows u q) → AreFirst more (suc n) new.rows → ¬ HasTellingCycle more (suc n) → IsStateOf new more
+    stands_after still rows no_cycle = record {
       first = subst (λ m. AreFirst more m new.rows) length_more rows;
       none = subst (λ m. ¬ HasTellingCycle more m) length_more no_cycle;
       write = λ x. last_pushed (LastWrite x) (old.write x) (new.write x) (stands.write x) (after.write x);
-      reads = λ x. reads_pushed x (new.reads x) (after.reads x);
+      reads = λ x. reads_pushed new.rows still x (new.reads x) (after.reads x);
       release = λ l. last_pushed (LastRelease l) (old.release l) (new.release l) (stands.release l) (after.release l);
       now = after.now ∙ ap suc stands.now ∙ length_more;
       acted = acted_new;

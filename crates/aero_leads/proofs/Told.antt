@@ -11,7 +11,7 @@ use Rattle.aero_model.proofs.Reach.{Reach}
 use Rattle.aero_model.proofs.Places.{in_block}
 use Rattle.aero_model.proofs.Depths.{closing_at}
 use Rattle.aero_model.proofs.Begins.{open_number}
-use Rattle.aero_model.proofs.Walks.{Reaches}
+use Rattle.aero_model.proofs.Walks.{Reaches, leads_from_reaches}
 use Rattle.aero_model.proofs.Telling.{none_returns}
 use Rattle.aero_access.specs.declared.slot.Slot.{Slot}
 use Rattle.aero_access.specs.declared.slot.Slot.TheVariants.{OfThread}
@@ -31,7 +31,7 @@ use Rattle.aero_leads.specs.Marks.{Mark, TakesMarks}
 use Rattle.aero_leads.specs.Steps.{led_by, IsClosed, IsClosedAtEnd}
 use Rattle.aero_leads.specs.Steps as rows_say
 use Rattle.aero_leads.proofs.FirstPlaces.{thread_chain, first_some, first_of, led_reaches, reaches_led}
-use Rattle.aero_leads.proofs.Marked.{ReachesOwn, ReachesMark, Stood, IsTaken, taken_place, last_place, stood}
+use Rattle.aero_leads.proofs.Marked.{ReachesOwn, ReachesMark, ReachesPassed, Stood, IsTaken, taken_place, last_place, stood}
 use Rattle.aero_leads.proofs.EventRows.{led_mark, mark_led}
 
 module _ (trace : List Numbered) (ok : IsWellFormed trace) (n : ℕ) (rows : Rows) (first : AreFirst trace n rows) (clocks : Slot → Clock) (sound : AreSound trace n clocks) (complete : MissNothing trace n clocks) where
@@ -85,7 +85,7 @@ module _ (trace : List Numbered) (ok : IsWellFormed trace) (n : ℕ) (rows : Row
         })
 
     judged_closed : IsJudged trace n t clocks ss → IsClosed trace n t rows ms
-    judged_closed j = (j.is_open, ⊎_elim of_own of_mark (st.all q.0 c.0))
+    judged_closed j = (j.is_open, ⊎_elim of_own (⊎_elim of_mark of_passed) (st.all q.0 c.0))
       where
         q : (q : ℕ) × (last_event trace n j.slot ≡ Some q) × Reaches trace n x q
         q = counted_last j.slot t j.is_open j.counted
@@ -104,6 +104,9 @@ module _ (trace : List Numbered) (ok : IsWellFormed trace) (n : ℕ) (rows : Row
             let m = w.it in
             mark_led rows t m ms w.among
             (reaches_led trace n x m.thread (rows m.thread t) (first.is_open m.thread t j.is_open) m.place (taken_place trace n e m (st.each m w.among)) (reaches_on trace n x q.0 m.place q.2 w.reach))
+
+        of_passed : ReachesPassed trace n q.0 → led_by rows t ms ≡ true
+        of_passed w = absurd (w.passed t j.is_open (leads_from_reaches trace n x w.place (reaches_on trace n x q.0 w.place q.2 w.reach)))
 
     closed_judged : IsClosed trace n t rows ms → IsJudged trace n t clocks ss
     closed_judged (d, h) = record {

@@ -15,6 +15,10 @@ abbrev pub is_led : Option ℕ → ℕ → Bool
 is_led None p = false
 is_led (Some q) p = nat_le q p
 
+-- no place that the rows have for thread o is p or earlier
+abbrev pub IsUnled : Rows → ℕ → ℕ → Type 0
+IsUnled rows o p = (w : ℕ) → is_led (rows o w) p ≡ false
+
 module _ (trace : List Numbered) (n : ℕ) where
   -- among the first n events, the one at place p is of thread o, or is its fork
   pub record IsPlaceOf (o p : ℕ) : Type 0 where

@@ -5,5 +5,6 @@ pub mod Kept
 pub mod Indexed
 pub mod Listed
 pub mod Seen
+pub mod Lows
 pub mod States
 pub mod Standing

@@ -1,7 +1,9 @@
 -- Which last events an event takes: of each, the thread that made it and its place.
-use Rattle.std.specs.Prelude.{◌≡◌, ◌≢◌, ℕ, ◌<◌, true, List, [], ◌∷◌, ◌++◌, Some, None, slice_get}
+use Rattle.std.specs.Prelude.{◌≡◌, ◌≢◌, ℕ, ◌<◌, ◌⊎◌, true, List, [], ◌∷◌, ◌++◌, Some, None, slice_get}
 use Rattle.aero_model.specs.declared.numbered.Numbered.{Numbered}
 use Rattle.aero_model.specs.declared.numbered.What.TheVariants.{Read, Write, Acquire, Join}
+use Rattle.aero_model.specs.Blocks.{depth, blocks, Block}
+use Rattle.aero_model.specs.Graph.{LeadsTo}
 use Rattle.aero_access.specs.declared.slot.Slot.{Slot}
 use Rattle.aero_access.specs.declared.slot.Slot.TheVariants.{OfThread, LastWrite, LastRead, LastRelease}
 use Rattle.aero_access.specs.Slots.{last_event}
@@ -21,10 +23,14 @@ module _ (trace : List Numbered) (n : ℕ) where
     its_own : (q : ℕ) (f : Numbered) → last_event trace n s ≡ Some q → slice_get trace q ≡ Some f → f.thread ≡ t → IfOther t s []
     other : (q : ℕ) (f : Numbered) → last_event trace n s ≡ Some q → slice_get trace q ≡ Some f → f.thread ≢ t → IfOther t s (mark f.thread q ∷ [])
 
-  -- last reads of the variable by threads other than t, and all of them that come after its last write
+  -- no open block leads to place q
+  abbrev pub IsPassed : ℕ → Type 0
+  IsPassed q = (w : ℕ) → 0 < depth trace w n → ¬ LeadsTo trace n (Block w (blocks trace w n)) q
+
+  -- last reads of the variable by threads other than t, and all of them that come after its last write and to which an open block leads
   pub record AreReads (t x : ℕ) (ms : List Mark) : Type 0 where
     pub each : (m : Mark) → Among m ms → (m.thread ≢ t) × (last_event trace n (LastRead x m.thread) ≡ Some m.place)
-    pub all : (u q : ℕ) → u ≢ t → last_event trace n (LastRead x u) ≡ Some q → ((p : ℕ) → last_event trace n (LastWrite x) ≡ Some p → p < q) → Among (mark u q) ms
+    pub all : (u q : ℕ) → u ≢ t → last_event trace n (LastRead x u) ≡ Some q → ((p : ℕ) → last_event trace n (LastWrite x) ≡ Some p → p < q) → Among (mark u q) ms ⊎ IsPassed q
 
   -- what event e at place n takes of other threads
   pub data TakesMarks (e : Numbered) : List Mark → Type 0 where
@@ -32,7 +38,7 @@ module _ (trace : List Numbered) (n : ℕ) where
     plain : takes_only_own e.what ≡ true → TakesMarks e []
     -- a read: the last write
     read : (x : ℕ) (ms : List Mark) → e.what ≡ Read x → IfOther e.thread (LastWrite x) ms → TakesMarks e ms
-    -- a write: the last write and the last reads; those before the last write may be left out
+    -- a write: the last write and the last reads; those before the last write, and those to which no open block leads, may be left out
     write : (x : ℕ) (ms rs : List Mark) → e.what ≡ Write x → IfOther e.thread (LastWrite x) ms → AreReads e.thread x rs → TakesMarks e (ms ++ rs)
     -- an acquire: the last release
     acquire : (l : ℕ) (ms : List Mark) → e.what ≡ Acquire l → IfOther e.thread (LastRelease l) ms → TakesMarks e ms

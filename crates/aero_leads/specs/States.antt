@@ -1,5 +1,5 @@
 -- What a trace says of what is kept of it.
-use Rattle.std.specs.Prelude.{◌≡◌, ◌==◌, ℕ, zero, suc, ◌<◌, nat_lt, Bool, true, false, if◌then◌else◌, List, ◌++◌, ◌∷◌, [], length, Some, None}
+use Rattle.std.specs.Prelude.{◌≡◌, ◌==◌, ℕ, zero, suc, ◌<◌, ◌⊎◌, nat_lt, Bool, true, false, if◌then◌else◌, List, ◌++◌, ◌∷◌, [], length, Some, None}
 use Rattle.aero_model.specs.declared.numbered.Numbered.{Numbered}
 use Rattle.aero_model.specs.Blocks.{depth, blocks}
 use Rattle.aero_model.specs.Cycle.{HasTellingCycle}
@@ -11,7 +11,7 @@ use Rattle.aero_access.specs.Takes.{Among}
 use Rattle.aero_access.specs.States.{actor_at}
 use Rattle.aero_access.specs.Judgement.{IsTold}
 use Rattle.aero_leads.specs.declared.last.Last.{Last}
-use Rattle.aero_leads.specs.Leads.{Rows, AreFirst}
+use Rattle.aero_leads.specs.Leads.{Rows, IsUnled, AreFirst}
 use Rattle.aero_leads.specs.Kept.{last}
 
 -- What is kept of a trace
@@ -38,17 +38,17 @@ module _ (trace : List Numbered) where
   abbrev pub IsLastOf : Slot → Last → Type 0
   IsLastOf s l = IsLastAt s l.thread l.count
 
-  -- last reads of the variable, and all of them that come after its last write
-  pub record AreReadsSince (x : ℕ) (ls : List Last) : Type 0 where
+  -- last reads of the variable, and all of them that come after its last write and to which an open block may lead
+  pub record AreReadsSince (rows : Rows) (x : ℕ) (ls : List Last) : Type 0 where
     pub each : (l : Last) → Among l ls → (p : ℕ) × (l.count ≡ suc p) × (last_event trace (length trace) (LastRead x l.thread) ≡ Some p)
-    pub all : (u q : ℕ) → last_event trace (length trace) (LastRead x u) ≡ Some q → ((p : ℕ) → last_event trace (length trace) (LastWrite x) ≡ Some p → p < q) → Among (last u (suc q)) ls
+    pub all : (u q : ℕ) → last_event trace (length trace) (LastRead x u) ≡ Some q → ((p : ℕ) → last_event trace (length trace) (LastWrite x) ≡ Some p → p < q) → Among (last u (suc q)) ls ⊎ IsUnled rows u q
 
 -- the state agrees with the trace, and there is no telling cycle
 pub record IsStateOf (w : State) (trace : List Numbered) : Type 0 where
   pub first : AreFirst trace (length trace) w.rows
   pub none : ¬ HasTellingCycle trace (length trace)
   pub write : (x : ℕ) → IsLastOf trace (LastWrite x) (w.write x)
-  pub reads : (x : ℕ) → AreReadsSince trace x (w.reads x)
+  pub reads : (x : ℕ) → AreReadsSince trace w.rows x (w.reads x)
   pub release : (l : ℕ) → IsLastOf trace (LastRelease l) (w.release l)
   pub now : w.now ≡ length trace
   pub acted : (t : ℕ) → w.acted t ≡ has_acted trace t

@@ -7,7 +7,7 @@ ghost use Rattle.aero_leads.specs.Kept.{last, IsLeastBack};
 
 use crate::last::Last;
 use crate::table;
-use crate::table::{Table, gain, no_thread, take, take_reads};
+use crate::table::{Table, gain, may_be_led, no_thread, take, take_reads};
 use crate::thread::least_back;
 use crate::variable::{
     Variable, last_release, last_write, latest_read, note_read, note_release, note_write,
@@ -99,11 +99,13 @@ impl Kept {
         ensures room { HasRoom self.new t }
     {
         let write = last_write(&self.variables, x);
+        let latest = latest_read(&self.variables, x);
+        let is_kept = may_be_led(&self.table, latest, t);
         if take(&mut self.table, t, write, self.events)? {
             return Ok(true);
         }
         let event = self.event(t);
-        note_read(&mut self.variables, x, event)?;
+        note_read(&mut self.variables, x, event, is_kept)?;
         Ok(false)
     }
 

@@ -13,6 +13,8 @@
 //! - A thread that takes an event is closed where its own open block leads there. Else what leads to
 //!   the event leads to the thread from now on.
 //! - A begin is the first place of its block, and a fork gives all that leads to the thread.
+//! - A read that no open block leads to is forgotten where its variable is read again: what comes to lead to its thread
+//!   leads to later events of it alone.
 //! - At an end, what leads to the block leads to all that the block led to, each from where the block
 //!   did, and the block leaves all rows. No variable and no lock is looked at.
 //!
@@ -33,6 +35,7 @@ mod kept;
 mod last;
 pub mod leads;
 mod led;
+mod lows;
 mod row;
 mod seen;
 mod table;

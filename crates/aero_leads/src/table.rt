@@ -2,11 +2,13 @@
 ghost use Rattle.std.specs.Prelude.{◌≡◌, ◌≢◌, ◌∷◌, ◌++◌, ◌<◌, ◌-◌, ◌^◌, ◌==◌, ℕ, true, false, [], OnOk, OnErr, IfOk, vec_len, slice_get, is_some, if◌then◌else◌};
 ghost use Rattle.aero_leads.specs.Kept.{rows_in, is_below, thread_in_block, thread_begins, thread_acted, leads_to, leads_to_any, if_any, TakesAll, TakesRow, HaveSameBlocks, AreSameThreads, BeginsBlock, EndsBlock};
 ghost use Rattle.aero_leads.specs.Listed.{AreListed};
+ghost use Rattle.aero_leads.specs.Lows.{AreLow};
 ghost use Rattle.aero_leads.specs.Seen.{AreSeen};
 
 use crate::index::{Index, no_row};
 use crate::last::Last;
 use crate::led::{Led, forget, no_block};
+use crate::lows::{Lows, forget_lows, is_low, lower, no_low, raise_all};
 use crate::row::{Brought, brought_by, gain_all, settle};
 use crate::seen::{Seen, forget_all, has_seen, nothing_seen, see_all, unsee_all};
 use crate::thread;
@@ -14,15 +16,17 @@ use crate::thread::{Thread, leave, put_row, row_of, spread, take_row};
 use std::alloc::{AllocError, Global};
 
 /// The threads, by their numbers. With each open block the other threads are listed to whose events
-/// it leads. The index is room to work in. What is seen is a part of what the rows say.
+/// it leads. The index is room to work in. What is seen and what is low are parts of what the rows say.
 #[derive(Drop)]
 pub struct Table {
     pub threads: Vec<Thread>,
     pub led: Led,
     pub index: Index,
     pub seen: Seen,
+    pub lows: Lows,
     ghost listed: { AreListed threads.items led },
     ghost known: { AreSeen threads.items seen },
+    ghost low: { AreLow threads.items lows },
 }
 
 /// No thread.
@@ -34,6 +38,7 @@ pub(crate) fn no_thread(alloc: Global) -> Table
         led: no_block(alloc),
         index: no_row(alloc),
         seen: nothing_seen(alloc),
+        lows: no_low(alloc),
     }
 }
 
@@ -69,10 +74,12 @@ pub(crate) fn gain(
     let (led, index) = (&mut table.led, &mut table.index);
     let Ok(()) = gain_all(&mut row, t, other, below, place, led, index) else {
         forget_all(&mut table.seen);
+        forget_lows(&mut table.lows);
         return Err(AllocError);
     };
     put_row(&mut table.threads, t, row);
     see_all(&mut table.seen, &table.threads, t);
+    lower(&mut table.lows, t, place);
     Ok(())
 }
 
@@ -118,6 +125,26 @@ fn gain_news(
     Ok(())
 }
 
+// Below which place a block has to lead to the event's thread, so that thread t takes it: 0, which is below no place, where the
+// event is its own. So one comparison says of most events that nothing is taken.
+#[inline(always)]
+fn place_for(last: Last, t: u32) -> u32
+    ensures own { last.thread ≡ t → result ≡ 0 }
+    ensures other { last.thread ≢ t → result ≡ last.count }
+{
+    if last.thread == t { 0 } else { last.count }
+}
+
+/// Whether an open block may lead to the event, which is of another thread than `t`.
+#[inline(always)]
+pub(crate) fn may_be_led(table: &Table, last: Last, t: u32) -> bool
+    ensures other { result ≡ true → last.thread ≢ t }
+    ensures there { result ≡ true → 0 < last.count }
+    ensures unled { result ≡ false → last.thread ≢ t → (w : ℕ) → is_below (rows_in table.now.threads.items last.thread w) last.count ≡ false }
+{
+    !is_low(&table.lows, last.thread, place_for(last, t))
+}
+
 /// Thread `t` takes what leads to the event, from this place on, unless the event is its own, or
 /// its own open block leads there: then the answer is true.
 #[inline(always)]
@@ -128,7 +155,7 @@ pub(crate) fn take(table: &mut Table, t: u32, last: Last, place: u32) -> Result<
     ensures same { HaveSameBlocks table.old.threads.items table.new.threads.items }
     ensures room { vec_len table.new.threads ≡ vec_len table.old.threads }
 {
-    if last.thread == t || last.count == 0 {
+    if !may_be_led(table, last, t) {
         return Ok(false);
     }
     let brought = brings(table, t, last.thread, last.count);
@@ -186,8 +213,10 @@ pub(crate) fn begin(table: &mut Table, t: u32, place: u32) -> Result<(), AllocEr
 {
     let Ok(()) = thread::begin(&mut table.threads, t, place) else {
         forget_all(&mut table.seen);
+        forget_lows(&mut table.lows);
         return Err(AllocError);
     };
+    lower(&mut table.lows, t, place);
     Ok(())
 }
 
@@ -203,11 +232,13 @@ pub(crate) fn end(table: &mut Table, t: u32) -> Result<(), AllocError>
     let (led, index) = (&mut table.led, &mut table.index);
     let Ok(()) = spread(&mut table.threads, &row, t, led, index) else {
         forget_all(&mut table.seen);
+        forget_lows(&mut table.lows);
         return Err(AllocError);
     };
     put_row(&mut table.threads, t, row);
     leave(&mut table.threads, t);
     unsee_all(&mut table.seen, &table.led, t);
+    raise_all(&mut table.lows, &table.threads, &table.led, t);
     forget(&mut table.led, t);
     Ok(())
 }

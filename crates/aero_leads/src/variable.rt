@@ -5,8 +5,8 @@ ghost use Rattle.aero_leads.specs.Kept.{last, last_or_none, if_any, variable_wri
 use crate::last::Last;
 use std::alloc::{AllocError, Global};
 
-/// The last write, the latest read since, and the last read by each other thread that has read the
-/// variable since. Most variables are read by one thread between writes, and need no list.
+/// The last write, the latest read since, and of each other thread its last read since, if an open block may lead to it.
+/// Most variables are read by one thread between writes, and need no list.
 #[derive(Drop)]
 pub struct Variable {
     pub write: Last,
@@ -34,7 +34,7 @@ pub(crate) fn latest_read(variables: &[Variable], x: u32) -> Last
     }
 }
 
-/// The last reads of variable `x` since by other threads.
+/// The last reads of variable `x` since by other threads to which an open block may lead.
 pub(crate) fn other_reads(variables: &[Variable], x: u32) -> &[Last]
     ensures { result.now ≡ other_reads_in (slice_get variables.now x) }
 {
@@ -71,18 +71,20 @@ pub(crate) fn note_write(
     Ok(())
 }
 
-/// Variable `x` is read by this event, the last read by its thread.
+/// Variable `x` is read by this event, the last read by its thread. The latest read before it stands with the others
+/// from now on, or is forgotten, which is right where it is by the same thread or no open block leads to it.
 pub(crate) fn note_read(
     variables: &mut Vec<Variable>,
     x: u32,
     event: Last,
+    is_kept: bool,
 ) -> Result<(), AllocError>
     requires { 0 < event.count }
     ensures writes { OnOk result ((y : ℕ) → variable_write (slice_get variables.new.items y) ≡ variable_write (slice_get variables.old.items y)) }
-    ensures reads { OnOk result ((y : ℕ) → variable_reads (slice_get variables.new.items y) ≡ (if y == x then reads_but event.thread (variable_reads (slice_get variables.old.items y)) ++ event ∷ [] else variable_reads (slice_get variables.old.items y))) }
+    ensures reads { OnOk result ((y : ℕ) → variable_reads (slice_get variables.new.items y) ≡ (if y == x then (reads_but event.thread (other_reads_in (slice_get variables.old.items y)) ++ (if is_kept then latest_read_in (slice_get variables.old.items y) ∷ [] else [])) ++ event ∷ [] else variable_reads (slice_get variables.old.items y))) }
 {
     reach(variables, x)?;
-    put_read(&mut variables[x as usize], event)?;
+    put_read(&mut variables[x as usize], event, is_kept)?;
     Ok(())
 }
 
@@ -96,14 +98,14 @@ pub(crate) fn note_release(releases: &mut Vec<Last>, l: u32, event: Last) -> Res
 }
 
 // The event is the latest read, in the place of an earlier one by its thread.
-fn put_read(variable: &mut Variable, event: Last) -> Result<(), AllocError>
+fn put_read(variable: &mut Variable, event: Last, is_kept: bool) -> Result<(), AllocError>
     requires { 0 < event.count }
     ensures write { variable.new.write ≡ variable.old.write }
-    ensures reads { OnOk result (variable_reads (Some variable.new) ≡ reads_but event.thread (variable_reads (Some variable.old)) ++ event ∷ []) }
+    ensures reads { OnOk result (variable_reads (Some variable.new) ≡ (reads_but event.thread (other_reads_in (Some variable.old)) ++ (if is_kept then latest_read_in (Some variable.old) ∷ [] else [])) ++ event ∷ []) }
 {
     drop_reader(&mut variable.others, event.thread);
-    let latest = variable.read;
-    if latest.count > 0 && latest.thread != event.thread {
+    if is_kept {
+        let latest = variable.read;
         variable.others.push(latest)?;
     }
     variable.read = event;
@@ -120,6 +122,8 @@ fn reach(variables: &mut Vec<Variable>, x: u32) -> Result<(), AllocError>
     ensures room { OnOk result (x < vec_len variables.new) }
     ensures writes { (y : ℕ) → variable_write (slice_get variables.new.items y) ≡ variable_write (slice_get variables.old.items y) }
     ensures reads { (y : ℕ) → variable_reads (slice_get variables.new.items y) ≡ variable_reads (slice_get variables.old.items y) }
+    ensures latest { (y : ℕ) → latest_read_in (slice_get variables.new.items y) ≡ latest_read_in (slice_get variables.old.items y) }
+    ensures others { (y : ℕ) → other_reads_in (slice_get variables.new.items y) ≡ other_reads_in (slice_get variables.old.items y) }
 {
     let at = x as usize;
     while variables.len() <= at {

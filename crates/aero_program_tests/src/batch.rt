@@ -25,9 +25,16 @@ use std::sync::atomic::AtomicBool;
 use std::test::Fail;
 use std::thread::Threads;
 
-const PIECES: [u32; 4] = [1, 2, 7, 65_536];
+static PIECES: [u32; 4] = [1, 2, 7, 65_536];
 
-const EVERYBODY: [Who; 4] = [Who::Alone, Who::Crew(1), Who::Crew(2), Who::Crew(16)];
+static EVERYBODY: [Who; 4] = [Who::Alone, Who::Crew(1), Who::Crew(2), Who::Crew(16)];
+
+static OTHERS: [Who; 4] = [
+    Who::Crew(1),
+    Who::Crew(2),
+    Who::Crew(16),
+    Who::Helped(Habit::Newest),
+];
 
 // Two blocks that cross, each before the other.
 const CROSSED: &str = "T1|begin/T2|begin/T1|w(x)/T2|r(x)/T2|w(y)/T1|r(y)";
@@ -131,17 +138,11 @@ fn expect_text<T: Abort + AllocGlobal + Threads + Wait + Copy + Send + 'static>(
     line: &str,
 ) -> Result<(), Fail> {
     let start = format!(in rt.alloc(); "{line}/traces 1: ")?;
-    for piece in PIECES {
-        expect_start(rt, text, limits, piece, Who::Alone, &start)?;
+    for piece in PIECES.iter() {
+        expect_start(rt, text, limits, *piece, Who::Alone, &start)?;
     }
-    let others = [
-        Who::Crew(1),
-        Who::Crew(2),
-        Who::Crew(16),
-        Who::Helped(Habit::Newest),
-    ];
-    for who in others {
-        expect_start(rt, text, limits, 7, who, &start)?;
+    for who in OTHERS.iter() {
+        expect_start(rt, text, limits, 7, *who, &start)?;
     }
     Ok(())
 }
@@ -167,8 +168,8 @@ fn has_line<T: AllocGlobal + Threads + Wait + Copy + Send + 'static>(
     line: &str,
 ) -> Result<bool, Fail> {
     let start = lines_of(rt.alloc(), line)?;
-    for who in EVERYBODY {
-        if !has_start(rt, who, text, asked, &start)? {
+    for who in EVERYBODY.iter() {
+        if !has_start(rt, *who, text, asked, &start)? {
             return Ok(false);
         }
     }
@@ -190,245 +191,298 @@ fn has_start<T: AllocGlobal + Threads + Wait + Copy + Send + 'static>(
     Ok(outcome.cause.is_none() && report.as_slice().starts_with(start))
 }
 
+// A text, the labels that are listed, and how what is written of the text begins.
+type LabelledText = (&'static str, &'static str, &'static str);
+
+// Whether that is so, where the order is asked for or not, whoever helps.
+fn has_row<T: AllocGlobal + Threads + Wait + Copy + Send + 'static>(
+    rt: &T,
+    row: &LabelledText,
+    is_ordered: bool,
+) -> Result<bool, Fail> {
+    let text = lines_of(rt.alloc(), row.0)?;
+    has_line(rt, &text, (row.1, is_ordered), row.2)
+}
+
+const OF_ONE_LABEL: &str = "T1|begin(a)/T2|begin/T1|w(x)/T2|r(x)/T2|w(y)/T1|r(y)";
+
+const OF_TWO_LABELS: &str = "T1|begin(a)/T1|begin(b)/T1|w(x)/T2|r(x)/T2|w(y)/T1|r(y)/T1|end/T1|end";
+
+const OF_AN_INNER_LABEL: &str = "T1|begin/T1|begin(a)/T1|end/T1|w(x)/T2|w(x)/T1|r(x)";
+
+static LABELLED: [LabelledText; 7] = [
+    (
+        OF_ONE_LABEL,
+        "a",
+        "n: no violation, 1 blocks open (6 events, 1 blocks)/",
+    ),
+    (
+        OF_ONE_LABEL,
+        "",
+        "n: violation at line 6: block of T1 from line 1/",
+    ),
+    (
+        OF_TWO_LABELS,
+        "a",
+        "n: violation at line 6: block of T1 from line 2/",
+    ),
+    (
+        OF_TWO_LABELS,
+        "b",
+        "n: violation at line 6: block of T1 from line 1/",
+    ),
+    (
+        OF_TWO_LABELS,
+        "a b",
+        "n: serializable (8 events, 0 blocks)/",
+    ),
+    (
+        OF_AN_INNER_LABEL,
+        "a",
+        "n: violation at line 6: block of T1 from line 1/",
+    ),
+    (
+        "T1|begin(a)/T1|end/T1|end",
+        "a",
+        "n:3: ill-formed: EndWithoutBegin/",
+    ),
+];
+
 // A block that begins with a listed label is no transaction.
 #[test]
 fn a_text_has_its_line_by_the_labels(rt: HostRuntime) -> Result<(), Fail> {
-    let one = "T1|begin(a)/T2|begin/T1|w(x)/T2|r(x)/T2|w(y)/T1|r(y)";
-    let two = "T1|begin(a)/T1|begin(b)/T1|w(x)/T2|r(x)/T2|w(y)/T1|r(y)/T1|end/T1|end";
-    let inner = "T1|begin/T1|begin(a)/T1|end/T1|w(x)/T2|w(x)/T1|r(x)";
-    let rows = [
-        (
-            one,
-            "a",
-            "n: no violation, 1 blocks open (6 events, 1 blocks)/",
-        ),
-        (one, "", "n: violation at line 6: block of T1 from line 1/"),
-        (two, "a", "n: violation at line 6: block of T1 from line 2/"),
-        (two, "b", "n: violation at line 6: block of T1 from line 1/"),
-        (two, "a b", "n: serializable (8 events, 0 blocks)/"),
-        (
-            inner,
-            "a",
-            "n: violation at line 6: block of T1 from line 1/",
-        ),
-        (
-            "T1|begin(a)/T1|end/T1|end",
-            "a",
-            "n:3: ill-formed: EndWithoutBegin/",
-        ),
-    ];
-    for (text, labels, line) in rows {
-        let text = lines_of(rt.alloc(), text)?;
-        assert!(rt; has_line(&rt, &text, (labels, false), line)?);
+    for row in LABELLED.iter() {
+        assert!(rt; has_row(&rt, row, false)?);
     }
     Ok(())
 }
+
+static ORDERED: [LabelledText; 14] = [
+    ("", "", "n: serializable (0 events, 0 blocks)/traces 1: "),
+    (
+        ONE_BLOCK,
+        "",
+        "n: serializable (5 events, 1 blocks)/  1 T1/traces 1: ",
+    ),
+    (
+        "T1|w(x)|5/T2|r(x)|6",
+        "",
+        "n: serializable (2 events, 0 blocks)/  1 T1/  2 T2/traces 1: ",
+    ),
+    (
+        WRITTEN_BETWEEN,
+        "",
+        "n: serializable (4 events, 1 blocks)/  2 T2/  1 T1/traces 1: ",
+    ),
+    (
+        "T3|w(a)/T1|begin/T2|w(a)/T1|r(a)/T1|end",
+        "",
+        "n: serializable (5 events, 1 blocks)/  1 T3/  3 T2/  2 T1/traces 1: ",
+    ),
+    (
+        "T3|w(a)//T1|begin/T2|w(a)/T1|r(a)/T1|end",
+        "",
+        "n: serializable (5 events, 1 blocks)/  1 T3/  4 T2/  3 T1/traces 1: ",
+    ),
+    (
+        "T1|begin(a)/T1|begin(b)/T2|w(x)/T1|r(x)/T1|end/T1|end",
+        "a",
+        "n: serializable (6 events, 1 blocks)/  1 T1/  3 T2/  2 T1/  6 T1/traces 1: ",
+    ),
+    (
+        "T1|begin/T2|w(x)/T1|r(x)",
+        "",
+        "n: no violation, 1 blocks open (3 events, 1 blocks)/traces 1: ",
+    ),
+    (
+        "T1|begin/T2|begin/T1|w(x)/T2|w(y)/T1|r(y)",
+        "",
+        "n: no violation, 2 blocks open (5 events, 2 blocks)/traces 1: ",
+    ),
+    (
+        "T1|begin/T2|begin/T2|w(y)/T1|w(x)/T2|r(x)/T1|r(y)",
+        "",
+        "n: no violation, 2 blocks open (6 events, 2 blocks)/traces 1: ",
+    ),
+    (
+        CROSSED,
+        "",
+        "n: violation at line 6: block of T1 from line 1/traces 1: ",
+    ),
+    ("T1|r()", "", "n:1: malformed: MissingTarget/traces 1: "),
+    (
+        "T1|w(x)/T1|r()",
+        "",
+        "n:2: malformed: MissingTarget/traces 1: ",
+    ),
+    (
+        "T1|w(x)/T1|end",
+        "",
+        "n:2: ill-formed: EndWithoutBegin/traces 1: ",
+    ),
+];
 
 // Behind the line of a serializable trace stand its transactions in order, and behind any other none.
 #[test]
 fn a_text_has_its_steps_where_its_order_is_asked_for(rt: HostRuntime) -> Result<(), Fail> {
-    let rows = [
-        ("", "", "n: serializable (0 events, 0 blocks)/traces 1: "),
-        (
-            ONE_BLOCK,
-            "",
-            "n: serializable (5 events, 1 blocks)/  1 T1/traces 1: ",
-        ),
-        (
-            "T1|w(x)|5/T2|r(x)|6",
-            "",
-            "n: serializable (2 events, 0 blocks)/  1 T1/  2 T2/traces 1: ",
-        ),
-        (
-            WRITTEN_BETWEEN,
-            "",
-            "n: serializable (4 events, 1 blocks)/  2 T2/  1 T1/traces 1: ",
-        ),
-        (
-            "T3|w(a)/T1|begin/T2|w(a)/T1|r(a)/T1|end",
-            "",
-            "n: serializable (5 events, 1 blocks)/  1 T3/  3 T2/  2 T1/traces 1: ",
-        ),
-        (
-            "T3|w(a)//T1|begin/T2|w(a)/T1|r(a)/T1|end",
-            "",
-            "n: serializable (5 events, 1 blocks)/  1 T3/  4 T2/  3 T1/traces 1: ",
-        ),
-        (
-            "T1|begin(a)/T1|begin(b)/T2|w(x)/T1|r(x)/T1|end/T1|end",
-            "a",
-            "n: serializable (6 events, 1 blocks)/  1 T1/  3 T2/  2 T1/  6 T1/traces 1: ",
-        ),
-        (
-            "T1|begin/T2|w(x)/T1|r(x)",
-            "",
-            "n: no violation, 1 blocks open (3 events, 1 blocks)/traces 1: ",
-        ),
-        (
-            "T1|begin/T2|begin/T1|w(x)/T2|w(y)/T1|r(y)",
-            "",
-            "n: no violation, 2 blocks open (5 events, 2 blocks)/traces 1: ",
-        ),
-        (
-            "T1|begin/T2|begin/T2|w(y)/T1|w(x)/T2|r(x)/T1|r(y)",
-            "",
-            "n: no violation, 2 blocks open (6 events, 2 blocks)/traces 1: ",
-        ),
-        (
-            CROSSED,
-            "",
-            "n: violation at line 6: block of T1 from line 1/traces 1: ",
-        ),
-        ("T1|r()", "", "n:1: malformed: MissingTarget/traces 1: "),
-        (
-            "T1|w(x)/T1|r()",
-            "",
-            "n:2: malformed: MissingTarget/traces 1: ",
-        ),
-        (
-            "T1|w(x)/T1|end",
-            "",
-            "n:2: ill-formed: EndWithoutBegin/traces 1: ",
-        ),
-    ];
-    for (text, labels, start) in rows {
-        let text = lines_of(rt.alloc(), text)?;
-        assert!(rt; has_line(&rt, &text, (labels, true), start)?);
+    for row in ORDERED.iter() {
+        assert!(rt; has_row(&rt, row, true)?);
     }
     Ok(())
 }
 
-#[test]
-fn a_text_has_its_line(rt: HostRuntime) -> Result<(), Fail> {
-    let rows = [
-        ("", "n: serializable (0 events, 0 blocks)"),
-        (
-            "T1|w(x)|5/T2|r(x)|6",
-            "n: serializable (2 events, 0 blocks)",
-        ),
-        (
-            "T1|w(x)|5\r/T2|r(x)|6\r",
-            "n: serializable (2 events, 0 blocks)",
-        ),
-        (CROSSED, "n: violation at line 6: block of T1 from line 1"),
-        (
-            "T1|begin/T2|begin/T1|w(x)/T2|w(y)/T1|r(y)",
-            "n: no violation, 2 blocks open (5 events, 2 blocks)",
-        ),
-        (
-            "T1|begin/T2|begin/T2|w(y)/T1|w(x)/T2|r(x)/T1|r(y)",
-            "n: no violation, 2 blocks open (6 events, 2 blocks)",
-        ),
-        (
-            CLOSED_BY_AN_END,
-            "n: violation at line 7: block of T2 from line 2",
-        ),
-        (
-            "T1|begin/T2|begin/T3|begin/T2|w(a)/T3|w(b)/T1|w(x)/T2|r(x)/T3|r(x)/T1|r(a)/T1|r(b)/T1|end",
-            "n: violation at line 11: block of T2 from line 2",
-        ),
-        (
-            "T3|begin/T2|begin/T2|w(y)/T1|r(y)/T1|w(v)/T3|w(x)/T2|r(x)/T2|end/T3|r(v)",
-            "n: violation at line 9: block of T3 from line 1",
-        ),
-        (
-            "T1|begin/T1|fork(T2)/T1|join(T2)/T1|end",
-            "n: serializable (4 events, 1 blocks)",
-        ),
-        (
-            "T1|begin/T1|fork(T2)/T2|w(x)/T1|join(T2)/T1|end",
-            "n: violation at line 4: block of T1 from line 1",
-        ),
-        (
-            "T1|begin/T1|acq(l)/T1|rel(l)/T2|acq(l)/T2|rel(l)/T1|acq(l)",
-            "n: violation at line 6: block of T1 from line 1",
-        ),
-        (
-            "T1|begin(a)/T1|begin()/T1|acq(l)/T1|acq(l)/T1|rel(l)/T1|rel(l)/T1|end/T1|end",
-            "n: serializable (8 events, 1 blocks)",
-        ),
-        (
-            "T1|begin/T1|w(y)/T2|r(y)/T2|r(x)/T1|w(x)",
-            "n: violation at line 5: block of T1 from line 1",
-        ),
-        (ONE_BLOCK, "n: serializable (5 events, 1 blocks)"),
-        ("T1|rel(l)", "n:1: ill-formed: LockNotHeld"),
-        ("T1|acq(l)/T2|acq(l)", "n:2: ill-formed: LockHeldByOther"),
-        ("/T1|x(y)", "n:2: malformed: UnknownOperation"),
-        ("T1|r()", "n:1: malformed: MissingTarget"),
-        ("T1|end/T1", "n:1: ill-formed: EndWithoutBegin"),
-        (
-            "T1|join(T9)/T1|join(T9)",
-            "n: serializable (2 events, 0 blocks)",
-        ),
-        (
-            "T1|join(T9)/T1|join(T9)/T9|w(x)",
-            "n:3: ill-formed: ThreadJoined",
-        ),
-        (
-            "T1|join(T9)/T1|join(T9)/T1|fork(T9)",
-            "n:3: ill-formed: ForkStarted",
-        ),
-        ("T1|begin/T1|w(x", "n:2: malformed: BadParenthesis"),
-        (
-            "T1|begin/T2|begin/T1|w(x)/T2|r(x)/T2|w(y)/T1|r(y)/T1",
-            "n: violation at line 6: block of T1 from line 1",
-        ),
-    ];
-    for (text, line) in rows {
-        let text = lines_of(rt.alloc(), text)?;
-        expect_text(&rt, &text, Limits::greatest(), line)?;
-    }
-    // Under limits of so many lines, threads and names.
-    let rows = [
-        (
-            "T1|r(x)/T1|r(x)",
-            (2, 1, 1),
-            "n: serializable (2 events, 0 blocks)",
-        ),
-        (
-            "T1|r(x)/T1|r(x)/ ",
-            (2, 1, 1),
-            "n:3: malformed: TooManyLines",
-        ),
-        (
-            "T1|r(x)/T1|r(x)/T1",
-            (2, 1, 1),
-            "n:3: malformed: NoOperation",
-        ),
-        (
-            "T1|r(x)/T1|r(x)/T1|r(x)/T1",
-            (2, 1, 1),
-            "n:3: malformed: TooManyLines",
-        ),
-        (
-            "T1|w(x)/T2|w(x)/T3|w(x)",
-            (3, 2, 1),
-            "n:3: ill-formed: TooManyThreads",
-        ),
-        (
-            "T1|w(x)/T1|acq(x)/T1|w(y)",
-            (3, 1, 1),
-            "n:3: ill-formed: TooManyNames",
-        ),
-    ];
-    for (text, (lines, threads, names), line) in rows {
-        let text = lines_of(rt.alloc(), text)?;
-        expect_text(&rt, &text, limits_of(100, lines, threads, names)?, line)?;
-    }
-    // A line has at most 4,096 bytes.
+static LINES: [(&str, &str); 25] = [
+    ("", "n: serializable (0 events, 0 blocks)"),
+    (
+        "T1|w(x)|5/T2|r(x)|6",
+        "n: serializable (2 events, 0 blocks)",
+    ),
+    (
+        "T1|w(x)|5\r/T2|r(x)|6\r",
+        "n: serializable (2 events, 0 blocks)",
+    ),
+    (CROSSED, "n: violation at line 6: block of T1 from line 1"),
+    (
+        "T1|begin/T2|begin/T1|w(x)/T2|w(y)/T1|r(y)",
+        "n: no violation, 2 blocks open (5 events, 2 blocks)",
+    ),
+    (
+        "T1|begin/T2|begin/T2|w(y)/T1|w(x)/T2|r(x)/T1|r(y)",
+        "n: no violation, 2 blocks open (6 events, 2 blocks)",
+    ),
+    (
+        CLOSED_BY_AN_END,
+        "n: violation at line 7: block of T2 from line 2",
+    ),
+    (
+        "T1|begin/T2|begin/T3|begin/T2|w(a)/T3|w(b)/T1|w(x)/T2|r(x)/T3|r(x)/T1|r(a)/T1|r(b)/T1|end",
+        "n: violation at line 11: block of T2 from line 2",
+    ),
+    (
+        "T3|begin/T2|begin/T2|w(y)/T1|r(y)/T1|w(v)/T3|w(x)/T2|r(x)/T2|end/T3|r(v)",
+        "n: violation at line 9: block of T3 from line 1",
+    ),
+    (
+        "T1|begin/T1|fork(T2)/T1|join(T2)/T1|end",
+        "n: serializable (4 events, 1 blocks)",
+    ),
+    (
+        "T1|begin/T1|fork(T2)/T2|w(x)/T1|join(T2)/T1|end",
+        "n: violation at line 4: block of T1 from line 1",
+    ),
+    (
+        "T1|begin/T1|acq(l)/T1|rel(l)/T2|acq(l)/T2|rel(l)/T1|acq(l)",
+        "n: violation at line 6: block of T1 from line 1",
+    ),
+    (
+        "T1|begin(a)/T1|begin()/T1|acq(l)/T1|acq(l)/T1|rel(l)/T1|rel(l)/T1|end/T1|end",
+        "n: serializable (8 events, 1 blocks)",
+    ),
+    (
+        "T1|begin/T1|w(y)/T2|r(y)/T2|r(x)/T1|w(x)",
+        "n: violation at line 5: block of T1 from line 1",
+    ),
+    (ONE_BLOCK, "n: serializable (5 events, 1 blocks)"),
+    ("T1|rel(l)", "n:1: ill-formed: LockNotHeld"),
+    ("T1|acq(l)/T2|acq(l)", "n:2: ill-formed: LockHeldByOther"),
+    ("/T1|x(y)", "n:2: malformed: UnknownOperation"),
+    ("T1|r()", "n:1: malformed: MissingTarget"),
+    ("T1|end/T1", "n:1: ill-formed: EndWithoutBegin"),
+    (
+        "T1|join(T9)/T1|join(T9)",
+        "n: serializable (2 events, 0 blocks)",
+    ),
+    (
+        "T1|join(T9)/T1|join(T9)/T9|w(x)",
+        "n:3: ill-formed: ThreadJoined",
+    ),
+    (
+        "T1|join(T9)/T1|join(T9)/T1|fork(T9)",
+        "n:3: ill-formed: ForkStarted",
+    ),
+    ("T1|begin/T1|w(x", "n:2: malformed: BadParenthesis"),
+    (
+        "T1|begin/T2|begin/T1|w(x)/T2|r(x)/T2|w(y)/T1|r(y)/T1",
+        "n: violation at line 6: block of T1 from line 1",
+    ),
+];
+
+fn expect_line<T: Abort + AllocGlobal + Threads + Wait + Copy + Send + 'static>(
+    rt: &T,
+    (text, line): (&str, &str),
+) -> Result<(), Fail> {
+    let text = lines_of(rt.alloc(), text)?;
+    expect_text(rt, &text, Limits::greatest(), line)
+}
+
+// A text, how many lines, threads and names it may have, and its line.
+type LimitedText = (&'static str, (u32, u32, u32), &'static str);
+
+static LIMITED: [LimitedText; 6] = [
+    (
+        "T1|r(x)/T1|r(x)",
+        (2, 1, 1),
+        "n: serializable (2 events, 0 blocks)",
+    ),
+    (
+        "T1|r(x)/T1|r(x)/ ",
+        (2, 1, 1),
+        "n:3: malformed: TooManyLines",
+    ),
+    (
+        "T1|r(x)/T1|r(x)/T1",
+        (2, 1, 1),
+        "n:3: malformed: NoOperation",
+    ),
+    (
+        "T1|r(x)/T1|r(x)/T1|r(x)/T1",
+        (2, 1, 1),
+        "n:3: malformed: TooManyLines",
+    ),
+    (
+        "T1|w(x)/T2|w(x)/T3|w(x)",
+        (3, 2, 1),
+        "n:3: ill-formed: TooManyThreads",
+    ),
+    (
+        "T1|w(x)/T1|acq(x)/T1|w(y)",
+        (3, 1, 1),
+        "n:3: ill-formed: TooManyNames",
+    ),
+];
+
+fn expect_limited<T: Abort + AllocGlobal + Threads + Wait + Copy + Send + 'static>(
+    rt: &T,
+    row: &LimitedText,
+) -> Result<(), Fail> {
+    let (lines, threads, names) = row.1;
+    let text = lines_of(rt.alloc(), row.0)?;
+    expect_text(rt, &text, limits_of(100, lines, threads, names)?, row.2)
+}
+
+// A line of so many bytes has this line of the report.
+fn expect_long<T: Abort + AllocGlobal + Threads + Wait + Copy + Send + 'static>(
+    rt: &T,
+    bytes: usize,
+    line: &str,
+) -> Result<(), Fail> {
     let mut text = Vec::from_slice(rt.alloc(), b"T1|r(x)|")?;
-    for _ in 0..4088 {
+    while text.len() < bytes {
         text.push(b'a')?;
     }
-    expect_text(
-        &rt,
-        &text,
-        Limits::greatest(),
-        "n: serializable (1 events, 0 blocks)",
-    )?;
-    text.push(b'a')?;
-    expect_text(&rt, &text, Limits::greatest(), "n:1: malformed: TooLong")
+    expect_text(rt, &text, Limits::greatest(), line)
+}
+
+#[test]
+fn a_text_has_its_line(rt: HostRuntime) -> Result<(), Fail> {
+    for row in LINES.iter() {
+        expect_line(&rt, *row)?;
+    }
+    for row in LIMITED.iter() {
+        expect_limited(&rt, row)?;
+    }
+    expect_long(&rt, 4096, "n: serializable (1 events, 0 blocks)")?;
+    expect_long(&rt, 4097, "n:1: malformed: TooLong")
 }
 
 // Runs over one source with the name n, and expects what is written and how the source ended.
@@ -469,9 +523,9 @@ fn expect_ends<T: Abort + AllocGlobal + Threads + Wait + Copy + Send + 'static>(
 #[test]
 fn a_source_ends_whole_too_large_or_broken(rt: HostRuntime) -> Result<(), Fail> {
     let crossed = lines_of(rt.alloc(), CROSSED)?;
-    for piece in PIECES {
-        for who in EVERYBODY {
-            expect_ends(&rt, &crossed, (piece, who))?;
+    for piece in PIECES.iter() {
+        for who in EVERYBODY.iter() {
+            expect_ends(&rt, &crossed, (*piece, *who))?;
         }
     }
     Ok(())
@@ -519,85 +573,86 @@ fn expect_row<T: Abort + AllocGlobal + Threads + Wait + Copy + Send + 'static>(
     Ok(())
 }
 
+static WRITTEN: [Row<'static>; 7] = [
+    Row {
+        names: &["n"],
+        text: CROSSED,
+        order: false,
+        room: 10,
+        written: "n: violati",
+        endings: &[],
+        serializable: 0,
+        cause: Some(Cause::Write),
+    },
+    Row {
+        names: &["a", "b"],
+        text: "",
+        order: false,
+        room: 40,
+        written: "a: serializable (0 events, 0 blocks)/b: ",
+        endings: &[(0, Ending::Whole)],
+        serializable: 1,
+        cause: Some(Cause::Write),
+    },
+    Row {
+        names: &["a"],
+        text: "",
+        order: false,
+        room: 40,
+        written: "a: serializable (0 events, 0 blocks)/tra",
+        endings: &[(0, Ending::Whole)],
+        serializable: 1,
+        cause: Some(Cause::Write),
+    },
+    Row {
+        names: &["n", "n"],
+        text: ONE_BLOCK,
+        order: false,
+        room: 1000,
+        written: "n: serializable (5 events, 1 blocks)/n: serializable (5 events, 1 blocks)/traces 2: serializable 2, open 0, violations 0, faults 0/",
+        endings: &[(39, Ending::Whole), (39, Ending::Whole)],
+        serializable: 2,
+        cause: None,
+    },
+    Row {
+        names: &["a", "b"],
+        text: WRITTEN_BETWEEN,
+        order: true,
+        room: 1000,
+        written: ORDER_OF_TWO,
+        endings: &[(31, Ending::Whole), (31, Ending::Whole)],
+        serializable: 2,
+        cause: None,
+    },
+    // The line of the verdict is out, and its steps aren't, so the source isn't told.
+    Row {
+        names: &["n"],
+        text: WRITTEN_BETWEEN,
+        order: true,
+        room: 41,
+        written: "n: serializable (4 events, 1 blocks)/  2 ",
+        endings: &[],
+        serializable: 0,
+        cause: Some(Cause::Write),
+    },
+    Row {
+        names: &[],
+        text: "",
+        order: false,
+        room: 1000,
+        written: "traces 0: serializable 0, open 0, violations 0, faults 0/",
+        endings: &[],
+        serializable: 0,
+        cause: None,
+    },
+];
+
 #[test]
 fn what_was_written_whole_is_told(rt: HostRuntime) -> Result<(), Fail> {
-    let rows = [
-        Row {
-            names: &["n"],
-            text: CROSSED,
-            order: false,
-            room: 10,
-            written: "n: violati",
-            endings: &[],
-            serializable: 0,
-            cause: Some(Cause::Write),
-        },
-        Row {
-            names: &["a", "b"],
-            text: "",
-            order: false,
-            room: 40,
-            written: "a: serializable (0 events, 0 blocks)/b: ",
-            endings: &[(0, Ending::Whole)],
-            serializable: 1,
-            cause: Some(Cause::Write),
-        },
-        Row {
-            names: &["a"],
-            text: "",
-            order: false,
-            room: 40,
-            written: "a: serializable (0 events, 0 blocks)/tra",
-            endings: &[(0, Ending::Whole)],
-            serializable: 1,
-            cause: Some(Cause::Write),
-        },
-        Row {
-            names: &["n", "n"],
-            text: ONE_BLOCK,
-            order: false,
-            room: 1000,
-            written: "n: serializable (5 events, 1 blocks)/n: serializable (5 events, 1 blocks)/traces 2: serializable 2, open 0, violations 0, faults 0/",
-            endings: &[(39, Ending::Whole), (39, Ending::Whole)],
-            serializable: 2,
-            cause: None,
-        },
-        Row {
-            names: &["a", "b"],
-            text: WRITTEN_BETWEEN,
-            order: true,
-            room: 1000,
-            written: ORDER_OF_TWO,
-            endings: &[(31, Ending::Whole), (31, Ending::Whole)],
-            serializable: 2,
-            cause: None,
-        },
-        // The line of the verdict is out, and its steps aren't, so the source isn't told.
-        Row {
-            names: &["n"],
-            text: WRITTEN_BETWEEN,
-            order: true,
-            room: 41,
-            written: "n: serializable (4 events, 1 blocks)/  2 ",
-            endings: &[],
-            serializable: 0,
-            cause: Some(Cause::Write),
-        },
-        Row {
-            names: &[],
-            text: "",
-            order: false,
-            room: 1000,
-            written: "traces 0: serializable 0, open 0, violations 0, faults 0/",
-            endings: &[],
-            serializable: 0,
-            cause: None,
-        },
-    ];
-    for row in &rows {
-        for piece in PIECES {
-            for who in EVERYBODY {
-                expect_row(&rt, row, (piece, who))?;
+    for row in WRITTEN.iter() {
+        for piece in PIECES.iter() {
+            for who in EVERYBODY.iter() {
+                expect_row(&rt, row, (*piece, *who))?;
             }
         }
     }
@@ -637,25 +692,26 @@ fn expect_three<T: Abort + AllocGlobal + Threads + Wait + Copy + Send + 'static>
     Ok(())
 }
 
+static HABITS: [Habit; 7] = [
+    Habit::Newest,
+    Habit::Twice,
+    Habit::Forges,
+    Habit::Misses,
+    Habit::Babbles,
+    Habit::Leaves,
+    Habit::Refuses,
+];
+
 #[test]
 fn the_report_is_the_same_whoever_helps(rt: HostRuntime) -> Result<(), Fail> {
-    let habits = [
-        Habit::Newest,
-        Habit::Twice,
-        Habit::Forges,
-        Habit::Misses,
-        Habit::Babbles,
-        Habit::Leaves,
-        Habit::Refuses,
-    ];
     let text = lines_of(rt.alloc(), WRITTEN_BETWEEN)?;
-    for habit in habits {
-        expect_three(&rt, Who::Helped(habit))?;
-        assert!(rt; has_order_of_two(&rt, &text, Who::Helped(habit))?);
+    for habit in HABITS.iter() {
+        expect_three(&rt, Who::Helped(*habit))?;
+        assert!(rt; has_order_of_two(&rt, &text, Who::Helped(*habit))?);
     }
-    for who in EVERYBODY {
-        expect_three(&rt, who)?;
-        assert!(rt; has_order_of_two(&rt, &text, who)?);
+    for who in EVERYBODY.iter() {
+        expect_three(&rt, *who)?;
+        assert!(rt; has_order_of_two(&rt, &text, *who)?);
     }
     Ok(())
 }
@@ -706,20 +762,21 @@ fn told_before_the_next<T: AllocGlobal + Threads + Wait + Copy + Send + 'static>
     Ok(writer.into_inner().taken)
 }
 
+// Where a crew answers, the second source may be read before it has: the line is told between two of its reads.
+static NEXT: [(Who, u32); 5] = [
+    (Who::Alone, 0),
+    (Who::Helped(Habit::Twice), 0),
+    (Who::Crew(1), 4_000),
+    (Who::Crew(2), 4_000),
+    (Who::Crew(16), 4_000),
+];
+
 #[test]
 fn a_verdict_that_has_come_is_told_before_the_next_read(rt: HostRuntime) -> Result<(), Fail> {
     let text = lines_of(rt.alloc(), ONE_BLOCK)?;
     let written = lines_of(rt.alloc(), REPORT_OF_TWO)?;
-    // Where a crew answers, the second source may be read before it has: the line is told between two of its reads.
-    let rows = [
-        (Who::Alone, 0),
-        (Who::Helped(Habit::Twice), 0),
-        (Who::Crew(1), 4_000),
-        (Who::Crew(2), 4_000),
-        (Who::Crew(16), 4_000),
-    ];
-    for row in rows {
-        assert_eq!(rt; told_before_the_next(&rt, &text, row)?, written);
+    for row in NEXT.iter() {
+        assert_eq!(rt; told_before_the_next(&rt, &text, *row)?, written);
     }
     Ok(())
 }

@@ -1,6 +1,7 @@
-//! Tests of a run over many sources, of what the program does with it, and of its line on progress.
+//! Tests of a run over many sources, of what the program does with it, of its command line, and of its line
+//! on progress.
 //!
-//! A crate with tests is proved twice, with them and without, so they stand here, above both crates, and
+//! A crate with tests is proved twice, with them and without, so they stand here, above these crates, and
 //! each is proved once. A module has the tests of the crate that it is named for. It has nothing for
 //! other crates.
 #![tactic(auto)]
@@ -13,3 +14,5 @@ mod except;
 mod program;
 #[cfg(test)]
 mod progress;
+#[cfg(test)]
+mod words;

@@ -8,15 +8,10 @@
 //! traces 1: serializable 1, open 0, violations 0, faults 0
 //! ```
 //!
-//! The sources are the files that the command line names, or else standard input. `words` reads the
-//! command line, and `aero_program::answer` does what it asks for, beside the line on progress of
+//! The sources are the files that the command line names, or else standard input. `aero_words` reads
+//! the command line, and `aero_program::answer` does what it asks for, beside the line on progress of
 //! `aero_progress`.
 #![tactic(auto)]
-
-mod help;
-#[cfg(test)]
-mod tests;
-pub mod words;
 
 use aero_model::counting::Counting;
 use aero_program::answer::answer;
@@ -28,6 +23,7 @@ use aero_progress::beside::Beside;
 use aero_progress::files::MeteredFiles;
 use aero_progress::metered::Metered;
 use aero_progress::ticker::{Pace, Ticker};
+use aero_words::words::settle_words;
 use std::alloc::Global;
 use std::io::{IsTerminal, Read, Write};
 use std::process::ExitCode;
@@ -35,7 +31,6 @@ use std::rt::{Files, Runtime};
 use std::sync::Wait;
 use std::thread::Threads;
 use std::time::Clock;
-use words::settle_words;
 
 fn main(rt: HostRuntime) -> ExitCode {
     // Only main can ask for the three streams: what is generic over the runtime is handed them.

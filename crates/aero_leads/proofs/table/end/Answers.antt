@@ -4,6 +4,7 @@ use Rattle.aero_leads.specs.Kept.{least_in, rows_in, absorbed}
 use Rattle.aero_leads.specs.Listed.{is_listed}
 use Rattle.aero_leads.proofs.Ends.{ends_all}
 use Rattle.aero_leads.proofs.Seeing.{listed_ended, seen_ended}
+use Rattle.aero_leads.proofs.Lowering.{low_ended}
 use Rattle.aero_leads.proofs.table.end.Goals as goal
 
 pub returns-clause-ends : goal.returns-clause-ends
@@ -29,4 +30,7 @@ invariant_of-table-2 c =
       known = seen_ended c.args.table.now.threads.items c.leave.new.threads.items c.spread.new.led c.args.table.now.seen c.unsee_all.new.seen c.args.t ends
           (λ o w ne some. c.spread.ensures.grows w o (c.args.table.now.listed o w ne some))
           c.unsee_all.ensures.kept c.unsee_all.ensures.own c.unsee_all.ensures.listed c.args.table.now.known;
+      low = low_ended c.args.table.now.threads.items c.leave.new.threads.items c.deref-2.result.now c.spread.new.led c.args.table.now.lows c.raise_all.new.lows c.args.t c.deref-2.ensures.value ends
+          (λ o w ne some. c.spread.ensures.grows w o (c.args.table.now.listed o w ne some))
+          c.raise_all.ensures.kept c.raise_all.ensures.own c.raise_all.ensures.listed c.args.table.now.low;
     }

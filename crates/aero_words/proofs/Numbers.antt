@@ -16,9 +16,9 @@ use Rattle.clap.specs.declared.builder.value_parser.ValueParser.{ValueParser}
 use Rattle.clap.specs.declared.builder.value_parser.ValueParser.TheVariants as vp
 use Rattle.clap.specs.declared.parser.matches.ArgMatches.{ArgMatches}
 use Rattle.clap.specs.declared.parser.matches.Found.{Found}
-use Rattle.aerodrome.specs.Line.{program}
-use Rattle.aerodrome.specs.Words.{IsRead, ReadsWithin}
-use Rattle.aerodrome.proofs.Passed.{passed}
+use Rattle.aero_words.specs.Line.{program}
+use Rattle.aero_words.specs.Words.{IsRead, ReadsWithin}
+use Rattle.aero_words.proofs.Passed.{passed}
 
 -- a number that is read within a range lies in it
 pub number_within : (E : Type 0) (G : List ℕ → Result ℕ E → Type 0) (most number : ℕ) (f : Found) (name : List ℕ)

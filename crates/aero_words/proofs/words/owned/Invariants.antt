@@ -1,5 +1,5 @@
 use Rattle.std.proofs.Common.{◌≡◌, map, string_bytes, take}
-use Rattle.aerodrome.proofs.words.owned.Given as goal
+use Rattle.aero_words.proofs.words.owned.Given as goal
 
 -- the copies so far
 abbrev pub invariant-loop-text : goal.invariant-loop-text

@@ -1,9 +1,9 @@
 use Rattle.std.specs.Str.Parse.{ParsesUnsigned, ExplainsUnsignedError, HasUnsignedDigitsIfOk}
 use Rattle.clap.specs.Words.{found_of}
 use Rattle.std.specs.Prelude.{Some, None}
-use Rattle.aerodrome.proofs.Numbers.{number_within}
-use Rattle.aerodrome.proofs.Told.{number_read}
-use Rattle.aerodrome.proofs.words.number_in.Goals as goal
+use Rattle.aero_words.proofs.Numbers.{number_within}
+use Rattle.aero_words.proofs.Told.{number_read}
+use Rattle.aero_words.proofs.words.number_in.Goals as goal
 
 pub returns-in-Some-clause-some : goal.returns-in-Some-clause-some
 returns-in-Some-clause-some c =

@@ -2,9 +2,9 @@
 ghost use Rattle.std.specs.Prelude.{◌≡◌, ◌<◌, ◌≤◌, ◌++◌, ◌∷◌, [], IfOk, OnOk, codes, false, map, pos, string_bytes, vec_len};
 ghost use Rattle.clap.specs.Words.{app_of, found_of, one_of, rows_of, rule_of};
 ghost use Rattle.clap.specs.declared.builder.value_parser.ValueParser.TheVariants as vp;
-ghost use Rattle.aerodrome.specs.Labels.{IsTold};
-ghost use Rattle.aerodrome.specs.Line.{AsksFor, files_rule, flag_rule, is_told, label_rule, no_rules, number_rule, number_told, program, progress_told, rows_given};
-ghost use Rattle.aerodrome.specs.Words.{IsRead, ReadsFlag, ReadsWithin};
+ghost use Rattle.aero_words.specs.Labels.{IsTold};
+ghost use Rattle.aero_words.specs.Line.{AsksFor, files_rule, flag_rule, is_told, label_rule, no_rules, number_rule, number_told, program, progress_told, rows_given};
+ghost use Rattle.aero_words.specs.Words.{IsRead, ReadsFlag, ReadsWithin};
 
 use crate::help;
 use aero_model::except::MOST_LABELS;

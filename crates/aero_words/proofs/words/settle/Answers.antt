@@ -1,7 +1,7 @@
 use Rattle.std.proofs.Common.{◌∙◌, refl, codes}
 use Rattle.clap.specs.Words.{found_of}
-use Rattle.aerodrome.proofs.Told.{texts_read}
-use Rattle.aerodrome.proofs.words.settle.Goals as goal
+use Rattle.aero_words.proofs.Told.{texts_read}
+use Rattle.aero_words.proofs.words.settle.Goals as goal
 
 pub returns : goal.returns
 returns c = record {

@@ -1,6 +1,6 @@
 use Rattle.clap.specs.Words.{found_of}
-use Rattle.aerodrome.proofs.Told.{flag_read}
-use Rattle.aerodrome.proofs.words.flag_in.Goals as goal
+use Rattle.aero_words.proofs.Told.{flag_read}
+use Rattle.aero_words.proofs.words.flag_in.Goals as goal
 
 pub returns : goal.returns
 returns c =

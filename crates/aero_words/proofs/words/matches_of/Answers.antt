@@ -1,7 +1,7 @@
 use Rattle.std.proofs.Common.{◌∙◌, ap, map, string_bytes}
 use Rattle.clap.specs.Words.{App, is_simple, matches_of}
-use Rattle.aerodrome.proofs.Numbers.{line_read, program_is_simple}
-use Rattle.aerodrome.proofs.words.matches_of.Goals as goal
+use Rattle.aero_words.proofs.Numbers.{line_read, program_is_simple}
+use Rattle.aero_words.proofs.words.matches_of.Goals as goal
 
 pub returns-in-Ok-clause-read : goal.returns-in-Ok-clause-read
 returns-in-Ok-clause-read c = line_read c.in_ok-line.line c.in-Ok.matches c.in-Ok.ensures.parsed c.in_ok-line.ensures

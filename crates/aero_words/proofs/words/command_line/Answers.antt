@@ -1,7 +1,7 @@
 use Rattle.std.proofs.Common.{◌∙◌, ap₂}
 use Rattle.std.proofs.lemmas.Result.{IfOk-weaker}
 use Rattle.clap.specs.Words.{with_rule}
-use Rattle.aerodrome.proofs.words.command_line.Goals as goal
+use Rattle.aero_words.proofs.words.command_line.Goals as goal
 
 pub returns : goal.returns
 returns c = IfOk-weaker c.arg-7.result _ _

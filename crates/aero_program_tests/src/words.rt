@@ -1,0 +1,415 @@
+use aero_model::name::Name;
+use aero_program::command::{Config, Progress, Refused};
+use aero_words::words::settle_words;
+use std::alloc::{AllocError, Global};
+
+// The helpers below say that a row doesn't hold where memory is refused.
+
+type Words = &'static [&'static str];
+
+fn owned_words(alloc: Global, words: &[&str]) -> Result<Vec<String>, AllocError> {
+    let mut all = Vec::new(alloc);
+    for word in words {
+        all.push(String::from_str(alloc, word)?)?;
+    }
+    Ok(all)
+}
+
+fn settled(alloc: Global, words: &[&str]) -> Result<Config, Refused> {
+    let words = owned_words(alloc, words)?;
+    settle_words(alloc, &words)
+}
+
+// Words, and how many workers, reads of how many bytes and which files they ask for.
+type Taken = (Words, u32, u32, Words);
+
+fn are_files(files: &[String], wanted: &[&str]) -> bool {
+    let mut are_same = files.len() == wanted.len();
+    for (file, expected) in files.iter().zip(wanted) {
+        are_same &= file.as_str() == *expected;
+    }
+    are_same
+}
+
+fn is_taken(alloc: Global, row: &Taken) -> bool {
+    let Ok(config) = settled(alloc, row.0) else {
+        return false;
+    };
+    config.workers == row.1 && config.piece == row.2 && are_files(&config.files, row.3)
+}
+
+// The first row that doesn't hold.
+fn first_mistaken(alloc: Global, rows: &[Taken]) -> Option<usize> {
+    for i in 0..rows.len() {
+        if !is_taken(alloc, &rows[i]) {
+            return Some(i);
+        }
+    }
+    None
+}
+
+static TAKEN: [Taken; 8] = [
+    (&[], 4, 65_536, &[]),
+    (&["--workers", "2", "a", "b"], 2, 65_536, &["a", "b"]),
+    (&["a", "--workers=16", "b"], 16, 65_536, &["a", "b"]),
+    (&["--piece", "1", "--workers", "1"], 1, 1, &[]),
+    (&["--piece=1048576"], 4, 1_048_576, &[]),
+    (&["--", "--x"], 4, 65_536, &["--x"]),
+    (&["-"], 4, 65_536, &["-"]),
+    (&["a", "a", "none", ""], 4, 65_536, &["a", "a", "none", ""]),
+];
+
+#[test]
+fn the_words_that_are_taken(rt: HostRuntime) {
+    assert_eq!(rt; first_mistaken(rt.alloc(), &TAKEN), None);
+}
+
+// Whether it is no command line of the program, with a text that says why.
+fn is_refused(alloc: Global, words: &[&str]) -> bool {
+    let Err(Refused::Usage(text)) = settled(alloc, words) else {
+        return false;
+    };
+    text.as_str().starts_with("error: ") && text.as_str().ends_with("\n")
+}
+
+// The first row that isn't refused so.
+fn first_not_refused(alloc: Global, rows: &[Words]) -> Option<usize> {
+    for i in 0..rows.len() {
+        if !is_refused(alloc, rows[i]) {
+            return Some(i);
+        }
+    }
+    None
+}
+
+static REFUSED: [Words; 21] = [
+    &["--workers", "0"],
+    &["--workers", "17"],
+    &["--workers", "4294967312"],
+    &["--workers", "-1"],
+    &["--workers", "two"],
+    &["--workers", ""],
+    &["--workers"],
+    &["--workers", "2", "--workers", "2"],
+    &["--piece", "0"],
+    &["--piece", "1048577"],
+    &["--piece", "1", "--piece", "1"],
+    &["--except"],
+    &["--except", "a", "--except"],
+    &["--order", "--order"],
+    &["--order=yes"],
+    &["--progress", "--progress"],
+    &["--quiet", "--quiet"],
+    &["--quiet=true"],
+    &["--nothing"],
+    &["-x"],
+    &["--nothing", "--help"],
+];
+
+#[test]
+fn the_words_that_are_refused(rt: HostRuntime) {
+    assert_eq!(rt; first_not_refused(rt.alloc(), &REFUSED), None);
+}
+
+static PHRASES: [&str; 32] = [
+    "atomic block",
+    "RAPID",
+    "STD",
+    "label",
+    "UTF-8",
+    "--workers <N>",
+    "1 to 16",
+    "[default: 4]",
+    "--piece <N>",
+    "1 to 1048576",
+    "[default: 65536]",
+    "--except <LABEL>",
+    "64 labels",
+    "--order",
+    "--progress",
+    "--quiet",
+    "Each time the one whose first event is earliest",
+    "[FILE]...",
+    "65536",
+    "NAME: serializable (E events, B blocks)",
+    "NAME: no violation, K blocks open (E events, B blocks)",
+    "NAME: violation at line L: block of THREAD from line M",
+    "NAME:L: malformed: FAULT",
+    "NAME:L: ill-formed: FAULT",
+    "NAME: broken after N bytes",
+    "NAME: too large",
+    "traces T: serializable A, open B, violations C, faults D",
+    "  0  ",
+    "  1  ",
+    "  2  ",
+    "  3  ",
+    "  4  ",
+];
+
+fn help_of(alloc: Global, words: &[&str]) -> Option<String> {
+    let Err(Refused::Help(text)) = settled(alloc, words) else {
+        return None;
+    };
+    Some(text)
+}
+
+fn has_short_lines(text: &str) -> bool {
+    let mut are_short = true;
+    for line in text.lines() {
+        are_short &= line.len() <= 80;
+    }
+    are_short
+}
+
+// The first phrase that a text doesn't say.
+fn first_unsaid(text: &str) -> Option<usize> {
+    for i in 0..PHRASES.len() {
+        if !text.contains(PHRASES[i]) {
+            return Some(i);
+        }
+    }
+    None
+}
+
+// What the help for these words leaves out, in lines that are short enough, or the number of phrases
+// where there is no such help.
+fn left_out(alloc: Global, words: &[&str]) -> Option<usize> {
+    match help_of(alloc, words) {
+        Some(text) if has_short_lines(&text) => first_unsaid(&text),
+        _ => Some(PHRASES.len()),
+    }
+}
+
+fn is_short_help(alloc: Global, words: &[&str]) -> bool {
+    match help_of(alloc, words) {
+        Some(text) => text
+            .as_str()
+            .contains("Usage: aerodrome [OPTIONS] [FILE]..."),
+        None => false,
+    }
+}
+
+fn is_version(alloc: Global, words: &[&str]) -> bool {
+    match help_of(alloc, words) {
+        Some(text) => text.as_str() == "aerodrome 0.1.0\n",
+        None => false,
+    }
+}
+
+#[test]
+fn the_help_says_all_and_the_version_is_told(rt: HostRuntime) {
+    let alloc = rt.alloc();
+    let unsaid = (
+        left_out(alloc, &["--help"]),
+        left_out(alloc, &["a", "--workers", "2", "--help", "--nothing"]),
+    );
+    assert!(rt; unsaid == (None, None));
+    assert!(rt; is_short_help(alloc, &["-h"]) && is_version(alloc, &["--version"]));
+}
+
+// What is told of the words, and how many files they name where they are taken.
+fn told_of(told: &Result<Config, Refused>) -> (&'static str, usize) {
+    match told {
+        Ok(config) => ("taken", config.files.len()),
+        Err(Refused::Help(_)) => ("help", 0),
+        Err(Refused::Usage(_)) => ("usage", 0),
+        Err(Refused::TooManyFiles) => ("too many files", 0),
+        Err(Refused::BadLabel) => ("bad label", 0),
+        Err(Refused::TooManyLabels) => ("too many labels", 0),
+        Err(Refused::Memory) => ("memory", 0),
+    }
+}
+
+// A word, how often it stands, the words behind it, what is told of them all, and how many files.
+type Counted = (&'static str, usize, Words, &'static str, usize);
+
+fn many_words(
+    alloc: Global,
+    word: &str,
+    count: usize,
+    last: &[&str],
+) -> Result<Vec<String>, AllocError> {
+    let mut all = Vec::new(alloc);
+    for _ in 0..count {
+        all.push(String::from_str(alloc, word)?)?;
+    }
+    for word in last {
+        all.push(String::from_str(alloc, word)?)?;
+    }
+    Ok(all)
+}
+
+fn settled_many(alloc: Global, word: &str, count: usize, last: &[&str]) -> Result<Config, Refused> {
+    let words = many_words(alloc, word, count, last)?;
+    settle_words(alloc, &words)
+}
+
+fn is_counted(alloc: Global, row: &Counted) -> bool {
+    let (told, files) = told_of(&settled_many(alloc, row.0, row.1, row.2));
+    told == row.3 && files == row.4
+}
+
+// The first row that doesn't hold.
+fn first_miscounted(alloc: Global, rows: &[Counted]) -> Option<usize> {
+    for i in 0..rows.len() {
+        if !is_counted(alloc, &rows[i]) {
+            return Some(i);
+        }
+    }
+    None
+}
+
+static FILES: [Counted; 4] = [
+    ("a", 65_536, &[], "taken", 65_536),
+    ("a", 65_536, &["a"], "too many files", 0),
+    ("a", 65_536, &["a", "--help"], "help", 0),
+    ("a", 65_536, &["a", "--help", "b"], "help", 0),
+];
+
+#[test]
+fn files_are_counted(rt: HostRuntime) {
+    assert_eq!(rt; first_miscounted(rt.alloc(), &FILES), None);
+}
+
+// Whether words ask for the serial order or not, as it is wanted.
+fn is_ordered_so(alloc: Global, words: &[&str], wanted: bool) -> bool {
+    match settled(alloc, words) {
+        Ok(config) => config.order == wanted,
+        Err(_) => false,
+    }
+}
+
+// The first row that doesn't hold.
+fn first_misordered(alloc: Global, rows: &[(Words, bool)]) -> Option<usize> {
+    for i in 0..rows.len() {
+        if !is_ordered_so(alloc, rows[i].0, rows[i].1) {
+            return Some(i);
+        }
+    }
+    None
+}
+
+static ORDERED: [(Words, bool); 4] = [
+    (&[], false),
+    (&["--order"], true),
+    (&["a", "--order", "--workers", "1"], true),
+    (&["--", "--order"], false),
+];
+
+#[test]
+fn the_serial_order_is_asked_for_by_a_flag(rt: HostRuntime) {
+    assert_eq!(rt; first_misordered(rt.alloc(), &ORDERED), None);
+}
+
+// Whether words ask for the line on progress to be shown so.
+fn is_shown_so(alloc: Global, words: &[&str], wanted: Progress) -> bool {
+    match settled(alloc, words) {
+        Ok(config) => config.progress == wanted,
+        Err(_) => false,
+    }
+}
+
+// The first row that doesn't hold.
+fn first_misshown(alloc: Global, rows: &[(Words, Progress)]) -> Option<usize> {
+    for i in 0..rows.len() {
+        if !is_shown_so(alloc, rows[i].0, rows[i].1) {
+            return Some(i);
+        }
+    }
+    None
+}
+
+static SHOWN: [(Words, Progress); 6] = [
+    (&[], Progress::Auto),
+    (&["--progress"], Progress::Always),
+    (&["a", "--quiet", "b"], Progress::Never),
+    (&["--quiet", "--progress"], Progress::Never),
+    (&["--progress", "--quiet"], Progress::Never),
+    (&["--", "--quiet", "--progress"], Progress::Auto),
+];
+
+#[test]
+fn the_line_on_progress_is_asked_for_by_flags(rt: HostRuntime) {
+    assert_eq!(rt; first_misshown(rt.alloc(), &SHOWN), None);
+}
+
+fn are_labels(labels: &[Name], wanted: &[&str]) -> bool {
+    let mut are_same = labels.len() == wanted.len();
+    for (label, expected) in labels.iter().zip(wanted) {
+        are_same &= label.bytes() == expected.as_bytes();
+    }
+    are_same
+}
+
+// Whether words ask for these labels, in this order.
+fn is_labelled_so(alloc: Global, words: &[&str], wanted: &[&str]) -> bool {
+    match settled(alloc, words) {
+        Ok(config) => are_labels(&config.except, wanted),
+        Err(_) => false,
+    }
+}
+
+// The first row that doesn't hold.
+fn first_mislabelled(alloc: Global, rows: &[(Words, Words)]) -> Option<usize> {
+    for i in 0..rows.len() {
+        if !is_labelled_so(alloc, rows[i].0, rows[i].1) {
+            return Some(i);
+        }
+    }
+    None
+}
+
+static LABELLED: [(Words, Words); 5] = [
+    (&[], &[]),
+    (&["a", "--workers", "1"], &[]),
+    (&["--except", "a", "--except", "b"], &["a", "b"]),
+    (&["--except=b", "n", "--except", "a"], &["b", "a"]),
+    (&["--except", "a b)", "--except", "a"], &["a b)", "a"]),
+];
+
+static BAD_LABELS: [Counted; 4] = [
+    ("--except", 1, &["a", "--except", ""], "bad label", 0),
+    ("--except", 1, &["a", "--except", "a|b"], "bad label", 0),
+    ("--except", 1, &["a", "--except", "a\n"], "bad label", 0),
+    ("--except", 1, &["a", "--except", "\u{7f}"], "bad label", 0),
+];
+
+#[test]
+fn labels_are_read_in_order(rt: HostRuntime) {
+    assert_eq!(rt; first_mislabelled(rt.alloc(), &LABELLED), None);
+    assert_eq!(rt; first_miscounted(rt.alloc(), &BAD_LABELS), None);
+}
+
+// The words of one `--except` with a label of so many bytes.
+fn words_with_label(alloc: Global, count: usize) -> Result<Vec<String>, AllocError> {
+    let mut label = String::new(alloc);
+    for _ in 0..count {
+        label.push('a')?;
+    }
+    let mut words = owned_words(alloc, &["--except"])?;
+    words.push(label)?;
+    Ok(words)
+}
+
+fn settled_label(alloc: Global, count: usize) -> Result<Config, Refused> {
+    let words = words_with_label(alloc, count)?;
+    settle_words(alloc, &words)
+}
+
+// Whether this is told of a label of so many bytes.
+fn is_measured(alloc: Global, count: usize, wanted: &str) -> bool {
+    told_of(&settled_label(alloc, count)).0 == wanted
+}
+
+static LABELS: [Counted; 3] = [
+    ("--except=a", 64, &["n"], "taken", 1),
+    ("--except=a", 64, &["--except=a"], "too many labels", 0),
+    ("--except=a", 65, &["--except="], "bad label", 0),
+];
+
+#[test]
+fn labels_are_measured_and_counted(rt: HostRuntime) {
+    let alloc = rt.alloc();
+    assert!(rt; is_measured(alloc, 255, "taken") && is_measured(alloc, 256, "bad label"));
+    assert_eq!(rt; first_miscounted(alloc, &LABELS), None);
+}
