@@ -466,8 +466,9 @@ fn expect_long<T: Abort + AllocGlobal + Threads + Wait + Copy + Send + 'static>(
     bytes: usize,
     line: &str,
 ) -> Result<(), Fail> {
-    let mut text = Vec::from_slice(rt.alloc(), b"T1|r(x)|")?;
-    while text.len() < bytes {
+    let start = b"T1|r(x)|";
+    let mut text = Vec::from_slice(rt.alloc(), start)?;
+    for _ in start.len()..bytes {
         text.push(b'a')?;
     }
     expect_text(rt, &text, Limits::greatest(), line)
