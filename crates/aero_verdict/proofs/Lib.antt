@@ -11,6 +11,7 @@ pub mod Readings
 pub mod Stops
 pub mod ThreadNames
 pub mod Parts
+pub mod Feeding
 pub mod OneVerdict
 pub mod Faultless
 pub mod OnLines

@@ -24,7 +24,7 @@ use Rattle.aero_verdict.proofs.Stops.{verdict_at}
 use Rattle.aero_verdict.proofs.ThreadNames.{can_be_told}
 
 -- nothing is wrong with the events, where all of them were admitted
-clean_here : {E : Type 0} (stands_for : E → List Numbered → Type 0) (rules : Rules) (parts : List Reading) (checker : Checker E) → StandsFor stands_for rules checker (counted_events parts rules) → checker.shape.admitted ≡ length (checked_trace parts rules) →
+pub clean_here : {E : Type 0} (stands_for : E → List Numbered → Type 0) (rules : Rules) (parts : List Reading) (checker : Checker E) → StandsFor stands_for rules checker (counted_events parts rules) → checker.shape.admitted ≡ length (checked_trace parts rules) →
     IsClean parts rules (length (checked_trace parts rules))
 clean_here stands_for rules parts checker stands all =
     record {

@@ -11,4 +11,6 @@ pub mod Placed
 pub mod Actors
 pub mod Finding
 pub mod Parts
+pub mod Fed
+pub mod Monitored
 pub mod Laws

@@ -1,15 +1,16 @@
 //! The verdict on what the parts of a trace say.
-ghost use Rattle.std.specs.Prelude.{◌≡◌, ◌≢◌, ◌-◌, ℕ, true, false, List, Some, IsTrue, IfOk, IfSome, OnOk, OnErr};
+ghost use Rattle.std.specs.Prelude.{◌≡◌, ◌≢◌, ◌-◌, ℕ, false, List, Some, IsTrue, IfOk, IfSome, OnOk, OnErr};
 ghost use Rattle.aero_model.specs.Verdicts.{HasOwnFault};
 ghost use Rattle.aero_grammar.specs.Reading.{Reading, fault_within, is_own_fault};
 ghost use Rattle.aero_verdict.specs.Verdict.{Rules, under, IsVerdict, IsFaultless};
 ghost use Rattle.aero_verdict.specs.Kept.{CanBeTold, TellsStop};
 ghost use Rattle.aero_verdict.specs.Ordered.{is_faultless};
-ghost use Rattle.aero_verdict.specs.Parts.{Stands, StandsForAll, IsPartExpected, ComesNext, TellsPart};
+ghost use Rattle.aero_verdict.specs.Parts.{IsPartExpected, ComesNext, TellsPart};
 
 use crate::checker::{Checker, Stop};
 use crate::engine::Engine;
 use crate::known::{BlockNames, exempt_labels};
+use crate::monitor::{Monitor, feed_all};
 use aero_grammar::parsed::Parsed;
 use aero_leads::leads::Leads;
 use aero_model::except::Except;
@@ -61,44 +62,13 @@ pub fn check_trace_by<E: Engine>(
     ensures verdict { IfOk result (λ verdict. IsVerdict parts.now (under limits.now except.now) verdict) }
     ensures own_fault { IfOk result HasOwnFault }
 {
-    let mut checker = Checker::<E>::new(alloc, limits);
-
-    check_parts(alloc, &mut checker, parts, limits, except)
-}
-
-// The same where no event was admitted yet. Where nothing is wrong, the checker stands for all events
-// afterwards.
-pub(crate) fn check_parts<E: Engine>(
-    alloc: Global,
-    checker: &mut Checker<E>,
-    parts: &[Parsed],
-    limits: &Limits,
-    except: &Except,
-) -> Result<Verdict, AllocError>
-    requires { Stands E.stands_for (under limits.now except.now) parts.now 0 0 checker.old }
-    ensures verdict { IfOk result (λ verdict. IsVerdict parts.now (under limits.now except.now) verdict) }
-    ensures own_fault { IfOk result HasOwnFault }
-    ensures stands { IfOk result (λ verdict. is_faultless verdict ≡ true → StandsForAll (E.stands_for checker.new.engine) (under limits.now except.now) parts.now) }
-{
-    // The lines of the parts so far. A number that a `u32` can't tell is past every limit.
-    let mut lines = 0u32;
-    for part in parts {
-        if let Some(verdict) = check_part(alloc, checker, part, lines, limits, except)? {
-            return Ok(verdict);
-        }
-        lines = lines.saturating_add(part.lines);
-    }
-    if lines > limits.lines {
-        return Ok(Verdict::Malformed {
-            line: limits.lines + 1,
-            fault: LineFault::TooManyLines,
-        });
-    }
-    Ok(faultless(checker))
+    let mut monitor = Monitor::<E>::new(alloc, limits, except);
+    feed_all(&mut monitor, parts, except);
+    monitor.finish()
 }
 
 // The verdict on all parts where something is wrong with this one. So many lines stand before it.
-fn check_part<E: Engine>(
+pub(crate) fn check_part<E: Engine>(
     alloc: Global,
     checker: &mut Checker<E>,
     part: &Parsed,
@@ -159,7 +129,7 @@ fn stopped_at<E: Engine>(
 }
 
 // The verdict where nothing is wrong.
-fn faultless<E: Engine>(checker: &Checker<E>) -> Verdict
+pub(crate) fn faultless<E: Engine>(checker: &Checker<E>) -> Verdict
     ensures verdict { (parts : List Reading) (rules : Rules) →
         IsFaultless parts rules checker.now.shape.admitted checker.now.blocks.begun (checker.now.blocks.begun - checker.now.blocks.ended) → IsVerdict parts rules result }
     ensures own_fault { HasOwnFault result }

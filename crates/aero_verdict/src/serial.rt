@@ -8,9 +8,8 @@ ghost use Rattle.aero_order.specs.Standing.{StandsFor};
 ghost use Rattle.aero_verdict.specs.Parts.{StandsForAll};
 ghost use Rattle.aero_verdict.specs.Verdict.{under, IsVerdict, checked_trace};
 
-use crate::check::check_parts;
-use crate::checker::Checker;
 use crate::in_order::InOrder;
+use crate::monitor::{Monitor, feed_all};
 use crate::places::{lines_at, steps_at};
 use aero_grammar::parsed::Parsed;
 use aero_model::except::Except;
@@ -88,9 +87,10 @@ fn judge_all(
     ensures faultless { IfOk result (λ told. is_some told.1 ≡ is_faultless told.0) }
     ensures stands { IfOk result (λ told. IfSome told.1 (λ transactions. StandsForAll (StandsFor transactions) (under limits.now except.now) parts.now)) }
 {
-    let mut checker = Checker::<InOrder>::new(alloc, limits);
-    let verdict = check_parts(alloc, &mut checker, parts, limits, except);
-    told_with(checker.into_engine().into_transactions(), verdict)
+    let mut monitor = Monitor::<InOrder>::new(alloc, limits, except);
+    feed_all(&mut monitor, parts, except);
+    let (verdict, both) = monitor.into_verdict();
+    told_with(both.into_transactions(), verdict)
 }
 
 // The verdict, and with it the transactions where nothing is wrong.

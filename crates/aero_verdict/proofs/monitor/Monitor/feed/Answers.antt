@@ -1,0 +1,16 @@
+use Rattle.std.proofs.Common.{◌≡◌, sym, ◌∙◌, ap}
+use Rattle.aero_verdict.specs.Fed.{Fed}
+use Rattle.aero_verdict.specs.Verdict.{under}
+use Rattle.aero_verdict.proofs.Feeding.{fed_part, certain_so}
+use Rattle.aero_verdict.proofs.monitor.Monitor.feed.Goals as goal
+
+pub invariant_of-self-2 : goal.invariant_of-self-2
+invariant_of-self-2 g c =
+    let same : c.self.inside.fed.labels ≡ c.args.except.now = ap (λ (f : Fed). f.rules.labels) c.self.view_is ∙ sym c.requires in
+    fed_part g.E.Engine.stands_for c.self.inside.limits c.self.inside.fed.labels c.with-self-inside.result.labels c.args.except.now c.self.inside.fed.parts c.with-self-inside.result.parts c.args.part.now
+    c.self.inside.lines c.self.inside.checker c.self.inside.state c.judge_part-lines.result.0 c.judge_part-lines.new.checker c.judge_part-lines.result.1
+    (c.is_undecided.ensures.0 c.if-not-is_undecided.false) same c.with-self-inside.ensures.0 c.with-self-inside.ensures.1 c.self.invariant c.judge_part-lines.ensures
+
+pub returns-clause-certain : goal.returns-clause-certain
+returns-clause-certain g c =
+    certain_so g.E.Engine.stands_for (under c.self.inside.limits c.with-self-inside.result.labels) c.with-self-inside.result.parts c.judge_part-lines.result.0 c.judge_part-lines.new.checker c.judge_part-lines.result.1 (invariant_of-self-2 g c)

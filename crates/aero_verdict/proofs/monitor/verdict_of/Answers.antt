@@ -1,0 +1,15 @@
+use Rattle.std.proofs.Common.{subst}
+use Rattle.aero_verdict.specs.Monitored.{FedSo}
+use Rattle.aero_verdict.specs.Verdict.{under}
+use Rattle.aero_verdict.proofs.Feeding.{tells_certain}
+use Rattle.aero_verdict.proofs.monitor.verdict_of.Goals as goal
+
+pub returns-in-Undecided-clause-tells : goal.returns-in-Undecided-clause-tells
+returns-in-Undecided-clause-tells g c = λ labels fed so.
+    c.at_end.ensures labels fed (subst (FedSo g.E.Engine.stands_for (under c.args.limits.now labels) fed c.args.lines c.args.checker.now) c.in-Undecided.is so)
+
+pub returns-in-Decided-clause-tells : goal.returns-in-Decided-clause-tells
+returns-in-Decided-clause-tells g c = λ labels fed so.
+    let rules = under c.args.limits.now labels in
+    tells_certain g.E.Engine.stands_for rules fed c.args.checker.now.engine c.in-Decided.verdict
+    (subst (FedSo g.E.Engine.stands_for rules fed c.args.lines c.args.checker.now) c.in-Decided.is so)

@@ -1,0 +1,25 @@
+-- What a caller sees of a trace that is fed part by part.
+use Rattle.std.specs.Prelude.{◌≡◌, Bool, false, List, ◌++◌, Option}
+use Rattle.aero_model.specs.declared.verdict.Verdict.{Verdict}
+use Rattle.aero_model.specs.Verdicts.{HasOwnFault}
+use Rattle.aero_grammar.specs.Reading.{Reading}
+use Rattle.aero_verdict.specs.Ordered.{is_faultless}
+use Rattle.aero_verdict.specs.Verdict.{Rules, IsVerdict}
+
+-- The rules, the parts that were fed, one after the other, the verdict that is certain, if one is, and whether memory was refused
+pub record Fed : Type 0 where
+  pub rules : Rules
+  pub parts : List Reading
+  pub certain : Option Verdict
+  pub is_spent : Bool
+
+-- something is wrong with these parts, and this is the verdict, whatever parts come after them
+pub record IsCertain (parts : List Reading) (rules : Rules) (verdict : Verdict) : Type 0 where
+  pub is_verdict : (rest : List Reading) → IsVerdict (parts ++ rest) rules verdict
+  pub own_fault : HasOwnFault verdict
+  pub wrong : is_faultless verdict ≡ false
+
+-- the verdict on exactly these parts
+pub record IsVerdictOn (parts : List Reading) (rules : Rules) (verdict : Verdict) : Type 0 where
+  pub is_verdict : IsVerdict parts rules verdict
+  pub own_fault : HasOwnFault verdict

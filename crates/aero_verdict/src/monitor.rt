@@ -1,0 +1,253 @@
+//! The check of a trace that comes part by part.
+ghost use Rattle.std.specs.Prelude.{◌≡◌, ◌+◌, ◌++◌, ◌∷◌, [], ◌<◌, ◌≤◌, ◌↔◌, ℕ, List, true, false, is_some, Some, Ok, IsTrue, IfOk, IfSome, OnErr, option_map};
+ghost use Rattle.aero_grammar.specs.Reading.{Reading};
+ghost use Rattle.aero_model.specs.Verdicts.{HasOwnFault};
+ghost use Rattle.aero_verdict.specs.declared.monitor.State.TheVariants.{Undecided};
+ghost use Rattle.aero_verdict.specs.Fed.{IsCertain, IsVerdictOn};
+ghost use Rattle.aero_verdict.specs.Monitored.{FedSo, is_spent, certain_of, TellsFed};
+ghost use Rattle.aero_verdict.specs.Parts.{IsPartExpected};
+ghost use Rattle.aero_verdict.specs.Verdict.{Rules, under, IsVerdict};
+
+use crate::check::{check_part, faultless};
+use crate::checker::Checker;
+use crate::engine::Engine;
+use crate::ghost_parts::GhostParts;
+use aero_grammar::parsed::Parsed;
+use aero_model::except::Except;
+use aero_model::limits::Limits;
+use aero_model::verdict::{LineFault, Verdict};
+use std::alloc::{AllocError, Global};
+use std::marker::Model;
+
+// How far a check is.
+#[derive(Drop)]
+pub(crate) enum State {
+    // Nothing is wrong yet.
+    Undecided,
+    // This is the verdict, whatever comes.
+    Decided(Verdict),
+    // Memory was refused.
+    Spent,
+}
+
+/// A trace that is checked while it comes, part by part. A part is judged as it is fed, and needn't
+/// be kept: what is kept are the names, and what the engine keeps of threads, variables, locks and open
+/// blocks.
+///
+/// Contracts see the rules and the parts that were fed, one after the other, and what is certain by
+/// then. Lines count from 1 through all parts.
+#[derive(Drop)]
+pub struct Monitor<E: Engine> {
+    alloc: Global,
+    limits: Limits,
+    checker: Checker<E>,
+    // The lines of the parts so far, up to the one that decides. A number that a `u32` can't tell is past every limit.
+    lines: u32,
+    state: State,
+    fed: GhostParts,
+}
+
+impl<E: Engine> Model for Monitor<E> {
+    ghost use Rattle.aero_verdict.specs.Fed.{Fed};
+
+    ghost Value = { Fed };
+
+    ghost use Rattle.aero_verdict.specs.Verdict.{under};
+    ghost use Rattle.aero_verdict.specs.Monitored.{FedSo, is_spent, certain_of};
+
+    ghost view = { λ m. record {
+      rules = under m.limits m.fed.labels;
+      parts = m.fed.parts;
+      certain = certain_of m.state;
+      is_spent = is_spent m.state;
+    } };
+
+    ghost invariant = { λ m. FedSo E.stands_for (under m.limits m.fed.labels) m.fed.parts m.lines m.checker m.state };
+}
+
+impl<E: Engine> Monitor<E> {
+    /// A check of a trace of which no part has come, under these limits. A block that begins with one of the labels
+    /// of `except` is no transaction.
+    pub fn new(alloc: Global, limits: &Limits, except: &Except) -> Monitor<E>
+        ensures rules { result.rules ≡ under limits.now except.now }
+        ensures none { result.parts ≡ [] }
+        ensures fresh { result.is_spent ≡ false }
+    {
+        Monitor {
+            alloc,
+            limits: *limits,
+            checker: Checker::new(alloc, limits),
+            lines: 0,
+            state: State::Undecided,
+            fed: GhostParts::none(except),
+        }
+    }
+
+    /// Judges the next part, with the same labels as at first. The answer says whether the verdict is certain,
+    /// whatever parts come after it: there is an event that is ill-formed or closes a cycle, a malformed line, or
+    /// two lines more than may be. What is fed from then on is passed over.
+    ///
+    /// # Errors
+    ///
+    /// `AllocError` where memory is refused, and at each call from then on.
+    pub fn feed(&mut self, part: &Parsed, except: &Except) -> Result<bool, AllocError>
+        requires { except.now ≡ self.old.rules.labels }
+        ensures rules { self.new.rules ≡ self.old.rules }
+        ensures fed { self.new.parts ≡ self.old.parts ++ part.now ∷ [] }
+        ensures told { IfOk result (λ is_certain. is_certain ≡ is_some self.new.certain) }
+        ensures certain { IfSome self.new.certain (IsCertain self.new.parts self.new.rules) }
+        ensures stays { IfSome self.old.certain (λ verdict. self.new.certain ≡ Some verdict) }
+        ensures spent { OnErr result (self.new.is_spent ≡ true) }
+        ensures stays_spent { self.old.is_spent ≡ true → self.new.is_spent ≡ true }
+    {
+        self.fed = GhostParts::with(&self.fed, part);
+        if !is_undecided(&self.state) {
+            return is_told(&self.state);
+        }
+        let (lines, state) = judge_part(
+            self.alloc,
+            &mut self.checker,
+            part,
+            self.lines,
+            &self.limits,
+            except,
+        );
+        self.lines = lines;
+        self.state = state;
+        is_told(&self.state)
+    }
+
+    /// The verdict that is certain whatever parts come, if one is.
+    pub fn certain(&self) -> Option<&Verdict>
+        ensures same { option_map (λ verdict. verdict.now) result ≡ self.now.certain }
+        ensures certain { IfSome self.now.certain (IsCertain self.now.parts self.now.rules) }
+    {
+        match &self.state {
+            State::Decided(verdict) => Some(verdict),
+            State::Undecided | State::Spent => None,
+        }
+    }
+
+    /// The verdict on exactly the parts that were fed.
+    ///
+    /// # Errors
+    ///
+    /// `AllocError` where memory was refused.
+    pub fn finish(self) -> Result<Verdict, AllocError>
+        ensures verdict { IfOk result (IsVerdict self.parts self.rules) }
+        ensures own_fault { IfOk result HasOwnFault }
+        ensures spent { OnErr result (self.is_spent ≡ true) }
+    {
+        let (verdict, _engine) = self.into_verdict();
+        verdict
+    }
+
+    // The same, with the engine.
+    pub(crate) fn into_verdict(self) -> (Result<Verdict, AllocError>, E)
+        ensures tells { IfOk result.0 (TellsFed E.stands_for self.rules self.parts result.1) }
+        ensures spent { OnErr result.0 (self.is_spent ≡ true) }
+    {
+        let Monitor {
+            alloc: _,
+            limits,
+            checker,
+            lines,
+            state,
+            fed: _,
+        } = self;
+        let verdict = verdict_of(&checker, lines, &limits, state);
+        (verdict, checker.into_engine())
+    }
+}
+
+fn is_undecided(state: &State) -> bool
+    ensures { IsTrue result ↔ (state.now ≡ Undecided) }
+{
+    matches!(state, State::Undecided)
+}
+
+// Whether the verdict is certain.
+fn is_told(state: &State) -> Result<bool, AllocError>
+    ensures told { IfOk result (λ is_certain. is_certain ≡ is_some (certain_of state.now)) }
+    ensures spent { OnErr result (is_spent state.now ≡ true) }
+{
+    match state {
+        State::Undecided => Ok(false),
+        State::Decided(_) => Ok(true),
+        State::Spent => Err(AllocError),
+    }
+}
+
+// How many lines there are with the next part, and how far the check is then.
+fn judge_part<E: Engine>(
+    alloc: Global,
+    checker: &mut Checker<E>,
+    part: &Parsed,
+    lines: u32,
+    limits: &Limits,
+    except: &Except,
+) -> (u32, State)
+    requires { IsPartExpected E.stands_for (under limits.now except.now) lines checker.old part.now }
+    ensures { (fed : List Reading) → FedSo E.stands_for (under limits.now except.now) fed lines checker.old Undecided →
+        FedSo E.stands_for (under limits.now except.now) (fed ++ part.now ∷ []) result.0 checker.new result.1 }
+{
+    match check_part(alloc, checker, part, lines, limits, except) {
+        Ok(None) => {}
+        Ok(Some(verdict)) => return (lines, State::Decided(verdict)),
+        Err(_) => return (lines, State::Spent),
+    }
+    let lines = lines.saturating_add(part.lines);
+    if lines > limits.lines + 1 {
+        return (lines, State::Decided(too_many_lines(limits)));
+    }
+    (lines, State::Undecided)
+}
+
+// The verdict after all parts.
+fn verdict_of<E: Engine>(
+    checker: &Checker<E>,
+    lines: u32,
+    limits: &Limits,
+    state: State,
+) -> Result<Verdict, AllocError>
+    ensures tells { (labels : List (List ℕ)) (fed : List Reading) → FedSo E.stands_for (under limits.now labels) fed lines checker.now state →
+        IfOk result (TellsFed E.stands_for (under limits.now labels) fed checker.now.engine) }
+    ensures spent { OnErr result (is_spent state ≡ true) }
+{
+    match state {
+        State::Undecided => Ok(at_end(checker, lines, limits)),
+        State::Decided(verdict) => Ok(verdict),
+        State::Spent => Err(AllocError),
+    }
+}
+
+// The verdict after all parts, where nothing was wrong with any.
+fn at_end<E: Engine>(checker: &Checker<E>, lines: u32, limits: &Limits) -> Verdict
+    ensures { (labels : List (List ℕ)) (fed : List Reading) → FedSo E.stands_for (under limits.now labels) fed lines checker.now Undecided → TellsFed E.stands_for (under limits.now labels) fed checker.now.engine result }
+{
+    if lines > limits.lines {
+        return too_many_lines(limits);
+    }
+    faultless(checker)
+}
+
+// The verdict where there is a line too many, and nothing else is wrong.
+fn too_many_lines(limits: &Limits) -> Verdict
+    ensures { result ≡ Verdict.Malformed (limits.now.lines + 1) LineFault.TooManyLines }
+{
+    Verdict::Malformed {
+        line: limits.lines + 1,
+        fault: LineFault::TooManyLines,
+    }
+}
+
+/// Feeds the parts, one after the other. Where memory is refused the monitor says so at its end.
+pub fn feed_all<E: Engine>(monitor: &mut Monitor<E>, parts: &[Parsed], except: &Except)
+    requires { except.now ≡ monitor.old.rules.labels }
+    ensures rules { monitor.new.rules ≡ monitor.old.rules }
+    ensures fed { monitor.new.parts ≡ monitor.old.parts ++ parts.now }
+{
+    for part in parts {
+        let _ = monitor.feed(part, except);
+    }
+}
