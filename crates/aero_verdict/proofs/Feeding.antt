@@ -1,7 +1,8 @@
 -- A monitor that is fed one part more.
-use Rattle.std.proofs.Common.{◌≡◌, ℕ, suc, ◌+◌, ◌-◌, ◌<◌, ◌≤◌, nat_le, nat_lt, min, false, List, [], ◌∷◌, ◌++◌, length, map, drop, Option, Some, None, option_map, sym, ◌∙◌, ap, ap₂, subst, arith, refl, add-zero, add-one, length-append}
-use Rattle.std.specs.Prelude.{slice_get, IfSome}
-use Rattle.std.proofs.lemmas.Bool.{cond-true, cond-false, lt-ltb, lt-leb}
+use Rattle.std.proofs.Common.{◌≡◌, inl, inr, ℕ, zero, suc, Bool, Result, Ok, Err, ◌+◌, ◌-◌, ◌<◌, ◌≤◌, nat_le, nat_lt, min, true, false, List, [], ◌∷◌, ◌++◌, length, map, drop, Option, Some, None, option_map, sym, ◌∙◌, ap, ap₂, subst, arith, refl, add-zero, add-one, length-append}
+use Rattle.std.specs.Prelude.{slice_get, IfSome, IfOk}
+use Rattle.std.specs.declared.alloc.AllocError.{AllocError}
+use Rattle.std.proofs.lemmas.Bool.{cases_lt, cond-true, cond-false, lt-ltb, lt-leb}
 use Rattle.std.proofs.lemmas.List.{append_assoc, append-nil}
 use Rattle.std.proofs.lemmas.List.Elements.{filter-append}
 use Rattle.aero_model.specs.declared.limits.Limits.{Limits}
@@ -9,7 +10,7 @@ use Rattle.aero_model.specs.declared.numbered.Numbered.{Numbered}
 use Rattle.aero_model.specs.declared.verdict.LineFault.{LineFault}
 use Rattle.aero_model.specs.declared.verdict.LineFault.TheVariants.{TooManyLines}
 use Rattle.aero_model.specs.declared.verdict.Verdict.{Verdict}
-use Rattle.aero_model.specs.declared.verdict.Verdict.TheVariants.{Malformed}
+use Rattle.aero_model.specs.declared.verdict.Verdict.TheVariants.{Malformed, Serializable, Pending}
 use Rattle.aero_model.specs.Named.{Named}
 use Rattle.aero_model.specs.Verdicts.{HasOwnFault}
 use Rattle.aero_grammar.specs.Reading.{Reading, after_lines, whole_reading, fault_within}
@@ -17,11 +18,12 @@ use Rattle.aero_verdict.specs.declared.checker.Checker.{Checker}
 use Rattle.aero_verdict.specs.declared.monitor.State.{State}
 use Rattle.aero_verdict.specs.declared.monitor.State.TheVariants.{Undecided, Decided, Spent}
 use Rattle.aero_verdict.specs.Kept.{StandsFor, up_to}
-use Rattle.aero_verdict.specs.Fed.{IsCertain}
+use Rattle.aero_verdict.specs.Fed.{IsCertain, IsOpen}
 use Rattle.aero_verdict.specs.Monitored.{FedSo, certain_of, TellsFed}
 use Rattle.aero_verdict.specs.Ordered.{is_faultless}
 use Rattle.aero_verdict.specs.Parts.{greatest_number, Stands, StandsForAll, ComesNext, IsPartExpected, TellsPart}
 use Rattle.aero_verdict.specs.Verdict.{Rules, under, counted_events, checked_trace, IsVerdict, IsMalformed, IsFaultless}
+use Rattle.aero_verdict.proofs.OneVerdict.{one_verdict}
 use Rattle.aero_verdict.proofs.Parts.{clean_here, too_many, faultless, stands_for_all}
 use Rattle.aero_verdict.proofs.Readings.{slice_get_behind, trace_length}
 
@@ -205,3 +207,22 @@ pub certain_so : {E : Type 0} (stands_for : E → List Numbered → Type 0) (rul
 certain_so stands_for rules fed lines checker Undecided so = tt
 certain_so stands_for rules fed lines checker (Decided verdict) so = so
 certain_so stands_for rules fed lines checker Spent so = tt
+
+-- where nothing is certain nothing is wrong
+
+right_of : (parts : List Reading) (rules : Rules) (events blocks pending : ℕ) → IsFaultless parts rules events blocks pending → (verdict : Verdict) → IsVerdict parts rules verdict → is_faultless verdict ≡ true
+right_of parts rules events blocks zero is verdict told = ap is_faultless (one_verdict parts rules verdict (Serializable events blocks) told is)
+right_of parts rules events blocks (suc pending) is verdict told = ap is_faultless (one_verdict parts rules verdict (Pending events blocks (suc pending)) told (omega arith, is))
+
+pub open_so : {E : Type 0} (stands_for : E → List Numbered → Type 0) (rules : Rules) (fed : List Reading) (lines : ℕ) (checker : Checker E) → FedSo stands_for rules fed lines checker Undecided → IsOpen fed rules
+open_so stands_for rules fed lines checker so verdict told =
+    elim (cases_lt rules.limits.lines lines) [
+      | inl more ↦ inr (one_verdict fed rules verdict (Malformed (rules.limits.lines + 1) TooManyLines) told (too_many_at_end stands_for rules fed lines checker so more))
+      | inr few ↦
+          inl (right_of fed rules checker.shape.admitted checker.blocks.begun (checker.blocks.begun - checker.blocks.ended) (faultless_at_end stands_for rules fed lines checker so few) verdict told)
+    ]
+
+pub open_told : {E : Type 0} (stands_for : E → List Numbered → Type 0) (rules : Rules) (fed : List Reading) (lines : ℕ) (checker : Checker E) (state : State) (result : Result Bool AllocError) → IfOk result (λ b. b ≡ false → state ≡ Undecided) →
+    FedSo stands_for rules fed lines checker state → IfOk result (λ b. b ≡ false → IsOpen fed rules)
+open_told stands_for rules fed lines checker state (Ok b) undecided so = λ no. open_so stands_for rules fed lines checker (subst (FedSo stands_for rules fed lines checker) (undecided no) so)
+open_told stands_for rules fed lines checker state (Err e) undecided so = tt

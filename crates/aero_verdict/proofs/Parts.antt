@@ -61,7 +61,7 @@ module _ (rules : Rules) (parts rest : List Reading) (p : Reading) (events : Lis
     lines_told : 0 < length more → total ≡ lines
     lines_told some =
         let few : length more ≤ most = few_more in
-        let small : rules.limits.lines ≤ 2 ^ 28 = rules.limits.most_lines in
+        let small : rules.limits.lines ≤ 4000000000 = let below = rules.limits.most_lines in omega (arith, below) in
         omega (arith, some, few, most_is, lines_are, small)
 
     next_here : (later : List (ℕ × Named)) → AreNext stands_for rules checker (front ++ (map (after_lines total) more ++ later)) block flags lines more
@@ -125,7 +125,7 @@ module _ (rules : Rules) (parts rest : List Reading) (p : Reading) (events : Lis
           ∙ sym (length-append front (map (after_lines total) more))
           ∙ ap length (sym (ap (up_to rules.limits.lines) only ∙ counted_with))
           ∙ sym (trace_length rules parts) in
-          let small : rules.limits.lines ≤ 2 ^ 28 = rules.limits.most_lines in
+          let small : rules.limits.lines ≤ 4000000000 = let below = rules.limits.most_lines in omega (arith, below) in
           let same : min (total + line) greatest_number ≡ min (lines + line) greatest_number = omega arith in
           record {
             clean = clean_here stands_for rules parts new stands_whole len;
@@ -224,7 +224,7 @@ module _ {E : Type 0} (stands_for : E → List Numbered → Type 0) (rules : Rul
   -- where there are no more lines than the limit, each event counts, and the engine stands for all of them
   pub stands_for_all : lines ≤ rules.limits.lines → StandsForAll (stands_for checker.engine) rules parts
   stands_for_all few =
-      let small : rules.limits.lines ≤ 2 ^ 28 = rules.limits.most_lines in
+      let small : rules.limits.lines ≤ 4000000000 = let below = rules.limits.most_lines in omega (arith, below) in
       let count_all : up_to rules.limits.lines stands.events ≡ stands.events = all_up_to rules.limits.lines stands.events (λ i d less. omega (arith, stands.within i d less, few, stands.lines_are, small)) in
       record {
         countable =
@@ -243,7 +243,7 @@ module _ {E : Type 0} (stands_for : E → List Numbered → Type 0) (rules : Rul
 
   pub faultless : lines ≤ rules.limits.lines → IsFaultless parts rules checker.shape.admitted checker.blocks.begun (checker.blocks.begun - checker.blocks.ended)
   faultless few =
-      let small : rules.limits.lines ≤ 2 ^ 28 = rules.limits.most_lines in
+      let small : rules.limits.lines ≤ 4000000000 = let below = rules.limits.most_lines in omega (arith, below) in
       record {
         clean = clean_here stands_for rules parts checker at_end admitted_are;
         no_fault = malformed_is ∙ cond-false (nat_lt rules.limits.lines (stands.total + 0)) _ _ (le-ltb rules.limits.lines (stands.total + 0) (omega (arith, stands.lines_are, small)));
@@ -262,11 +262,11 @@ module _ {E : Type 0} (stands_for : E → List Numbered → Type 0) (rules : Rul
   before_here = here parts k p part next.part_is view stands.events stands.total stands.before
 
   most_here : most ≡ rules.limits.lines - stands.total
-  most_here = let small : rules.limits.lines ≤ 2 ^ 28 = rules.limits.most_lines in omega (arith, most_is, stands.lines_are, small)
+  most_here = let small : rules.limits.lines ≤ 4000000000 = let below = rules.limits.most_lines in omega (arith, below) in omega (arith, most_is, stands.lines_are, small)
 
   few_here : length (up_to rules.limits.lines stands.events) + length (up_to most p.events) < 2 ^ 32
   few_here =
-      let small : rules.limits.lines ≤ 2 ^ 28 = rules.limits.most_lines in
+      let small : rules.limits.lines ≤ 4000000000 = let below = rules.limits.most_lines in omega (arith, below) in
       let few = few_more rules parts (drop (k + 1) parts) p stands.events stands.total before_here reading most most_here in
       omega (arith, small, few, stands.few_enough, most_is)
 
@@ -276,7 +276,7 @@ module _ {E : Type 0} (stands_for : E → List Numbered → Type 0) (rules : Rul
       (expected_here rules parts (drop (k + 1) parts) p stands.events stands.total before_here reading most most_here stands_for checker lines k stands.count_is stands.kept stands.lines_are block flags marked few_here)
 
   pub lines_fit : lines + most < 2 ^ 32
-  lines_fit = let small : rules.limits.lines ≤ 2 ^ 28 = rules.limits.most_lines in omega (arith, most_is, small, stands.lines_are)
+  lines_fit = let small : rules.limits.lines ≤ 4000000000 = let below = rules.limits.most_lines in omega (arith, below) in omega (arith, most_is, small, stands.lines_are)
 
   pub part_stopped : (new : Checker E) (line : ℕ) (stop : Stop) → ((all : List (ℕ × Named)) → AreNext stands_for rules checker all block flags lines (up_to most es) → StopsIn rules new all checker.shape.admitted lines (up_to most es) line stop) →
       (verdict : Verdict) → TellsStop new line stop verdict → IsVerdict parts rules verdict

@@ -1,5 +1,5 @@
 -- Texts one after the other: their events that count, and their lines.
-use Rattle.std.proofs.Common.{◌≡◌, ℕ, zero, suc, ◌+◌, ◌-◌, ◌<◌, ◌≤◌, ◌^◌, nat_le, min, Bool, true, false, List, [], ◌∷◌, ◌++◌, length, map, drop, Option, Some, None, option_map, inl, inr, refl, sym, ◌∙◌, ap, ap₂, subst, arith, add-one, zero-add, add_assoc}
+use Rattle.std.proofs.Common.{◌≡◌, ℕ, zero, suc, ◌+◌, ◌-◌, ◌<◌, ◌≤◌, nat_le, min, Bool, true, false, List, [], ◌∷◌, ◌++◌, length, map, drop, Option, Some, None, option_map, inl, inr, refl, sym, ◌∙◌, ap, ap₂, subst, arith, add-one, zero-add, add_assoc}
 use Rattle.std.specs.Prelude.{slice_get, is_some, All}
 use Rattle.std.proofs.lemmas.Bool.{cond-true, cond-false, cond_both, cases_lt, cases_Bool, le-leb, lt-leb}
 use Rattle.std.proofs.lemmas.List.{append_assoc, append-nil, map-append, length-map}
@@ -120,7 +120,7 @@ up_to_after total limit n (e ∷ es) rise =
     ]
 
 -- the line of a fault, where it is told up to the greatest number alone
-pub fault_told : (limit lines line : ℕ) (fault : LineFault) → limit ≤ 2 ^ 28 → fault_within limit lines (Some (line, fault)) ≡ fault_within limit lines (Some (min line greatest_number, fault))
+pub fault_told : (limit lines line : ℕ) (fault : LineFault) → limit ≤ 4000000000 → fault_within limit lines (Some (line, fault)) ≡ fault_within limit lines (Some (min line greatest_number, fault))
 fault_told limit lines line fault le =
     elim (cases_lt greatest_number line) [
       | inl beyond ↦

@@ -1,6 +1,8 @@
 -- What a caller sees of a trace that is fed part by part.
-use Rattle.std.specs.Prelude.{◌≡◌, Bool, false, List, ◌++◌, Option}
+use Rattle.std.specs.Prelude.{◌≡◌, ◌⊎◌, ◌+◌, Bool, true, false, List, ◌++◌, Option}
+use Rattle.aero_model.specs.declared.verdict.LineFault.TheVariants.{TooManyLines}
 use Rattle.aero_model.specs.declared.verdict.Verdict.{Verdict}
+use Rattle.aero_model.specs.declared.verdict.Verdict.TheVariants.{Malformed}
 use Rattle.aero_model.specs.Verdicts.{HasOwnFault}
 use Rattle.aero_grammar.specs.Reading.{Reading}
 use Rattle.aero_verdict.specs.Ordered.{is_faultless}
@@ -18,6 +20,10 @@ pub record IsCertain (parts : List Reading) (rules : Rules) (verdict : Verdict) 
   pub is_verdict : (rest : List Reading) → IsVerdict (parts ++ rest) rules verdict
   pub own_fault : HasOwnFault verdict
   pub wrong : is_faultless verdict ≡ false
+
+-- nothing is wrong with these parts, but maybe that there is one line too many
+abbrev pub IsOpen : List Reading → Rules → Type 0
+IsOpen parts rules = (verdict : Verdict) → IsVerdict parts rules verdict → (is_faultless verdict ≡ true) ⊎ (verdict ≡ Malformed (rules.limits.lines + 1) TooManyLines)
 
 -- the verdict on exactly these parts
 pub record IsVerdictOn (parts : List Reading) (rules : Rules) (verdict : Verdict) : Type 0 where

@@ -3,7 +3,7 @@ ghost use Rattle.std.specs.Prelude.{◌≡◌, ◌+◌, ◌++◌, ◌∷◌, [],
 ghost use Rattle.aero_grammar.specs.Reading.{Reading};
 ghost use Rattle.aero_model.specs.Verdicts.{HasOwnFault};
 ghost use Rattle.aero_verdict.specs.declared.monitor.State.TheVariants.{Undecided};
-ghost use Rattle.aero_verdict.specs.Fed.{IsCertain, IsVerdictOn};
+ghost use Rattle.aero_verdict.specs.Fed.{IsCertain, IsOpen, IsVerdictOn};
 ghost use Rattle.aero_verdict.specs.Monitored.{FedSo, is_spent, certain_of, TellsFed};
 ghost use Rattle.aero_verdict.specs.Parts.{IsPartExpected};
 ghost use Rattle.aero_verdict.specs.Verdict.{Rules, under, IsVerdict};
@@ -96,6 +96,7 @@ impl<E: Engine> Monitor<E> {
         ensures fed { self.new.parts ≡ self.old.parts ++ part.now ∷ [] }
         ensures told { IfOk result (λ is_certain. is_certain ≡ is_some self.new.certain) }
         ensures certain { IfSome self.new.certain (IsCertain self.new.parts self.new.rules) }
+        ensures going_on { IfOk result (λ is_certain. is_certain ≡ false → IsOpen self.new.parts self.new.rules) }
         ensures stays { IfSome self.old.certain (λ verdict. self.new.certain ≡ Some verdict) }
         ensures spent { OnErr result (self.new.is_spent ≡ true) }
         ensures stays_spent { self.old.is_spent ≡ true → self.new.is_spent ≡ true }
@@ -169,6 +170,7 @@ fn is_undecided(state: &State) -> bool
 // Whether the verdict is certain.
 fn is_told(state: &State) -> Result<bool, AllocError>
     ensures told { IfOk result (λ is_certain. is_certain ≡ is_some (certain_of state.now)) }
+    ensures going_on { IfOk result (λ is_certain. is_certain ≡ false → state.now ≡ Undecided) }
     ensures spent { OnErr result (is_spent state.now ≡ true) }
 {
     match state {

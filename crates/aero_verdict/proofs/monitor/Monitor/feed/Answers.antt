@@ -1,7 +1,7 @@
 use Rattle.std.proofs.Common.{◌≡◌, sym, ◌∙◌, ap}
 use Rattle.aero_verdict.specs.Fed.{Fed}
 use Rattle.aero_verdict.specs.Verdict.{under}
-use Rattle.aero_verdict.proofs.Feeding.{fed_part, certain_so}
+use Rattle.aero_verdict.proofs.Feeding.{fed_part, certain_so, open_told}
 use Rattle.aero_verdict.proofs.monitor.Monitor.feed.Goals as goal
 
 pub invariant_of-self-2 : goal.invariant_of-self-2
@@ -14,3 +14,8 @@ invariant_of-self-2 g c =
 pub returns-clause-certain : goal.returns-clause-certain
 returns-clause-certain g c =
     certain_so g.E.Engine.stands_for (under c.self.inside.limits c.with-self-inside.result.labels) c.with-self-inside.result.parts c.judge_part-lines.result.0 c.judge_part-lines.new.checker c.judge_part-lines.result.1 (invariant_of-self-2 g c)
+
+pub returns-clause-going_on : goal.returns-clause-going_on
+returns-clause-going_on g c =
+    open_told g.E.Engine.stands_for (under c.self.inside.limits c.with-self-inside.result.labels) c.with-self-inside.result.parts c.judge_part-lines.result.0 c.judge_part-lines.new.checker c.judge_part-lines.result.1
+    c.is_told-2.result c.is_told-2.ensures.going_on (invariant_of-self-2 g c)
