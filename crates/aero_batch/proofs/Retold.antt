@@ -20,7 +20,8 @@ use Rattle.aero_batch.specs.Steps.{ChecksNext, SettlesNext, Settles, with_block,
 use Rattle.aero_intake.specs.Stories.{Story, AreEnough, IsSettledWith, IsTracked, AreTracked, blocks_asked, checks_asked, own_block, own_check, changed}
 use Rattle.aero_intake.specs.Tracks.{IsReady, GivesReadings}
 use Rattle.aero_batch.proofs.Apart.{block_first, check_before_blocks, check_apart}
-use Rattle.aero_intake.proofs.Tracked.{changed_there, changed_elsewhere, before_change, value_goes, nil_right, asked_other, asked_block, asked_check}
+use Rattle.aero_intake.proofs.Tracked.{changed_there, changed_elsewhere, before_change, value_goes, nil_right, asked_other, asked_block, asked_check, found_here}
+use Rattle.aero_model.specs.declared.verdict.Finding.TheVariants as findings
 use Rattle.aero_verdict.specs.Finding.{Terms}
 
 -- the stories with another one for the source at the place
@@ -123,16 +124,22 @@ checked_on terms i place None = all_open i
 checked_on terms i place (Some rs) = all_open i ++ Check place rs terms.rules.limits terms.rules.labels terms.order ∷ []
 
 check_asked : (terms : Terms) (i : Inquired) (tale : ℕ → Story) (tracks : List Track) (place : ℕ) (before after : Track) (readings : Option (List Reading)) →
-    slice_get tracks place ≡ Some before → IsReady before → GivesReadings before after readings → AreTracked terms (all_open i) tale tracks →
+    slice_get tracks place ≡ Some before → IsReady before → GivesReadings terms before after readings → AreTracked terms (all_open i) tale tracks →
     AreTracked terms (checked_on terms i place readings) tale (changed place (λ t. after) tracks)
 check_asked terms i tale tracks place (Arriving rs) after readings was ready gives tracked = absurd ready
 check_asked terms i tale tracks place (Checking bytes) after readings was ready gives tracked = absurd ready
-check_asked terms i tale tracks place (Arrived bytes blocks rs) after readings was ready gives tracked =
+check_asked terms i tale tracks place (Arrived bytes blocks rs) after readings was ready (inl gives) tracked =
     subst (λ o. AreTracked terms (checked_on terms i place o) tale (changed place (λ t. after) tracks)) (sym gives.0)
     (known_after terms (all_open i) (all_open i ++ Check place rs terms.rules.limits terms.rules.labels terms.order ∷ []) tale tracks place (Arrived bytes blocks rs) after was
     (subst (λ x. IsTracked terms (all_open i ++ Check place rs terms.rules.limits terms.rules.labels terms.order ∷ []) place (tale place) x) (sym gives.1)
     (asked_check terms (all_open i) place bytes blocks (tale place) rs ready (tracked place (Arrived bytes blocks rs) was)))
     (λ s t other. asked_other terms (all_open i) (Check place rs terms.rules.limits terms.rules.labels terms.order) s (tale s) t other) tracked)
+check_asked terms i tale tracks place (Arrived bytes blocks rs) after readings was ready (inr gives) tracked =
+    subst (λ o. AreTracked terms (checked_on terms i place o) tale (changed place (λ t. after) tracks)) (sym gives.0)
+    (known_after terms (all_open i) (all_open i) tale tracks place (Arrived bytes blocks rs) after was
+    (subst (λ x. IsTracked terms (all_open i) place (tale place) x) (sym gives.3)
+    (found_here terms (all_open i) place bytes blocks (tale place) rs (findings.Judged gives.1) ready gives.2 (tracked place (Arrived bytes blocks rs) was)))
+    (λ s t other is. is) tracked)
 check_asked terms i tale tracks place (Found bytes ending finding) after readings was ready gives tracked =
     subst (λ o. AreTracked terms (checked_on terms i place o) tale (changed place (λ t. after) tracks)) (sym gives.0)
     (known_after terms (all_open i) (all_open i) tale tracks place (Found bytes ending finding) after was

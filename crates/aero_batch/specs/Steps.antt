@@ -128,7 +128,7 @@ pub record ChecksNext (terms : Terms) (old new : Progress) : Type 0 where
   pub readings : Option (List Reading)
   pub was : slice_get old.tracks.items old.checked ≡ Some before
   pub ready : IsReady before
-  pub gives : GivesReadings before after readings
+  pub gives : GivesReadings terms before after readings
   pub tracks : new.tracks.items ≡ changed old.checked (λ t. after) old.tracks.items
   pub inquiry : new.inquiry ≡ with_check terms old.inquiry old.checked readings
   pub checked : new.checked ≡ old.checked + 1

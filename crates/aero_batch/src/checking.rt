@@ -12,9 +12,9 @@ use crate::inquiry::Inquiry;
 use crate::kind::Kind;
 use crate::progress::Progress;
 use aero_intake::plan::Plan;
-use aero_intake::track::{Readings, Track, take_readings, take_value};
+use aero_intake::track::{Track, take_parts, take_value};
 use aero_pieces::answer::Value;
-use aero_pieces::question::Question;
+use aero_pieces::question::{Parts, Question};
 use std::alloc::{AllocError, Global};
 use std::sync::{Arc, Wait};
 
@@ -32,7 +32,7 @@ pub fn check_next<H: Helpers, T: Wait>(
     ensures { OnOk result (ChecksNext (terms_of plan.now) progress.old progress.new) }
 {
     let place = progress.checked;
-    let readings = take_readings(&mut progress.tracks[place]);
+    let readings = take_parts(&mut progress.tracks[place], plan)?;
     ask_check(
         rt,
         alloc,
@@ -53,7 +53,7 @@ fn ask_check<H: Helpers, T: Wait>(
     helpers: &mut H,
     inquiry: &mut Inquiry,
     trace: u64,
-    readings: Option<Readings>,
+    readings: Option<Parts>,
 ) -> Result<(), AllocError>
     requires room { open_count inquiry.old < 64 }
     requires few { inquiry.old.asked < 2 ^ 63 }
@@ -70,13 +70,13 @@ fn check_question(
     alloc: Global,
     plan: &Plan,
     trace: u64,
-    readings: Readings,
+    readings: Parts,
 ) -> Result<Arc<Question, Global>, AllocError>
     ensures { IfOk result (λ question. arc_value question ≡ Question.Check trace readings plan.now.limits plan.now.except plan.now.order) }
 {
     Question::Check {
         trace,
-        parsed: readings.into_parts(),
+        parsed: readings,
         limits: plan.limits,
         except: plan.except.share()?,
         order: plan.order,
@@ -87,6 +87,8 @@ fn check_question(
 /// Settles the oldest open question of this kind, if there is one: its value goes to the track of its source.
 pub fn settle_next<H: Helpers, T: Wait>(
     rt: &T,
+    alloc: Global,
+    plan: &Plan,
     helpers: &mut H,
     progress: &mut Progress,
     kind: Kind,
@@ -97,15 +99,21 @@ pub fn settle_next<H: Helpers, T: Wait>(
     let Some((trace, value)) = progress.inquiry.settle(rt, helpers, kind, is_last)? else {
         return Ok(());
     };
-    give_value(&mut progress.tracks, trace, value)
+    give_value(&mut progress.tracks, alloc, trace, value, plan)
 }
 
 // Gives a value to the track of its source, if there is one.
-fn give_value(tracks: &mut Vec<Track>, trace: u64, value: Value) -> Result<(), AllocError>
+fn give_value(
+    tracks: &mut Vec<Track>,
+    alloc: Global,
+    trace: u64,
+    value: Value,
+    plan: &Plan,
+) -> Result<(), AllocError>
     ensures { OnOk result (tracks.new.items ≡ changed trace (λ t. with_value t value) tracks.old.items) }
 {
     if trace >= tracks.len() as u64 {
         return Ok(());
     }
-    take_value(&mut tracks[trace as usize], value)
+    take_value(&mut tracks[trace as usize], alloc, value, plan)
 }

@@ -57,7 +57,7 @@ fn step_on<R: Read, H: Helpers, T: Wait>(
 {
     let kind = next_kind(&progress.inquiry, answered);
     if !progress.inquiry.has_room() {
-        return settle_next(rt, helpers, progress, kind);
+        return settle_next(rt, alloc, plan, helpers, progress, kind);
     }
     if progress.checked < progress.read && is_ready(&progress.tracks[progress.checked]) {
         return check_next(rt, alloc, plan, helpers, progress);
@@ -67,7 +67,7 @@ fn step_on<R: Read, H: Helpers, T: Wait>(
         let source = &mut sources[progress.read];
         return read_on(rt, alloc, plan, &mut source.reader, helpers, progress);
     }
-    settle_next(rt, helpers, progress, kind)
+    settle_next(rt, alloc, plan, helpers, progress, kind)
 }
 
 // The kind of which a question is settled next, where one is: one that is answered, or else that which is awaited.

@@ -4,3 +4,4 @@ pub mod Judged
 pub mod Taken
 pub mod Tracked
 pub mod Values
+pub mod Given

@@ -262,6 +262,14 @@ asked_check terms qs s bytes blocks story readings ready is =
       record { ended = is.2.ended; enough = is.2.enough; byte_count = is.2.byte_count; block_count = refl },
     )
 
+-- it is known what is found of a whole source once all its blocks are read
+pub found_here : (terms : Terms) (qs : List Question) (s bytes blocks : ℕ) (story : Story) (readings : List Reading) (f : Finding) → length readings ≡ blocks →
+    IsTraceFinding readings terms f → IsTracked terms qs s story (Arrived bytes blocks readings) → IsTracked terms qs s story (Found bytes endings.Whole f)
+found_here terms qs s bytes blocks story readings f ready known is =
+    let all_read = no_blocks_left readings [] story.blocks (blocks_asked s qs) is.0 (ready ∙ is.2.block_count) in
+    let has : HasArrived terms.rules story bytes (length story.blocks) = record { ended = is.2.ended; enough = is.2.enough; byte_count = is.2.byte_count; block_count = refl } in
+    (is.2.ended, is.2.byte_count, trace_found terms story bytes readings terms f (ap (λ rs. record { parts = rs; terms = terms }) all_read) has (merely known))
+
 -- a list with an element written at a place
 
 pub set_changed : {A : Type 0} (xs : List A) (i : ℕ) (x y : A) (f : A → A) → slice_get xs i ≡ Some x → y ≡ f x → slice_set xs i y ≡ changed i f xs

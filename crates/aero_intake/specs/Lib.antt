@@ -1,5 +1,7 @@
+pub mod Held
 pub mod Intake
 pub mod Laws
+pub mod Lives
 pub mod PlanTerms
 pub mod Plans
 pub mod Source

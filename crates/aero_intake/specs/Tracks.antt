@@ -1,10 +1,12 @@
 -- How far a source is.
-use Rattle.std.specs.Prelude.{◌≡◌, ℕ, Bool, false, is_some, List, [], ◌∷◌, ◌++◌, length, Option, Some, None, ⊤}
+use Rattle.std.specs.Prelude.{◌≡◌, ◌⊎◌, ℕ, Bool, false, is_some, List, [], ◌∷◌, ◌++◌, length, Option, Some, None, ⊤}
 use Rattle.aero_model.specs.declared.limits.Limits.{Limits}
 use Rattle.aero_model.specs.declared.verdict.Ending.TheVariants as endings
 use Rattle.aero_model.specs.declared.verdict.Finding.{Finding}
 use Rattle.aero_model.specs.declared.verdict.Finding.TheVariants as findings
+use Rattle.aero_model.specs.declared.verdict.Verdict.{Verdict}
 use Rattle.aero_grammar.specs.Reading.{Reading, whole_reading, malformed_line}
+use Rattle.aero_verdict.specs.Finding.{Terms, IsTraceFinding}
 use Rattle.aero_pieces.specs.declared.answer.Value.{Value}
 use Rattle.aero_pieces.specs.declared.answer.Value.TheVariants.{Parsed, Judged, Ordered}
 use Rattle.aero_intake.specs.declared.track.Track.{Track}
@@ -50,7 +52,14 @@ IsReady (Arrived bytes blocks readings) = length readings ≡ blocks
 IsReady (Checking bytes) = ⊥
 IsReady (Found bytes ending finding) = ⊤
 
--- the verdict is asked for where a whole source waits for it
-abbrev pub GivesReadings : Track → Track → Option (List Reading) → Type 0
-GivesReadings (Arrived bytes blocks readings) new given = (given ≡ Some readings) × (new ≡ Checking bytes)
-GivesReadings old new given = (given ≡ None) × (new ≡ old)
+-- what the blocks of a whole source say is taken from its track
+abbrev pub TakesReadings : Track → Track → Option (List Reading) → Type 0
+TakesReadings (Arrived bytes blocks readings) new given = (given ≡ Some readings) × (new ≡ Checking bytes)
+TakesReadings old new given = (given ≡ None) × (new ≡ old)
+
+-- the verdict is asked for where a whole source waits for it, unless the source was judged as it came: then it is known what is found of it
+abbrev pub GivesReadings : Terms → Track → Track → Option (List Reading) → Type 0
+GivesReadings terms (Arrived bytes blocks readings) new given =
+    ((given ≡ Some readings) × (new ≡ Checking bytes))
+    ⊎ ((given ≡ None) × (verdict : Verdict) × IsTraceFinding readings terms (findings.Judged verdict) × (new ≡ Found bytes endings.Whole (findings.Judged verdict)))
+GivesReadings terms old new given = (given ≡ None) × (new ≡ old)

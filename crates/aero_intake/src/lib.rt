@@ -11,7 +11,9 @@
 #![tactic(auto)]
 
 pub mod intake;
+pub mod keeping;
 pub mod laws;
+pub mod live;
 pub mod plan;
 pub mod source;
 pub mod track;

@@ -1,7 +1,11 @@
 //! What is known of a source while it is worked on.
-ghost use Rattle.std.specs.Prelude.{◌≡◌, ◌++◌, ◌∷◌, [], length, OnOk, MatchOption, ◌↔◌, IsTrue};
-ghost use Rattle.aero_intake.specs.Tracks.{with_part, with_finding, with_value, with_arrival, decides, is_decided, IsReady, GivesReadings};
+ghost use Rattle.std.specs.Prelude.{◌≡◌, ◌++◌, ◌∷◌, [], length, OnOk, IfOk, MatchOption, ◌↔◌, IsTrue};
+ghost use Rattle.aero_intake.specs.Held.{IsJudgedFrom};
+ghost use Rattle.aero_verdict.specs.Finding.{asking};
+ghost use Rattle.aero_intake.specs.Tracks.{with_part, with_finding, with_value, with_arrival, decides, is_decided, IsReady, TakesReadings, GivesReadings};
 
+use crate::keeping::{Held, Judged, add_to, held_count, judged_from, nothing_held};
+use crate::plan::Plan;
 use aero_grammar::parsed::Parsed;
 use aero_model::limits::Limits;
 use aero_model::verdict::{Ending, Finding};
@@ -14,7 +18,7 @@ use std::mem;
 /// What the first blocks of a source say, in their order.
 #[derive(Drop)]
 pub struct Readings {
-    parts: Vec<Parsed>,
+    held: Held,
     // How many lines they have, up to the first fault, but no more than 2^32 - 1.
     lines: u32,
     has_fault: bool,
@@ -26,14 +30,16 @@ impl Model for Readings {
 
     ghost Value = { List Reading };
 
-    ghost view = { λ r. r.parts.items };
+    ghost use Rattle.aero_intake.specs.Held.{parts_in};
+
+    ghost view = { λ r. parts_in r.held };
 
     ghost use Rattle.std.specs.Prelude.{◌≡◌, ◌-◌, ◌^◌, min, is_some};
     ghost use Rattle.aero_grammar.specs.Reading.{whole_reading};
 
     ghost invariant = { λ r. record {
-      lines : r.lines ≡ min (whole_reading r.parts.items).lines (2 ^ 32 - 1);
-      fault : r.has_fault ≡ is_some (whole_reading r.parts.items).fault;
+      lines : r.lines ≡ min (whole_reading (parts_in r.held)).lines (2 ^ 32 - 1);
+      fault : r.has_fault ≡ is_some (whole_reading (parts_in r.held)).fault;
     } };
 }
 
@@ -42,19 +48,22 @@ impl Readings {
         ensures { result ≡ [] }
     {
         Readings {
-            parts: Vec::new(alloc),
+            held: nothing_held(alloc),
             lines: 0,
             has_fault: false,
         }
     }
 
     /// Adds what the next block says. An `AllocError` says that memory was refused.
-    pub fn add(&mut self, part: Parsed) -> Result<(), AllocError>
+    pub fn add(&mut self, alloc: Global, part: Parsed, plan: &Plan) -> Result<(), AllocError>
         ensures { OnOk result (self.new ≡ self.old ++ part ∷ []) }
     {
         let more_lines = part.lines;
         let is_faulty = part.fault.is_some();
-        self.parts.push(part)?;
+        if let Err(refused) = add_to(&mut self.held, alloc, part, plan) {
+            *self = Readings::new(alloc);
+            return Err(refused);
+        }
         if !self.has_fault {
             self.lines = self.lines.saturating_add(more_lines);
             self.has_fault = is_faulty;
@@ -73,14 +82,15 @@ impl Readings {
     pub fn len(&self) -> u64
         ensures { result ≡ length self.now }
     {
-        self.parts.len() as u64
+        held_count(&self.held)
     }
 
-    pub fn into_parts(self) -> Parts
-        ensures { result ≡ self }
+    /// What a whole source is judged by. An `AllocError` says that memory was refused.
+    pub fn into_judged(self, plan: &Plan) -> Result<Judged, AllocError>
+        ensures { IfOk result (IsJudgedFrom self (asking plan.now.limits plan.now.except plan.now.order)) }
     {
-        let Readings { parts, .. } = self;
-        Parts::new(parts)
+        let Readings { held, .. } = self;
+        judged_from(held, plan)
     }
 }
 
@@ -109,11 +119,16 @@ pub enum Track {
 
 /// Gives a value to the track of its source. What is of no use any more is dropped. An `AllocError`
 /// says that memory was refused.
-pub fn take_value(track: &mut Track, value: Value) -> Result<(), AllocError>
+pub fn take_value(
+    track: &mut Track,
+    alloc: Global,
+    value: Value,
+    plan: &Plan,
+) -> Result<(), AllocError>
     ensures { OnOk result (track.new ≡ with_value track.old value) }
 {
     match value {
-        Value::Parsed(part) => take_part(track, part),
+        Value::Parsed(part) => take_part(track, alloc, part, plan),
         Value::Judged(verdict) => {
             take_finding(track, Finding::Judged(verdict));
             Ok(())
@@ -125,12 +140,12 @@ pub fn take_value(track: &mut Track, value: Value) -> Result<(), AllocError>
     }
 }
 
-fn take_part(track: &mut Track, part: Parsed) -> Result<(), AllocError>
+fn take_part(track: &mut Track, alloc: Global, part: Parsed, plan: &Plan) -> Result<(), AllocError>
     ensures { OnOk result (track.new ≡ with_part track.old part) }
 {
     match track {
-        Track::Arriving(readings) => readings.add(part),
-        Track::Arrived { readings, .. } => readings.add(part),
+        Track::Arriving(readings) => readings.add(alloc, part, plan),
+        Track::Arrived { readings, .. } => readings.add(alloc, part, plan),
         Track::Checking { .. } | Track::Found { .. } => Ok(()),
     }
 }
@@ -192,9 +207,25 @@ pub fn is_decided(track: &Track, limits: &Limits) -> bool
 }
 
 /// Takes what the blocks of a whole source say that were asked about, where that is what its verdict
-/// is to be asked for.
-pub fn take_readings(track: &mut Track) -> Option<Readings>
-    ensures { GivesReadings track.old track.new result }
+/// is to be asked for. Where the source was judged as they came, it is noted what is found of it. An `AllocError`
+/// says that memory was refused.
+pub fn take_parts(track: &mut Track, plan: &Plan) -> Result<Option<Parts>, AllocError>
+    ensures { IfOk result (GivesReadings (asking plan.now.limits plan.now.except plan.now.order) track.old track.new) }
+{
+    let Some(readings) = take_readings(track) else {
+        return Ok(None);
+    };
+    match readings.into_judged(plan)? {
+        Judged::ByParts(parts) => Ok(Some(parts)),
+        Judged::Already(verdict) => {
+            take_finding(track, Finding::Judged(verdict));
+            Ok(None)
+        }
+    }
+}
+
+fn take_readings(track: &mut Track) -> Option<Readings>
+    ensures { TakesReadings track.old track.new result }
 {
     let bytes = match track {
         Track::Arrived { bytes, .. } => *bytes,

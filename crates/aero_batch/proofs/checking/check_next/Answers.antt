@@ -7,15 +7,15 @@ pub returns : goal.returns
 returns g c =
     let p = c.args.progress.now in
     let before = c.index_mut.result.now in
-    let after = c.take_readings-readings.new.track in
+    let after = c.take_parts.new.track in
     let at = slice_get_read p.tracks.items p.tracks.len p.checked before p.tracks.ok.0 c.requires.unchecked c.index_mut.ensures.value in
     record {
       before = before;
       after = after;
-      readings = c.take_readings-readings.result;
+      readings = c.in_ok-readings.readings;
       was = at;
       ready = c.requires.ready before at;
-      gives = c.take_readings-readings.ensures;
+      gives = c.in_ok-readings.ensures;
       tracks = set_changed p.tracks.items p.checked before after (λ t. after) at refl;
       inquiry = c.in_ok-ask_check.ensures;
       checked = refl;
