@@ -21,7 +21,7 @@ use std::alloc::{AllocError, Global};
 use std::io::Read;
 use std::process::Abort;
 use std::sync::Wait;
-use std::sync::atomic::AtomicBool;
+use std::sync::atomic::{AtomicBool, Ordering};
 use std::test::Fail;
 use std::thread::Threads;
 
@@ -732,17 +732,19 @@ fn has_order_of_two<T: AllocGlobal + Threads + Wait + Copy + Send + 'static>(
 }
 
 // What is written of two sources of which the second gives its text once the first is told: until then it gives so many
-// spaces, and then it fails.
+// spaces. Fails where they run out.
 fn told_before_the_next<T: AllocGlobal + Threads + Wait + Copy + Send + 'static>(
     rt: &T,
     text: &[u8],
     (who, spaces): (Who, u32),
 ) -> Result<Vec<u8>, Fail> {
     let is_told = AtomicBool::new(false);
+    let have_run_out = AtomicBool::new(false);
     let later = Later {
         text,
         spaces,
         is_told: &is_told,
+        have_run_out: &have_run_out,
     };
     let mut sources = [
         source_of(rt.alloc(), "a", Either::AtOnce(text))?,
@@ -760,6 +762,9 @@ fn told_before_the_next<T: AllocGlobal + Threads + Wait + Copy + Send + 'static>
         Limits::greatest(),
         65_536,
     )?;
+    if have_run_out.load(Ordering::SeqCst) {
+        return Err("the second source ran out of spaces before the first was told".into());
+    }
     Ok(writer.into_inner().taken)
 }
 

@@ -209,8 +209,8 @@ impl Write for Tape {
     }
 }
 
-// How many bytes a line of so many sources had written when it was stopped, once it had written so many or a minute had
-// passed.
+// How many bytes a line of so many sources had written when it was stopped, once it had written so many. Fails where these
+// don't come in time.
 fn written_until<R: Threads + Wait + Clock + Copy + Send + 'static>(
     rt: R,
     alloc: Global,
@@ -224,19 +224,25 @@ fn written_until<R: Threads + Wait + Clock + Copy + Send + 'static>(
     let Some(ticker) = Ticker::start(rt, alloc, tape, sources, pace) else {
         return Err(Fail::from("no ticker"));
     };
-    await_bytes(&rt, taken, least);
+    let have_come = await_bytes(&rt, taken, least);
     ticker.stop(&rt);
+    if !have_come {
+        return Err(Fail::from(
+            "the line's bytes didn't come within 60,000 sleeps of a millisecond",
+        ));
+    }
     Ok(taken.load(Ordering::SeqCst))
 }
 
-// Waits until so many bytes are taken, for a minute at most.
-fn await_bytes<R: Clock>(rt: &R, taken: &AtomicU64, least: u64) {
+// Whether so many bytes are taken within 60,000 sleeps of a millisecond.
+fn await_bytes<R: Clock>(rt: &R, taken: &AtomicU64, least: u64) -> bool {
     for _ in 0..60_000 {
         if taken.load(Ordering::SeqCst) >= least {
-            return;
+            return true;
         }
         thread::sleep(rt, Duration::from_millis(1));
     }
+    false
 }
 
 // The line has 38 bytes, and what clears it 54. Two ticks are awaited.

@@ -64,46 +64,110 @@ fn the_words_that_are_taken(rt: HostRuntime) {
     assert_eq!(rt; first_mistaken(rt.alloc(), &TAKEN), None);
 }
 
-// Whether it is no command line of the program, with a text that says why.
-fn is_refused(alloc: Global, words: &[&str]) -> bool {
-    let Err(Refused::Usage(text)) = settled(alloc, words) else {
+// Words that are no command line of the program, and what the text on them says behind `error: `.
+type Wrong = (Words, &'static str);
+
+// Whether they are refused with such a text, which ends with a line.
+fn is_refused(alloc: Global, row: &Wrong) -> bool {
+    let Err(Refused::Usage(text)) = settled(alloc, row.0) else {
         return false;
     };
-    text.as_str().starts_with("error: ") && text.as_str().ends_with("\n")
+    says_why(text.as_str(), row.1)
+}
+
+fn says_why(text: &str, why: &str) -> bool {
+    match text.strip_prefix("error: ") {
+        Some(rest) => rest.starts_with(why) && rest.ends_with("\n"),
+        None => false,
+    }
 }
 
 // The first row that isn't refused so.
-fn first_not_refused(alloc: Global, rows: &[Words]) -> Option<usize> {
+fn first_not_refused(alloc: Global, rows: &[Wrong]) -> Option<usize> {
     for i in 0..rows.len() {
-        if !is_refused(alloc, rows[i]) {
+        if !is_refused(alloc, &rows[i]) {
             return Some(i);
         }
     }
     None
 }
 
-static REFUSED: [Words; 21] = [
-    &["--workers", "0"],
-    &["--workers", "17"],
-    &["--workers", "4294967312"],
-    &["--workers", "-1"],
-    &["--workers", "two"],
-    &["--workers", ""],
-    &["--workers"],
-    &["--workers", "2", "--workers", "2"],
-    &["--piece", "0"],
-    &["--piece", "1048577"],
-    &["--piece", "1", "--piece", "1"],
-    &["--except"],
-    &["--except", "a", "--except"],
-    &["--order", "--order"],
-    &["--order=yes"],
-    &["--progress", "--progress"],
-    &["--quiet", "--quiet"],
-    &["--quiet=true"],
-    &["--nothing"],
-    &["-x"],
-    &["--nothing", "--help"],
+static REFUSED: [Wrong; 21] = [
+    (
+        &["--workers", "0"],
+        "invalid value '0' for '--workers <N>': 0 is not in 1..=16\n",
+    ),
+    (
+        &["--workers", "17"],
+        "invalid value '17' for '--workers <N>': 17 is not in 1..=16\n",
+    ),
+    (
+        &["--workers", "4294967312"],
+        "invalid value '4294967312' for '--workers <N>': 4294967312 is not in 1..=16\n",
+    ),
+    (&["--workers", "-1"], "unexpected argument '-1' found\n"),
+    (
+        &["--workers", "two"],
+        "invalid value 'two' for '--workers <N>': invalid digit found in string\n",
+    ),
+    (
+        &["--workers", ""],
+        "invalid value '' for '--workers <N>': cannot parse integer from empty string\n",
+    ),
+    (
+        &["--workers"],
+        "a value is required for '--workers <N>' but none was supplied\n",
+    ),
+    (
+        &["--workers", "2", "--workers", "2"],
+        "the argument '--workers <N>' cannot be used multiple times\n",
+    ),
+    (
+        &["--piece", "0"],
+        "invalid value '0' for '--piece <N>': 0 is not in 1..=1048576\n",
+    ),
+    (
+        &["--piece", "1048577"],
+        "invalid value '1048577' for '--piece <N>': 1048577 is not in 1..=1048576\n",
+    ),
+    (
+        &["--piece", "1", "--piece", "1"],
+        "the argument '--piece <N>' cannot be used multiple times\n",
+    ),
+    (
+        &["--except"],
+        "a value is required for '--except <LABEL>' but none was supplied\n",
+    ),
+    (
+        &["--except", "a", "--except"],
+        "a value is required for '--except <LABEL>' but none was supplied\n",
+    ),
+    (
+        &["--order", "--order"],
+        "the argument '--order' cannot be used multiple times\n",
+    ),
+    (
+        &["--order=yes"],
+        "unexpected value 'yes' for '--order' found; no more were expected\n",
+    ),
+    (
+        &["--progress", "--progress"],
+        "the argument '--progress' cannot be used multiple times\n",
+    ),
+    (
+        &["--quiet", "--quiet"],
+        "the argument '--quiet' cannot be used multiple times\n",
+    ),
+    (
+        &["--quiet=true"],
+        "unexpected value 'true' for '--quiet' found; no more were expected\n",
+    ),
+    (&["--nothing"], "unexpected argument '--nothing' found\n"),
+    (&["-x"], "unexpected argument '-x' found\n"),
+    (
+        &["--nothing", "--help"],
+        "unexpected argument '--nothing' found\n",
+    ),
 ];
 
 #[test]

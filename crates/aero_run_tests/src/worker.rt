@@ -21,6 +21,15 @@ const TURNS: u32 = 1_000_000;
 
 const REFUSED: &str = "memory was refused";
 
+// How the waits of a row ended: all in time, or the first that came to no end within the turns.
+const IN_TIME: &str = "in time";
+
+const NOT_MET: &str = "no second worker entered the gate within 1,000,000 turns";
+
+const NOT_POSTED: &str = "a job wasn't posted within 1,000,000 turns";
+
+const NOT_ANSWERED: &str = "66 answers didn't come within 1,000,000 turns";
+
 // A trace in which the block of T1 closes a cycle with its last event.
 const CYCLE: &[u8] = b"T1|begin\nT2|begin\nT1|w(x)\nT2|r(x)\nT2|w(y)\nT1|r(y)";
 
@@ -198,13 +207,25 @@ fn each_job_is_taken_once_and_answered(rt: HostRuntime) -> Result<(), Fail> {
     Ok(())
 }
 
-// Holds whatever memory is refused, which `rt try --test --fail-alloc 1..` does: a worker to which it is refused gives
+// Whether three jobs are posted, and the lists have each of them.
+fn are_three_accounted_for<R: Threads + Wait + Copy + Send + 'static>(
+    rt: R,
+    alloc: Global,
+) -> Option<bool> {
+    let (posted, _, report) = ask_three(rt, alloc)?;
+    Some(posted == 3 && are_accounted_for(&report, 3))
+}
+
+// Holds whichever one allocation is refused, as `rt try --test --fail-alloc 1..` refuses them in turn. Where it is made
+// before a crew has the jobs, the three are asked again, and all memory is there. A worker to which it is refused gives
 // up, or misses a job, and the lists have each job that was posted all the same.
 #[test]
 fn each_job_is_accounted_for_where_memory_is_refused(rt: HostRuntime) {
-    if let Some((posted, _, report)) = ask_three(rt, rt.alloc()) {
-        assert!(rt; posted == 3 && are_accounted_for(&report, 3));
-    }
+    let told = match are_three_accounted_for(rt, rt.alloc()) {
+        None => are_three_accounted_for(rt, rt.alloc()),
+        told => told,
+    };
+    assert_eq!(rt; told, Some(true));
 }
 
 // A gate in which each of the first two waits until the other has entered, before a job or after its answer.
@@ -224,9 +245,13 @@ fn nobody_yet(is_after: bool) -> Meet {
 }
 
 impl Meet {
-    // Whether two have entered, and neither waited in vain.
-    fn has_met(&self) -> bool {
-        self.entered.load(Ordering::SeqCst) == 2 && !self.late.load(Ordering::SeqCst)
+    // Whether each that entered met the other in time.
+    fn waited(&self) -> &'static str {
+        if self.late.load(Ordering::SeqCst) {
+            NOT_MET
+        } else {
+            IN_TIME
+        }
     }
 
     fn enter(&self) {
@@ -281,24 +306,26 @@ fn is_done(reply: Option<Reply>, block: &Question) -> bool {
     letter(reply, block, block) == 'b'
 }
 
-// Whether two workers are at once in the gate, before or after, and nobody has it afterwards.
+// Whether two workers are at once in the gate, before or after, and nobody has it afterwards, and how their waits ended.
 fn do_two_meet<R: Threads + Wait + Copy + Send + 'static>(
     rt: R,
     alloc: Global,
     is_after: bool,
-) -> Option<bool> {
+) -> Option<(bool, &'static str)> {
     let block = block_question(alloc)?;
     let jobs = (job(0, &block)?, job(1, &block)?);
     let gate = Arc::new(alloc, nobody_yet(is_after)).ok()?;
     let shared = Arc::try_clone(&gate).ok()?;
     let told = two_work(rt, shared, alloc, jobs, &block)?;
-    Some(told == (true, true, 2) && gate.has_met() && Arc::strong_count(&gate) == 1)
+    let entered = gate.entered.load(Ordering::SeqCst);
+    let have_met = told == (true, true, 2) && entered == 2 && Arc::strong_count(&gate) == 1;
+    Some((have_met, gate.waited()))
 }
 
 #[test]
 fn two_workers_are_in_the_gate_at_once(rt: HostRuntime) {
-    assert_eq!(rt; do_two_meet(rt, rt.alloc(), false), Some(true));
-    assert_eq!(rt; do_two_meet(rt, rt.alloc(), true), Some(true));
+    assert_eq!(rt; do_two_meet(rt, rt.alloc(), false), Some((true, IN_TIME)));
+    assert_eq!(rt; do_two_meet(rt, rt.alloc(), true), Some((true, IN_TIME)));
 }
 
 // Counts its calls.
@@ -338,22 +365,26 @@ fn is_posted<R: Wait>(rt: &R, crew: &mut Crew, job: Job) -> bool {
     false
 }
 
-// Posts jobs with the numbers from the first to before the last, and says how many were posted.
+// Posts jobs with the numbers from the first to before the last, until one isn't posted, and says how many were, and why no
+// more.
 fn post_from<R: Wait>(
     rt: &R,
     crew: &mut Crew,
     question: &Arc<Question>,
     first: u64,
     last: u64,
-) -> u32 {
+) -> (u32, &'static str) {
     let mut count = 0u32;
     for number in first..last {
         let Some(job) = job(number, question) else {
-            return count;
+            return (count, REFUSED);
         };
-        count = count.saturating_add(is_posted(rt, crew, job) as u32);
+        if !is_posted(rt, crew, job) {
+            return (count, NOT_POSTED);
+        }
+        count = count.saturating_add(1);
     }
-    count
+    (count, IN_TIME)
 }
 
 fn are_from(list: &[u64], first: u64) -> bool {
@@ -365,28 +396,42 @@ fn are_from(list: &[u64], first: u64) -> bool {
     true
 }
 
-// One worker and the jobs 0 to 129: how many of the first 66 are posted, whether 66 answers come before the gate lets
-// go, how many of the next 64 are posted, which number is given back of the job that comes then, and where all went.
+// How many of the first 66 of jobs were posted, and how that wait ended, how the wait for 66 answers ended, how many of the
+// next 64 were posted, and how that wait ended, and which number was given back of the job that came then.
+type Posted = (
+    (u32, &'static str),
+    &'static str,
+    (u32, &'static str),
+    Option<u64>,
+);
+
+const POSTED: Posted = ((66, IN_TIME), IN_TIME, (64, IN_TIME), Some(130));
+
+// One worker and the jobs 0 to 129, and where all went.
 fn post_where_nobody_receives<R: Threads + Wait + Copy + Send + 'static>(
     rt: R,
     alloc: Global,
     (gate, shared): (&Tally, Arc<Tally>),
     block: &Arc<Question>,
     more: Job,
-) -> Option<((u32, bool, u32, Option<u64>), CrewReport)> {
+) -> Option<(Posted, CrewReport)> {
     let mut crew = Crew::start(rt, alloc, 1, shared).ok()?;
     let first = post_from(&rt, &mut crew, block, 0, 66);
-    let are_answered = is_raised(&gate.after, 66);
+    let waited = if is_raised(&gate.after, 66) {
+        IN_TIME
+    } else {
+        NOT_ANSWERED
+    };
     let second = post_from(&rt, &mut crew, block, 66, 130);
     let given_back = crew.post(&rt, more).err().map(|full| full.job.number);
-    Some(((first, are_answered, second, given_back), crew.close(&rt)))
+    Some(((first, waited, second, given_back), crew.close(&rt)))
 }
 
 // The same, with what it needs.
 fn let_nobody_receive<R: Threads + Wait + Copy + Send + 'static>(
     rt: R,
     alloc: Global,
-) -> Option<((u32, bool, u32, Option<u64>), CrewReport)> {
+) -> Option<(Posted, CrewReport)> {
     let block = block_question(alloc)?;
     let gate = Arc::new(alloc, no_calls()).ok()?;
     let shared = Arc::try_clone(&gate).ok()?;
@@ -399,7 +444,7 @@ fn let_nobody_receive<R: Threads + Wait + Copy + Send + 'static>(
 #[test]
 fn a_crew_is_closed_though_nobody_receives(rt: HostRuntime) -> Result<(), Fail> {
     let (told, report) = let_nobody_receive(rt, rt.alloc()).ok_or(REFUSED)?;
-    assert_eq!(rt; told, (66, true, 64, Some(130)));
+    assert_eq!(rt; told, POSTED);
     assert_eq!(rt; report.by_worker.len(), 1);
     assert!(rt; is_first_list(&report, 66));
     assert!(rt; report.left.len() == 64 && are_from(&report.left, 66));

@@ -68,7 +68,9 @@ fn comes_byte_by_byte(alloc: Global, line: &[u8]) -> bool {
     fits && gives(&mut cutter, &[last], line) && ends_with(cutter, b"")
 }
 
-static WHOLE_LINES: [Row; 4] = [
+// A cutter that was fed nothing gives no block at the end.
+static WHOLE_LINES: [Row; 5] = [
+    (&[], &[], b""),
     (&[b"ab", b"c\nd"], &[b"", b"abc\n"], b"d"),
     (&[b"a\nb\n"], &[b"a\nb\n"], b""),
     (&[b"", b"\n"], &[b"", b"\n"], b""),

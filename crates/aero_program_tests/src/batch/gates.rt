@@ -20,6 +20,11 @@ use std::thread::Threads;
 
 const TURNS: u32 = 1_000_000;
 
+// How the waits in a gate ended: all in time, or one of them in vain.
+const IN_TIME: &str = "in time";
+
+const TOO_LATE: &str = "the other worker didn't come within 1,000,000 turns";
+
 // Where a gate waits for others.
 #[derive(Drop)]
 struct Meeting {
@@ -50,9 +55,14 @@ impl Meeting {
         self.is_late.store(true, Ordering::SeqCst);
     }
 
-    // Whether so many came at least, and nobody waited in vain.
-    fn was_met(&self, count: u64) -> bool {
-        self.count.load(Ordering::SeqCst) >= count && !self.is_late.load(Ordering::SeqCst)
+    // Whether so many came at least, and how the waits for them ended.
+    fn was_met(&self, count: u64) -> (bool, &'static str) {
+        let waited = if self.is_late.load(Ordering::SeqCst) {
+            TOO_LATE
+        } else {
+            IN_TIME
+        };
+        (self.count.load(Ordering::SeqCst) >= count, waited)
     }
 }
 
@@ -154,7 +164,7 @@ fn expect_second_first<T: Abort + AllocGlobal + Threads + Wait + Copy + Send + '
     let meeting = nobody_yet();
     let gate = Arc::new(rt.alloc(), SecondFirst { meeting })?;
     assert!(rt; has_report_of_three(rt, Arc::try_clone(&gate)?, workers)?);
-    assert!(rt; gate.meeting.was_met(1));
+    assert_eq!(rt; gate.meeting.was_met(1), (true, IN_TIME));
     Ok(())
 }
 
@@ -180,7 +190,7 @@ fn expect_two_at_once<T: Abort + AllocGlobal + Threads + Wait + Copy + Send + 's
     let meeting = nobody_yet();
     let gate = Arc::new(rt.alloc(), TwoAtOnce { is_after, meeting })?;
     assert_eq!(rt; violations_under(rt, Arc::try_clone(&gate)?)?, (2, 0));
-    assert!(rt; gate.meeting.was_met(2));
+    assert_eq!(rt; gate.meeting.was_met(2), (true, IN_TIME));
     Ok(())
 }
 

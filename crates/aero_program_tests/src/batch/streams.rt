@@ -88,12 +88,13 @@ impl Write for CutsOnce {
 }
 
 // A reader that gives its text once something is told. Until then it gives so many spaces, one at a read and after
-// some turns, and then it fails.
+// some turns, and then it says that they have run out, and fails.
 #[derive(Drop)]
 pub(crate) struct Later<'a> {
     pub(crate) text: &'a [u8],
     pub(crate) spaces: u32,
     pub(crate) is_told: &'a AtomicBool,
+    pub(crate) have_run_out: &'a AtomicBool,
 }
 
 impl Read for Later<'_> {
@@ -102,6 +103,7 @@ impl Read for Later<'_> {
             return self.text.read(buf);
         }
         if self.spaces == 0 {
+            self.have_run_out.store(true, Ordering::SeqCst);
             return Err(io::Error::from(io::ErrorKind::Interrupted));
         }
         self.spaces -= 1;
