@@ -14,7 +14,7 @@ use std::marker::Model;
 use std::sync::Arc;
 
 /// The number of a question among those that were asked. The first has 0.
-#[derive(Clone, Copy, Debug, PartialEq, Eq)]
+#[derive(Clone, Copy)]
 pub struct Ticket {
     pub number: u64,
 }
@@ -58,7 +58,7 @@ pub struct Settled {
 
 /// How many questions were asked, how many answers were kept, and how many values were worked out
 /// where the question was settled.
-#[derive(Clone, Copy, Debug, PartialEq, Eq)]
+#[derive(Clone, Copy)]
 pub struct Tally {
     pub asked: u64,
     pub kept: u64,

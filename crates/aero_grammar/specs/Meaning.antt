@@ -49,16 +49,19 @@ operation_field text = trimmed (before_first is_bar (after_first is_bar text))
 abbrev pub operation_word : List ℕ → List ℕ
 operation_word field = before_first is_parenthesis field
 
+abbrev pub longer_operation_of : List ℕ → Option Op
+longer_operation_of word =
+    if bytes_eq word (codes "fork") then Some Fork else
+    if bytes_eq word (codes "join") then Some Join else
+    if bytes_eq word (codes "begin") then Some Begin else
+    if bytes_eq word (codes "end") then Some End else None
+
 abbrev pub operation_of : List ℕ → Option Op
 operation_of word =
     if bytes_eq word (codes "r") then Some Read else
     if bytes_eq word (codes "w") then Some Write else
     if bytes_eq word (codes "acq") then Some Acquire else
-    if bytes_eq word (codes "rel") then Some Release else
-    if bytes_eq word (codes "fork") then Some Fork else
-    if bytes_eq word (codes "join") then Some Join else
-    if bytes_eq word (codes "begin") then Some Begin else
-    if bytes_eq word (codes "end") then Some End else None
+    if bytes_eq word (codes "rel") then Some Release else longer_operation_of word
 
 -- the field has a `(`, and its last byte is no `)`
 abbrev pub is_unclosed : List ℕ → Bool

@@ -3,7 +3,7 @@ ghost use Rattle.std.specs.Prelude.{◌≡◌, ◌==◌, ◌<◌, ◌≤◌, ◌
 ghost use Rattle.std.specs.List.{list_any, position_or_len};
 ghost use Rattle.aero_model.specs.Exempt.{label_of as label_of_op};
 ghost use Rattle.aero_model.specs.Named.{stands_alone as is_alone};
-ghost use Rattle.aero_grammar.specs.Meaning.{Means, Faulty, is_parenthesis, operation_word, operation_of as operation_of_word, is_unclosed, target_bytes, is_long_name as is_long, label_in, word_meaning};
+ghost use Rattle.aero_grammar.specs.Meaning.{Means, Faulty, is_parenthesis, operation_word, operation_of as operation_of_word, longer_operation_of as longer_word, is_unclosed, target_bytes, is_long_name as is_long, label_in, word_meaning};
 ghost use Rattle.aero_grammar.specs.Words.{ReadsEvent};
 
 use crate::bytes::place_of;
@@ -41,6 +41,16 @@ fn operation_of(word: &[u8]) -> Option<Op>
         b"w" => Some(Op::Write),
         b"acq" => Some(Op::Acquire),
         b"rel" => Some(Op::Release),
+        _ => longer_operation_of(word),
+    }
+}
+
+// The same for the four that aren't about a variable or a lock.
+#[inline(always)]
+fn longer_operation_of(word: &[u8]) -> Option<Op>
+    ensures { result ≡ longer_word word.now }
+{
+    match word {
         b"fork" => Some(Op::Fork),
         b"join" => Some(Op::Join),
         b"begin" => Some(Op::Begin),

@@ -1,3 +1,4 @@
+use Rattle.std.proofs.Common.{rules}
 -- The tables tell what the event is judged as, and its fault, and after it they are as `IsAfter` says. The rest follows for any list that they stand for.
 use Rattle.std.proofs.Common.{◌≡◌, ℕ, ◌+◌, ◌-◌, ◌∷◌, [], ◌++◌, ◌&&◌, ◌==◌, if◌then◌else◌, take, List, length, Bool, false, is_err, OnOk, Result, Ok, Err, sym, ◌∙◌, ap, ap₂, subst, arith}
 use Rattle.std.specs.Vec.{with_items}
@@ -137,3 +138,6 @@ returns-clause-ok c h s =
     let at = (goal.at.returns-clause-ok c).After-close_exempt in
     let first = (goal.at.returns-clause-ok c).After-fault_of in
     stands_pushed (before_in at) (noted_in at) (mark first) (event_in at) (after at) (sym (told first) ∙ (grind (arith, common_steps))) c.judge-judged.ensures.thread (what_is first) (around at) h (stood first h s)
+
+pub returns-in-Some-clause-err : goal.returns-in-Some-clause-err
+returns-in-Some-clause-err c = search rules
