@@ -1,3 +1,4 @@
+pub mod Batches
 pub mod Clean
 pub mod CommonShape
 pub mod Events

@@ -138,7 +138,7 @@ fn read_line(text: &[u8], is_clean: bool) -> LineRead<'_>
 }
 
 // What the block says, by its parts. What is kept takes no more memory than it needs.
-fn parsed(
+pub(crate) fn parsed(
     tables: Tables,
     mut events: Vec<LineEvent>,
     lines: u32,

@@ -7,6 +7,9 @@
 //! label, if that is 1 to 255 bytes: it is the event's target. A begin without one is no fault, and
 //! what an end has in its parentheses says nothing.
 //!
+//! A program that sees events and has no text of them puts them into a `Batch`, which gives what
+//! `parse_block` gives of a text with one event a line.
+//!
 //! `specs/Meaning.antt` says what a line means and `specs/Reading.antt` what a text means, and the
 //! contracts say that just that is answered. Blocks of whole lines mean, one after the other, what
 //! the text means that they make up.
@@ -22,6 +25,7 @@
 //! ```
 #![tactic(auto)]
 
+pub mod batch;
 pub mod block;
 mod bytes;
 pub mod laws;
