@@ -1,5 +1,5 @@
 //! Events that come one by one, as a block whose text is never written.
-ghost use Rattle.std.specs.Prelude.{◌≡◌, ◌++◌, ◌∷◌, [], length, option_copied, Some, IsTrue, IfSome, OnOk};
+ghost use Rattle.std.specs.Prelude.{◌≡◌, ◌↔◌, ◌++◌, ◌∷◌, [], length, option_copied, Some, IsTrue, IfSome, IfNone, OnOk};
 ghost use Rattle.std.specs.List.{list_any};
 ghost use Rattle.aero_model.specs.Names.{is_barred as is_barred_byte};
 ghost use Rattle.aero_names.specs.Numbers.{with_event};
@@ -159,6 +159,7 @@ fn add(
 fn words_in(event: &Event) -> Option<Words<'_>>
     ensures same { IfSome result (λ words. named_of words ≡ event.now) }
     ensures event { IfSome result (λ words. IsEvent (named_of words)) }
+    ensures none { IfNone result (IsEvent event.now → ⊥) }
 {
     let thread = event.thread.bytes();
     let target = match &event.target {
@@ -175,7 +176,7 @@ fn words_in(event: &Event) -> Option<Words<'_>>
 
 // Whether the target, if there is one, is a name.
 fn is_name_if_any(target: Option<&[u8]>) -> bool
-    ensures { IsTrue result → IfSome (option_copied target.entry) IsName }
+    ensures { IsTrue result ↔ IfSome (option_copied target.entry) IsName }
 {
     match target {
         Some(target) => is_name(target),
@@ -185,7 +186,7 @@ fn is_name_if_any(target: Option<&[u8]>) -> bool
 
 // Whether the bytes are a name.
 fn is_name(bytes: &[u8]) -> bool
-    ensures { IsTrue result → IsName bytes.now }
+    ensures { IsTrue result ↔ IsName bytes.now }
 {
     !bytes.is_empty() && !is_long_name(bytes) && !has_barred_byte(bytes)
 }
