@@ -7,6 +7,8 @@
 #![tactic(auto)]
 
 #[cfg(test)]
+mod batch;
+#[cfg(test)]
 mod clock;
 #[cfg(test)]
 mod end;
@@ -18,6 +20,8 @@ mod leads;
 mod lines;
 #[cfg(test)]
 mod model;
+#[cfg(test)]
+mod monitor;
 #[cfg(test)]
 mod names;
 #[cfg(test)]
