@@ -156,7 +156,7 @@ ending_counted terms n p q ending unread may is c =
     let held : length q.intake.held ≡ 0 = ap (λ (i : Taking). length i.held) is.intake in
     let questions : open_count q.inquiry ≡ open_count p.inquiry + k = ap open_count is.inquiry ∙ m.questions in
     let more_asked : q.inquiry.asked ≡ p.inquiry.asked + k = ap (λ (i : Inquired). i.asked) is.inquiry ∙ m.more_asked in
-    let few : terms.rules.limits.bytes ≤ 1073741824 = c.few_bytes in
+    let few : terms.rules.limits.bytes ≤ 70368744177664 = c.few_bytes in
     record {
       tracks = ap length is.tracks ∙ (changed_length p.read (ended_track ending p.intake.count ((with_block p (wanted terms p (last_of p.intake.cutting ending))).blocks)) p.tracks.items ∙ c.tracks);
       few_sources = c.few_sources;
@@ -172,7 +172,7 @@ ending_counted terms n p q ending unread may is c =
 -- there is always room for one more question's number
 pub may_ask : (terms : Terms) (n : ℕ) (p : Progress) → Counted terms n p → open_count p.inquiry < 64 → MayAsk p
 may_ask terms n p c room =
-    let few : terms.rules.limits.bytes ≤ 1073741824 = c.few_bytes in
+    let few : terms.rules.limits.bytes ≤ 70368744177664 = c.few_bytes in
     let asked : p.inquiry.asked < 9223372036854775808 = omega (arith, c.asked, c.read, c.few_sources, c.blocks, c.within, few, c.checked) in
     let blocks : p.blocks < 18446744073709551615 = omega (arith, c.blocks, c.within, few) in
     record { room = room; few = asked; few_blocks = blocks }

@@ -52,7 +52,7 @@ pub record Holds (terms : Terms) (old now : List Sighted) (p : Progress) (tale :
   pub not_ended : (tale p.read).ending ≡ None
   pub later : (s : ℕ) → p.read < s → (tale s ≡ nothing_known) × (slice_get now s ≡ slice_get old s)
 
--- The numbers of a run over so many sources: there is always room for one more question's number, since a source has at most 2^30 + 2 questions on its blocks and one on its verdict.
+-- The numbers of a run over so many sources: there is always room for one more question's number, since a source has at most 2^46 + 2 questions on its blocks and one on its verdict.
 pub record Counted (terms : Terms) (sources : ℕ) (p : Progress) : Type 0 where
   pub tracks : length p.tracks.items ≡ sources
   pub few_sources : sources ≤ 65536
@@ -60,9 +60,9 @@ pub record Counted (terms : Terms) (sources : ℕ) (p : Progress) : Type 0 where
   pub checked : p.checked ≤ p.read
   pub open_few : open_count p.inquiry ≤ 64
   pub within : p.intake.count ≤ terms.rules.limits.bytes + 1
-  pub few_bytes : terms.rules.limits.bytes ≤ 2 ^ 30
+  pub few_bytes : terms.rules.limits.bytes ≤ 2 ^ 46
   pub blocks : p.blocks + length p.intake.held ≤ p.intake.count
-  pub asked : p.inquiry.asked ≤ p.read * 1073741826 + p.blocks + p.checked
+  pub asked : p.inquiry.asked ≤ p.read * 70368744177666 + p.blocks + p.checked
 
 -- what is told of a source fits its story
 pub record Tells (terms : Terms) (old : List Sighted) (s : ℕ) (story : Story) (found : Found) : Type 0 where
@@ -103,7 +103,7 @@ pub record HasNumbers (terms : Terms) (sources : ℕ) (p : Progress) (told : Tol
 pub record IsBegun (terms : Terms) (sources : ℕ) (p : Progress) (told : Told) : Type 0 where
   pub start : IsStart sources p
   pub few : sources ≤ 65536
-  pub few_bytes : terms.rules.limits.bytes ≤ 2 ^ 30
+  pub few_bytes : terms.rules.limits.bytes ≤ 2 ^ 46
   pub endings : told.endings.items ≡ []
   pub counts : told.counts ≡ no_counts
   pub room : vec_capacity told.endings ≡ sources

@@ -138,7 +138,7 @@ fn end_source<H: Helpers, T: Wait>(
     requires unread { progress.old.read < vec_len progress.old.tracks }
     ensures { OnOk result (EndsSource (terms_of plan.now) ending progress.old progress.new) }
 {
-    let bytes = u64::from(progress.intake.count());
+    let bytes = progress.intake.count();
     let last = last_block(&mut progress.intake, ending)?;
     ask_block(rt, alloc, plan, helpers, progress, last)?;
     let place = progress.read;

@@ -36,7 +36,7 @@ pub struct Intake {
     // What is held stands at its front.
     buffer: Vec<u8>,
     held: usize,
-    count: u32,
+    count: u64,
 }
 
 impl Model for Intake {
@@ -74,7 +74,7 @@ impl Intake {
     }
 
     /// How many bytes have come.
-    pub fn count(&self) -> u32
+    pub fn count(&self) -> u64
         ensures { result ≡ self.now.count }
     {
         self.count
@@ -99,27 +99,27 @@ impl Intake {
     /// whatever kind (`Broken`), where it gave 0 bytes (`Whole`), and, without a read, where
     /// `limit + 1` bytes have come (`TooLarge`).
     ///
-    /// The limit is at most 2^30, and `limit + 1` bytes have come at most.
-    pub fn take<R: Read>(&mut self, reader: &mut Counting<R>, piece: u32, limit: u32) -> Taken
+    /// The limit is at most 2^46, and `limit + 1` bytes have come at most.
+    pub fn take<R: Read>(&mut self, reader: &mut Counting<R>, piece: u32, limit: u64) -> Taken
         requires some_room { 0 < piece }
         requires not_full { length self.old.held < 2 ^ 18 }
-        requires limited { limit ≤ 2 ^ 30 }
+        requires limited { limit ≤ 2 ^ 46 }
         requires within { self.old.count ≤ limit + 1 }
         ensures { Takes (seen_by R.remaining reader.old) (seen_by R.remaining reader.new) piece limit self.old self.new result }
     {
-        let left = limit as usize + 1 - self.count as usize;
+        let left = limit + 1 - self.count;
         if left == 0 {
             return Taken::Ended(Ending::TooLarge);
         }
         let room = (self.buffer.len() - self.held)
             .min(piece as usize)
-            .min(left);
+            .min(left as usize);
         match read_behind(reader, &mut self.buffer, self.held, room) {
             Err(_) => Taken::Ended(Ending::Broken),
             Ok(0) => Taken::Ended(Ending::Whole),
             Ok(count) => {
                 self.held += count;
-                self.count += count as u32;
+                self.count += count as u64;
                 Taken::Piece
             }
         }

@@ -11,7 +11,7 @@ use Rattle.aero_intake.specs.declared.source.Source.{Source}
 use Rattle.aero_program.specs.declared.failure.Failure.{Failure}
 use Rattle.aero_program.specs.declared.input.Input.{Input}
 use Rattle.aero_program.specs.Answers.{Ends, WasJudged}
-use Rattle.aero_program.specs.Command.{AreGreatest}
+use Rattle.aero_program.specs.Command.{AreLimitsFor}
 use Rattle.aero_program.specs.Inputs.{source_names}
 use Rattle.aero_program.specs.Notes.{noted_of_all}
 use Rattle.aero_program.specs.Sightings.{file_sighting, source_sightings}
@@ -31,23 +31,23 @@ names_noted : {S R F D : Type 0} (known : Input S R F D → Option (List ℕ)) (
 names_noted known [] = refl
 names_noted known (source ∷ more) = ap (λ l. source.name.items ∷ l) (names_noted known more)
 
-pub judged : {S R F D : Type 0} (known : Input S R F D → Option (List ℕ)) (labels : List (List ℕ)) (order : Bool) (files : List (List ℕ)) (given : Option (List ℕ)) (limits : Limits)
+pub judged : {S R F D : Type 0} (known : Input S R F D → Option (List ℕ)) (labels : List (List ℕ)) (order long : Bool) (files : List (List ℕ)) (given : Option (List ℕ)) (limits : Limits)
     (was lent new now : List (Source (Input S R F D))) (before between after : Shown) (endings : List (ℕ × Ending)) (counts : Counts) (cause : Option Cause)
     (has_failed : Bool) (end : Result ℕ Failure) (told told_after : Seen) (status : ℕ) (terms : Terms)
-    → terms ≡ asking limits labels order → AreGreatest limits → map (sighted known) was ≡ source_sightings files given → lent ≡ was → now ≡ new
+    → terms ≡ asking limits labels order → AreLimitsFor long limits → map (sighted known) was ≡ source_sightings files given → lent ≡ was → now ≡ new
     → WasRun terms (map (sighted known) lent) (map (sighted known) new) before.writer between.writer endings counts cause
     → between.unflushed ≡ before.unflushed → WasFlushed between after has_failed → end ≡ end_of_run cause counts has_failed
     → Ends (noted_of_all now) end told told_after status
-    → WasJudged labels order files given before after told told_after status
-judged known labels order files given limits was lent new now before between after endings counts cause has_failed end told told_after status terms
-    on_terms greatest seen is_was is_new run same flushed ended ends =
+    → WasJudged labels order long files given before after told told_after status
+judged known labels order long files given limits was lent new now before between after endings counts cause has_failed end told told_after status terms
+    on_terms are seen is_was is_new run same flushed ended ends =
     let seen_lent : map (sighted known) lent ≡ source_sightings files given = ap (map (sighted known)) is_was ∙ seen in
     let ran : WasRun (asking limits labels order) (source_sightings files given) (map (sighted known) new) before.writer between.writer endings counts cause =
     subst (λ r. WasRun r (source_sightings files given) (map (sighted known) new) before.writer between.writer endings counts cause) on_terms
     (subst (λ old. WasRun terms old (map (sighted known) new) before.writer between.writer endings counts cause) seen_lent run) in
     record {
       limits = limits;
-      greatest = greatest;
+      limits_are = are;
       sources = map (sighted known) new;
       between = between;
       endings = endings;

@@ -13,7 +13,7 @@ use Rattle.aero_program.specs.declared.command.Stop.{Stop}
 use Rattle.aero_program.specs.declared.command.Stop.TheVariants as stop
 use Rattle.aero_program.specs.declared.failure.Failure.{Failure}
 use Rattle.aero_program.specs.declared.failure.Failure.TheVariants as failure
-use Rattle.aero_program.specs.Command.{AreGreatest}
+use Rattle.aero_program.specs.Command.{AreLimitsFor}
 use Rattle.aero_program.specs.Failure.{failure_of, failure_status, line_of}
 use Rattle.aero_program.specs.Inputs.{source_names}
 use Rattle.aero_program.specs.Notes.{Noted, notes}
@@ -69,10 +69,10 @@ Ends noted (Ok wanted) told told_after status =
 Ends noted (Err why) told told_after status =
     (IsTold told told_after (notes noted ++ line_of why) × (status ≡ failure_status why)) ⊎ Fails why told told_after status
 
--- The files, or standard input, which has these bytes, where there are none, were judged under the greatest limits, blocks with these labels as no transactions, and their serial orders were asked for, or not: the report went out on standard output, as every run's does, and a flush and the ends of the run decide.
-pub record WasJudged (labels : List (List ℕ)) (order : Bool) (files : List (List ℕ)) (given : Option (List ℕ)) (shown shown_after : Shown) (told told_after : Seen) (status : ℕ) : Type 0 where
+-- The files, or standard input, which has these bytes, where there are none, were judged under the greatest limits, or those of long sources, blocks with these labels as no transactions, and their serial orders were asked for, or not: the report went out on standard output, as every run's does, and a flush and the ends of the run decide.
+pub record WasJudged (labels : List (List ℕ)) (order long : Bool) (files : List (List ℕ)) (given : Option (List ℕ)) (shown shown_after : Shown) (told told_after : Seen) (status : ℕ) : Type 0 where
   pub limits : Limits
-  pub greatest : AreGreatest limits
+  pub limits_are : AreLimitsFor long limits
   pub sources : List Sighted
   pub between : Shown
   pub endings : List (ℕ × Ending)
@@ -87,11 +87,11 @@ pub record WasJudged (labels : List (List ℕ)) (order : Bool) (files : List (Li
   pub ends : Ends noted (end_of_run cause counts has_failed) told told_after status
 
 -- or memory was refused before that
-abbrev pub Judges : List (List ℕ) → Bool → List (List ℕ) → Option (List ℕ) → Shown → Shown → Seen → Seen → ℕ → Type 0
-Judges labels order files given shown shown_after told told_after status =
-    WasJudged labels order files given shown shown_after told told_after status ⊎ ((shown_after ≡ shown) × Fails failure.Memory told told_after status)
+abbrev pub Judges : List (List ℕ) → (order long : Bool) → List (List ℕ) → Option (List ℕ) → Shown → Shown → Seen → Seen → ℕ → Type 0
+Judges labels order long files given shown shown_after told told_after status =
+    WasJudged labels order long files given shown shown_after told told_after status ⊎ ((shown_after ≡ shown) × Fails failure.Memory told told_after status)
 
 -- `given` is what standard input has, where it is known
 abbrev pub AnswersTo : Result Config Stop → Option (List ℕ) → Shown → Shown → Seen → Seen → ℕ → Type 0
-AnswersTo (Ok config) given shown shown_after told told_after status = Judges config.except.items config.order (map string_bytes config.files.items) given shown shown_after told told_after status
+AnswersTo (Ok config) given shown shown_after told told_after status = Judges config.except.items config.order config.long (map string_bytes config.files.items) given shown shown_after told told_after status
 AnswersTo (Err why) given shown shown_after told told_after status = Stops why shown shown_after told told_after status

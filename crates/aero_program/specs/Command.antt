@@ -8,6 +8,15 @@ use Rattle.aero_program.specs.declared.command.Progress.TheVariants.{Auto, Alway
 abbrev pub AreGreatest : Limits → Type 0
 AreGreatest limits = (limits.bytes ≡ 2 ^ 30) × (limits.lines ≡ 2 ^ 28) × (limits.threads ≡ 2 ^ 16) × (limits.names ≡ 2 ^ 26)
 
+-- the limits of long sources: 2^46 bytes and 4,000,000,000 lines of a source, and as many threads and names as the greatest
+abbrev pub AreLong : Limits → Type 0
+AreLong limits = (limits.bytes ≡ 2 ^ 46) × (limits.lines ≡ 4000000000) × (limits.threads ≡ 2 ^ 16) × (limits.names ≡ 2 ^ 26)
+
+-- the greatest limits, or those of long sources where these are asked for
+abbrev pub AreLimitsFor : (long : Bool) → Limits → Type 0
+AreLimitsFor false limits = AreGreatest limits
+AreLimitsFor true limits = AreLong limits
+
 -- after how many milliseconds the line on progress is shown first, where standard error is a terminal, or isn't
 abbrev pub shown_after : Progress → Bool → Option ℕ
 shown_after Auto true = Some 2000

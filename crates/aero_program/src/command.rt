@@ -1,6 +1,6 @@
 //! What a command line asks for, or why nothing is judged.
-ghost use Rattle.std.specs.Prelude.{◌≡◌, ◌<◌, ◌≤◌, ◌^◌, IfOk, vec_len};
-ghost use Rattle.aero_program.specs.Command.{AreGreatest, shown_after};
+ghost use Rattle.std.specs.Prelude.{◌≡◌, ◌<◌, ◌≤◌, ◌^◌, ◌&&◌, false, IfOk, vec_len};
+ghost use Rattle.aero_program.specs.Command.{AreLimitsFor, shown_after};
 
 use crate::arguments::Unread;
 use aero_batch::plan::Plan;
@@ -17,8 +17,9 @@ const LONG_RUN: u64 = 2_000;
 
 /// What a command line asks for: 1 to 16 workers, reads of 1 to 1,048,576 bytes, at most 65,536
 /// files, and at most 64 labels of blocks that are no transactions, both in the order of the words,
-/// whether the serial order is asked for, and when the line on progress is shown. No files at all
-/// means standard input.
+/// whether the serial order is asked for, whether long sources are to be judged, and when the line on
+/// progress is shown. No files at all means standard input. The serial orders of long sources aren't
+/// to be had: each source is kept for its order.
 #[derive(Drop)]
 pub struct Config {
     pub workers: u32,
@@ -26,6 +27,7 @@ pub struct Config {
     pub files: Vec<String>,
     pub except: Vec<Name>,
     pub order: bool,
+    pub long: bool,
     /// No report, note or status depends on it.
     pub progress: Progress,
     ghost some_workers: { 0 < workers },
@@ -34,6 +36,7 @@ pub struct Config {
     ghost most_piece: { piece ≤ 2 ^ 20 },
     ghost most_files: { vec_len files ≤ 2 ^ 16 },
     ghost most_labels: { vec_len except ≤ 64 },
+    ghost no_long_order: { (long && order) ≡ false },
 }
 
 /// When the line on progress is shown on standard error.
@@ -62,21 +65,32 @@ impl Progress {
 }
 
 impl Config {
-    /// The plan of a run that does what is asked for, under the greatest limits, and the files that
-    /// it is to judge.
+    /// The plan of a run that does what is asked for, under the greatest limits, or those of long
+    /// sources where these are asked for, and the files that it is to judge.
     pub fn into_plan(self, alloc: Global) -> Result<(Plan, Vec<String>), AllocError>
         ensures workers { IfOk result (λ made. made.0.workers ≡ self.workers) }
         ensures piece { IfOk result (λ made. made.0.piece ≡ self.piece) }
-        ensures limits { IfOk result (λ made. AreGreatest made.0.limits) }
+        ensures limits { IfOk result (λ made. AreLimitsFor self.long made.0.limits) }
         ensures except { IfOk result (λ made. made.0.except ≡ self.except.items) }
         ensures order { IfOk result (λ made. made.0.order ≡ self.order) }
         ensures files { IfOk result (λ made. made.1 ≡ self.files) }
     {
         let except = Except::new(self.except).unwrap();
         let shared = SharedExcept::new(alloc, except)?;
-        let limits = Limits::greatest();
+        let limits = limits_for(self.long);
         let plan = Plan::new(self.workers, self.piece, limits, shared, self.order).unwrap();
         Ok((plan, self.files))
+    }
+}
+
+// The limits of long sources, or the greatest of others.
+fn limits_for(long: bool) -> Limits
+    ensures { AreLimitsFor long result }
+{
+    if long {
+        Limits::long()
+    } else {
+        Limits::greatest()
     }
 }
 

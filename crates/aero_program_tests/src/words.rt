@@ -92,7 +92,7 @@ fn first_not_refused(alloc: Global, rows: &[Wrong]) -> Option<usize> {
     None
 }
 
-static REFUSED: [Wrong; 21] = [
+static REFUSED: [Wrong; 25] = [
     (
         &["--workers", "0"],
         "invalid value '0' for '--workers <N>': 0 is not in 1..=16\n",
@@ -151,6 +151,22 @@ static REFUSED: [Wrong; 21] = [
         "unexpected value 'yes' for '--order' found; no more were expected\n",
     ),
     (
+        &["--long", "--long"],
+        "the argument '--long' cannot be used multiple times\n",
+    ),
+    (
+        &["--long=yes"],
+        "unexpected value 'yes' for '--long' found; no more were expected\n",
+    ),
+    (
+        &["--long", "--order"],
+        "the argument '--long' cannot be used with '--order', which keeps all of a trace\n",
+    ),
+    (
+        &["--order", "a", "--long", "--except", ""],
+        "the argument '--long' cannot be used with '--order', which keeps all of a trace\n",
+    ),
+    (
         &["--progress", "--progress"],
         "the argument '--progress' cannot be used multiple times\n",
     ),
@@ -175,7 +191,7 @@ fn the_words_that_are_refused(rt: HostRuntime) {
     assert_eq!(rt; first_not_refused(rt.alloc(), &REFUSED), None);
 }
 
-static PHRASES: [&str; 32] = [
+static PHRASES: [&str; 33] = [
     "atomic block",
     "RAPID",
     "STD",
@@ -190,6 +206,7 @@ static PHRASES: [&str; 32] = [
     "--except <LABEL>",
     "64 labels",
     "--order",
+    "--long",
     "--progress",
     "--quiet",
     "Each time the one whose first event is earliest",
@@ -323,11 +340,13 @@ fn first_miscounted(alloc: Global, rows: &[Counted]) -> Option<usize> {
     None
 }
 
-static FILES: [Counted; 4] = [
+static FILES: [Counted; 6] = [
     ("a", 65_536, &[], "taken", 65_536),
     ("a", 65_536, &["a"], "too many files", 0),
     ("a", 65_536, &["a", "--help"], "help", 0),
     ("a", 65_536, &["a", "--help", "b"], "help", 0),
+    ("a", 65_536, &["a", "--long", "--order"], "usage", 0),
+    ("--long", 1, &["--order", "--help"], "help", 0),
 ];
 
 #[test]
@@ -363,6 +382,36 @@ static ORDERED: [(Words, bool); 4] = [
 #[test]
 fn the_serial_order_is_asked_for_by_a_flag(rt: HostRuntime) {
     assert_eq!(rt; first_misordered(rt.alloc(), &ORDERED), None);
+}
+
+// Whether words ask for long sources to be judged or not, as it is wanted, and for no serial order.
+fn is_long_so(alloc: Global, words: &[&str], wanted: bool) -> bool {
+    match settled(alloc, words) {
+        Ok(config) => config.long == wanted && !config.order,
+        Err(_) => false,
+    }
+}
+
+// The first row that doesn't hold.
+fn first_not_long_so(alloc: Global, rows: &[(Words, bool)]) -> Option<usize> {
+    for i in 0..rows.len() {
+        if !is_long_so(alloc, rows[i].0, rows[i].1) {
+            return Some(i);
+        }
+    }
+    None
+}
+
+static LONG: [(Words, bool); 4] = [
+    (&[], false),
+    (&["--long"], true),
+    (&["a", "--long", "--workers", "1"], true),
+    (&["--", "--long", "--order"], false),
+];
+
+#[test]
+fn long_sources_are_asked_for_by_a_flag(rt: HostRuntime) {
+    assert_eq!(rt; first_not_long_so(rt.alloc(), &LONG), None);
 }
 
 // Whether words ask for the line on progress to be shown so.

@@ -14,7 +14,7 @@ const BLANK: &[u8] = b"\r                                                    \r"
 const MEBIBYTE: u64 = 1_048_576;
 
 /// The line that says how many of the sources have been read, and how many bytes came. It begins with
-/// the byte 13. Of at most 65,536 sources with at most 2^30 bytes each it has at most 52 bytes more.
+/// the byte 13. Of at most 65,536 sources of which fewer than 10^8 MiB came it has at most 52 bytes more.
 ///
 /// # Errors
 ///

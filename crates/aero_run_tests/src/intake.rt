@@ -54,7 +54,7 @@ use Call::{Cut, Next};
 fn given<R: Read>(
     intake: &mut Intake,
     reader: &mut Counting<R>,
-    (piece, limit): (u32, u32),
+    (piece, limit): (u32, u64),
     call: Call,
     alloc: Global,
 ) -> Result<Vec<u8>, Fail> {
@@ -83,7 +83,7 @@ fn take<R: Read>(
     intake: &mut Intake,
     reader: &mut Counting<R>,
     piece: u32,
-    limit: u32,
+    limit: u64,
 ) -> Result<Taken, Fail> {
     if piece == 0 || limit > 1_000_000 || intake.count() > limit + 1 || intake.is_full() {
         return Err("no such step".into());
@@ -105,9 +105,9 @@ fn new_intake(alloc: Global, piece: u32) -> Result<Intake, Fail> {
 struct Row<'a> {
     text: &'a str,
     piece: u32,
-    limit: u32,
+    limit: u64,
     fails_after: usize,
-    calls: &'a [(Call, &'a str, u32)],
+    calls: &'a [(Call, &'a str, u64)],
     left: &'a str,
     last: &'a str,
 }
@@ -163,7 +163,7 @@ fn is_given<R: Read>(
     intake: &mut Intake,
     reader: &mut Counting<R>,
     row: &Row,
-    (call, wanted, count): (Call, &str, u32),
+    (call, wanted, count): (Call, &str, u64),
 ) -> Result<bool, Fail> {
     let text = given(intake, reader, (row.piece, row.limit), call, alloc)?;
     Ok(is_text(&text, wanted) && intake.count() == count)
@@ -239,12 +239,12 @@ fn a_source_comes_in_pieces_until_it_ends(rt: HostRuntime) -> Result<(), Fail> {
 
 // How many reads there were until a source was full, of so many bytes a read, how many bytes had come then, and how
 // many the lines have that were whole.
-fn filled(alloc: Global, text: &[u8], piece: u32) -> Result<(u32, u32, usize), Fail> {
+fn filled(alloc: Global, text: &[u8], piece: u32) -> Result<(u32, u64, usize), Fail> {
     let mut intake = new_intake(alloc, piece)?;
     fill(&mut intake, text, piece)
 }
 
-fn fill(intake: &mut Intake, text: &[u8], piece: u32) -> Result<(u32, u32, usize), Fail> {
+fn fill(intake: &mut Intake, text: &[u8], piece: u32) -> Result<(u32, u64, usize), Fail> {
     let mut reader = Counting::new(text);
     for reads in 0..1_000u32 {
         if intake.is_full() {

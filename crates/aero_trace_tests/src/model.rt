@@ -88,6 +88,15 @@ fn limits_are_made_up_to_the_greatest(rt: HostRuntime) {
     assert!(rt; most == Some(Limits::greatest()) && first_unlimited() == None);
 }
 
+#[test]
+fn long_sources_may_have_more_bytes_and_lines(rt: HostRuntime) {
+    let long = Limits::long();
+    let traces = (long.threads, long.names);
+    assert!(rt;
+        (long.bytes, long.lines) == (1 << 46, 4_000_000_000) && traces == (65_536, 1 << 26)
+    );
+}
+
 fn push_label(alloc: Global, labels: &mut Vec<Name>, label: &str) -> Option<()> {
     labels.push(Name::read(alloc, label.as_bytes()).ok()?).ok()
 }

@@ -54,6 +54,17 @@ after the other: for each, two spaces, the line of its first event, a
 space, its thread. Each time the one whose first event is earliest
 comes next, of those before which nothing is left that must come first";
 
+pub const LONG: &str = "A source may have up to 4000000000 lines, of any number of bytes";
+
+pub const LONG_LONG: &str = "A source may have up to 4000000000 lines, of any number of bytes: up to
+70368744177664, which so many lines never have. Without this option
+a source of over 1073741824 bytes is too large. Not with --order, for
+which all of a trace is kept in memory";
+
+pub const LONG_WITH_ORDER: &str =
+    "the argument '--long' cannot be used with '--order': for its order all of a trace is
+kept in memory";
+
 pub const PROGRESS: &str = "Standard error has a line on progress, whatever it is";
 
 pub const LONG_PROGRESS: &str =
@@ -89,7 +100,7 @@ all of them. NAME is the FILE's word, byte by byte.
       Line L is the first that is neither blank nor an event: TooLong (over
       4096 bytes), BadByte (a control character), NoOperation, EmptyThread,
       UnknownOperation, BadParenthesis, MissingTarget, NameTooLong (over 255
-      bytes), TooManyLines (over 268435456).
+      bytes), TooManyLines (over 268435456; with --long over 4000000000).
   NAME:L: ill-formed: FAULT
       The event on line L is the first that can't stand there: TooManyThreads
       (over 65536), TooManyNames (over 67108864 variables, or locks),
@@ -99,7 +110,7 @@ all of them. NAME is the FILE's word, byte by byte.
   NAME: broken after N bytes
       The file couldn't be opened (N is 0), or a read failed.
   NAME: too large
-      It has more than 1073741824 bytes.
+      It has more than 1073741824 bytes; --long takes sources of any size.
   traces T: serializable A, open B, violations C, faults D
       How many traces of each kind; the faults are the malformed, ill-formed,
       broken and too large ones.

@@ -1,5 +1,5 @@
 //! The words of the command line, and what they ask for.
-ghost use Rattle.std.specs.Prelude.{◌≡◌, ◌<◌, ◌≤◌, ◌++◌, ◌∷◌, [], IfOk, OnOk, codes, false, map, pos, string_bytes, vec_len};
+ghost use Rattle.std.specs.Prelude.{◌≡◌, ◌<◌, ◌≤◌, ◌++◌, ◌∷◌, ◌&&◌, [], IfOk, OnOk, codes, false, map, pos, string_bytes, vec_len};
 ghost use Rattle.clap.specs.Words.{app_of, found_of, one_of, rows_of, rule_of};
 ghost use Rattle.clap.specs.declared.builder.value_parser.ValueParser.TheVariants as vp;
 ghost use Rattle.aero_words.specs.Labels.{IsTold};
@@ -54,6 +54,7 @@ fn command_line<'a>(alloc: Global) -> Result<Command<'a>, AllocError>
         .arg(number_option(alloc, "piece", MOST_PIECE, "65536", help::PIECE))?
         .arg(label_option(alloc))?
         .arg(flag(alloc, "order", help::ORDER, help::LONG_ORDER))?
+        .arg(flag(alloc, "long", help::LONG, help::LONG_LONG))?
         .arg(flag(alloc, "progress", help::PROGRESS, help::LONG_PROGRESS))?
         .arg(flag(alloc, "quiet", help::QUIET, help::LONG_QUIET))?
         .arg(file_words(alloc))
@@ -156,6 +157,7 @@ fn settle(alloc: Global, matches: &ArgMatches<'_>) -> Result<Config, Refused>
     requires { IsRead (found_of matches.now) }
     ensures { IfOk result (λ config. AsksFor config (rows_of (found_of matches.now))) }
 {
+    let (order, long) = order_and_long_in(alloc, matches)?;
     let workers = number_in(matches, "workers", MOST_WORKERS, DEFAULT_WORKERS);
     let piece = number_in(matches, "piece", MOST_PIECE, DEFAULT_PIECE);
     let given = matches.get_strs("files").unwrap_or(&[]);
@@ -170,7 +172,8 @@ fn settle(alloc: Global, matches: &ArgMatches<'_>) -> Result<Config, Refused>
         piece,
         files,
         except,
-        order: flag_in(matches, "order"),
+        order,
+        long,
         progress: progress_in(matches),
     })
 }
@@ -241,6 +244,29 @@ fn flag_in(matches: &ArgMatches<'_>, name: &str) -> bool
     ensures { result ≡ is_told (one_of name.now (rows_of (found_of matches.now))) }
 {
     matches.get_flag(name)
+}
+
+// Whether the serial orders are asked for, and whether long sources are to be judged: not both.
+fn order_and_long_in(alloc: Global, matches: &ArgMatches<'_>) -> Result<(bool, bool), Refused>
+    requires order { ReadsFlag (found_of matches.now) (codes "order") }
+    requires long { ReadsFlag (found_of matches.now) (codes "long") }
+    ensures order { IfOk result (λ both. both.0 ≡ is_told (one_of (codes "order") (rows_of (found_of matches.now)))) }
+    ensures long { IfOk result (λ both. both.1 ≡ is_told (one_of (codes "long") (rows_of (found_of matches.now)))) }
+    ensures apart { IfOk result (λ both. (both.1 && both.0) ≡ false) }
+{
+    let order = flag_in(matches, "order");
+    let long = flag_in(matches, "long");
+    if long && order {
+        let error = both_given(alloc)?;
+        return Err(refusal_of(alloc, &error));
+    }
+    Ok((order, long))
+}
+
+// That `--long` and `--order` are both given.
+fn both_given(alloc: Global) -> Result<Error, AllocError> {
+    let mut line = command_line(alloc)?;
+    line.error(ErrorKind::ArgumentConflict, help::LONG_WITH_ORDER)
 }
 
 // When the line on progress is shown.

@@ -9,5 +9,5 @@ returns g c =
     let mid = c.ask_block.new.progress in
     let within : mid.read < mid.tracks.len = search rules in
     let at = slice_get_read mid.tracks.items mid.tracks.len mid.read c.index_mut.result.now mid.tracks.ok.0 within c.index_mut.ensures.value in
-    ends_source (terms_of c.args.plan.now) c.args.ending c.args.progress.now mid c.last_block.new.intake c.in_ok-last.last c.from-bytes.result c.index_mut.result.now c.end_track.new.track
+    ends_source (terms_of c.args.plan.now) c.args.ending c.args.progress.now mid c.last_block.new.intake c.in_ok-last.last c.count-bytes.result c.index_mut.result.now c.end_track.new.track
     c.last_block.ensures.fresh (search rules) c.in_ok-last.ensures.last c.in_ok-ask_block.ensures at c.end_track.ensures

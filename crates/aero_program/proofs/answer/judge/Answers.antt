@@ -19,7 +19,7 @@ returns g c =
     subst (λ w. source_sightings (map string_bytes c.in-Ok-into_plan.words.items) given ≡ source_sightings (map string_bytes w.items) given) c.in-Ok-into_plan.ensures.files refl in
     let files_are : source_sightings (map string_bytes c.deref.result.now) given ≡ source_sightings (map string_bytes c.args.config.files.items) given =
     ap (λ l. source_sightings (map string_bytes l) given) c.deref.ensures.value ∙ words_are in
-    inl (judged (λ input. bytes_left (standing_of g.S.Read.remaining input)) c.args.config.except.items c.args.config.order (map string_bytes c.args.config.files.items) (g.S.Read.remaining c.args.stdin)
+    inl (judged (λ input. bytes_left (standing_of g.S.Read.remaining input)) c.args.config.except.items c.args.config.order c.args.config.long (map string_bytes c.args.config.files.items) (g.S.Read.remaining c.args.stdin)
     c.in-Ok-into_plan.plan.limits c.in-Ok-sources_of.sources.items c.deref_mut.result.now c.run-outcome.new.sources _
     (shown_by g.O.Write.contents c.args.output.now)
     (record { writer = seen_by (λ w. g.O.Write.contents (tried_by w)) c.run-outcome.new.writer; unflushed = c.args.output.now.unflushed.number })
