@@ -62,8 +62,7 @@ a source of over 1073741824 bytes is too large. Not with --order, for
 which all of a trace is kept in memory";
 
 pub const LONG_WITH_ORDER: &str =
-    "the argument '--long' cannot be used with '--order': for its order all of a trace is
-kept in memory";
+    "the argument '--long' cannot be used with '--order', which keeps all of a trace";
 
 pub const PROGRESS: &str = "Standard error has a line on progress, whatever it is";
 
