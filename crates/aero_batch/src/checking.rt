@@ -112,8 +112,10 @@ fn give_value(
 ) -> Result<(), AllocError>
     ensures { OnOk result (tracks.new.items ≡ changed trace (λ t. with_value t value) tracks.old.items) }
 {
-    if trace >= tracks.len() as u64 {
+    let count = tracks.len() as u64;
+    if trace >= count {
         return Ok(());
     }
-    take_value(&mut tracks[trace as usize], alloc, value, plan)
+    let is_last = trace + 1 == count;
+    take_value(&mut tracks[trace as usize], alloc, value, plan, is_last)
 }

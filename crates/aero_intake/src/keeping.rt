@@ -1,5 +1,5 @@
 //! What is held of a source whose blocks are being read.
-ghost use Rattle.std.specs.Prelude.{◌≡◌, ◌++◌, ◌∷◌, [], length, IfOk, IfSome, OnOk};
+ghost use Rattle.std.specs.Prelude.{◌≡◌, ◌++◌, ◌∷◌, [], length, IfOk, OnOk};
 ghost use Rattle.aero_intake.specs.Held.{parts_in, IsJudgedFrom};
 ghost use Rattle.aero_model.specs.declared.verdict.Finding.{Finding};
 ghost use Rattle.aero_verdict.specs.Finding.{asking, IsTraceFinding};
@@ -10,9 +10,7 @@ use aero_grammar::parsed::Parsed;
 use aero_model::verdict::{Finding, Verdict};
 use aero_pieces::question::Parts;
 use std::alloc::{AllocError, Global};
-
-/// How many events are kept of a source before its blocks are judged as they come.
-const MOST_KEPT: u64 = 1 << 22;
+use std::mem;
 
 /// What the first blocks of a source say, in their order.
 #[derive(Drop)]
@@ -50,12 +48,18 @@ pub fn held_count(held: &Held) -> u64
     }
 }
 
-/// Adds what the next block says. An `AllocError` says that memory was refused.
-pub fn add_to(held: &mut Held, alloc: Global, part: Parsed, plan: &Plan) -> Result<(), AllocError>
+/// Adds what the next block says, of the last source or of another. An `AllocError` says that memory was refused.
+pub fn add_to(
+    held: &mut Held,
+    alloc: Global,
+    part: Parsed,
+    plan: &Plan,
+    is_last: bool,
+) -> Result<(), AllocError>
     ensures { OnOk result (parts_in held.new ≡ parts_in held.old ++ part ∷ []) }
 {
     keep_or_feed(held, part)?;
-    go_live(held, alloc, plan)
+    go_live(held, alloc, plan, is_last)
 }
 
 fn keep_or_feed(held: &mut Held, part: Parsed) -> Result<(), AllocError>
@@ -67,48 +71,37 @@ fn keep_or_feed(held: &mut Held, part: Parsed) -> Result<(), AllocError>
             parts.push(part)?;
             Ok(())
         }
-        Held::Live(live) => live.feed(&part),
+        Held::Live(live) => live.feed(part),
     }
 }
 
-// Where many events are kept, they are judged, and let go. Where the order is asked for all are kept.
-fn go_live(held: &mut Held, alloc: Global, plan: &Plan) -> Result<(), AllocError>
+// Where more events are kept than the plan says, they are to be judged from here on.
+fn go_live(held: &mut Held, alloc: Global, plan: &Plan, is_last: bool) -> Result<(), AllocError>
     ensures { OnOk result (parts_in held.new ≡ parts_in held.old) }
 {
-    let Some(live) = live_where_many(held, alloc, plan)? else {
+    if !has_many(held, plan, is_last) {
         return Ok(());
-    };
-    *held = Held::Live(live);
+    }
+    let kept = mem::replace(held, nothing_held(alloc));
+    *held = Held::Live(live_from(kept, alloc, plan)?);
     Ok(())
 }
 
-fn live_where_many(held: &Held, alloc: Global, plan: &Plan) -> Result<Option<Live>, AllocError>
-    ensures { IfOk result (λ made. IfSome made (λ live. live.parts ≡ parts_in held.now)) }
+// Where the order is asked for all are kept.
+fn has_many(held: &Held, plan: &Plan, is_last: bool) -> bool {
+    match held {
+        Held::Kept { events, .. } => !plan.order && *events > plan.keeping.most(is_last),
+        Held::Live(_) => false,
+    }
+}
+
+fn live_from(held: Held, alloc: Global, plan: &Plan) -> Result<Live, AllocError>
+    ensures { IfOk result (λ live. live.parts ≡ parts_in held) }
 {
     match held {
-        Held::Kept { parts, events } if !plan.order && *events >= MOST_KEPT => {
-            let live = judge_all(alloc, parts, plan)?;
-            Ok(Some(live))
-        }
-        _ => Ok(None),
+        Held::Kept { parts, .. } => Live::new(alloc, plan, parts),
+        Held::Live(live) => Ok(live),
     }
-}
-
-fn judge_all(alloc: Global, parts: &[Parsed], plan: &Plan) -> Result<Live, AllocError>
-    ensures { IfOk result (λ live. live.parts ≡ parts.now) }
-{
-    let mut live = Live::new(alloc, plan)?;
-    feed_all(&mut live, parts)?;
-    Ok(live)
-}
-
-fn feed_all(live: &mut Live, parts: &[Parsed]) -> Result<(), AllocError>
-    ensures { OnOk result (live.new.parts ≡ live.old.parts ++ parts.now) }
-{
-    for part in parts {
-        live.feed(part)?;
-    }
-    Ok(())
 }
 
 /// What a whole source is judged by. An `AllocError` says that memory was refused.

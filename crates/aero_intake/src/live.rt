@@ -5,17 +5,21 @@ ghost use Rattle.aero_verdict.specs.Verdict.{under, IsVerdict};
 use crate::plan::Plan;
 use aero_grammar::parsed::Parsed;
 use aero_leads::leads::Leads;
-use aero_model::except::SharedExcept;
+use aero_model::except::{Except, SharedExcept};
 use aero_model::limits::Limits;
 use aero_model::verdict::Verdict;
-use aero_verdict::monitor::Monitor;
+use aero_verdict::monitor::{Monitor, feed_all};
 use std::alloc::{AllocError, Global};
+use std::collections::VecDeque;
 use std::marker::Model;
 
-/// What judges the blocks of a source as they come. None of them is kept.
+/// What judges the blocks of a source as they come. What was kept of it before waits, and for each block that comes
+/// two are judged, the first ones first, and let go: so no block holds the others up for long.
 #[derive(Drop)]
 pub struct Live {
     monitor: Box<Monitor<Leads>, Global>,
+    // The blocks that came and aren't judged yet.
+    waiting: VecDeque<Parsed>,
     limits: Limits,
     except: SharedExcept,
     count: u64,
@@ -26,44 +30,48 @@ impl Model for Live {
 
     ghost Value = { Watched };
 
-    ghost view = { λ l. record { parts = l.monitor.value.parts; rules = l.monitor.value.rules } };
+    ghost use Rattle.std.specs.Prelude.{◌≡◌, ◌++◌, length};
 
-    ghost use Rattle.std.specs.Prelude.{◌≡◌, length};
+    ghost view = { λ l. record { parts = l.monitor.value.parts ++ l.waiting.items; rules = l.monitor.value.rules } };
+
     ghost use Rattle.aero_verdict.specs.Verdict.{under};
 
     ghost invariant = { λ l. record {
-      count : l.count ≡ length l.monitor.value.parts;
+      count : l.count ≡ length (l.monitor.value.parts ++ l.waiting.items);
       rules : l.monitor.value.rules ≡ under l.limits l.except;
     } };
 }
 
 impl Live {
-    /// No block has come yet of a source that is read by this plan.
-    pub fn new(alloc: Global, plan: &Plan) -> Result<Live, AllocError>
-        ensures parts { IfOk result (λ live. live.parts ≡ []) }
+    /// What was kept of a source that is read by this plan is to be judged.
+    pub fn new(alloc: Global, plan: &Plan, kept: Vec<Parsed>) -> Result<Live, AllocError>
+        ensures parts { IfOk result (λ live. live.parts ≡ kept.items) }
         ensures rules { IfOk result (λ live. live.rules ≡ under plan.now.limits plan.now.except) }
     {
+        let count = kept.len() as u64;
         let except = plan.except.share()?;
         let monitor = Monitor::<Leads>::new(alloc, &plan.limits, except.get());
         Ok(Live {
             monitor: Box::new(alloc, monitor)?,
+            waiting: VecDeque::from_vec(kept),
             limits: plan.limits,
             except,
-            count: 0,
+            count,
         })
     }
 
-    /// Judges what the next block says. An `AllocError` says that memory was refused.
-    pub fn feed(&mut self, part: &Parsed) -> Result<(), AllocError>
-        ensures parts { OnOk result (self.new.parts ≡ self.old.parts ++ part.now ∷ []) }
-        ensures rules { OnOk result (self.new.rules ≡ self.old.rules) }
+    /// Takes what the next block says, and judges the next two that wait. An `AllocError` says that memory was refused.
+    pub fn feed(&mut self, part: Parsed) -> Result<(), AllocError>
+        ensures parts { OnOk result (self.new.parts ≡ self.old.parts ++ part ∷ []) }
+        ensures rules { self.new.rules ≡ self.old.rules }
     {
         let Some(count) = self.count.checked_add(1) else {
             return Err(AllocError);
         };
-        let told = self.monitor.feed(part, self.except.get());
+        self.waiting.push_back(part)?;
         self.count = count;
-        told.map(|_| ())
+        judge_next(&mut self.monitor, &mut self.waiting, self.except.get())?;
+        judge_next(&mut self.monitor, &mut self.waiting, self.except.get())
     }
 
     /// How many blocks have come.
@@ -79,6 +87,7 @@ impl Live {
     {
         let Live {
             monitor,
+            waiting,
             limits,
             except,
             count: _,
@@ -86,8 +95,26 @@ impl Live {
         if !is_same(&limits, &except, plan) {
             return Err(AllocError);
         }
-        Box::into_inner(monitor).finish()
+        let mut monitor = Box::into_inner(monitor);
+        feed_all(&mut monitor, &waiting.into_vec(), except.get());
+        monitor.finish()
     }
+}
+
+// Judges the first block that waits, if one does, and lets it go.
+fn judge_next(
+    monitor: &mut Monitor<Leads>,
+    waiting: &mut VecDeque<Parsed>,
+    except: &Except,
+) -> Result<(), AllocError>
+    requires { except.now ≡ monitor.old.rules.labels }
+    ensures parts { monitor.new.parts ++ waiting.new.items ≡ monitor.old.parts ++ waiting.old.items }
+    ensures rules { monitor.new.rules ≡ monitor.old.rules }
+{
+    let Some(part) = waiting.pop_front() else {
+        return Ok(());
+    };
+    monitor.feed(&part, except).map(|_| ())
 }
 
 // Whether the plan has these limits and labels.

@@ -1,13 +1,36 @@
 //! How a run is made.
-ghost use Rattle.std.specs.Prelude.{◌≡◌, ◌<◌, ◌≤◌, ◌^◌, ◌↔◌, IsSome, IfSome};
+ghost use Rattle.std.specs.Prelude.{◌≡◌, ◌<◌, ◌≤◌, ◌^◌, ◌↔◌, IsSome, IfSome, if◌then◌else◌};
 ghost use Rattle.aero_intake.specs.Plans.{IsPlan};
 
 use aero_model::except::SharedExcept;
 use aero_model::limits::Limits;
 
+/// How many events of a source are kept at most until it is judged. Once more have come its blocks are judged as they
+/// come, and let go. It changes how much memory a run takes, who judges a source, and when, and not what is found.
+#[derive(Clone, Copy, Debug, PartialEq, Eq)]
+pub struct Keeping {
+    /// Of a source that isn't the last.
+    pub events: u64,
+    /// Of the last source: no other is read meanwhile.
+    pub last_events: u64,
+}
+
+impl Keeping {
+    /// How many are kept of a source, where it is the last, or isn't.
+    pub fn most(self, is_last: bool) -> u64
+        ensures { result ≡ (if is_last then self.last_events else self.events) }
+    {
+        if is_last {
+            self.last_events
+        } else {
+            self.events
+        }
+    }
+}
+
 /// How many workers are to be started, 1 to 16, how many bytes one read asks for at most, 1 to
-/// 1,048,576, the limits of each source, the labels of the blocks that are no transactions, and whether
-/// the serial order of a serializable trace is asked for.
+/// 1,048,576, the limits of each source, the labels of the blocks that are no transactions, whether
+/// the serial order of a serializable trace is asked for, and how much is kept of a source where it isn't.
 #[derive(Drop)]
 pub struct Plan {
     pub workers: u32,
@@ -15,6 +38,7 @@ pub struct Plan {
     pub limits: Limits,
     pub except: SharedExcept,
     pub order: bool,
+    pub keeping: Keeping,
     ghost some_workers: { 0 < workers },
     ghost most_workers: { workers ≤ 16 },
     ghost some_piece: { 0 < piece },
@@ -25,9 +49,14 @@ const MOST_WORKERS: u32 = 16;
 
 const MOST_PIECE: u32 = 1 << 20;
 
+const KEEPING: Keeping = Keeping {
+    events: 1 << 20,
+    last_events: 1 << 16,
+};
+
 impl Plan {
     /// This plan, or `None` where a number is 0, there are more than 16 workers, or a piece is of
-    /// more than 1,048,576 bytes.
+    /// more than 1,048,576 bytes. Of a source 1,048,576 events are kept at most, and 65,536 of the last one.
     pub fn new(
         workers: u32,
         piece: u32,
@@ -41,6 +70,8 @@ impl Plan {
         ensures limits { IfSome result (λ plan. plan.limits ≡ limits) }
         ensures except { IfSome result (λ plan. plan.except ≡ except) }
         ensures order { IfSome result (λ plan. plan.order ≡ order) }
+        ensures events { IfSome result (λ plan. plan.keeping.events ≡ 2 ^ 20) }
+        ensures last_events { IfSome result (λ plan. plan.keeping.last_events ≡ 2 ^ 16) }
     {
         if workers == 0 || workers > MOST_WORKERS {
             return None;
@@ -54,6 +85,21 @@ impl Plan {
             limits,
             except,
             order,
+            keeping: KEEPING,
         })
+    }
+
+    /// The same plan, by which so much is kept of a source.
+    pub fn with_keeping(self, keeping: Keeping) -> Plan
+        ensures workers { result.workers ≡ self.workers }
+        ensures piece { result.piece ≡ self.piece }
+        ensures limits { result.limits ≡ self.limits }
+        ensures except { result.except ≡ self.except }
+        ensures order { result.order ≡ self.order }
+        ensures keeping { result.keeping ≡ keeping }
+    {
+        let mut plan = self;
+        plan.keeping = keeping;
+        plan
     }
 }

@@ -54,13 +54,19 @@ impl Readings {
         }
     }
 
-    /// Adds what the next block says. An `AllocError` says that memory was refused.
-    pub fn add(&mut self, alloc: Global, part: Parsed, plan: &Plan) -> Result<(), AllocError>
+    /// Adds what the next block says, of the last source or of another. An `AllocError` says that memory was refused.
+    pub fn add(
+        &mut self,
+        alloc: Global,
+        part: Parsed,
+        plan: &Plan,
+        is_last: bool,
+    ) -> Result<(), AllocError>
         ensures { OnOk result (self.new ≡ self.old ++ part ∷ []) }
     {
         let more_lines = part.lines;
         let is_faulty = part.fault.is_some();
-        if let Err(refused) = add_to(&mut self.held, alloc, part, plan) {
+        if let Err(refused) = add_to(&mut self.held, alloc, part, plan, is_last) {
             *self = Readings::new(alloc);
             return Err(refused);
         }
@@ -117,18 +123,19 @@ pub enum Track {
     },
 }
 
-/// Gives a value to the track of its source. What is of no use any more is dropped. An `AllocError`
-/// says that memory was refused.
+/// Gives a value to the track of its source, which is the last of all or isn't. What is of no use any more is
+/// dropped. An `AllocError` says that memory was refused.
 pub fn take_value(
     track: &mut Track,
     alloc: Global,
     value: Value,
     plan: &Plan,
+    is_last: bool,
 ) -> Result<(), AllocError>
     ensures { OnOk result (track.new ≡ with_value track.old value) }
 {
     match value {
-        Value::Parsed(part) => take_part(track, alloc, part, plan),
+        Value::Parsed(part) => take_part(track, alloc, part, plan, is_last),
         Value::Judged(verdict) => {
             take_finding(track, Finding::Judged(verdict));
             Ok(())
@@ -140,12 +147,18 @@ pub fn take_value(
     }
 }
 
-fn take_part(track: &mut Track, alloc: Global, part: Parsed, plan: &Plan) -> Result<(), AllocError>
+fn take_part(
+    track: &mut Track,
+    alloc: Global,
+    part: Parsed,
+    plan: &Plan,
+    is_last: bool,
+) -> Result<(), AllocError>
     ensures { OnOk result (track.new ≡ with_part track.old part) }
 {
     match track {
-        Track::Arriving(readings) => readings.add(alloc, part, plan),
-        Track::Arrived { readings, .. } => readings.add(alloc, part, plan),
+        Track::Arriving(readings) => readings.add(alloc, part, plan, is_last),
+        Track::Arrived { readings, .. } => readings.add(alloc, part, plan, is_last),
         Track::Checking { .. } | Track::Found { .. } => Ok(()),
     }
 }

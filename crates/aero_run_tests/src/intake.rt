@@ -1,7 +1,7 @@
 // How sources come and end, step by step, and which plans there are.
 use crate::except::listed;
 use aero_intake::intake::{Intake, Taken};
-use aero_intake::plan::Plan;
+use aero_intake::plan::{Keeping, Plan};
 use aero_model::counting::Counting;
 use aero_model::limits::Limits;
 use aero_model::verdict::Ending;
@@ -304,5 +304,20 @@ fn a_plan_is_within_its_bounds(rt: HostRuntime) -> Result<(), Fail> {
         let plan = Plan::new(workers, piece, Limits::greatest(), labels, order);
         assert!(rt; plan.is_some() == is_plan, "{workers} {piece}");
     }
+    Ok(())
+}
+
+// How many events are kept of a source at most, of the last one or another, where the plan doesn't say, and where it does.
+#[test]
+fn a_plan_says_how_much_is_kept(rt: HostRuntime) -> Result<(), Fail> {
+    let labels = listed(rt.alloc(), "a").ok_or("labels")?;
+    let plan = Plan::new(1, 1, Limits::greatest(), labels, false).ok_or("no plan")?;
+    let usual = (plan.keeping.most(false), plan.keeping.most(true));
+    let plan = plan.with_keeping(Keeping {
+        events: 7,
+        last_events: 3,
+    });
+    let other = (plan.keeping.most(false), plan.keeping.most(true));
+    assert_eq!(rt; (usual, other), ((1_048_576, 65_536), (7, 3)));
     Ok(())
 }

@@ -11,7 +11,7 @@ use std::test::Fail;
 use std::thread::Threads;
 
 // A line of so many bytes, its byte 10 counted, that begins so.
-fn long_line(alloc: Global, start: &[u8], bytes: usize) -> Result<Vec<u8>, AllocError> {
+pub(crate) fn long_line(alloc: Global, start: &[u8], bytes: usize) -> Result<Vec<u8>, AllocError> {
     let mut line = start.to_vec(alloc)?;
     line.resize(bytes.saturating_sub(1), b'a')?;
     line.push(b'\n')?;
