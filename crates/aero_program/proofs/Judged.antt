@@ -26,13 +26,13 @@ names_of_sources : (files : List (List ℕ)) (given : Option (List ℕ)) → map
 names_of_sources [] given = refl
 names_of_sources (file ∷ more) given = names_of_files (file ∷ more)
 
-names_noted : {S R F D : Type 0} (known : Input S R F D → Option (List ℕ)) (sources : List (Source (Input S R F D)))
+names_noted : {S O F : Type 0} (known : Input S O F → Option (List ℕ)) (sources : List (Source (Input S O F)))
     → map (λ n. n.name) (noted_of_all sources) ≡ map (λ s. s.name) (map (sighted known) sources)
 names_noted known [] = refl
 names_noted known (source ∷ more) = ap (λ l. source.name.items ∷ l) (names_noted known more)
 
-pub judged : {S R F D : Type 0} (known : Input S R F D → Option (List ℕ)) (labels : List (List ℕ)) (order long : Bool) (files : List (List ℕ)) (given : Option (List ℕ)) (limits : Limits)
-    (was lent new now : List (Source (Input S R F D))) (before between after : Shown) (endings : List (ℕ × Ending)) (counts : Counts) (cause : Option Cause)
+pub judged : {S O F : Type 0} (known : Input S O F → Option (List ℕ)) (labels : List (List ℕ)) (order long : Bool) (files : List (List ℕ)) (given : Option (List ℕ)) (limits : Limits)
+    (was lent new now : List (Source (Input S O F))) (before between after : Shown) (endings : List (ℕ × Ending)) (counts : Counts) (cause : Option Cause)
     (has_failed : Bool) (end : Result ℕ Failure) (told told_after : Seen) (status : ℕ) (terms : Terms)
     → terms ≡ asking limits labels order → AreLimitsFor long limits → map (sighted known) was ≡ source_sightings files given → lent ≡ was → now ≡ new
     → WasRun terms (map (sighted known) lent) (map (sighted known) new) before.writer between.writer endings counts cause

@@ -18,22 +18,22 @@ pub data Standing : Type 0 where
   Failed : Standing
 
 -- `known` is the word of standard input's reader for the bytes that it has left
-abbrev pub stage_standing : {S R F D : Type 0} → (S → Option (List ℕ)) → Stage S R F D → Standing
+abbrev pub stage_standing : {S O F : Type 0} → (S → Option (List ℕ)) → Stage S O F → Standing
 stage_standing known (stage.Standard stdin) = Standard (seen_within known stdin)
 stage_standing known (stage.Unopened files path) = Unopened (string_bytes path)
 stage_standing known (stage.Reading file) = Reading
 stage_standing known stage.Ended = Ended
 stage_standing known (stage.Failed kind) = Failed
 
-abbrev pub standing_of : {S R F D : Type 0} → (S → Option (List ℕ)) → Input S R F D → Standing
+abbrev pub standing_of : {S O F : Type 0} → (S → Option (List ℕ)) → Input S O F → Standing
 standing_of known input = stage_standing known input.stage
 
 -- the first three bytes that came, as far as they came
-abbrev pub start_of : {S R F D : Type 0} → Input S R F D → List ℕ
+abbrev pub start_of : {S O F : Type 0} → Input S O F → List ℕ
 start_of input = start_bytes input.start
 
 -- why the first read that failed did
-abbrev pub reason_of : {S R F D : Type 0} → Input S R F D → Option Reason
+abbrev pub reason_of : {S O F : Type 0} → Input S O F → Option Reason
 reason_of input = input.reason
 
 -- a reader of which nothing was read

@@ -14,10 +14,10 @@ pub record Noted : Type 0 where
   pub start : List ℕ
   pub reason : Option Reason
 
-abbrev pub noted_of : {S R F D : Type 0} → Source (Input S R F D) → Noted
+abbrev pub noted_of : {S O F : Type 0} → Source (Input S O F) → Noted
 noted_of source = record { name = source.name.items; start = start_of (inner_of source.reader); reason = reason_of (inner_of source.reader) }
 
-abbrev pub noted_of_all : {S R F D : Type 0} → List (Source (Input S R F D)) → List Noted
+abbrev pub noted_of_all : {S O F : Type 0} → List (Source (Input S O F)) → List Noted
 noted_of_all sources = map noted_of sources
 
 abbrev pub note_line : List ℕ → List ℕ → List ℕ

@@ -9,6 +9,7 @@ ghost use Rattle.aero_program.specs.Streams.{WasCut, shown_by};
 
 use crate::command::{Config, Refused, Stop};
 use crate::failure::Failure;
+use crate::files::Opener;
 use crate::input::Input;
 use crate::notes::notes_of;
 use crate::output::Output;
@@ -22,7 +23,6 @@ use aero_report::{Cut, put};
 use aero_worker::NoGate;
 use std::alloc::Global;
 use std::io::{Read, Write};
-use std::rt::Files;
 use std::sync::{Arc, Wait};
 use std::thread::Threads;
 
@@ -36,7 +36,7 @@ use std::thread::Threads;
 /// nothing, the status still tells. A read, a write or a flush that is interrupted is tried again.
 pub fn answer<
     S: Read + Drop,
-    F: Files + Drop,
+    F: Opener + Drop,
     O: Write,
     E: Write,
     T: Threads + Wait + Copy + Send + 'static,
@@ -61,7 +61,7 @@ pub fn answer<
 // Judges the sources, and tells what is found.
 fn judge<
     S: Read + Drop,
-    F: Files + Drop,
+    F: Opener + Drop,
     O: Write,
     E: Write,
     T: Threads + Wait + Copy + Send + 'static,
@@ -93,10 +93,10 @@ fn judge<
 }
 
 // Tells the notes on the sources, and then why the program fails, where it does.
-fn finish<S: Read + Drop, R: Files + Drop, E: Write>(
+fn finish<S: Read + Drop, F: Opener + Drop, E: Write>(
     alloc: Global,
     end: Result<u8, Failure>,
-    sources: Vec<Source<Input<S, R>>>,
+    sources: Vec<Source<Input<S, F>>>,
     errors: &mut Counting<E>,
 ) -> u8
     ensures { Ends (noted_of_all sources.items) end (seen_by E.contents errors.old) (seen_by E.contents errors.new) result }

@@ -4,47 +4,45 @@ ghost use Rattle.std.specs.Prelude.{◌≡◌, ◌≢◌, IfErr};
 ghost use Rattle.std.specs.IoError.{error_kind};
 ghost use Rattle.std.specs.declared.io.ErrorKind.TheVariants.{Interrupted};
 
+use crate::files::Opener;
 use crate::reason::Reason;
 use crate::retrying::Retrying;
 use crate::start::Start;
 use std::alloc::{AllocError, Global};
-use std::fs::File;
 use std::io::{ErrorKind, Read};
-use std::rt::Files;
 use std::{io, mem};
 
-/// A source of bytes: standard input, read by an `S`, or the file at a path. `R` reaches the files,
-/// as a runtime or a reference to one.
+/// A source of bytes: standard input, read by an `S`, or the file at a path, which an `O` opens.
 ///
 /// Standard input is read for as long as somebody reads. A file is opened at the first read, and
 /// closed where a read finds its end or fails. A read after the end gives 0 bytes; after a failed
 /// open or a failed read each later read fails. So of many files that are read to their ends one
 /// after the other, one at most is open. An open or a read that is interrupted is tried again.
 #[derive(Drop)]
-pub struct Input<S, R: Files> {
-    stage: Stage<S, R>,
+pub struct Input<S, O: Opener> {
+    stage: Stage<S, O>,
     start: Start,
     reason: Option<Reason>,
 }
 
 // How far an input has come.
 #[derive(Drop)]
-enum Stage<S, R: Files> {
+enum Stage<S, O: Opener> {
     Standard(Retrying<S>),
-    Unopened(R, String),
-    Reading(Retrying<R::File>),
+    Unopened(O, String),
+    Reading(Retrying<O::File>),
     Ended,
     // An open or a read failed so.
     Failed(ErrorKind),
 }
 
-impl<S: Read + Drop, R: Files + Drop> Input<S, R> {
+impl<S: Read + Drop, O: Opener + Drop> Input<S, O> {
     ghost use Rattle.std.specs.Prelude.{◌≡◌, [], None, IfOk, bytes_eq};
     ghost use Rattle.aero_program.specs.Inputs.{standing_of, start_of, reason_of, unread, Standard, Unopened};
     ghost use Rattle.aero_program.specs.Starts.{byte_order_mark};
 
     /// Standard input.
-    pub fn standard(stdin: S) -> Input<S, R>
+    pub fn standard(stdin: S) -> Input<S, O>
         ensures standing { standing_of S.remaining result ≡ Standard (unread (S.remaining stdin)) }
         ensures start { start_of result ≡ [] }
         ensures reason { reason_of result ≡ None }
@@ -53,7 +51,7 @@ impl<S: Read + Drop, R: Files + Drop> Input<S, R> {
     }
 
     /// The file at the path, which isn't touched yet. `-` is a path like any other.
-    pub fn path(alloc: Global, files: R, path: &str) -> Result<Input<S, R>, AllocError>
+    pub fn path(alloc: Global, files: O, path: &str) -> Result<Input<S, O>, AllocError>
         ensures standing { IfOk result (λ input. standing_of S.remaining input ≡ Unopened path.now) }
         ensures start { IfOk result (λ input. start_of input ≡ []) }
         ensures reason { IfOk result (λ input. reason_of input ≡ None) }
@@ -62,7 +60,7 @@ impl<S: Read + Drop, R: Files + Drop> Input<S, R> {
         Ok(Input::at(Stage::Unopened(files, path)))
     }
 
-    fn at(stage: Stage<S, R>) -> Input<S, R>
+    fn at(stage: Stage<S, O>) -> Input<S, O>
         ensures stage { result.stage ≡ stage }
         ensures start { start_of result ≡ [] }
         ensures reason { reason_of result ≡ None }
@@ -89,7 +87,7 @@ impl<S: Read + Drop, R: Files + Drop> Input<S, R> {
     }
 }
 
-impl<S: Read + Drop, R: Files + Drop> Read for Input<S, R> {
+impl<S: Read + Drop, O: Opener + Drop> Read for Input<S, O> {
     ghost use Rattle.std.specs.Io.{ReadsAtMost};
     ghost use Rattle.std.specs.Io.KnownBytes.{ReadConsumes};
     ghost use Rattle.aero_program.specs.Inputs.{standing_of, bytes_left, start_of, reason_of, StepsTo};
@@ -116,13 +114,13 @@ impl<S: Read + Drop, R: Files + Drop> Read for Input<S, R> {
     }
 }
 
-impl<S: Read + Drop, R: Files + Drop> Stage<S, R> {
+impl<S: Read + Drop, O: Opener + Drop> Stage<S, O> {
     ghost use Rattle.std.specs.Io.{ReadsAtMost};
     ghost use Rattle.std.specs.Io.KnownBytes.{ReadConsumes};
     ghost use Rattle.aero_program.specs.Inputs.{stage_standing, bytes_left, StepsTo, Leaves};
 
     // One read, and the stage after it.
-    fn read(self, buf: &mut [u8]) -> (Stage<S, R>, io::Result<usize>)
+    fn read(self, buf: &mut [u8]) -> (Stage<S, O>, io::Result<usize>)
         ensures bound { ReadsAtMost result.1 buf.new }
         ensures bytes { ReadConsumes (bytes_left (stage_standing S.remaining self)) (bytes_left (stage_standing S.remaining result.0)) result.1 buf.new }
         ensures steps { StepsTo (stage_standing S.remaining self) (stage_standing S.remaining result.0) buf.new result.1 }
@@ -143,7 +141,7 @@ impl<S: Read + Drop, R: Files + Drop> Stage<S, R> {
     }
 
     // One read of an open file, which is closed where its end is found or the read fails.
-    fn read_file(mut file: Retrying<R::File>, buf: &mut [u8]) -> (Stage<S, R>, io::Result<usize>)
+    fn read_file(mut file: Retrying<O::File>, buf: &mut [u8]) -> (Stage<S, O>, io::Result<usize>)
         ensures bound { ReadsAtMost result.1 buf.new }
         ensures leaves { Leaves (stage_standing S.remaining result.0) buf.new result.1 }
     {
@@ -156,11 +154,11 @@ impl<S: Read + Drop, R: Files + Drop> Stage<S, R> {
 }
 
 // Opens a file. An open that is interrupted is tried again.
-fn open<R: Files>(files: &R, path: &str) -> io::Result<R::File>
+fn open<O: Opener>(files: &O, path: &str) -> io::Result<O::File>
     ensures { IfErr result (λ e. error_kind e ≢ Interrupted) }
 {
     for _ in 0..u64::MAX {
-        match File::open(files, path) {
+        match files.open(path) {
             Ok(file) => return Ok(file),
             Err(error) if error.kind() == ErrorKind::Interrupted => {}
             Err(error) => return Err(error),

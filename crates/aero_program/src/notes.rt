@@ -2,12 +2,12 @@
 ghost use Rattle.std.specs.Prelude.{◌≡◌, ◌++◌, IfOk, OnOk};
 ghost use Rattle.aero_program.specs.Notes.{note, note_line, noted_of, noted_of_all, notes, mark_line, reason_line};
 
+use crate::files::Opener;
 use crate::input::Input;
 use crate::reason::Reason;
 use aero_batch::source::Source;
 use std::alloc::{AllocError, Global};
 use std::io::Read;
-use std::rt::Files;
 
 /// The lines on the sources, in order: of each that it starts with a byte order mark, if it does,
 /// and then why its first read that failed did, if one did.
@@ -15,9 +15,9 @@ use std::rt::Files;
 /// # Errors
 ///
 /// `AllocError` where memory is refused.
-pub fn notes_of<S: Read + Drop, R: Files + Drop>(
+pub fn notes_of<S: Read + Drop, F: Opener + Drop>(
     alloc: Global,
-    sources: Vec<Source<Input<S, R>>>,
+    sources: Vec<Source<Input<S, F>>>,
 ) -> Result<Vec<u8>, AllocError>
     ensures { IfOk result (λ text. text.items ≡ notes (noted_of_all sources.items)) }
 {
@@ -28,9 +28,9 @@ pub fn notes_of<S: Read + Drop, R: Files + Drop>(
     Ok(text)
 }
 
-fn append_notes<S: Read + Drop, R: Files + Drop>(
+fn append_notes<S: Read + Drop, F: Opener + Drop>(
     text: &mut Vec<u8>,
-    source: Source<Input<S, R>>,
+    source: Source<Input<S, F>>,
 ) -> Result<(), AllocError>
     ensures { OnOk result (text.new.items ≡ text.old.items ++ note (noted_of source)) }
 {

@@ -5,22 +5,21 @@ ghost use Rattle.aero_batch.specs.Founds.{sighted};
 ghost use Rattle.aero_program.specs.Inputs.{bytes_left, source_names, source_standings, standing_of, unread, Standard, Unopened};
 ghost use Rattle.aero_program.specs.Sightings.{file_sighting, source_sightings, standard_sighting};
 
+use crate::files::Opener;
 use crate::input::Input;
 use aero_batch::source::Source;
 use aero_model::counting::Counting;
 use std::alloc::{AllocError, Global};
 use std::io::Read;
-use std::path::Path;
-use std::rt::Files;
 
 /// Standard input, named `-`, where there are no words, and else the file of each word, named as
 /// its word. No file is opened yet, and what is no plain file, a pipe say, is taken for one that may wait.
-pub fn sources_of<'a, S: Read + Drop, R: Files + Drop>(
+pub fn sources_of<'a, S: Read + Drop, F: Opener + Drop>(
     alloc: Global,
-    files: &'a R,
+    files: &'a F,
     stdin: S,
     words: &[String],
-) -> Result<Vec<Source<Input<S, &'a R>>>, AllocError>
+) -> Result<Vec<Source<Input<S, &'a F>>>, AllocError>
     ensures few { length words.now ≤ 2 ^ 16 → IfOk result (λ sources. vec_len sources ≤ 2 ^ 16) }
     ensures names { IfOk result (λ sources. map (λ s. s.name.items) sources.items ≡ source_names (map string_bytes words.now)) }
     ensures readers { IfOk result (λ sources. map (λ s. standing_of S.remaining (inner_of s.reader)) sources.items ≡ source_standings (map string_bytes words.now) (S.remaining stdin)) }
@@ -43,10 +42,10 @@ fn alone<T: Drop>(alloc: Global, item: T) -> Result<Vec<T>, AllocError>
 }
 
 // Standard input, named `-`.
-fn standard_of<'a, S: Read + Drop, R: Files + Drop>(
+fn standard_of<'a, S: Read + Drop, F: Opener + Drop>(
     alloc: Global,
     stdin: S,
-) -> Result<Source<Input<S, &'a R>>, AllocError>
+) -> Result<Source<Input<S, &'a F>>, AllocError>
     ensures name { IfOk result (λ s. s.name.items ≡ codes "-") }
     ensures reader { IfOk result (λ s. standing_of S.remaining (inner_of s.reader) ≡ Standard (unread (S.remaining stdin))) }
     ensures sighted { IfOk result (λ s. sighted (λ input. bytes_left (standing_of S.remaining input)) s ≡ standard_sighting (S.remaining stdin)) }
@@ -59,11 +58,11 @@ fn standard_of<'a, S: Read + Drop, R: Files + Drop>(
 }
 
 // The file of each word, named as its word.
-fn files_of<'a, S: Read + Drop, R: Files + Drop>(
+fn files_of<'a, S: Read + Drop, F: Opener + Drop>(
     alloc: Global,
-    files: &'a R,
+    files: &'a F,
     words: &[String],
-) -> Result<Vec<Source<Input<S, &'a R>>>, AllocError>
+) -> Result<Vec<Source<Input<S, &'a F>>>, AllocError>
     ensures names { IfOk result (λ sources. map (λ s. s.name.items) sources.items ≡ map string_bytes words.now) }
     ensures readers { IfOk result (λ sources. map (λ s. standing_of S.remaining (inner_of s.reader)) sources.items ≡ map Unopened (map string_bytes words.now)) }
     ensures sighted { IfOk result (λ sources. map (sighted (λ input. bytes_left (standing_of S.remaining input))) sources.items ≡ map file_sighting (map string_bytes words.now)) }
@@ -74,11 +73,11 @@ fn files_of<'a, S: Read + Drop, R: Files + Drop>(
 }
 
 // Adds the file of each word.
-fn add_files<'a, S: Read + Drop, R: Files + Drop>(
+fn add_files<'a, S: Read + Drop, F: Opener + Drop>(
     alloc: Global,
-    files: &'a R,
+    files: &'a F,
     words: &[String],
-    sources: &mut Vec<Source<Input<S, &'a R>>>,
+    sources: &mut Vec<Source<Input<S, &'a F>>>,
 ) -> Result<(), AllocError>
     requires { sources.old.items ≡ [] }
     ensures names { OnOk result (map (λ s. s.name.items) sources.new.items ≡ map string_bytes words.now) }
@@ -93,11 +92,11 @@ fn add_files<'a, S: Read + Drop, R: Files + Drop>(
 }
 
 // The file of a word, named as it.
-fn file_of<'a, S: Read + Drop, R: Files + Drop>(
+fn file_of<'a, S: Read + Drop, F: Opener + Drop>(
     alloc: Global,
-    files: &'a R,
+    files: &'a F,
     word: &String,
-) -> Result<Source<Input<S, &'a R>>, AllocError>
+) -> Result<Source<Input<S, &'a F>>, AllocError>
     ensures name { IfOk result (λ s. s.name.items ≡ string_bytes word.now) }
     ensures reader { IfOk result (λ s. standing_of S.remaining (inner_of s.reader) ≡ Unopened (string_bytes word.now)) }
     ensures sighted { IfOk result (λ s. sighted (λ input. bytes_left (standing_of S.remaining input)) s ≡ file_sighting (string_bytes word.now)) }
@@ -105,6 +104,6 @@ fn file_of<'a, S: Read + Drop, R: Files + Drop>(
     Ok(Source {
         name: Vec::from_slice(alloc, word.as_bytes())?,
         reader: Counting::new(Input::path(alloc, files, word.as_str())?),
-        may_wait: !Path::new(word.as_str()).is_file(files),
+        may_wait: !files.is_plain(word.as_str()),
     })
 }

@@ -9,6 +9,7 @@ use aero_program::answer::answer;
 use aero_program::arguments::{Unread, words_of};
 use aero_program::command::{Config, Progress, Refused, Stop};
 use aero_program::failure::Failure;
+use aero_program::files::{FilesOf, Opener};
 use aero_program::input::Input;
 use aero_program::output::Output;
 use aero_program::reason::Reason;
@@ -18,7 +19,6 @@ use std::alloc::Global;
 use std::env::{Env, FillError};
 use std::io;
 use std::io::{ErrorKind, Read};
-use std::rt::Files;
 use std::sync::Wait;
 use std::test::Fail;
 use std::thread::Threads;
@@ -147,7 +147,7 @@ fn inputs_fail_at_each_read_or_are_read_to_their_ends(rt: HostRuntime) -> Result
         ("/dev/null/none", "Not a directory"),
         ("/", "Is a directory"),
     ] {
-        let mut input: Input<Text, _> = Input::path(rt.alloc(), &rt, path)?;
+        let mut input: Input<Text, _> = Input::path(rt.alloc(), FilesOf::new(rt), path)?;
         assert!(rt; input.reason().is_none(), "{path}");
         for _ in 0..3 {
             assert!(rt; input.read(&mut buf).is_err(), "{path}");
@@ -155,11 +155,11 @@ fn inputs_fail_at_each_read_or_are_read_to_their_ends(rt: HostRuntime) -> Result
         assert!(rt; input.read(&mut []).is_err(), "{path}");
         assert!(rt; input.reason().map_or("", Reason::words) == words, "{path}");
     }
-    let mut zeros: Input<Text, _> = Input::path(rt.alloc(), &rt, "/dev/zero")?;
+    let mut zeros: Input<Text, _> = Input::path(rt.alloc(), FilesOf::new(rt), "/dev/zero")?;
     assert_eq!(rt; zeros.read(&mut [])?, 0);
     assert_eq!(rt; zeros.read(&mut buf)?, 8);
     assert_eq!(rt; buf, [0; 8]);
-    let mut nothing: Input<Text, _> = Input::path(rt.alloc(), &rt, "/dev/null")?;
+    let mut nothing: Input<Text, _> = Input::path(rt.alloc(), FilesOf::new(rt), "/dev/null")?;
     assert_eq!(rt; nothing.read(&mut [])?, 0);
     for _ in 0..3 {
         assert_eq!(rt; nothing.read(&mut buf)?, 0);
@@ -216,7 +216,7 @@ fn errors_of(alloc: Global, damage: &Damage) -> Interrupted<Narrow> {
 }
 
 // Whether a call answers so, where standard input has this text.
-fn is_answered<R: AllocGlobal + Threads + Wait + Copy + Drop + Send + 'static, F: Files + Drop>(
+fn is_answered<R: AllocGlobal + Threads + Wait + Copy + Drop + Send + 'static, F: Opener + Drop>(
     rt: R,
     files: &F,
     asked: Result<Config, Stop>,
@@ -431,7 +431,7 @@ fn what_is_asked_for_is_judged(rt: HostRuntime) -> Result<(), Fail> {
     ];
     for (file, text, damage, wanted) in rows {
         let config = config_of(rt.alloc(), file, false)?;
-        assert!(rt; is_answered(rt, &rt, Ok(config), text, &damage, wanted));
+        assert!(rt; is_answered(rt, &FilesOf::new(rt), Ok(config), text, &damage, wanted));
     }
     Ok(())
 }
@@ -497,7 +497,7 @@ fn an_order_that_is_asked_for_is_told(rt: HostRuntime) -> Result<(), Fail> {
     ];
     for (text, damage, wanted) in rows {
         let config = config_of(rt.alloc(), None, true)?;
-        assert!(rt; is_answered(rt, &rt, Ok(config), text, &damage, wanted));
+        assert!(rt; is_answered(rt, &FilesOf::new(rt), Ok(config), text, &damage, wanted));
     }
     Ok(())
 }
@@ -587,7 +587,7 @@ fn what_is_not_judged_is_told(rt: HostRuntime) -> Result<(), Fail> {
         (Stop::Unread(Unread::Memory), SOUND, memory),
     ];
     for (stop, damage, wanted) in rows {
-        assert!(rt; is_answered(rt, &rt, Err(stop), b"", &damage, wanted));
+        assert!(rt; is_answered(rt, &FilesOf::new(rt), Err(stop), b"", &damage, wanted));
     }
     Ok(())
 }
@@ -636,7 +636,7 @@ fn interrupted_calls_are_made_again(rt: HostRuntime) -> Result<(), Fail> {
     ];
     for (text, damage, wanted) in rows {
         let config = config_of(rt.alloc(), None, false)?;
-        assert!(rt; is_answered(rt, &rt, Ok(config), text, &damage, wanted));
+        assert!(rt; is_answered(rt, &FilesOf::new(rt), Ok(config), text, &damage, wanted));
     }
     Ok(())
 }

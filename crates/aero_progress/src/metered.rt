@@ -2,13 +2,13 @@
 use crate::gain::gain_of;
 use crate::meter::Meter;
 use std::io;
-use std::io::{Read, Seek, SeekFrom, Write};
+use std::io::Read;
 
 /// A reader of one source, which hands each call on to what it was made of, and tells the meter, if it
 /// has one, what came. Of reads after the source has been read nothing is told.
 #[derive(Drop)]
 pub struct Metered<'a, T> {
-    pub(crate) inner: T,
+    inner: T,
     meter: Option<&'a Meter>,
 }
 
@@ -43,23 +43,5 @@ impl<R: Read> Read for Metered<'_, R> {
             }
         }
         outcome
-    }
-}
-
-impl<W: Write> Write for Metered<'_, W> {
-    ghost contents = { λ m. W.contents m.inner };
-
-    fn write(&mut self, buf: &[u8]) -> io::Result<usize> {
-        self.inner.write(buf)
-    }
-
-    fn flush(&mut self) -> io::Result<()> {
-        self.inner.flush()
-    }
-}
-
-impl<S: Seek> Seek for Metered<'_, S> {
-    fn seek(&mut self, to: SeekFrom) -> io::Result<u64> {
-        self.inner.seek(to)
     }
 }

@@ -17,10 +17,10 @@ use aero_model::counting::Counting;
 use aero_program::answer::answer;
 use aero_program::arguments::words_of;
 use aero_program::command::{Config, Stop, TICK};
+use aero_program::files::{FilesOf, MeteredFiles};
 use aero_program::output::Output;
 use aero_program::retrying::Retrying;
 use aero_progress::beside::Beside;
-use aero_progress::files::MeteredFiles;
 use aero_progress::metered::Metered;
 use aero_progress::ticker::{Pace, Ticker};
 use aero_words::words::settle_words;
@@ -115,7 +115,7 @@ where
     let on_screen = if streams.is_screen { line } else { None };
     let mut output = Output::new(Beside::new(rt, streams.output, on_screen));
     let mut errors = Counting::new(Retrying::new(Beside::new(rt, streams.errors, line)));
-    let files = MeteredFiles::new(&rt, meter);
+    let files = MeteredFiles::new(FilesOf::new(rt), meter);
     let input = Metered::new(streams.input, meter);
     answer(rt, alloc, asked, &files, input, &mut output, &mut errors)
 }

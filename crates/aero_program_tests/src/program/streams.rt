@@ -1,9 +1,7 @@
 // Streams and files of which calls fail, once or for ever, or are interrupted.
-use std::alloc::Allocator;
-use std::fs::{Metadata, OpenFile, OpenOptions};
+use aero_program::files::Opener;
 use std::io;
-use std::io::{ErrorKind, Read, Seek, SeekFrom, Write};
-use std::rt::Files;
+use std::io::{ErrorKind, Read, Write};
 use std::sync::atomic::{AtomicU64, Ordering};
 
 // More calls than any run makes.
@@ -142,16 +140,10 @@ fn spend(count: &AtomicU64) -> bool {
     left > 0
 }
 
-fn unsupported() -> io::Error {
-    io::Error::from(ErrorKind::Unsupported)
-}
+impl Opener for Shelf {
+    type File = Interrupted<Text>;
 
-impl Files for Shelf {
-    type File = Page;
-
-    type Dir = Text;
-
-    fn open_file(&self, _how: &OpenOptions, _path: &str) -> io::Result<Page> {
+    fn open(&self, _path: &str) -> io::Result<Interrupted<Text>> {
         if spend(&self.interruptions) {
             return Err(io::Error::from(ErrorKind::Interrupted));
         }
@@ -162,90 +154,10 @@ impl Files for Shelf {
             left: self.text,
             failures: self.read_failures,
         };
-        Ok(Page {
-            text: Interrupted::new(text, self.times),
-        })
+        Ok(Interrupted::new(text, self.times))
     }
 
-    fn open_dir(&self, _path: &str) -> io::Result<Text> {
-        Err(unsupported())
-    }
-
-    fn metadata(&self, _path: &str) -> io::Result<Metadata> {
-        Err(unsupported())
-    }
-
-    fn symlink_metadata(&self, _path: &str) -> io::Result<Metadata> {
-        Err(unsupported())
-    }
-
-    fn copy(&self, _from: &str, _to: &str) -> io::Result<u64> {
-        Err(unsupported())
-    }
-
-    fn rename(&self, _from: &str, _to: &str) -> io::Result<()> {
-        Err(unsupported())
-    }
-
-    fn remove_file(&self, _path: &str) -> io::Result<()> {
-        Err(unsupported())
-    }
-
-    fn create_dir(&self, _path: &str) -> io::Result<()> {
-        Err(unsupported())
-    }
-
-    fn remove_dir(&self, _path: &str) -> io::Result<()> {
-        Err(unsupported())
-    }
-
-    fn remove_dir_all<B: Allocator>(&self, _alloc: B, _path: &str) -> io::Result<()> {
-        Err(unsupported())
-    }
-}
-
-// An open file of a `Shelf`.
-#[derive(Drop)]
-pub(crate) struct Page {
-    text: Interrupted<Text>,
-}
-
-impl Read for Page {
-    fn read(&mut self, buf: &mut [u8]) -> io::Result<usize> {
-        self.text.read(buf)
-    }
-}
-
-impl Write for Page {
-    fn write(&mut self, _buf: &[u8]) -> io::Result<usize> {
-        Err(unsupported())
-    }
-
-    fn flush(&mut self) -> io::Result<()> {
-        Err(unsupported())
-    }
-}
-
-impl Seek for Page {
-    fn seek(&mut self, _to: SeekFrom) -> io::Result<u64> {
-        Err(unsupported())
-    }
-}
-
-impl OpenFile for Page {
-    fn metadata(&self) -> io::Result<Metadata> {
-        Err(unsupported())
-    }
-
-    fn set_len(&self, _size: u64) -> io::Result<()> {
-        Err(unsupported())
-    }
-
-    fn sync_all(&self) -> io::Result<()> {
-        Err(unsupported())
-    }
-
-    fn sync_data(&self) -> io::Result<()> {
-        Err(unsupported())
+    fn is_plain(&self, _path: &str) -> bool {
+        false
     }
 }
