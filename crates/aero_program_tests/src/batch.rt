@@ -40,6 +40,9 @@ static OTHERS: [Who; 4] = [
 // Two blocks that cross, each before the other.
 const CROSSED: &str = "T1|begin/T2|begin/T1|w(x)/T2|r(x)/T2|w(y)/T1|r(y)";
 
+// The same, but that the first block has a label.
+const OF_ONE_LABEL: &str = "T1|begin(a)/T2|begin/T1|w(x)/T2|r(x)/T2|w(y)/T1|r(y)";
+
 // A cycle through two open blocks, and the end of one of them.
 const CLOSED_BY_AN_END: &str = "T1|begin/T2|begin/T2|w(y)/T1|w(x)/T2|r(x)/T1|r(y)/T1|end";
 
@@ -130,24 +133,6 @@ fn expect_start<R: Read + Drop, T: Abort + AllocGlobal + Threads + Wait + Copy +
     Ok(outcome)
 }
 
-// The line of a text is the same at each size of a piece, by every number of workers, and whatever
-// helps.
-fn expect_text<T: Abort + AllocGlobal + Threads + Wait + Copy + Send + 'static>(
-    rt: &T,
-    text: &[u8],
-    limits: Limits,
-    line: &str,
-) -> Result<(), Fail> {
-    let start = format!(in rt.alloc(); "{line}/traces 1: ")?;
-    for piece in PIECES.iter() {
-        expect_start(rt, text, limits, *piece, Who::Alone, &start)?;
-    }
-    for who in OTHERS.iter() {
-        expect_start(rt, text, limits, 7, *who, &start)?;
-    }
-    Ok(())
-}
-
 // What a run by this plan writes of these sources, whoever helps, and what else it tells.
 fn report_by<T: AllocGlobal + Threads + Wait + Copy + Send + 'static>(
     rt: &T,
@@ -160,331 +145,71 @@ fn report_by<T: AllocGlobal + Threads + Wait + Copy + Send + 'static>(
     Ok((writer.into_inner(), outcome))
 }
 
-// Whether what is written of the text begins so, where these labels are listed and its order is asked for or
-// not, whoever helps.
-fn has_line<T: AllocGlobal + Threads + Wait + Copy + Send + 'static>(
-    rt: &T,
-    text: &[u8],
-    asked: (&str, bool),
-    line: &str,
-) -> Result<bool, Fail> {
-    let start = lines_of(rt.alloc(), line)?;
-    for who in EVERYBODY.iter() {
-        if !has_start(rt, *who, text, asked, &start)? {
-            return Ok(false);
-        }
-    }
-    Ok(true)
-}
-
-// The same where these help, and the beginning is given as bytes.
-fn has_start<T: AllocGlobal + Threads + Wait + Copy + Send + 'static>(
-    rt: &T,
-    who: Who,
-    text: &[u8],
-    asked: (&str, bool),
-    start: &[u8],
-) -> Result<bool, Fail> {
-    let plan = plan_by(rt.alloc(), who, Limits::greatest(), 7, asked)?;
-    let mut sources = Vec::new(rt.alloc());
-    add_source(&mut sources, rt.alloc(), "n", text)?;
-    let (report, outcome) = report_by(rt, who, &mut sources, &plan)?;
-    Ok(outcome.cause.is_none() && report.as_slice().starts_with(start))
-}
-
-// A text, the labels that are listed, and how what is written of the text begins.
-type LabelledText = (&'static str, &'static str, &'static str);
-
-// Whether that is so, where the order is asked for or not, whoever helps.
-fn has_row<T: AllocGlobal + Threads + Wait + Copy + Send + 'static>(
-    rt: &T,
-    row: &LabelledText,
-    is_ordered: bool,
-) -> Result<bool, Fail> {
-    let text = lines_of(rt.alloc(), row.0)?;
-    has_line(rt, &text, (row.1, is_ordered), row.2)
-}
-
-const OF_ONE_LABEL: &str = "T1|begin(a)/T2|begin/T1|w(x)/T2|r(x)/T2|w(y)/T1|r(y)";
-
-const OF_TWO_LABELS: &str = "T1|begin(a)/T1|begin(b)/T1|w(x)/T2|r(x)/T2|w(y)/T1|r(y)/T1|end/T1|end";
-
-const OF_AN_INNER_LABEL: &str = "T1|begin/T1|begin(a)/T1|end/T1|w(x)/T2|w(x)/T1|r(x)";
-
-static LABELLED: [LabelledText; 7] = [
-    (
-        OF_ONE_LABEL,
-        "a",
-        "n: no violation, 1 blocks open (6 events, 1 blocks)/",
-    ),
-    (
-        OF_ONE_LABEL,
-        "",
-        "n: violation at line 6: block of T1 from line 1/",
-    ),
-    (
-        OF_TWO_LABELS,
-        "a",
-        "n: violation at line 6: block of T1 from line 2/",
-    ),
-    (
-        OF_TWO_LABELS,
-        "b",
-        "n: violation at line 6: block of T1 from line 1/",
-    ),
-    (
-        OF_TWO_LABELS,
-        "a b",
-        "n: serializable (8 events, 0 blocks)/",
-    ),
-    (
-        OF_AN_INNER_LABEL,
-        "a",
-        "n: violation at line 6: block of T1 from line 1/",
-    ),
-    (
-        "T1|begin(a)/T1|end/T1|end",
-        "a",
-        "n:3: ill-formed: EndWithoutBegin/",
-    ),
-];
-
-// A block that begins with a listed label is no transaction.
-#[test]
-fn a_text_has_its_line_by_the_labels(rt: HostRuntime) -> Result<(), Fail> {
-    for row in LABELLED.iter() {
-        assert!(rt; has_row(&rt, row, false)?);
-    }
-    Ok(())
-}
-
-static ORDERED: [LabelledText; 14] = [
-    ("", "", "n: serializable (0 events, 0 blocks)/traces 1: "),
-    (
-        ONE_BLOCK,
-        "",
-        "n: serializable (5 events, 1 blocks)/  1 T1/traces 1: ",
-    ),
-    (
-        "T1|w(x)|5/T2|r(x)|6",
-        "",
-        "n: serializable (2 events, 0 blocks)/  1 T1/  2 T2/traces 1: ",
-    ),
-    (
-        WRITTEN_BETWEEN,
-        "",
-        "n: serializable (4 events, 1 blocks)/  2 T2/  1 T1/traces 1: ",
-    ),
-    (
-        "T3|w(a)/T1|begin/T2|w(a)/T1|r(a)/T1|end",
-        "",
-        "n: serializable (5 events, 1 blocks)/  1 T3/  3 T2/  2 T1/traces 1: ",
-    ),
-    (
-        "T3|w(a)//T1|begin/T2|w(a)/T1|r(a)/T1|end",
-        "",
-        "n: serializable (5 events, 1 blocks)/  1 T3/  4 T2/  3 T1/traces 1: ",
-    ),
-    (
-        "T1|begin(a)/T1|begin(b)/T2|w(x)/T1|r(x)/T1|end/T1|end",
-        "a",
-        "n: serializable (6 events, 1 blocks)/  1 T1/  3 T2/  2 T1/  6 T1/traces 1: ",
-    ),
-    (
-        "T1|begin/T2|w(x)/T1|r(x)",
-        "",
-        "n: no violation, 1 blocks open (3 events, 1 blocks)/traces 1: ",
-    ),
-    (
-        "T1|begin/T2|begin/T1|w(x)/T2|w(y)/T1|r(y)",
-        "",
-        "n: no violation, 2 blocks open (5 events, 2 blocks)/traces 1: ",
-    ),
-    (
-        "T1|begin/T2|begin/T2|w(y)/T1|w(x)/T2|r(x)/T1|r(y)",
-        "",
-        "n: no violation, 2 blocks open (6 events, 2 blocks)/traces 1: ",
-    ),
-    (
-        CROSSED,
-        "",
-        "n: violation at line 6: block of T1 from line 1/traces 1: ",
-    ),
-    ("T1|r()", "", "n:1: malformed: MissingTarget/traces 1: "),
-    (
-        "T1|w(x)/T1|r()",
-        "",
-        "n:2: malformed: MissingTarget/traces 1: ",
-    ),
-    (
-        "T1|w(x)/T1|end",
-        "",
-        "n:2: ill-formed: EndWithoutBegin/traces 1: ",
-    ),
-];
-
-// Behind the line of a serializable trace stand its transactions in order, and behind any other none.
-#[test]
-fn a_text_has_its_steps_where_its_order_is_asked_for(rt: HostRuntime) -> Result<(), Fail> {
-    for row in ORDERED.iter() {
-        assert!(rt; has_row(&rt, row, true)?);
-    }
-    Ok(())
-}
-
-static LINES: [(&str, &str); 25] = [
-    ("", "n: serializable (0 events, 0 blocks)"),
-    (
-        "T1|w(x)|5/T2|r(x)|6",
-        "n: serializable (2 events, 0 blocks)",
-    ),
-    (
-        "T1|w(x)|5\r/T2|r(x)|6\r",
-        "n: serializable (2 events, 0 blocks)",
-    ),
-    (CROSSED, "n: violation at line 6: block of T1 from line 1"),
-    (
-        "T1|begin/T2|begin/T1|w(x)/T2|w(y)/T1|r(y)",
-        "n: no violation, 2 blocks open (5 events, 2 blocks)",
-    ),
-    (
-        "T1|begin/T2|begin/T2|w(y)/T1|w(x)/T2|r(x)/T1|r(y)",
-        "n: no violation, 2 blocks open (6 events, 2 blocks)",
-    ),
-    (
-        CLOSED_BY_AN_END,
-        "n: violation at line 7: block of T2 from line 2",
-    ),
-    (
-        "T1|begin/T2|begin/T3|begin/T2|w(a)/T3|w(b)/T1|w(x)/T2|r(x)/T3|r(x)/T1|r(a)/T1|r(b)/T1|end",
-        "n: violation at line 11: block of T2 from line 2",
-    ),
-    (
-        "T3|begin/T2|begin/T2|w(y)/T1|r(y)/T1|w(v)/T3|w(x)/T2|r(x)/T2|end/T3|r(v)",
-        "n: violation at line 9: block of T3 from line 1",
-    ),
-    (
-        "T1|begin/T1|fork(T2)/T1|join(T2)/T1|end",
-        "n: serializable (4 events, 1 blocks)",
-    ),
-    (
-        "T1|begin/T1|fork(T2)/T2|w(x)/T1|join(T2)/T1|end",
-        "n: violation at line 4: block of T1 from line 1",
-    ),
-    (
-        "T1|begin/T1|acq(l)/T1|rel(l)/T2|acq(l)/T2|rel(l)/T1|acq(l)",
-        "n: violation at line 6: block of T1 from line 1",
-    ),
-    (
-        "T1|begin(a)/T1|begin()/T1|acq(l)/T1|acq(l)/T1|rel(l)/T1|rel(l)/T1|end/T1|end",
-        "n: serializable (8 events, 1 blocks)",
-    ),
-    (
-        "T1|begin/T1|w(y)/T2|r(y)/T2|r(x)/T1|w(x)",
-        "n: violation at line 5: block of T1 from line 1",
-    ),
-    (ONE_BLOCK, "n: serializable (5 events, 1 blocks)"),
-    ("T1|rel(l)", "n:1: ill-formed: LockNotHeld"),
-    ("T1|acq(l)/T2|acq(l)", "n:2: ill-formed: LockHeldByOther"),
-    ("/T1|x(y)", "n:2: malformed: UnknownOperation"),
-    ("T1|r()", "n:1: malformed: MissingTarget"),
-    ("T1|end/T1", "n:1: ill-formed: EndWithoutBegin"),
-    (
-        "T1|join(T9)/T1|join(T9)",
-        "n: serializable (2 events, 0 blocks)",
-    ),
-    (
-        "T1|join(T9)/T1|join(T9)/T9|w(x)",
-        "n:3: ill-formed: ThreadJoined",
-    ),
-    (
-        "T1|join(T9)/T1|join(T9)/T1|fork(T9)",
-        "n:3: ill-formed: ForkStarted",
-    ),
-    ("T1|begin/T1|w(x", "n:2: malformed: BadParenthesis"),
-    (
-        "T1|begin/T2|begin/T1|w(x)/T2|r(x)/T2|w(y)/T1|r(y)/T1",
-        "n: violation at line 6: block of T1 from line 1",
-    ),
-];
-
-fn expect_line<T: Abort + AllocGlobal + Threads + Wait + Copy + Send + 'static>(
-    rt: &T,
-    (text, line): (&str, &str),
-) -> Result<(), Fail> {
-    let text = lines_of(rt.alloc(), text)?;
-    expect_text(rt, &text, Limits::greatest(), line)
-}
-
-// A text, how many lines, threads and names it may have, and its line.
+// A text, how many lines, threads and names it may have, and how what is written of it begins.
 type LimitedText = (&'static str, (u32, u32, u32), &'static str);
 
-static LIMITED: [LimitedText; 6] = [
+static LIMITED: [LimitedText; 7] = [
+    (
+        CROSSED,
+        (6, 2, 2),
+        "n: violation at line 6: block of T1 from line 1/traces 1: ",
+    ),
     (
         "T1|r(x)/T1|r(x)",
         (2, 1, 1),
-        "n: serializable (2 events, 0 blocks)",
+        "n: serializable (2 events, 0 blocks)/traces 1: ",
     ),
     (
         "T1|r(x)/T1|r(x)/ ",
         (2, 1, 1),
-        "n:3: malformed: TooManyLines",
+        "n:3: malformed: TooManyLines/traces 1: ",
     ),
     (
         "T1|r(x)/T1|r(x)/T1",
         (2, 1, 1),
-        "n:3: malformed: NoOperation",
+        "n:3: malformed: NoOperation/traces 1: ",
     ),
     (
         "T1|r(x)/T1|r(x)/T1|r(x)/T1",
         (2, 1, 1),
-        "n:3: malformed: TooManyLines",
+        "n:3: malformed: TooManyLines/traces 1: ",
     ),
     (
         "T1|w(x)/T2|w(x)/T3|w(x)",
         (3, 2, 1),
-        "n:3: ill-formed: TooManyThreads",
+        "n:3: ill-formed: TooManyThreads/traces 1: ",
     ),
     (
         "T1|w(x)/T1|acq(x)/T1|w(y)",
         (3, 1, 1),
-        "n:3: ill-formed: TooManyNames",
+        "n:3: ill-formed: TooManyNames/traces 1: ",
     ),
 ];
 
+// That is so at each size of a piece, by every number of workers, and whatever helps.
 fn expect_limited<T: Abort + AllocGlobal + Threads + Wait + Copy + Send + 'static>(
     rt: &T,
     row: &LimitedText,
 ) -> Result<(), Fail> {
     let (lines, threads, names) = row.1;
     let text = lines_of(rt.alloc(), row.0)?;
-    expect_text(rt, &text, limits_of(100, lines, threads, names)?, row.2)
-}
-
-// A line of so many bytes has this line of the report.
-fn expect_long<T: Abort + AllocGlobal + Threads + Wait + Copy + Send + 'static>(
-    rt: &T,
-    bytes: usize,
-    line: &str,
-) -> Result<(), Fail> {
-    let start = b"T1|r(x)|";
-    let mut text = Vec::from_slice(rt.alloc(), start)?;
-    for _ in start.len()..bytes {
-        text.push(b'a')?;
+    let limits = limits_of(100, lines, threads, names)?;
+    for piece in PIECES.iter() {
+        expect_start(rt, text.as_slice(), limits, *piece, Who::Alone, row.2)?;
     }
-    expect_text(rt, &text, Limits::greatest(), line)
+    for who in OTHERS.iter() {
+        expect_start(rt, text.as_slice(), limits, 7, *who, row.2)?;
+    }
+    Ok(())
 }
 
+// Texts under the greatest limits, with labels and orders too, are cases of the built program: tests/cases/each_text_..
 #[test]
-fn a_text_has_its_line(rt: HostRuntime) -> Result<(), Fail> {
-    for row in LINES.iter() {
-        expect_line(&rt, *row)?;
-    }
+fn a_text_has_its_line_under_the_limits(rt: HostRuntime) -> Result<(), Fail> {
     for row in LIMITED.iter() {
         expect_limited(&rt, row)?;
     }
-    expect_long(&rt, 4096, "n: serializable (1 events, 0 blocks)")?;
-    expect_long(&rt, 4097, "n:1: malformed: TooLong")
+    Ok(())
 }
 
 // Runs over one source with the name n, and expects what is written and how the source ended.
@@ -533,13 +258,14 @@ fn a_source_ends_whole_too_large_or_broken(rt: HostRuntime) -> Result<(), Fail> 
     Ok(())
 }
 
-// Sources with these names and one text, whose order is asked for or not, and a writer that fails at one call
-// once it has taken so many bytes. What is written follows, how the sources ended whose lines it has whole, how many of
+// Sources with these names and one text, where these labels are listed and the order is asked for or not, and a writer
+// that fails at one call once it has taken so many bytes. What is written follows, how the sources ended whose lines it has whole, how many of
 // them are serializable, and why the run stopped.
 #[derive(Drop)]
 struct Row<'a> {
     names: &'a [&'a str],
     text: &'a str,
+    labels: &'a str,
     order: bool,
     room: usize,
     written: &'a str,
@@ -563,7 +289,13 @@ fn expect_row<T: Abort + AllocGlobal + Threads + Wait + Copy + Send + 'static>(
         left: row.room,
         has_failed: false,
     });
-    let plan = plan_by(rt.alloc(), who, Limits::greatest(), piece, ("", row.order))?;
+    let plan = plan_by(
+        rt.alloc(),
+        who,
+        Limits::greatest(),
+        piece,
+        (row.labels, row.order),
+    )?;
     let outcome = run_planned(*rt, who, &mut sources, &mut writer, &plan)?;
     let written = lines_of(rt.alloc(), row.written)?;
     assert_eq!(rt; writer.into_inner().taken, written);
@@ -575,10 +307,11 @@ fn expect_row<T: Abort + AllocGlobal + Threads + Wait + Copy + Send + 'static>(
     Ok(())
 }
 
-static WRITTEN: [Row<'static>; 7] = [
+static WRITTEN: [Row<'static>; 8] = [
     Row {
         names: &["n"],
         text: CROSSED,
+        labels: "",
         order: false,
         room: 10,
         written: "n: violati",
@@ -589,6 +322,7 @@ static WRITTEN: [Row<'static>; 7] = [
     Row {
         names: &["a", "b"],
         text: "",
+        labels: "",
         order: false,
         room: 40,
         written: "a: serializable (0 events, 0 blocks)/b: ",
@@ -599,6 +333,7 @@ static WRITTEN: [Row<'static>; 7] = [
     Row {
         names: &["a"],
         text: "",
+        labels: "",
         order: false,
         room: 40,
         written: "a: serializable (0 events, 0 blocks)/tra",
@@ -609,6 +344,7 @@ static WRITTEN: [Row<'static>; 7] = [
     Row {
         names: &["n", "n"],
         text: ONE_BLOCK,
+        labels: "",
         order: false,
         room: 1000,
         written: "n: serializable (5 events, 1 blocks)/n: serializable (5 events, 1 blocks)/traces 2: serializable 2, open 0, violations 0, faults 0/",
@@ -619,6 +355,7 @@ static WRITTEN: [Row<'static>; 7] = [
     Row {
         names: &["a", "b"],
         text: WRITTEN_BETWEEN,
+        labels: "",
         order: true,
         room: 1000,
         written: ORDER_OF_TWO,
@@ -626,10 +363,22 @@ static WRITTEN: [Row<'static>; 7] = [
         serializable: 2,
         cause: None,
     },
+    Row {
+        names: &["n"],
+        text: OF_ONE_LABEL,
+        labels: "a",
+        order: false,
+        room: 1000,
+        written: "n: no violation, 1 blocks open (6 events, 1 blocks)/traces 1: serializable 0, open 1, violations 0, faults 0/",
+        endings: &[(52, Ending::Whole)],
+        serializable: 0,
+        cause: None,
+    },
     // The line of the verdict is out, and its steps aren't, so the source isn't told.
     Row {
         names: &["n"],
         text: WRITTEN_BETWEEN,
+        labels: "",
         order: true,
         room: 41,
         written: "n: serializable (4 events, 1 blocks)/  2 ",
@@ -640,6 +389,7 @@ static WRITTEN: [Row<'static>; 7] = [
     Row {
         names: &[],
         text: "",
+        labels: "",
         order: false,
         room: 1000,
         written: "traces 0: serializable 0, open 0, violations 0, faults 0/",
