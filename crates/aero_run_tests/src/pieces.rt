@@ -1,5 +1,6 @@
 use crate::except::listed;
 use aero_grammar::block::parse_block;
+use aero_grammar::parsed::Parsed;
 use aero_model::limits::Limits;
 use aero_model::numbered::What;
 use aero_model::verdict::{Step, Verdict};
@@ -7,23 +8,43 @@ use aero_pieces::answer::{Answer, Value};
 use aero_pieces::question::{Bytes, Parts, Question};
 use aero_pieces::same;
 use std::alloc::Global;
-use std::sync::Arc;
-use std::test::Fail;
+
+// The helpers give `None` where memory is refused.
 
 // The lines of a text in which `/` stands for a newline.
-fn lines(alloc: Global, text: &str) -> Result<Bytes, Fail> {
-    let text = text.replace(alloc, "/", "\n")?;
-    Ok(Bytes::new(text.as_bytes().to_vec(alloc)?).ok_or("too many bytes")?)
+fn lines(alloc: Global, text: &str) -> Option<Bytes> {
+    let text = text.replace(alloc, "/", "\n").ok()?;
+    Bytes::new(text.as_bytes().to_vec(alloc).ok()?)
 }
 
 // What a block of a trace says.
-fn block_question(alloc: Global, trace: u64, number: u64, block: &str) -> Result<Question, Fail> {
+fn block_question(alloc: Global, trace: u64, number: u64, block: &str) -> Option<Question> {
     let bytes = lines(alloc, block)?;
-    Ok(Question::Parse {
+    Some(Question::Parse {
         trace,
         number,
         bytes,
     })
+}
+
+fn push_part(alloc: Global, parts: &mut Vec<Parsed>, block: &str) -> bool {
+    let Some(bytes) = lines(alloc, block) else {
+        return false;
+    };
+    match parse_block(alloc, bytes.get()) {
+        Ok(part) => parts.push(part).is_ok(),
+        Err(_) => false,
+    }
+}
+
+// The parts that blocks are, between which `;` stands.
+fn parts_of(alloc: Global, blocks: &str) -> Option<Vec<Parsed>> {
+    let mut parts = Vec::new(alloc);
+    let mut fits = true;
+    for block in blocks.split(';') {
+        fits &= push_part(alloc, &mut parts, block);
+    }
+    fits.then_some(parts)
 }
 
 // The verdict on a trace, whose blocks stand between `;`, where these labels are listed, and its order
@@ -35,16 +56,13 @@ fn trace_question(
     labels: &str,
     blocks: &str,
     order: bool,
-) -> Result<Question, Fail> {
-    let mut parts = Vec::new(alloc);
-    for block in blocks.split(';') {
-        parts.push(parse_block(alloc, lines(alloc, block)?.get())?)?;
-    }
-    Ok(Question::Check {
+) -> Option<Question> {
+    let except = listed(alloc, labels)?;
+    Some(Question::Check {
         trace,
-        parsed: Parts::new(parts),
+        parsed: Parts::new(parts_of(alloc, blocks)?),
         limits,
-        except: listed(alloc, labels).ok_or("labels")?,
+        except,
         order,
     })
 }
@@ -76,208 +94,309 @@ fn events_in(value: &Value) -> Option<u32> {
 }
 
 // The same of a trace of one block of lines, where these labels are listed.
-fn events_of(alloc: Global, labels: &str, block: &str) -> Result<Option<u32>, Fail> {
+fn events_of(alloc: Global, labels: &str, block: &str) -> Option<u32> {
     let most = Limits::greatest();
-    let question = trace_question(alloc, 0, most, labels, block, false)?.share(alloc)?;
-    let answer = Question::answer(&question, alloc)?;
-    Ok(events_in(answer.value()))
+    let question = trace_question(alloc, 0, most, labels, block, false)?;
+    let question = question.share(alloc).ok()?;
+    let answer = Question::answer(&question, alloc).ok()?;
+    events_in(answer.value())
 }
 
 // Whether the answer to a question on the block `T1|r(x)` is to that question, and its value is the one event.
-fn is_read_told(alloc: Global) -> Result<bool, Fail> {
-    let question = block_question(alloc, 0, 0, "T1|r(x)")?.share(alloc)?;
-    let answer = Question::answer(&question, alloc)?;
+fn is_read_told(alloc: Global) -> Option<bool> {
+    let question = block_question(alloc, 0, 0, "T1|r(x)")?;
+    let question = question.share(alloc).ok()?;
+    let answer = Question::answer(&question, alloc).ok()?;
     let is_told = same(answer.question(), &question) && is_read(answer.value());
-    Ok(is_told & is_read(&answer.into_value()))
+    Some(is_told & is_read(&answer.into_value()))
 }
 
 // Whether bytes are given back as they came.
-fn are_bytes_kept(alloc: Global) -> Result<bool, Fail> {
-    let bytes = Bytes::new(b"ab".to_vec(alloc)?).ok_or("too many bytes")?;
-    Ok(bytes.get() == b"ab".as_slice())
+fn are_bytes_kept(alloc: Global) -> Option<bool> {
+    let bytes = Bytes::new(b"ab".to_vec(alloc).ok()?)?;
+    Some(bytes.get() == b"ab".as_slice())
 }
 
 #[test]
-fn a_question_is_answered_by_its_value(rt: HostRuntime) -> Result<(), Fail> {
-    assert!(rt; are_bytes_kept(rt.alloc())?);
-    assert!(rt; is_read_told(rt.alloc())?);
-    assert_eq!(rt; events_of(rt.alloc(), "", "T1|r(x)")?, Some(1));
-    assert_eq!(rt; events_of(rt.alloc(), "a", "T1|begin(a)/T1|end")?, Some(2));
-    Ok(())
+fn a_question_is_answered_by_its_value(rt: HostRuntime) {
+    let alloc = rt.alloc();
+    assert!(rt; are_bytes_kept(alloc) == Some(true) && is_read_told(alloc) == Some(true));
+    assert_eq!(rt; events_of(alloc, "", "T1|r(x)"), Some(1));
+    assert_eq!(rt; events_of(alloc, "a", "T1|begin(a)/T1|end"), Some(2));
 }
 
-fn push_step(alloc: Global, words: &mut String, step: &Step) -> Result<(), Fail> {
+// The helpers below say that a row doesn't hold where memory is refused.
+
+fn push_step(alloc: Global, words: &mut String, step: &Step) -> bool {
     let line = step.line;
-    let thread = str::from_utf8(step.thread.bytes())?;
-    let word = format!(in alloc; "{line} {thread}/")?;
-    words.push_str(&word)?;
-    Ok(())
+    let Ok(thread) = str::from_utf8(step.thread.bytes()) else {
+        return false;
+    };
+    match format!(in alloc; "{line} {thread}/") {
+        Ok(word) => words.push_str(&word).is_ok(),
+        Err(_) => false,
+    }
 }
 
-fn steps_of(alloc: Global, steps: &[Step]) -> Result<String, Fail> {
-    let mut words = String::new(alloc);
+fn push_steps(alloc: Global, words: &mut String, steps: &[Step]) -> bool {
+    let mut fits = true;
     for step in steps {
-        push_step(alloc, &mut words, step)?;
+        fits &= push_step(alloc, words, step);
     }
-    Ok(words)
+    fits
 }
 
-// The order that goes with the verdict, or else what the value is.
-fn order_in(alloc: Global, value: &Value) -> Result<String, Fail> {
+// Puts the order that goes with the verdict behind the words so far, or else what the value is.
+fn push_order(alloc: Global, words: &mut String, value: &Value) -> bool {
     match value {
-        Value::Ordered(Verdict::Serializable { .. }, steps) => steps_of(alloc, steps),
-        Value::Ordered(..) => Ok(String::from_str(alloc, "an order of another verdict")?),
-        Value::Judged(_) => Ok(String::from_str(alloc, "a verdict")?),
-        Value::Parsed(_) => Ok(String::from_str(alloc, "a block")?),
+        Value::Ordered(Verdict::Serializable { .. }, steps) => push_steps(alloc, words, steps),
+        Value::Ordered(..) => words.push_str("an order of another verdict").is_ok(),
+        Value::Judged(_) => words.push_str("a verdict").is_ok(),
+        Value::Parsed(_) => words.push_str("a block").is_ok(),
     }
 }
 
-fn order_told(alloc: Global, blocks: &str, order: bool) -> Result<String, Fail> {
-    let question = trace_question(alloc, 0, Limits::greatest(), "a", blocks, order)?;
-    let answer = Question::answer(&question.share(alloc)?, alloc)?;
-    order_in(alloc, answer.value())
+// Blocks of a trace, whether its order is asked for, and what is told: the order, or what the value is.
+type Ordered = (&'static str, bool, &'static str);
+
+fn is_told(alloc: Global, value: &Value, wanted: &str) -> bool {
+    let mut words = String::new(alloc);
+    push_order(alloc, &mut words, value) && words.as_str() == wanted
 }
+
+fn is_answered(alloc: Global, question: Question, wanted: &str) -> bool {
+    let Ok(question) = question.share(alloc) else {
+        return false;
+    };
+    match Question::answer(&question, alloc) {
+        Ok(answer) => is_told(alloc, answer.value(), wanted),
+        Err(_) => false,
+    }
+}
+
+fn is_ordered_so(alloc: Global, row: &Ordered) -> bool {
+    let (blocks, order, wanted) = *row;
+    match trace_question(alloc, 0, Limits::greatest(), "a", blocks, order) {
+        Some(question) => is_answered(alloc, question, wanted),
+        None => false,
+    }
+}
+
+// The first row that doesn't hold.
+fn first_misordered(alloc: Global, rows: &[Ordered]) -> Option<usize> {
+    for i in 0..rows.len() {
+        if !is_ordered_so(alloc, &rows[i]) {
+            return Some(i);
+        }
+    }
+    None
+}
+
+static ORDERED: [Ordered; 9] = [
+    ("", true, ""),
+    ("", false, "a verdict"),
+    ("T1|begin/T2|w(x);T1|r(x)/T1|end", true, "2 T2/1 T1/"),
+    ("T1|begin/T2|w(x);T1|r(x)/T1|end", false, "a verdict"),
+    (
+        "T1|begin(a)/T2|w(x);T1|r(x)/T1|end",
+        true,
+        "1 T1/2 T2/3 T1/4 T1/",
+    ),
+    ("T1|begin/T2|w(x);T1|r(x)", true, "a verdict"),
+    ("T1|begin/T1|w(x);T2|w(x)/T1|r(x)", true, "a verdict"),
+    ("T1|w(x);T1", true, "a verdict"),
+    ("T1|w(x);T1|end", true, "a verdict"),
+];
 
 #[test]
-fn the_order_of_a_serializable_trace_is_given_where_it_is_asked_for(
-    rt: HostRuntime,
-) -> Result<(), Fail> {
-    let rows = [
-        ("", true, ""),
-        ("", false, "a verdict"),
-        ("T1|begin/T2|w(x);T1|r(x)/T1|end", true, "2 T2/1 T1/"),
-        ("T1|begin/T2|w(x);T1|r(x)/T1|end", false, "a verdict"),
-        (
-            "T1|begin(a)/T2|w(x);T1|r(x)/T1|end",
-            true,
-            "1 T1/2 T2/3 T1/4 T1/",
-        ),
-        ("T1|begin/T2|w(x);T1|r(x)", true, "a verdict"),
-        ("T1|begin/T1|w(x);T2|w(x)/T1|r(x)", true, "a verdict"),
-        ("T1|w(x);T1", true, "a verdict"),
-        ("T1|w(x);T1|end", true, "a verdict"),
-    ];
-    for (blocks, order, wanted) in rows {
-        assert!(rt;
-            order_told(rt.alloc(), blocks, order)?.as_str() == wanted,
-            "{blocks}"
-        );
-    }
-    Ok(())
+fn the_order_of_a_serializable_trace_is_given_where_it_is_asked_for(rt: HostRuntime) {
+    assert_eq!(rt; first_misordered(rt.alloc(), &ORDERED), None);
 }
 
 // What is asked: about a block, by the numbers of its trace and of itself and its lines; or about a trace, by its number,
-// its limits, the labels that are listed, its blocks, and whether its order is asked for.
+// whether its limits are the greatest, the labels that are listed, its blocks, and whether its order is asked for.
 #[derive(Clone, Copy)]
-enum Asked<'a> {
-    Block(u64, u64, &'a str),
-    Trace(u64, Limits, &'a str, &'a str, bool),
+enum Asked {
+    Block(u64, u64, &'static str),
+    Trace(u64, bool, &'static str, &'static str, bool),
 }
 
-fn question_of(alloc: Global, asked: Asked) -> Result<Question, Fail> {
+fn limits_of(are_greatest: bool) -> Option<Limits> {
+    if are_greatest {
+        Some(Limits::greatest())
+    } else {
+        Limits::new(1 << 30, 1 << 24, 1024, 1)
+    }
+}
+
+fn question_of(alloc: Global, asked: Asked) -> Option<Question> {
     match asked {
         Asked::Block(trace, number, lines) => block_question(alloc, trace, number, lines),
-        Asked::Trace(trace, limits, labels, blocks, order) => {
+        Asked::Trace(trace, are_greatest, labels, blocks, order) => {
+            let limits = limits_of(are_greatest)?;
             trace_question(alloc, trace, limits, labels, blocks, order)
         }
     }
 }
 
 // Whether the first question is the same as the other, and the other as the first.
-fn are_same(alloc: Global, first: Asked, other: Asked) -> Result<(bool, bool), Fail> {
+fn are_same(alloc: Global, first: Asked, other: Asked) -> Option<(bool, bool)> {
     let first = question_of(alloc, first)?;
     let other = question_of(alloc, other)?;
-    Ok((same(&first, &other), same(&other, &first)))
+    Some((same(&first, &other), same(&other, &first)))
 }
 
 // Whether the question is the same as itself.
-fn is_same(alloc: Global, asked: Asked) -> Result<bool, Fail> {
+fn is_same(alloc: Global, asked: Asked) -> Option<bool> {
     let question = question_of(alloc, asked)?;
-    Ok(same(&question, &question))
+    Some(same(&question, &question))
 }
 
-#[test]
-fn blocks_with_the_same_bytes_are_the_same_question(rt: HostRuntime) -> Result<(), Fail> {
-    let read = Asked::Block(0, 0, "T1|r(x)");
-    assert!(rt; is_same(rt.alloc(), read)?);
-    // the trace, the block's number, its lines, and whether it is the same as the first
-    let rows = [
-        (0, 0, "T1|r(x)", true),
-        (0, 0, "T1|w(x)", false),
-        (0, 0, "T1|r(x)/", false),
-        (1, 0, "T1|r(x)", false),
-        (0, 1, "T1|r(x)", false),
-    ];
-    for (trace, number, block, wanted) in rows {
-        let both = are_same(rt.alloc(), read, Asked::Block(trace, number, block))?;
-        assert!(rt; both == (wanted, wanted), "{trace} {number} {block:?}");
+// Two questions, and whether they are the same.
+type Compared = (Asked, Asked, bool);
+
+// The first row that doesn't hold.
+fn first_miscompared(alloc: Global, rows: &[Compared]) -> Option<usize> {
+    for i in 0..rows.len() {
+        let (first, other, wanted) = rows[i];
+        if are_same(alloc, first, other) != Some((wanted, wanted)) {
+            return Some(i);
+        }
     }
-    Ok(())
+    None
 }
 
-#[test]
-fn traces_with_the_same_parts_are_the_same_question(rt: HostRuntime) -> Result<(), Fail> {
-    let most = Limits::greatest();
-    let fewer = Limits::new(1 << 30, 1 << 24, 1024, 1).ok_or("limits")?;
-    let two = "T1|r(x)/T2|begin;T1|end/T1";
-    let one = "T1|acq(l)//";
-    // the blocks of trace 0 under the greatest limits; a trace, its limits and its blocks; and
-    // whether they are the same
-    let rows = [
-        (two, 0, most, "T1|r(x)/T2|begin;T1|end/T1", true),
-        (two, 0, most, "T1|r(x)/T2|begin;T1|end/|r(x)", false),
-        (two, 0, most, "T1|r(x)/T2|begin;T1|begin/T1", false),
-        (two, 0, most, "T1|r(y)/T2|begin;T1|end/T1", false),
-        (two, 0, most, "T1|r(x)/T3|begin;T1|end/T1", false),
-        (two, 0, most, "T1|r(x)//T2|begin;T1|end/T1", false),
-        (two, 0, most, "T1|r(x)/T2|begin", false),
-        (two, 1, most, "T1|r(x)/T2|begin;T1|end/T1", false),
-        (two, 0, fewer, "T1|r(x)/T2|begin;T1|end/T1", false),
-        (one, 0, most, "T1|acq(l)//", true),
-        (one, 0, most, "T2|acq(l)//", false),
-        (one, 0, most, "T1|acq(m)//", false),
-        (one, 0, most, "/T1|acq(l)/", false),
-        (one, 0, most, "T1|acq(l)///", false),
-    ];
-    for (blocks, trace, limits, other_blocks, wanted) in rows {
-        let first = Asked::Trace(0, most, "a", blocks, false);
-        let other = Asked::Trace(trace, limits, "a", other_blocks, false);
-        let both = are_same(rt.alloc(), first, other)?;
-        assert!(rt; both == (wanted, wanted), "{blocks:?} {other_blocks:?}");
-    }
-    let trace = Asked::Trace(0, most, "a", two, false);
-    let both = are_same(rt.alloc(), trace, Asked::Block(0, 0, "T1|r(x)"))?;
-    assert!(rt; both == (false, false));
-    Ok(())
-}
+const READ: Asked = Asked::Block(0, 0, "T1|r(x)");
+
+static BLOCKS: [Compared; 5] = [
+    (READ, Asked::Block(0, 0, "T1|r(x)"), true),
+    (READ, Asked::Block(0, 0, "T1|w(x)"), false),
+    (READ, Asked::Block(0, 0, "T1|r(x)/"), false),
+    (READ, Asked::Block(1, 0, "T1|r(x)"), false),
+    (READ, Asked::Block(0, 1, "T1|r(x)"), false),
+];
 
 #[test]
-fn traces_with_the_same_labels_and_order_are_the_same_question(
-    rt: HostRuntime,
-) -> Result<(), Fail> {
-    let most = Limits::greatest();
-    let first = Asked::Trace(0, most, "a b", "T1|begin(a)", false);
-    // the labels that are listed, the block, whether its order is asked for, and whether it is the same
-    // as the first
-    let rows = [
-        ("a b", "T1|begin(a)", false, true),
-        ("a b", "T1|begin(a)", true, false),
-        ("a b", "T1|begin(b)", false, false),
-        ("a b", "T1|begin", false, false),
-        ("b a", "T1|begin(a)", false, false),
-        ("a", "T1|begin(a)", false, false),
-        ("a b c", "T1|begin(a)", false, false),
-        ("", "T1|begin(a)", false, false),
-    ];
-    for (labels, block, order, wanted) in rows {
-        let both = are_same(
-            rt.alloc(),
-            first,
-            Asked::Trace(0, most, labels, block, order),
-        )?;
-        assert!(rt; both == (wanted, wanted), "{labels:?} {block:?}");
-    }
-    let ordered = Asked::Trace(0, most, "a b", "T1|begin(a)", true);
-    assert!(rt; is_same(rt.alloc(), ordered)?);
-    Ok(())
+fn blocks_with_the_same_bytes_are_the_same_question(rt: HostRuntime) {
+    assert_eq!(rt; is_same(rt.alloc(), READ), Some(true));
+    assert_eq!(rt; first_miscompared(rt.alloc(), &BLOCKS), None);
+}
+
+const TWO: Asked = Asked::Trace(0, true, "a", "T1|r(x)/T2|begin;T1|end/T1", false);
+
+const ONE: Asked = Asked::Trace(0, true, "a", "T1|acq(l)//", false);
+
+static PARTS: [Compared; 15] = [
+    (
+        TWO,
+        Asked::Trace(0, true, "a", "T1|r(x)/T2|begin;T1|end/T1", false),
+        true,
+    ),
+    (
+        TWO,
+        Asked::Trace(0, true, "a", "T1|r(x)/T2|begin;T1|end/|r(x)", false),
+        false,
+    ),
+    (
+        TWO,
+        Asked::Trace(0, true, "a", "T1|r(x)/T2|begin;T1|begin/T1", false),
+        false,
+    ),
+    (
+        TWO,
+        Asked::Trace(0, true, "a", "T1|r(y)/T2|begin;T1|end/T1", false),
+        false,
+    ),
+    (
+        TWO,
+        Asked::Trace(0, true, "a", "T1|r(x)/T3|begin;T1|end/T1", false),
+        false,
+    ),
+    (
+        TWO,
+        Asked::Trace(0, true, "a", "T1|r(x)//T2|begin;T1|end/T1", false),
+        false,
+    ),
+    (
+        TWO,
+        Asked::Trace(0, true, "a", "T1|r(x)/T2|begin", false),
+        false,
+    ),
+    (
+        TWO,
+        Asked::Trace(1, true, "a", "T1|r(x)/T2|begin;T1|end/T1", false),
+        false,
+    ),
+    (
+        TWO,
+        Asked::Trace(0, false, "a", "T1|r(x)/T2|begin;T1|end/T1", false),
+        false,
+    ),
+    (ONE, Asked::Trace(0, true, "a", "T1|acq(l)//", false), true),
+    (ONE, Asked::Trace(0, true, "a", "T2|acq(l)//", false), false),
+    (ONE, Asked::Trace(0, true, "a", "T1|acq(m)//", false), false),
+    (ONE, Asked::Trace(0, true, "a", "/T1|acq(l)/", false), false),
+    (
+        ONE,
+        Asked::Trace(0, true, "a", "T1|acq(l)///", false),
+        false,
+    ),
+    (TWO, READ, false),
+];
+
+#[test]
+fn traces_with_the_same_parts_are_the_same_question(rt: HostRuntime) {
+    assert_eq!(rt; first_miscompared(rt.alloc(), &PARTS), None);
+}
+
+const LISTING: Asked = Asked::Trace(0, true, "a b", "T1|begin(a)", false);
+
+static LABELS: [Compared; 8] = [
+    (
+        LISTING,
+        Asked::Trace(0, true, "a b", "T1|begin(a)", false),
+        true,
+    ),
+    (
+        LISTING,
+        Asked::Trace(0, true, "a b", "T1|begin(a)", true),
+        false,
+    ),
+    (
+        LISTING,
+        Asked::Trace(0, true, "a b", "T1|begin(b)", false),
+        false,
+    ),
+    (
+        LISTING,
+        Asked::Trace(0, true, "a b", "T1|begin", false),
+        false,
+    ),
+    (
+        LISTING,
+        Asked::Trace(0, true, "b a", "T1|begin(a)", false),
+        false,
+    ),
+    (
+        LISTING,
+        Asked::Trace(0, true, "a", "T1|begin(a)", false),
+        false,
+    ),
+    (
+        LISTING,
+        Asked::Trace(0, true, "a b c", "T1|begin(a)", false),
+        false,
+    ),
+    (
+        LISTING,
+        Asked::Trace(0, true, "", "T1|begin(a)", false),
+        false,
+    ),
+];
+
+#[test]
+fn traces_with_the_same_labels_and_order_are_the_same_question(rt: HostRuntime) {
+    assert_eq!(rt; first_miscompared(rt.alloc(), &LABELS), None);
+    let ordered = Asked::Trace(0, true, "a b", "T1|begin(a)", true);
+    assert_eq!(rt; is_same(rt.alloc(), ordered), Some(true));
 }

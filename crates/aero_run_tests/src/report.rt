@@ -8,9 +8,7 @@ use aero_report::{Cut, put, summary_text, trace_text};
 use std::alloc::Global;
 use std::io;
 use std::io::Write;
-use std::process::Abort;
 use std::str::Chars;
-use std::test::Fail;
 
 // A writer that does as its script says, a letter for each call, of `write` and of `flush` alike: a
 // digit takes so many bytes at most, `I` fails as interrupted, `B` as broken. Past the script it
@@ -63,7 +61,7 @@ type Row = (
 );
 
 // Whether the text is put so to a writer with this script.
-fn is_put(alloc: Global, row: &Row) -> Result<bool, Fail> {
+fn is_put(alloc: Global, row: &Row) -> bool {
     let (text, script, said, taken, calls) = *row;
     let mut writer = Counting::new(Scripted {
         script: script.chars(),
@@ -72,11 +70,17 @@ fn is_put(alloc: Global, row: &Row) -> Result<bool, Fail> {
     });
     let outcome = put(&mut writer, text.as_bytes());
     let writer = writer.into_inner();
-    Ok(
-        outcome == said
-            && writer.taken.as_slice() == taken.as_bytes()
-            && writer.calls.as_str() == calls,
-    )
+    outcome == said && writer.taken.as_slice() == taken.as_bytes() && writer.calls.as_str() == calls
+}
+
+// The first row that doesn't hold.
+fn first_misput(alloc: Global, rows: &[Row]) -> Option<usize> {
+    for i in 0..rows.len() {
+        if !is_put(alloc, &rows[i]) {
+            return Some(i);
+        }
+    }
+    None
 }
 
 // Whether a vector takes the whole text.
@@ -91,188 +95,244 @@ const CUT_AT_1: Result<(), Cut> = Err(Cut { written: 1 });
 
 const CUT_AT_2: Result<(), Cut> = Err(Cut { written: 2 });
 
+static PUT: [Row; 8] = [
+    ("abc", "", Ok(()), "abc", "w"),
+    ("abc", "111", Ok(()), "abc", "www"),
+    ("abc", "1B1", CUT_AT_1, "a", "ww"),
+    ("abc", "1I1", CUT_AT_1, "a", "ww"),
+    ("abc", "201", CUT_AT_2, "ab", "ww"),
+    ("abc", "011", CUT_AT_0, "", "w"),
+    ("abc", "B", CUT_AT_0, "", "w"),
+    ("", "BBB", Ok(()), "", ""),
+];
+
 #[test]
-fn put_stops_where_a_write_first_fails_or_takes_nothing(rt: HostRuntime) -> Result<(), Fail> {
+fn put_stops_where_a_write_first_fails_or_takes_nothing(rt: HostRuntime) {
     assert!(rt; is_put_to_a_vector(rt.alloc()));
-    let rows: [Row; 8] = [
-        ("abc", "", Ok(()), "abc", "w"),
-        ("abc", "111", Ok(()), "abc", "www"),
-        ("abc", "1B1", CUT_AT_1, "a", "ww"),
-        ("abc", "1I1", CUT_AT_1, "a", "ww"),
-        ("abc", "201", CUT_AT_2, "ab", "ww"),
-        ("abc", "011", CUT_AT_0, "", "w"),
-        ("abc", "B", CUT_AT_0, "", "w"),
-        ("", "BBB", Ok(()), "", ""),
-    ];
-    for row in &rows {
-        assert!(rt; is_put(rt.alloc(), row)?, "{:?} by {:?}", row.0, row.1);
+    assert_eq!(rt; first_misput(rt.alloc(), &PUT), None);
+}
+
+// The helpers below say that a row doesn't hold where memory is refused.
+
+// Whether a source with the name n has this line.
+fn has_line(alloc: Global, finding: &Finding, line: &str) -> bool {
+    match trace_text(alloc, b"n", finding) {
+        Ok(text) => text.as_slice() == line.as_bytes(),
+        Err(_) => false,
     }
-    Ok(())
 }
 
-fn expect_line(rt: &impl Abort, alloc: Global, finding: Finding, line: &str) -> Result<(), Fail> {
-    let text = trace_text(alloc, b"n", &finding)?;
-    assert!(rt; text.as_slice() == line.as_bytes(), "{line:?}");
-    Ok(())
+fn push_step(alloc: Global, steps: &mut Vec<Step>, line: u32, thread: &str) -> bool {
+    match Name::read(alloc, thread.as_bytes()) {
+        Ok(thread) => steps.push(Step { line, thread }).is_ok(),
+        Err(_) => false,
+    }
 }
 
-fn step(alloc: Global, line: u32, thread: &str) -> Result<Step, Fail> {
-    let thread = Name::read(alloc, thread.as_bytes())?;
-    Ok(Step { line, thread })
-}
+// How many events and blocks a serializable trace has, its transactions in order, each by its line and its thread, and
+// its lines.
+type Ordered = ((u32, u32), &'static [(u32, &'static str)], &'static str);
 
-// A serializable trace with transactions in order, each by its line and its thread.
-fn ordered(
-    alloc: Global,
-    (events, blocks): (u32, u32),
-    order: &[(u32, &str)],
-) -> Result<Finding, Fail> {
+fn is_ordered_so(alloc: Global, row: &Ordered) -> bool {
+    let ((events, blocks), order, line) = *row;
     let mut steps = Vec::new(alloc);
-    for (line, thread) in order {
-        steps.push(step(alloc, *line, thread)?)?;
+    let mut fits = true;
+    for i in 0..order.len() {
+        fits &= push_step(alloc, &mut steps, order[i].0, order[i].1);
     }
-    Ok(Finding::Ordered(Verdict::Serializable { events, blocks }, steps))
+    let finding = Finding::Ordered(Verdict::Serializable { events, blocks }, steps);
+    fits && has_line(alloc, &finding, line)
 }
+
+// The first row that doesn't hold.
+fn first_misordered(alloc: Global, rows: &[Ordered]) -> Option<usize> {
+    for i in 0..rows.len() {
+        if !is_ordered_so(alloc, &rows[i]) {
+            return Some(i);
+        }
+    }
+    None
+}
+
+static ORDERED: [Ordered; 4] = [
+    ((0, 0), &[], "n: serializable (0 events, 0 blocks)\n"),
+    (
+        (1, 0),
+        &[(4, "a thread")],
+        "n: serializable (1 events, 0 blocks)\n  4 a thread\n",
+    ),
+    (
+        (4, 1),
+        &[(2, "T2"), (1, "T1")],
+        "n: serializable (4 events, 1 blocks)\n  2 T2\n  1 T1\n",
+    ),
+    (
+        (2, 0),
+        &[(1, "T1"), (268_435_456, "T1")],
+        "n: serializable (2 events, 0 blocks)\n  1 T1\n  268435456 T1\n",
+    ),
+];
 
 // The transactions in order have a line each behind that of the verdict.
 #[test]
-fn each_step_has_its_line(rt: HostRuntime) -> Result<(), Fail> {
-    let rows: [((u32, u32), &[(u32, &str)], &str); 4] = [
-        ((0, 0), &[], "n: serializable (0 events, 0 blocks)\n"),
-        (
-            (1, 0),
-            &[(4, "a thread")],
-            "n: serializable (1 events, 0 blocks)\n  4 a thread\n",
-        ),
-        (
-            (4, 1),
-            &[(2, "T2"), (1, "T1")],
-            "n: serializable (4 events, 1 blocks)\n  2 T2\n  1 T1\n",
-        ),
-        (
-            (2, 0),
-            &[(1, "T1"), (268_435_456, "T1")],
-            "n: serializable (2 events, 0 blocks)\n  1 T1\n  268435456 T1\n",
-        ),
-    ];
-    for (sizes, order, line) in rows {
-        let finding = ordered(rt.alloc(), sizes, order)?;
-        expect_line(&rt, rt.alloc(), finding, line)?;
-    }
-    Ok(())
+fn each_step_has_its_line(rt: HostRuntime) {
+    assert_eq!(rt; first_misordered(rt.alloc(), &ORDERED), None);
 }
 
-fn violation(alloc: Global) -> Result<Finding, Fail> {
-    Ok(Finding::Judged(Verdict::Violation {
-        line: 6,
-        thread: Name::read(alloc, b"T1")?,
-        begun: 1,
-    }))
+fn is_serializable_so(alloc: Global, events: u32, blocks: u32, line: &str) -> bool {
+    let verdict = Verdict::Serializable { events, blocks };
+    has_line(alloc, &Finding::Judged(verdict), line)
 }
 
-fn serializable(events: u32, blocks: u32) -> Finding {
-    Finding::Judged(Verdict::Serializable { events, blocks })
-}
-
-#[test]
-fn each_finding_has_its_line(rt: HostRuntime) -> Result<(), Fail> {
-    let alloc = rt.alloc();
-    expect_line(
-        &rt,
-        alloc,
-        Finding::Broken(20),
-        "n: broken after 20 bytes\n",
-    )?;
-    expect_line(&rt, alloc, Finding::TooLarge, "n: too large\n")?;
-    let rows = [
-        (0, 0, "n: serializable (0 events, 0 blocks)\n"),
-        (1, 1, "n: serializable (1 events, 1 blocks)\n"),
-        (
+fn are_serializable_so(alloc: Global) -> bool {
+    is_serializable_so(alloc, 0, 0, "n: serializable (0 events, 0 blocks)\n")
+        && is_serializable_so(alloc, 1, 1, "n: serializable (1 events, 1 blocks)\n")
+        && is_serializable_so(
+            alloc,
             90000,
             30000,
             "n: serializable (90000 events, 30000 blocks)\n",
-        ),
-    ];
-    for (events, blocks, line) in rows {
-        expect_line(&rt, alloc, serializable(events, blocks), line)?;
-    }
-    let pending = Verdict::Pending {
+        )
+}
+
+fn is_pending_so(alloc: Global) -> bool {
+    let verdict = Verdict::Pending {
         events: 5,
         blocks: 2,
         pending: 2,
     };
     let line = "n: no violation, 2 blocks open (5 events, 2 blocks)\n";
-    expect_line(&rt, alloc, Finding::Judged(pending), line)?;
+    has_line(alloc, &Finding::Judged(verdict), line)
+}
+
+fn is_violation_so(alloc: Global) -> bool {
+    let Ok(thread) = Name::read(alloc, b"T1") else {
+        return false;
+    };
+    let verdict = Verdict::Violation {
+        line: 6,
+        thread,
+        begun: 1,
+    };
     let line = "n: violation at line 6: block of T1 from line 1\n";
-    expect_line(&rt, alloc, violation(alloc)?, line)
+    has_line(alloc, &Finding::Judged(verdict), line)
 }
 
 #[test]
-fn each_fault_has_its_line(rt: HostRuntime) -> Result<(), Fail> {
-    let malformed = [
-        (Line::TooLong, "n:2: malformed: TooLong\n"),
-        (Line::BadByte, "n:2: malformed: BadByte\n"),
-        (Line::NoOperation, "n:2: malformed: NoOperation\n"),
-        (Line::EmptyThread, "n:2: malformed: EmptyThread\n"),
-        (Line::UnknownOperation, "n:2: malformed: UnknownOperation\n"),
-        (Line::BadParenthesis, "n:2: malformed: BadParenthesis\n"),
-        (Line::MissingTarget, "n:2: malformed: MissingTarget\n"),
-        (Line::NameTooLong, "n:2: malformed: NameTooLong\n"),
-        (Line::TooManyLines, "n:2: malformed: TooManyLines\n"),
-        (Line::Memory, "n:2: malformed: Memory\n"),
+fn each_finding_has_its_line(rt: HostRuntime) {
+    let alloc = rt.alloc();
+    let are_told = [
+        has_line(alloc, &Finding::Broken(20), "n: broken after 20 bytes\n"),
+        has_line(alloc, &Finding::TooLarge, "n: too large\n"),
+        are_serializable_so(alloc),
+        is_pending_so(alloc),
+        is_violation_so(alloc),
     ];
-    for (fault, line) in malformed {
+    assert_eq!(rt; are_told, [true; 5]);
+}
+
+fn first_mistaken_malformed(alloc: Global, rows: &[(Line, &str)]) -> Option<usize> {
+    for i in 0..rows.len() {
+        let (fault, line) = rows[i];
         let verdict = Verdict::Malformed { line: 2, fault };
-        expect_line(&rt, rt.alloc(), Finding::Judged(verdict), line)?;
+        if !has_line(alloc, &Finding::Judged(verdict), line) {
+            return Some(i);
+        }
     }
-    let ill_formed = [
-        (Shape::TooManyThreads, "n:3: ill-formed: TooManyThreads\n"),
-        (Shape::TooManyNames, "n:3: ill-formed: TooManyNames\n"),
-        (Shape::ThreadJoined, "n:3: ill-formed: ThreadJoined\n"),
-        (Shape::LockHeldByOther, "n:3: ill-formed: LockHeldByOther\n"),
-        (Shape::LockNotHeld, "n:3: ill-formed: LockNotHeld\n"),
-        (Shape::ForkSelf, "n:3: ill-formed: ForkSelf\n"),
-        (Shape::ForkStarted, "n:3: ill-formed: ForkStarted\n"),
-        (Shape::JoinSelf, "n:3: ill-formed: JoinSelf\n"),
-        (Shape::EndWithoutBegin, "n:3: ill-formed: EndWithoutBegin\n"),
-        (Shape::Memory, "n:3: ill-formed: Memory\n"),
-    ];
-    for (fault, line) in ill_formed {
-        let verdict = Verdict::IllFormed { line: 3, fault };
-        expect_line(&rt, rt.alloc(), Finding::Judged(verdict), line)?;
-    }
-    Ok(())
+    None
 }
 
-#[test]
-fn the_summary_counts_what_was_found(rt: HostRuntime) -> Result<(), Fail> {
-    let cases = [
-        (
-            [0, 0, 0, 0],
-            "traces 0: serializable 0, open 0, violations 0, faults 0\n",
-        ),
-        (
-            [1, 0, 2, 0],
-            "traces 3: serializable 1, open 0, violations 2, faults 0\n",
-        ),
-        (
-            [0, 0, 0, 1],
-            "traces 1: serializable 0, open 0, violations 0, faults 1\n",
-        ),
-        (
-            [1, u64::MAX, 0, 0],
-            "traces 18446744073709551616: serializable 1, open 18446744073709551615, violations 0, faults 0\n",
-        ),
-    ];
-    for ([serializable, pending, violations, faults], line) in cases {
-        let counts = Counts {
-            serializable,
-            pending,
-            violations,
-            faults,
-        };
-        let text = summary_text(rt.alloc(), &counts)?;
-        assert!(rt; text.as_slice() == line.as_bytes(), "{line:?}");
+fn first_mistaken_ill_formed(alloc: Global, rows: &[(Shape, &str)]) -> Option<usize> {
+    for i in 0..rows.len() {
+        let (fault, line) = rows[i];
+        let verdict = Verdict::IllFormed { line: 3, fault };
+        if !has_line(alloc, &Finding::Judged(verdict), line) {
+            return Some(i);
+        }
     }
-    Ok(())
+    None
+}
+
+static MALFORMED: [(Line, &str); 10] = [
+    (Line::TooLong, "n:2: malformed: TooLong\n"),
+    (Line::BadByte, "n:2: malformed: BadByte\n"),
+    (Line::NoOperation, "n:2: malformed: NoOperation\n"),
+    (Line::EmptyThread, "n:2: malformed: EmptyThread\n"),
+    (Line::UnknownOperation, "n:2: malformed: UnknownOperation\n"),
+    (Line::BadParenthesis, "n:2: malformed: BadParenthesis\n"),
+    (Line::MissingTarget, "n:2: malformed: MissingTarget\n"),
+    (Line::NameTooLong, "n:2: malformed: NameTooLong\n"),
+    (Line::TooManyLines, "n:2: malformed: TooManyLines\n"),
+    (Line::Memory, "n:2: malformed: Memory\n"),
+];
+
+static ILL_FORMED: [(Shape, &str); 10] = [
+    (Shape::TooManyThreads, "n:3: ill-formed: TooManyThreads\n"),
+    (Shape::TooManyNames, "n:3: ill-formed: TooManyNames\n"),
+    (Shape::ThreadJoined, "n:3: ill-formed: ThreadJoined\n"),
+    (Shape::LockHeldByOther, "n:3: ill-formed: LockHeldByOther\n"),
+    (Shape::LockNotHeld, "n:3: ill-formed: LockNotHeld\n"),
+    (Shape::ForkSelf, "n:3: ill-formed: ForkSelf\n"),
+    (Shape::ForkStarted, "n:3: ill-formed: ForkStarted\n"),
+    (Shape::JoinSelf, "n:3: ill-formed: JoinSelf\n"),
+    (Shape::EndWithoutBegin, "n:3: ill-formed: EndWithoutBegin\n"),
+    (Shape::Memory, "n:3: ill-formed: Memory\n"),
+];
+
+#[test]
+fn each_fault_has_its_line(rt: HostRuntime) {
+    let alloc = rt.alloc();
+    assert_eq!(rt; first_mistaken_malformed(alloc, &MALFORMED), None);
+    assert_eq!(rt; first_mistaken_ill_formed(alloc, &ILL_FORMED), None);
+}
+
+// Four counts, and the line on them.
+type Counted = ([u64; 4], &'static str);
+
+fn is_summed_so(alloc: Global, row: &Counted) -> bool {
+    let ([serializable, pending, violations, faults], line) = *row;
+    let counts = Counts {
+        serializable,
+        pending,
+        violations,
+        faults,
+    };
+    match summary_text(alloc, &counts) {
+        Ok(text) => text.as_slice() == line.as_bytes(),
+        Err(_) => false,
+    }
+}
+
+// The first row that doesn't hold.
+fn first_missummed(alloc: Global, rows: &[Counted]) -> Option<usize> {
+    for i in 0..rows.len() {
+        if !is_summed_so(alloc, &rows[i]) {
+            return Some(i);
+        }
+    }
+    None
+}
+
+static SUMMARIES: [Counted; 4] = [
+    (
+        [0, 0, 0, 0],
+        "traces 0: serializable 0, open 0, violations 0, faults 0\n",
+    ),
+    (
+        [1, 0, 2, 0],
+        "traces 3: serializable 1, open 0, violations 2, faults 0\n",
+    ),
+    (
+        [0, 0, 0, 1],
+        "traces 1: serializable 0, open 0, violations 0, faults 1\n",
+    ),
+    (
+        [1, u64::MAX, 0, 0],
+        "traces 18446744073709551616: serializable 1, open 18446744073709551615, violations 0, faults 0\n",
+    ),
+];
+
+#[test]
+fn the_summary_counts_what_was_found(rt: HostRuntime) {
+    assert_eq!(rt; first_missummed(rt.alloc(), &SUMMARIES), None);
 }
