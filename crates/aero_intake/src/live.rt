@@ -96,9 +96,19 @@ impl Live {
             return Err(AllocError);
         }
         let mut monitor = Box::into_inner(monitor);
-        feed_all(&mut monitor, &waiting.into_vec(), except.get());
+        judge_rest(&mut monitor, waiting, except.get());
         monitor.finish()
     }
+}
+
+// Judges all that wait. Where memory is refused the monitor says so at its end.
+fn judge_rest(monitor: &mut Monitor<Leads>, waiting: VecDeque<Parsed>, except: &Except)
+    requires { except.now ≡ monitor.old.rules.labels }
+    ensures parts { monitor.new.parts ≡ monitor.old.parts ++ waiting.items }
+    ensures rules { monitor.new.rules ≡ monitor.old.rules }
+{
+    let rest = waiting.into_vec();
+    feed_all(monitor, &rest, except);
 }
 
 // Judges the first block that waits, if one does, and lets it go.

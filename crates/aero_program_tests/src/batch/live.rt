@@ -53,19 +53,8 @@ const AT_LINE_4: &str = "T1|begin/T1|r(x)/T2|w(x)/T1|r(x)/T1|r(x)";
 
 const AT_LINE_5: &str = "T1|begin/T1|r(x)/T2|r(x)/T2|w(x)/T1|r(x)";
 
-static ROWS: [Row; 14] = [
-    Row {
-        text: SOUND,
-        limits: (100, 5),
-        fails_after: NEVER,
-        report: "n: serializable (5 events, 1 blocks)/traces 1: serializable 1, open 0, violations 0, faults 0/",
-    },
-    Row {
-        text: OPEN,
-        limits: (100, 5),
-        fails_after: NEVER,
-        report: "n: no violation, 1 blocks open (5 events, 1 blocks)/traces 1: serializable 0, open 1, violations 0, faults 0/",
-    },
+// The last event of the first block, and the last block.
+static VIOLATIONS: [Row; 2] = [
     Row {
         text: AT_LINE_4,
         limits: (100, 5),
@@ -77,6 +66,21 @@ static ROWS: [Row; 14] = [
         limits: (100, 5),
         fails_after: NEVER,
         report: "n: violation at line 5: block of T1 from line 1/traces 1: serializable 0, open 0, violations 1, faults 0/",
+    },
+];
+
+static ROWS: [Row; 12] = [
+    Row {
+        text: SOUND,
+        limits: (100, 5),
+        fails_after: NEVER,
+        report: "n: serializable (5 events, 1 blocks)/traces 1: serializable 1, open 0, violations 0, faults 0/",
+    },
+    Row {
+        text: OPEN,
+        limits: (100, 5),
+        fails_after: NEVER,
+        report: "n: no violation, 1 blocks open (5 events, 1 blocks)/traces 1: serializable 0, open 1, violations 0, faults 0/",
     },
     Row {
         text: "T1|begin/T1|r(x)/T2|w(x)/T1|r()/T1|r(x)",
@@ -183,16 +187,16 @@ fn written_of<T: AllocGlobal + Threads + Wait + Copy + Send + 'static>(
     Ok(writer.into_inner())
 }
 
-// Whether this is written of a row's text, whoever helps, where so many events are kept.
+// Whether this is written of a row's text, where these help, however many events are kept.
 fn has_report<T: AllocGlobal + Threads + Wait + Copy + Send + 'static>(
     rt: &T,
-    text: &[u8],
+    who: Who,
+    (text, report): (&[u8], &[u8]),
     row: &Row,
-    (report, most): (&[u8], u64),
 ) -> Result<bool, Fail> {
-    for who in HELP.iter() {
-        let plan = plan_of(rt.alloc(), (*who, 7), row.limits, most)?;
-        let written = written_of(rt, *who, (text, row.fails_after), &plan)?;
+    for most in BOUNDS.iter() {
+        let plan = plan_of(rt.alloc(), (who, 7), row.limits, *most)?;
+        let written = written_of(rt, who, (text, row.fails_after), &plan)?;
         if written.as_slice() != report {
             return Ok(false);
         }
@@ -200,15 +204,16 @@ fn has_report<T: AllocGlobal + Threads + Wait + Copy + Send + 'static>(
     Ok(true)
 }
 
-// Whether it is, however many are kept.
+// Whether it is, whoever of these helps.
 fn has_reports<T: AllocGlobal + Threads + Wait + Copy + Send + 'static>(
     rt: &T,
+    help: &[Who],
     row: &Row,
 ) -> Result<bool, Fail> {
     let text = lines_of(rt.alloc(), row.text)?;
     let report = lines_of(rt.alloc(), row.report)?;
-    for most in BOUNDS.iter() {
-        if !has_report(rt, &text, row, (&report, *most))? {
+    for who in help {
+        if !has_report(rt, *who, (&text, &report), row)? {
             return Ok(false);
         }
     }
@@ -218,7 +223,21 @@ fn has_reports<T: AllocGlobal + Threads + Wait + Copy + Send + 'static>(
 #[test]
 fn a_source_has_its_line_wherever_it_turns_live(rt: HostRuntime) -> Result<(), Fail> {
     for row in ROWS.iter() {
-        assert!(rt; has_reports(&rt, row)?, "{}", row.report);
+        assert!(rt;
+            has_reports(&rt, &[Who::Alone, Who::Crew(2)], row)?,
+            "{}",
+            row.report
+        );
+    }
+    Ok(())
+}
+
+#[test]
+fn a_violation_is_found_where_a_source_turns_live_whoever_helps(
+    rt: HostRuntime,
+) -> Result<(), Fail> {
+    for row in VIOLATIONS.iter() {
+        assert!(rt; has_reports(&rt, &HELP, row)?, "{}", row.report);
     }
     Ok(())
 }

@@ -1,4 +1,4 @@
-use Rattle.std.proofs.Common.{◌≡◌, ◌++◌, ◌∙◌, ap, ap₂, subst, rules}
+use Rattle.std.proofs.Common.{◌≡◌, ◌++◌, ◌∙◌, ap, ap₂, subst}
 use Rattle.std.specs.Prelude.{IfOk}
 use Rattle.aero_intake.specs.Lives.{Watched}
 use Rattle.aero_verdict.specs.Fed.{Fed}
@@ -7,11 +7,9 @@ use Rattle.aero_intake.proofs.live.Live.finish.Goals as goal
 
 pub returns : goal.returns
 returns c =
-    let old = c.into_inner-monitor.result in
-    let fed = c.feed_all.new.monitor in
+    let fed = c.judge_rest.new.monitor in
     let is_rules : fed.rules ≡ under c.args.plan.now.limits c.args.plan.now.except =
-    c.feed_all.ensures.rules ∙ ap (λ (m : Fed). m.rules) c.into_inner-monitor.ensures ∙ c.self.invariant.rules ∙ ap₂ under (c.is_same.ensures.limits c.if-not-is_same.false) (c.is_same.ensures.labels c.if-not-is_same.false) in
-    let rest : c.deref.result.now ≡ c.self.inside.waiting.items = search rules in
+    c.judge_rest.ensures.rules ∙ ap (λ (m : Fed). m.rules) c.into_inner-monitor.ensures ∙ c.self.invariant.rules ∙ ap₂ under (c.is_same.ensures.limits c.if-not-is_same.false) (c.is_same.ensures.labels c.if-not-is_same.false) in
     let parts : fed.parts ≡ c.args.self.parts =
-    c.feed_all.ensures.fed ∙ ap₂ (λ xs ys. xs ++ ys) (ap (λ (m : Fed). m.parts) c.into_inner-monitor.ensures) rest ∙ ap (λ (w : Watched). w.parts) c.self.view_is in
+    c.judge_rest.ensures.parts ∙ ap (λ (m : Fed). m.parts ++ c.self.inside.waiting.items) c.into_inner-monitor.ensures ∙ ap (λ (w : Watched). w.parts) c.self.view_is in
     subst (λ rs. IfOk c.finish.result (IsVerdict c.args.self.parts rs)) is_rules (subst (λ ps. IfOk c.finish.result (IsVerdict ps fed.rules)) parts c.finish.ensures.verdict)
