@@ -1,9 +1,10 @@
-use aero_gather::gather::{Gather, Settled, Ticket};
-use aero_pieces::answer::Value;
+use aero_gather::gather::{Gather, Settled, Tally, Ticket};
+use aero_grammar::parsed::Parsed;
+use aero_model::numbered::What;
+use aero_pieces::answer::{Answer, Value};
 use aero_pieces::question::{Bytes, Question};
 use std::alloc::Global;
 use std::sync::Arc;
-use std::test::Fail;
 
 // What is done with a gatherer. A question is a block of one line, and goes by that line.
 #[derive(Clone, Copy)]
@@ -18,123 +19,205 @@ enum Step {
     Tally,
 }
 
-fn question(alloc: Global, line: &str) -> Result<Arc<Question, Global>, Fail> {
-    let bytes = Bytes::new(line.as_bytes().to_vec(alloc)?).ok_or("too many bytes")?;
+// The helpers below put words behind those so far, and say whether they could: they can't where memory is refused.
+
+fn question(alloc: Global, line: &str) -> Option<Arc<Question, Global>> {
+    let bytes = Bytes::new(line.as_bytes().to_vec(alloc).ok()?)?;
     let question = Question::Parse {
         trace: 0,
         number: 0,
         bytes,
     };
-    Ok(question.share(alloc)?)
+    question.share(alloc).ok()
 }
 
-fn line_of(alloc: Global, question: &Question) -> Result<String, Fail> {
+fn push_bytes(words: &mut String, bytes: &[u8]) -> bool {
+    match str::from_utf8(bytes) {
+        Ok(text) => words.push_str(text).is_ok(),
+        Err(_) => false,
+    }
+}
+
+// The line that a question goes by.
+fn push_line(words: &mut String, question: &Question) -> bool {
     match question {
-        Question::Parse { bytes, .. } => Ok(String::from_utf8(bytes.get().to_vec(alloc)?)?),
-        Question::Check { .. } => Err("a trace".into()),
+        Question::Parse { bytes, .. } => push_bytes(words, bytes.get()),
+        Question::Check { .. } => words.push_str("a trace").is_ok(),
     }
 }
 
-// The ticket's number, or else the question that comes back.
-fn ask(alloc: Global, gather: &mut Gather, line: &str) -> Result<String, Fail> {
+fn push_number(alloc: Global, words: &mut String, number: u64) -> bool {
+    match format!(in alloc; "{number}") {
+        Ok(text) => words.push_str(&text).is_ok(),
+        Err(_) => false,
+    }
+}
+
+// The ticket's number, or else the question that comes back. At most 2^64 - 1 questions are asked.
+fn push_asked(
+    alloc: Global,
+    words: &mut String,
+    gather: &mut Gather,
+    question: Arc<Question>,
+) -> bool {
     if gather.tally().asked == u64::MAX {
-        return Err("too many questions".into());
+        return false;
     }
-    match gather.ask(question(alloc, line)?) {
-        Ok(ticket) => Ok(format!(in alloc; "ticket {}", ticket.number)?),
-        Err(full) => {
-            let line = line_of(alloc, &full.question)?;
-            Ok(format!(in alloc; "full: {line}")?)
+    match gather.ask(question) {
+        Ok(ticket) => {
+            words.push_str("ticket ").is_ok() && push_number(alloc, words, ticket.number)
         }
+        Err(full) => words.push_str("full: ").is_ok() && push_line(words, &full.question),
     }
 }
 
-// The only event of what a block says.
-fn event_of(alloc: Global, value: &Value) -> Result<String, Fail> {
+// What the only event of a block is.
+fn push_event(alloc: Global, words: &mut String, parsed: &Parsed) -> bool {
+    if parsed.events.len() != 1 {
+        return words.push_str("not one event").is_ok();
+    }
+    let (_, event) = parsed.events[0].parts();
+    push_what(alloc, words, event.what)
+}
+
+fn push_what(alloc: Global, words: &mut String, what: What) -> bool {
+    match format!(in alloc; "{what:?}") {
+        Ok(text) => words.push_str(&text).is_ok(),
+        Err(_) => false,
+    }
+}
+
+// What a block's value says.
+fn push_value(alloc: Global, words: &mut String, value: &Value) -> bool {
     match value {
-        Value::Parsed(parsed) => {
-            if parsed.events.len() != 1 {
-                return Err("not one event".into());
-            }
-            let (_, event) = parsed.events[0].parts();
-            Ok(format!(in alloc; "{:?}", event.what)?)
-        }
-        Value::Judged(_) | Value::Ordered(..) => Err("a verdict".into()),
+        Value::Parsed(parsed) => push_event(alloc, words, parsed),
+        Value::Judged(_) | Value::Ordered(..) => words.push_str("a verdict").is_ok(),
     }
 }
 
-fn settle(alloc: Global, gather: &mut Gather) -> Result<String, Fail> {
-    match gather.settle()? {
-        Some(value) => event_of(alloc, &value),
-        None => Ok(format!(in alloc; "none")?),
+fn push_settled(alloc: Global, words: &mut String, gather: &mut Gather) -> bool {
+    match gather.settle() {
+        Ok(Some(value)) => push_value(alloc, words, &value),
+        Ok(None) => words.push_str("none").is_ok(),
+        Err(_) => false,
     }
 }
 
-fn settle_with_question(alloc: Global, gather: &mut Gather) -> Result<String, Fail> {
-    match gather.settle_with_question()? {
-        Some(settled) => line_and_event(alloc, &settled),
-        None => Ok(format!(in alloc; "none")?),
+fn push_settled_with_question(alloc: Global, words: &mut String, gather: &mut Gather) -> bool {
+    match gather.settle_with_question() {
+        Ok(Some(settled)) => push_both(alloc, words, &settled),
+        Ok(None) => words.push_str("none").is_ok(),
+        Err(_) => false,
     }
 }
 
-fn line_and_event(alloc: Global, settled: &Settled) -> Result<String, Fail> {
-    let line = line_of(alloc, &settled.question)?;
-    let event = event_of(alloc, &settled.value)?;
-    Ok(format!(in alloc; "{line}: {event}")?)
+fn push_both(alloc: Global, words: &mut String, settled: &Settled) -> bool {
+    push_line(words, &settled.question)
+        && words.push_str(": ").is_ok()
+        && push_value(alloc, words, &settled.value)
+}
+
+fn push_accepted(alloc: Global, words: &mut String, gather: &mut Gather, answer: Answer) -> bool {
+    match format!(in alloc; "{:?}", gather.accept(answer)) {
+        Ok(text) => words.push_str(&text).is_ok(),
+        Err(_) => false,
+    }
+}
+
+// What an answer that is worked out afresh counts for.
+fn push_answered(alloc: Global, words: &mut String, gather: &mut Gather, line: &str) -> bool {
+    let Some(question) = question(alloc, line) else {
+        return false;
+    };
+    match Question::answer(&question, alloc) {
+        Ok(answer) => push_accepted(alloc, words, gather, answer),
+        Err(_) => false,
+    }
+}
+
+fn push_oldest(alloc: Global, words: &mut String, gather: &Gather) -> bool {
+    match format!(in alloc; "{:?}", gather.oldest()) {
+        Ok(text) => words.push_str(&text).is_ok(),
+        Err(_) => false,
+    }
+}
+
+fn push_front(words: &mut String, gather: &Gather) -> bool {
+    match gather.front() {
+        Some(front) => push_line(words, front),
+        None => words.push_str("none").is_ok(),
+    }
+}
+
+fn push_tally(alloc: Global, words: &mut String, tally: Tally) -> bool {
+    words.push_str("asked ").is_ok()
+        && push_number(alloc, words, tally.asked)
+        && words.push_str(", kept ").is_ok()
+        && push_number(alloc, words, tally.kept)
+        && words.push_str(", done here ").is_ok()
+        && push_number(alloc, words, tally.done_here)
+}
+
+fn push_question(alloc: Global, words: &mut String, gather: &mut Gather, line: &str) -> bool {
+    match question(alloc, line) {
+        Some(question) => push_asked(alloc, words, gather, question),
+        None => false,
+    }
+}
+
+fn push_missed(words: &mut String, gather: &mut Gather, number: u64) -> bool {
+    let is_news = gather.note_missed(Ticket { number });
+    words
+        .push_str(if is_news { "true" } else { "false" })
+        .is_ok()
 }
 
 // Does the step, and says what it answered. Answers are worked out afresh.
-fn answer_to(alloc: Global, gather: &mut Gather, step: Step) -> Result<String, Fail> {
+fn push_answer(alloc: Global, words: &mut String, gather: &mut Gather, step: Step) -> bool {
     match step {
-        Step::Ask(line) => ask(alloc, gather, line),
-        Step::Accept(line) => {
-            let answer = Question::answer(&question(alloc, line)?, alloc)?;
-            Ok(format!(in alloc; "{:?}", gather.accept(answer))?)
-        }
-        Step::Miss(number) => {
-            let is_news = gather.note_missed(Ticket { number });
-            Ok(format!(in alloc; "{is_news}")?)
-        }
-        Step::Oldest => Ok(format!(in alloc; "{:?}", gather.oldest())?),
-        Step::Front => match gather.front() {
-            Some(front) => line_of(alloc, front),
-            None => Ok(format!(in alloc; "none")?),
-        },
-        Step::Settle => settle(alloc, gather),
-        Step::SettleWithQuestion => settle_with_question(alloc, gather),
-        Step::Tally => {
-            let tally = gather.tally();
-            Ok(format!(in alloc;
-                "asked {}, kept {}, done here {}",
-                tally.asked, tally.kept, tally.done_here
-            )?)
-        }
+        Step::Ask(line) => push_question(alloc, words, gather, line),
+        Step::Accept(line) => push_answered(alloc, words, gather, line),
+        Step::Miss(number) => push_missed(words, gather, number),
+        Step::Oldest => push_oldest(alloc, words, gather),
+        Step::Front => push_front(words, gather),
+        Step::Settle => push_settled(alloc, words, gather),
+        Step::SettleWithQuestion => push_settled_with_question(alloc, words, gather),
+        Step::Tally => push_tally(alloc, words, gather.tally()),
     }
 }
 
-// The steps, and what each answers, on a new gatherer.
-type Rows<'a> = &'a [(Step, &'static str)];
+// Whether the step answers so.
+fn is_answered_so(alloc: Global, gather: &mut Gather, step: Step, wanted: &str) -> bool {
+    let mut words = String::new(alloc);
+    push_answer(alloc, &mut words, gather, step) && words.as_str() == wanted
+}
 
-// The place of the first step that answers something else, if there is one.
-fn other_answer(alloc: Global, window: u32, steps: Rows) -> Result<Option<usize>, Fail> {
+// A step, and what it answers.
+type Row = (Step, &'static str);
+
+// The place of the first step that answers something else on a new gatherer, if there is one.
+fn first_other(alloc: Global, window: u32, steps: &[Row]) -> Option<usize> {
     if window == 0 || window > 64 {
-        return Err("no window".into());
+        return Some(0);
     }
-    let mut gather = Gather::new(alloc, window)?;
-    other_answer_of(alloc, &mut gather, steps)
+    match Gather::new(alloc, window) {
+        Ok(gather) => first_other_of(alloc, gather, steps),
+        Err(_) => Some(0),
+    }
 }
 
 // The same of this gatherer.
-fn other_answer_of(alloc: Global, gather: &mut Gather, steps: Rows) -> Result<Option<usize>, Fail> {
-    for (i, (step, wanted)) in steps.iter().enumerate() {
-        if answer_to(alloc, gather, *step)?.as_str() != *wanted {
-            return Ok(Some(i));
+fn first_other_of(alloc: Global, gather: Gather, steps: &[Row]) -> Option<usize> {
+    let mut gather = gather;
+    for i in 0..steps.len() {
+        if !is_answered_so(alloc, &mut gather, steps[i].0, steps[i].1) {
+            return Some(i);
         }
     }
-    Ok(None)
+    None
 }
 
-const A_FULL_WINDOW_GIVES_THE_QUESTION_BACK: [(Step, &str); 6] = [
+static A_FULL_WINDOW_GIVES_THE_QUESTION_BACK: [Row; 6] = [
     (Step::Oldest, "Nothing"),
     (Step::Front, "none"),
     (Step::Settle, "none"),
@@ -144,7 +227,7 @@ const A_FULL_WINDOW_GIVES_THE_QUESTION_BACK: [(Step, &str); 6] = [
 ];
 
 // What is missed is worked out by the gatherer itself.
-const ONLY_THE_FIRST_ANSWER_TO_AN_OPEN_QUESTION_IS_KEPT: [(Step, &str); 15] = [
+static ONLY_THE_FIRST_ANSWER_TO_AN_OPEN_QUESTION_IS_KEPT: [Row; 15] = [
     (Step::Ask("T1|r(x)"), "ticket 0"),
     (Step::Accept("T1|w(x)"), "Stranger"),
     (Step::Oldest, "Awaited"),
@@ -162,7 +245,7 @@ const ONLY_THE_FIRST_ANSWER_TO_AN_OPEN_QUESTION_IS_KEPT: [(Step, &str); 15] = [
     (Step::Tally, "asked 2, kept 1, done here 1"),
 ];
 
-const VALUES_COME_IN_THE_ORDER_OF_THE_QUESTIONS: [(Step, &str); 13] = [
+static VALUES_COME_IN_THE_ORDER_OF_THE_QUESTIONS: [Row; 13] = [
     (Step::Ask("T1|r(x)"), "ticket 0"),
     (Step::Ask("T1|w(x)"), "ticket 1"),
     (Step::Ask("T1|begin"), "ticket 2"),
@@ -178,7 +261,7 @@ const VALUES_COME_IN_THE_ORDER_OF_THE_QUESTIONS: [(Step, &str); 13] = [
     (Step::Tally, "asked 4, kept 3, done here 1"),
 ];
 
-const AN_ANSWER_THAT_COMES_LATE_IS_KEPT: [(Step, &str); 11] = [
+static AN_ANSWER_THAT_COMES_LATE_IS_KEPT: [Row; 11] = [
     (Step::Ask("T1|r(x)"), "ticket 0"),
     (Step::Miss(1), "false"),
     (Step::Oldest, "Awaited"),
@@ -193,19 +276,13 @@ const AN_ANSWER_THAT_COMES_LATE_IS_KEPT: [(Step, &str); 11] = [
 ];
 
 #[test]
-fn each_step_of_a_gatherer_has_its_answer(rt: HostRuntime) -> Result<(), Fail> {
-    let tables: [(u32, Rows); 4] = [
-        (1, &A_FULL_WINDOW_GIVES_THE_QUESTION_BACK),
-        (1, &ONLY_THE_FIRST_ANSWER_TO_AN_OPEN_QUESTION_IS_KEPT),
-        (4, &VALUES_COME_IN_THE_ORDER_OF_THE_QUESTIONS),
-        (64, &AN_ANSWER_THAT_COMES_LATE_IS_KEPT),
+fn each_step_of_a_gatherer_has_its_answer(rt: HostRuntime) {
+    let alloc = rt.alloc();
+    let others = [
+        first_other(alloc, 1, &A_FULL_WINDOW_GIVES_THE_QUESTION_BACK),
+        first_other(alloc, 1, &ONLY_THE_FIRST_ANSWER_TO_AN_OPEN_QUESTION_IS_KEPT),
+        first_other(alloc, 4, &VALUES_COME_IN_THE_ORDER_OF_THE_QUESTIONS),
+        first_other(alloc, 64, &AN_ANSWER_THAT_COMES_LATE_IS_KEPT),
     ];
-    for (window, steps) in tables {
-        let other = other_answer(rt.alloc(), window, steps)?;
-        assert!(rt;
-            other == None,
-            "step {other:?} of the table for a window of {window}"
-        );
-    }
-    Ok(())
+    assert_eq!(rt; others, [None; 4]);
 }

@@ -282,8 +282,11 @@ static ILL_FORMED: [(Shape, &str); 10] = [
 #[test]
 fn each_fault_has_its_line(rt: HostRuntime) {
     let alloc = rt.alloc();
-    assert_eq!(rt; first_mistaken_malformed(alloc, &MALFORMED), None);
-    assert_eq!(rt; first_mistaken_ill_formed(alloc, &ILL_FORMED), None);
+    let mistaken = [
+        first_mistaken_malformed(alloc, &MALFORMED),
+        first_mistaken_ill_formed(alloc, &ILL_FORMED),
+    ];
+    assert_eq!(rt; mistaken, [None; 2]);
 }
 
 // Four counts, and the line on them.

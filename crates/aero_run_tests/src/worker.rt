@@ -216,7 +216,7 @@ fn are_three_accounted_for<R: Threads + Wait + Copy + Send + 'static>(
     Some(posted == 3 && are_accounted_for(&report, 3))
 }
 
-// Holds whichever one allocation is refused, as `rt try --test --fail-alloc 1..` refuses them in turn. Where it is made
+// Holds whichever one allocation is refused, as `rt try --test --fail-alloc N` refuses the N-th. Where it is made
 // before a crew has the jobs, the three are asked again, and all memory is there. A worker to which it is refused gives
 // up, or misses a job, and the lists have each job that was posted all the same.
 #[test]
