@@ -1,0 +1,66 @@
+"""What tools/build and tools/watch share: which lines of the kit's commands are routine, how a time is written, and which
+crates the prover is at."""
+import os
+import re
+
+NO_RT = (
+    "no command rt on the path: it is of the Rattle kit, whose version here is rattle-kit-13f (`rt version` says it). "
+    "Whoever gave you this source has the kit; put the kit's bin/ on the path."
+)
+
+# What a command of the kit says where all is well. Any other line is shown.
+ROUTINE = re.compile(
+    r"(statements|library|crate) \S+: modules loaded=\d+ checked=\d+( .*)?$"
+    r"|logic \S+: libraries=\d+ "
+    r"|logic=proved "
+    r"|only=\d+ proved=\d+$"
+    r"|by-macro: \S+ blocks=[1-9]\d*$"
+    r"|so far: "
+    r"|(struct|enum|union|trait|impl|fn|const|static|mod|type) \S+: proved$"
+    r"|rt: chose --jobs "
+    r"|rt: must-fail \S+: refused, as it must be(: .*)?$"
+    r"|test \S+ \.\.\. ok$"
+    r"|running \d+ tests?$"
+    r"|test result: ok\."
+    r"|$"
+)
+
+
+def is_routine(line):
+    return bool(ROUTINE.match(line))
+
+
+def time_of(seconds):
+    """A time in words, as in 1 min 20 s."""
+    seconds = int(seconds)
+    return f"{seconds // 60} min {seconds % 60} s" if seconds >= 60 else f"{seconds} s"
+
+
+def crates_under_way(top):
+    """The crates of which the prover has a process below the process top, each once."""
+    found = {}
+    for pid in filter(str.isdigit, os.listdir("/proc") if os.path.isdir("/proc") else []):
+        try:
+            with open(f"/proc/{pid}/stat", encoding="utf-8", errors="replace") as it:
+                found[int(pid)] = int(it.read().rsplit(")", 1)[1].split()[1])
+        except (OSError, ValueError, IndexError):
+            # (ended meanwhile)
+            pass
+    return sorted({crate_of(pid) for pid in found if is_below(pid, top, found)} - {""})
+
+
+def is_below(pid, top, parents):
+    while pid in parents and pid != top:
+        pid = parents[pid]
+    return pid == top
+
+
+def crate_of(pid):
+    """The crate that a process of the prover is at, or '' for any other process."""
+    try:
+        with open(f"/proc/{pid}/cmdline", "rb") as it:
+            words = it.read().decode(errors="replace").split("\0")
+    except OSError:
+        return ""
+    is_prover = os.path.basename(words[0]) == "rattle" and "--crate-name" in words
+    return words[words.index("--crate-name") + 1] if is_prover else ""
