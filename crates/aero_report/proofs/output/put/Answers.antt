@@ -1,4 +1,3 @@
-use Rattle.std.proofs.Common.{rules}
 use Rattle.std.proofs.Common.{arith, ◌∙◌}
 use Rattle.aero_report.proofs.Written.{taken_within, front_appends, same_faults}
 use Rattle.aero_report.proofs.output.put.Goals as goal
@@ -13,15 +12,3 @@ loop-written-preserved g c =
       faults = same_faults c.write.result _ _ _ (rw (← c.unwrap_or-taken.ensures) (omega arith)) c.write.ensures.faults ∙ c.loop-written.invariant.faults;
       ends = c.write.ensures.ends ∙ c.loop-written.invariant.ends;
     }
-
-pub returns-then-taken-eq0-clause-cut_written : goal.returns-then-taken-eq0-clause-cut_written
-returns-then-taken-eq0-clause-cut_written g c = search rules
-
-pub returns-then-taken-eq0-clause-cut_short : goal.returns-then-taken-eq0-clause-cut_short
-returns-then-taken-eq0-clause-cut_short g c = search rules
-
-pub returns-then-taken-eq0-clause-all_written : goal.returns-then-taken-eq0-clause-all_written
-returns-then-taken-eq0-clause-all_written g c = search rules
-
-pub returns-then-taken-eq0-clause-no_fault : goal.returns-then-taken-eq0-clause-no_fault
-returns-then-taken-eq0-clause-no_fault g c = search rules
