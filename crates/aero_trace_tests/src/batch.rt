@@ -1,4 +1,5 @@
-//! Events that are put into batches, and judged by a monitor as they come.
+//! Events that are put into batches, and judged by a monitor as they come: `judge` and `see` are the example in
+//! the head of `aero_verdict::monitor`.
 ghost use Rattle.std.specs.Prelude.{◌≡◌};
 
 use crate::model::except_of;
@@ -30,7 +31,7 @@ fn judge(
     monitor.feed(&part, except)
 }
 
-// Takes the next event of a run. Events are judged two at a time.
+// Takes the next event of a run.
 fn see(
     alloc: Global,
     monitor: &mut Monitor<Leads>,
@@ -62,7 +63,7 @@ fn see_all(
     let mut batch = Batch::new(alloc);
     for event in run {
         if see(alloc, monitor, &mut batch, event, except)? {
-            return Ok(true);
+            break;
         }
     }
     judge(alloc, monitor, &mut batch, except)
@@ -92,6 +93,14 @@ fn take_line(alloc: Global, batch: &mut Batch, run: &mut Vec<Event>, line: &str)
         Ok(None) => batch.push_blank().is_ok(),
         Err(_) => false,
     }
+}
+
+// What the text says as a block.
+fn parsed(alloc: Global, text: &[u8]) -> Option<Parsed> {
+    if text.len() > 1 << 30 {
+        return None;
+    }
+    parse_block(alloc, text).ok()
 }
 
 // The lines of the text, as a batch, and their events.
@@ -136,7 +145,7 @@ type Row = (&'static str, &'static [Line], bool, &'static str);
 fn is_so(alloc: Global, row: Row) -> Option<bool> {
     let (text, events, is_certain, verdict) = row;
     let (part, run) = taken(alloc, text)?;
-    let parsed = parse_block(alloc, text.as_bytes()).ok()?;
+    let parsed = parsed(alloc, text.as_bytes())?;
     let except = except_of(alloc, "")?;
     let is_read = is_same(&part, &parsed) && has_events(&part, events);
     Some(is_read && is_watched(alloc, &run, &except, (is_certain, verdict)))
