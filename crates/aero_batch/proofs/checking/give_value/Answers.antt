@@ -5,15 +5,15 @@ use Rattle.aero_intake.proofs.Tracked.{set_changed, changed_past}
 use Rattle.aero_intake.specs.Tracks.{with_value}
 use Rattle.aero_batch.proofs.checking.give_value.Goals as goal
 
-pub returns-then-trace-len : goal.returns-then-trace-len
-returns-then-trace-len c =
+pub returns-then-trace-count : goal.returns-then-trace-count
+returns-then-trace-count c =
     let v = c.args.tracks.now in
-    let past : length v.items ≤ c.args.trace = omega (arith, v.ok.0, c.if-trace-len.true, c.len.ensures) in
+    let past : length v.items ≤ c.args.trace = omega (arith, v.ok.0, c.if-trace-count.true, c.len-count.ensures) in
     sym (changed_past v.items c.args.trace (λ t. with_value t c.args.value) past)
 
 pub returns : goal.returns
 returns c =
     let v = c.args.tracks.now in
-    let within : c.args.trace < v.len = omega (arith, c.if-trace-len.false, c.len.ensures) in
+    let within : c.args.trace < v.len = omega (arith, c.if-trace-count.false, c.len-count.ensures) in
     let at = slice_get_read v.items v.len c.args.trace c.index_mut.result.now v.ok.0 within c.index_mut.ensures.value in
     on_ok_weaker c.take_value.result (λ is. set_changed v.items c.args.trace c.index_mut.result.now c.take_value.new.track (λ t. with_value t c.args.value) at is) c.take_value.ensures
