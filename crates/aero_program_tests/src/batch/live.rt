@@ -5,8 +5,8 @@ use crate::batch::habits::Habit;
 use crate::batch::runs::{Who, plan_by, run_planned};
 use crate::batch::streams::BreaksOnce;
 use crate::batch::{
-    EVERYBODY, LIMITED, LINES, ORDER_OF_TWO, WRITTEN_BETWEEN, add_source, limits_of, lines_of,
-    report_by, source_of,
+    CLOSED_BY_AN_END, CROSSED, EVERYBODY, LIMITED, ONE_BLOCK, ORDER_OF_TWO, WRITTEN_BETWEEN,
+    add_source, limits_of, lines_of, report_by, source_of,
 };
 use aero_intake::plan::{Keeping, Plan};
 use aero_intake::source::Source;
@@ -348,8 +348,86 @@ fn has_texts_line<T: AllocGlobal + Threads + Wait + Copy + Send + 'static>(
     limits: Limits,
 ) -> Result<bool, Fail> {
     let text = lines_of(rt.alloc(), text)?;
-    has_line(rt, &text, limits, line.as_bytes())
+    let line = lines_of(rt.alloc(), line)?;
+    has_line(rt, &text, limits, &line)
 }
+
+// Texts, and how what is written of them begins.
+static LINES: [(&str, &str); 25] = [
+    ("", "n: serializable (0 events, 0 blocks)"),
+    (
+        "T1|w(x)|5/T2|r(x)|6",
+        "n: serializable (2 events, 0 blocks)",
+    ),
+    (
+        "T1|w(x)|5\r/T2|r(x)|6\r",
+        "n: serializable (2 events, 0 blocks)",
+    ),
+    (CROSSED, "n: violation at line 6: block of T1 from line 1"),
+    (
+        "T1|begin/T2|begin/T1|w(x)/T2|w(y)/T1|r(y)",
+        "n: no violation, 2 blocks open (5 events, 2 blocks)",
+    ),
+    (
+        "T1|begin/T2|begin/T2|w(y)/T1|w(x)/T2|r(x)/T1|r(y)",
+        "n: no violation, 2 blocks open (6 events, 2 blocks)",
+    ),
+    (
+        CLOSED_BY_AN_END,
+        "n: violation at line 7: block of T2 from line 2",
+    ),
+    (
+        "T1|begin/T2|begin/T3|begin/T2|w(a)/T3|w(b)/T1|w(x)/T2|r(x)/T3|r(x)/T1|r(a)/T1|r(b)/T1|end",
+        "n: violation at line 11: block of T2 from line 2",
+    ),
+    (
+        "T3|begin/T2|begin/T2|w(y)/T1|r(y)/T1|w(v)/T3|w(x)/T2|r(x)/T2|end/T3|r(v)",
+        "n: violation at line 9: block of T3 from line 1",
+    ),
+    (
+        "T1|begin/T1|fork(T2)/T1|join(T2)/T1|end",
+        "n: serializable (4 events, 1 blocks)",
+    ),
+    (
+        "T1|begin/T1|fork(T2)/T2|w(x)/T1|join(T2)/T1|end",
+        "n: violation at line 4: block of T1 from line 1",
+    ),
+    (
+        "T1|begin/T1|acq(l)/T1|rel(l)/T2|acq(l)/T2|rel(l)/T1|acq(l)",
+        "n: violation at line 6: block of T1 from line 1",
+    ),
+    (
+        "T1|begin(a)/T1|begin()/T1|acq(l)/T1|acq(l)/T1|rel(l)/T1|rel(l)/T1|end/T1|end",
+        "n: serializable (8 events, 1 blocks)",
+    ),
+    (
+        "T1|begin/T1|w(y)/T2|r(y)/T2|r(x)/T1|w(x)",
+        "n: violation at line 5: block of T1 from line 1",
+    ),
+    (ONE_BLOCK, "n: serializable (5 events, 1 blocks)"),
+    ("T1|rel(l)", "n:1: ill-formed: LockNotHeld"),
+    ("T1|acq(l)/T2|acq(l)", "n:2: ill-formed: LockHeldByOther"),
+    ("/T1|x(y)", "n:2: malformed: UnknownOperation"),
+    ("T1|r()", "n:1: malformed: MissingTarget"),
+    ("T1|end/T1", "n:1: ill-formed: EndWithoutBegin"),
+    (
+        "T1|join(T9)/T1|join(T9)",
+        "n: serializable (2 events, 0 blocks)",
+    ),
+    (
+        "T1|join(T9)/T1|join(T9)/T9|w(x)",
+        "n:3: ill-formed: ThreadJoined",
+    ),
+    (
+        "T1|join(T9)/T1|join(T9)/T1|fork(T9)",
+        "n:3: ill-formed: ForkStarted",
+    ),
+    ("T1|begin/T1|w(x", "n:2: malformed: BadParenthesis"),
+    (
+        "T1|begin/T2|begin/T1|w(x)/T2|r(x)/T2|w(y)/T1|r(y)/T1",
+        "n: violation at line 6: block of T1 from line 1",
+    ),
+];
 
 #[test]
 fn a_text_has_its_line_where_nothing_is_kept(rt: HostRuntime) -> Result<(), Fail> {
