@@ -11,6 +11,9 @@
 //! let verdict = check_trace(alloc, &parts, &Limits::greatest(), &except)?;
 //! assert!(rt; matches!(verdict, Verdict::Serializable { events: 3, blocks: 1 }));
 //! ```
+//!
+//! `Monitor` is the same check of a trace that comes part by part, and `monitor` shows how a program judges
+//! events with it that it sees.
 #![tactic(auto)]
 
 mod actor;

@@ -1,4 +1,53 @@
 //! The check of a trace that comes part by part.
+//!
+//! A program that judges a run while it goes on sees events and has no text of them. It gathers some in a `Batch`
+//! of aero_grammar and feeds that to a monitor, until the verdict is certain or the run ends. Here two events are
+//! judged at a time, and nothing is judged after an error:
+//!
+//! ```text
+//! // Hands what was gathered to the monitor, and begins to gather anew. The answer says whether the verdict is certain.
+//! fn judge(
+//!     alloc: Global,
+//!     monitor: &mut Monitor<Leads>,
+//!     batch: &mut Batch,
+//!     except: &Except,
+//! ) -> Result<bool, AllocError>
+//!     requires { except.now ≡ monitor.old.rules.labels }
+//!     ensures { monitor.new.rules ≡ monitor.old.rules }
+//! {
+//!     let part = mem::replace(batch, Batch::new(alloc)).into_parsed()?;
+//!     monitor.feed(&part, except)
+//! }
+//!
+//! // Takes the next event of a run.
+//! fn see(
+//!     alloc: Global,
+//!     monitor: &mut Monitor<Leads>,
+//!     batch: &mut Batch,
+//!     event: &Event,
+//!     except: &Except,
+//! ) -> Result<bool, AllocError>
+//!     requires { except.now ≡ monitor.old.rules.labels }
+//!     ensures { monitor.new.rules ≡ monitor.old.rules }
+//! {
+//!     batch.push(event)?;
+//!     if batch.lines() < 2 {
+//!         return Ok(false);
+//!     }
+//!     judge(alloc, monitor, batch, except)
+//! }
+//!
+//! let mut monitor = Monitor::<Leads>::new(alloc, &Limits::greatest(), &except);
+//! let mut batch = Batch::new(alloc);
+//! for event in run {
+//!     if see(alloc, &mut monitor, &mut batch, event, &except)? {
+//!         break;
+//!     }
+//! }
+//! judge(alloc, &mut monitor, &mut batch, &except)?;
+//! let is_certain = monitor.certain().is_some();
+//! let verdict = monitor.finish()?;
+//! ```
 ghost use Rattle.std.specs.Prelude.{◌≡◌, ◌+◌, ◌++◌, ◌∷◌, [], ◌<◌, ◌≤◌, ◌↔◌, ℕ, List, true, false, is_some, Some, Ok, IsTrue, IfOk, IfSome, OnErr, option_map};
 ghost use Rattle.aero_grammar.specs.Reading.{Reading};
 ghost use Rattle.aero_model.specs.Verdicts.{HasOwnFault};
