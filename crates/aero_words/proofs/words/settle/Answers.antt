@@ -9,7 +9,8 @@ returns c = record {
   piece = c.number_in-piece.ensures.told;
   except = rw c.in_ok-except.ensures.same (c.in_ok-labels_of.ensures
       ∙ texts_read (found_of c.args.matches.now) (codes "except") c.get_strs-2.result c.unwrap_or-labels.result _ c.get_strs-2.ensures c.unwrap_or-labels.ensures refl);
-  order = c.flag_in.ensures;
+  order = c.in_ok-order.ensures.order;
+  long = c.in_ok-order.ensures.long;
   progress = c.progress_in.ensures;
   files = c.in_ok-files.ensures
       ∙ texts_read (found_of c.args.matches.now) (codes "files") c.get_strs.result c.unwrap_or-given.result _ c.get_strs.ensures c.unwrap_or-given.ensures refl;
