@@ -56,8 +56,8 @@ comes next, of those before which nothing is left that must come first";
 
 pub const LONG: &str = "A source may have up to 4000000000 lines, of any number of bytes";
 
-pub const LONG_LONG: &str = "A source may have up to 4000000000 lines, of any number of bytes: up to
-70368744177664, which so many lines never have. Without this option
+pub const LONG_LONG: &str = "A source may have up to 4000000000 lines, of any number of bytes: up
+to 70368744177664, which so many lines never have. Without this option
 a source of over 1073741824 bytes is too large. Not with --order, for
 which all of a trace is kept in memory";
 
