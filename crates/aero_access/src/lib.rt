@@ -26,6 +26,23 @@
 //! // Thread 0's block comes before what thread 1 wrote, and after it.
 //! assert_eq!(rt; clocks.read(0, 8), Ok(Some(0)));
 //! ```
+//!
+//! # What is proved
+//!
+//! All is said of each well-formed trace for which the clocks stand. New ones stand for no event: `Clocks::new`,
+//! `stands`.
+//!
+//! - After an event a thread is answered exactly where the event closes the first telling cycle, and it is the opener.
+//!   Where none is answered, the clocks stand for the longer trace. So of every event but an outermost end: `follows`
+//!   of `read`, `write`, `acquire`, `release`, `fork`, `join`, `begin` and `plain`.
+//! - After a thread was answered, and after a refused call, the tests `in_block`, `begins` and `acted` answer as
+//!   before. After a refusal each later call refuses: `answers` of the same calls.
+//! - While no memory was refused, the slots whose clocks count an open block are listed, each once, the threads first
+//!   and rising: `led`, `led_slot`.
+//! - For the end of a block: a slot takes the clock of the block's thread, or the thread whose block closes is
+//!   answered, and the block is closed. By `absorb`, `told` and `absorbed`; `close_block`, `closes`.
+//! - Laws of the rules over whole runs. Clocks exist, count exactly the blocks that lead to an event, miss nothing, and
+//!   name the opener. What is judged begins a telling cycle, and a begin clock is a test: `laws`.
 #![tactic(auto)]
 
 mod changes;

@@ -17,6 +17,16 @@
 //! clocks.read(0, 1)?;
 //! assert_eq!(rt; end(&mut clocks, 0), Ok(Some(1)));
 //! ```
+//!
+//! # What is proved
+//!
+//! - After an outermost end a thread is answered exactly where the end closes the first telling cycle. It is the
+//!   opener: of several such threads the least. Where none is answered, the clocks stand for the longer trace: `end`,
+//!   `follows`.
+//! - After a thread was answered, and after a refused call, the tests of the clocks answer as before. After a refusal
+//!   each later call refuses: `end`, `answers`.
+//! - What the block leads to takes the clock of its thread, the threads first, up to one whose block closes: `spread`
+//!   (private), `named` and `spreads`.
 #![tactic(auto)]
 
 ghost use Rattle.std.specs.Prelude.{◌≡◌, ◌++◌, ◌∷◌, [], ℕ, true, None, Some, List, length, IfOk, OnErr};

@@ -23,6 +23,21 @@
 //! assert!(rt; parsed.threads.name(event.thread) == Some(b"T1"));
 //! assert_eq!(rt; parsed.fault, Some((3, LineFault::NoOperation)));
 //! ```
+//!
+//! # What is proved
+//!
+//! - A line's event is answered, or that the line is blank, or its first fault, and nothing else: `parse_line`.
+//! - A block is read as the definition says, up to its first fault, and is refused only where it has an event:
+//!   `parse_block`, `reading`, `lines`, `refused`.
+//! - Its tables have the names and labels in order of first appearance, none twice and none that no event has. Its
+//!   events stand by places in them: the view and the invariant of `Parsed`.
+//! - A `LineEvent` is the line and the event that it is made of, and gives them back: `LineEvent::new`, `parts`.
+//! - A `Batch` reads as the lines that were put in, in that order, each an event or blank: `Batch::push`, `push_blank`,
+//!   `said`. `into_parsed` gives just that reading (`said`), and `lines` counts the lines.
+//! - Once a line was refused, each later `push` and `push_blank` refuses, and so does `into_parsed`: `fresh`, `spent`,
+//!   `stays`.
+//! - Blocks of whole lines read, one after the other, as their join. A text reads as its front up to where a line is
+//!   too long: `laws`.
 #![tactic(auto)]
 
 pub mod batch;

@@ -1,3 +1,7 @@
+-- To be believed: Standing (for which trace Leads stands), with States and Leads (what that asks of what is kept). What
+-- is to be told is said by Judgement of aero_access.
+-- For proofs alone: Marks and Steps (what an event takes and changes), Indexed, Listed, Seen, Lows, and what Standing
+-- and States don't name of Kept.
 pub mod Leads
 pub mod Marks
 pub mod Steps

@@ -28,6 +28,16 @@
 //! leads.read(0, 1)?;
 //! assert_eq!(rt; leads.end(0), Ok(Some(1)));
 //! ```
+//!
+//! # What is proved
+//!
+//! All is said of each well-formed trace for which `Leads` stands. A new one stands for no event: `Leads::new`.
+//!
+//! - After an event a thread is answered exactly where the event closes the first telling cycle, and it is the opener,
+//!   at an end the least. Where none is answered, `Leads` stands for the longer trace. So of every event, an outermost
+//!   end among them: `follows` of `read`, `write`, `acquire`, `release`, `fork`, `join`, `begin`, `plain` and `end`.
+//! - After a thread was answered, and after a refused call, the tests `in_block`, `begins` and `acted` answer as
+//!   before. After a refusal each later call refuses: `answers` of the same calls.
 #![tactic(auto)]
 
 mod index;

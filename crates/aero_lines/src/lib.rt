@@ -12,6 +12,16 @@
 //! cutter.feed(b"c\nd")?;  // Some block of b"abc\n"
 //! cutter.finish()?;       // Some block of b"d"
 //! ```
+//!
+//! # What is proved
+//!
+//! - A piece gives the block that the definition says, and the cutter then keeps what the definition says. A refused
+//!   call changes nothing, and no call is refused once a line was too long: `Cutter::feed`, `block`, `after`,
+//!   `refused`, `shut`.
+//! - The end gives the last block, and is never refused: `Cutter::finish`, `last`.
+//! - A block has at most 4,096 bytes more than its piece, and the last one at most 4,096: `few` of both.
+//! - However a text was cut into pieces, the blocks joined are the text, or its front up to the first 4,097 bytes of a
+//!   line that is too long. Each block but the last ends a line: `laws::the_blocks_are_the_text`.
 #![tactic(auto)]
 
 pub mod cutter;

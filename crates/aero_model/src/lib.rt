@@ -10,6 +10,27 @@
 //! let name = Name::read(alloc, b"T1")?;
 //! assert_eq!(rt; name.bytes(), b"T1");
 //! ```
+//!
+//! # What is proved
+//!
+//! - A name that is read is the bytes given, or has their first fault. Memory is refused only to a name of more than 16
+//!   bytes: `Name::read`.
+//! - Limits are made exactly where none is 0 or above the greatest of its kind: `Limits::new`, `within`. What the
+//!   greatest are, and those of long sources, is said by the clauses of `Limits::greatest` and `Limits::long`.
+//! - A list of labels is made exactly of up to 64, and has exactly those: `Except::new`, `few` and `labels`; `has`,
+//!   `has_bytes`, `has_same_labels`. A `SharedExcept` is the list that it was made of: `new`, `share`, `get`.
+//! - Of a `Counting` one number rises by 1 exactly where a read or a write failed. A write that takes none of some
+//!   bytes counts as failed. The other rises by 1 exactly where a read found the end. The bytes are those of what is
+//!   within, and a flush changes neither number: `read`, `write`, `flush`; `bytes`, `faults`, `ends`.
+//! - Laws on cycles. A telling cycle is a cycle, and it stays one. Where all transactions have ended each cycle shows
+//!   as a telling one, and a cycle that doesn't passes two open blocks. The first telling cycles begin in open blocks.
+//!   The open blocks are those of threads in a block, and where none is counted as open all have ended.
+//! - Laws on exempt blocks. Where none is exempt a trace is judged as it was read. The judged depth counts the blocks
+//!   that aren't exempt. A well-formed trace is judged as one.
+//! - Laws on serial orders. A trace has one, without doubles. It has every transaction exactly where there is no cycle,
+//!   and each edge between those that it has goes forwards.
+//!
+//! Each law is the contract of one function of `laws`.
 #![tactic(auto)]
 
 pub mod bytes;

@@ -1,3 +1,6 @@
+-- To be believed: Near (near events), Numbers (transactions by numbers, and edges), Order (each time the least that may
+-- come) and Laws. Also Standing (for which trace Transactions stands), with Kept (what is kept of last events).
+-- For proofs alone: Held, Numbering, Waiting, and MarkWords, by which Standing reads the code's tables.
 pub mod Near
 pub mod Order
 pub mod Waiting

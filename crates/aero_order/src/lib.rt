@@ -11,6 +11,17 @@
 //! let order = least_order(alloc, 3, &mut [(0, 2), (2, 1)])?;
 //! assert!(rt; order.as_slice() == [0, 2, 1].as_slice());
 //! ```
+//!
+//! # What is proved
+//!
+//! - Of the numbers below a count, each time the least is next to which no edge leads from one that isn't there yet:
+//!   `least_order`.
+//! - After the events of a well-formed trace there is an order exactly where its graph has no cycle. It has the places
+//!   of the first events of the transactions, in the serial order: `Transactions::order`, `exact` and `serial`; `new`,
+//!   `add`.
+//! - Near events conflict, and in a well-formed trace chains of them lead wherever a conflict does. The order along
+//!   near edges is the serial order. It has every transaction exactly where it is as long as there are transactions:
+//!   `laws`.
 #![tactic(auto)]
 
 mod free;

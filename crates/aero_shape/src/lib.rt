@@ -15,6 +15,19 @@
 //! assert_eq!(rt; shape.admit(&begin, false), Ok(Admitted::OuterBegin));
 //! assert_eq!(rt; shape.admitted(), 2);
 //! ```
+//!
+//! # What is proved
+//!
+//! All is said of each list of events, each exempt or not, for which the shape stands. A new one stands for no event,
+//! and an admitted event is added to the list: `Shape::new`; `Shape::admit`, `ok`.
+//!
+//! - An event is refused exactly where it isn't well-formed after those admitted before it, with the first cause, but
+//!   for want of memory. What it is admitted as is what it is as judged: exempt begins, and the ends that match them,
+//!   open and close no block. By `Shape::admit`, `told`.
+//! - A refusal changes nothing: `err`.
+//! - Memory isn't refused to an event whose numbers are reached by those of admitted events, if it is no exempt begin:
+//!   `room`.
+//! - No limit on threads or names is looked at here: `threads_unlimited`, `names_unlimited`.
 #![tactic(auto)]
 
 pub mod admission;

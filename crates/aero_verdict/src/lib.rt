@@ -14,6 +14,31 @@
 //!
 //! `Monitor` is the same check of a trace that comes part by part, and `monitor` shows how a program judges
 //! events with it that it sees.
+//!
+//! # What is proved
+//!
+//! - The verdict is exact for all parts, limits and labels. It is the first malformed line or ill-formed event; or a
+//!   violation at the first event with which a telling cycle closes, and its opener; or the counts. No fault of it is
+//!   want of memory. By `check_trace`, and by any engine `check_trace_by`: `verdict`, `own_fault`.
+//! - The same of a trace that comes part by part. A `Monitor` has exactly the rules that it was made with and the parts
+//!   that it was fed, in that order: `Monitor::new`, `rules`, `none`; `feed`, `rules`, `fed`.
+//! - `feed` answers whether the verdict is certain: then something is wrong, and the verdict is this whatever follows.
+//!   It stays certain, also where memory is refused. Else nothing is wrong yet, but for one line too many at most:
+//!   `told`, `certain`, `going_on`, `stays`.
+//! - `certain` gives that verdict, if there is one: `same`, `certain`.
+//! - `finish` gives the verdict on exactly the parts that were fed: `verdict`, `own_fault`. It refuses only a monitor
+//!   that is spent, as `feed` leaves it where memory was refused: `spent` of both.
+//! - `check_trace`, `check_trace_by`, `check_trace_in_order` and `serial_order` feed their parts to a monitor:
+//!   `feed_all`.
+//! - There is a serial order exactly where the verdict is `Serializable` or `Pending` and the graph has no cycle. It is
+//!   told by the lines of first events: `serial_order`, `exact`, `serializable`, `lines`.
+//! - `check_trace_in_order` gives the verdict, and exactly where it is `Serializable` the transactions in the serial
+//!   order. Each is told by the line and the thread of its first event: `told`, `own_fault`.
+//! - The actor of the event on a line is answered, whatever the limits, if there is one: `actor_at`.
+//! - `Leads` and `Clocks` are engines, and so is `InOrder` (private), first places with the transactions: of the events
+//!   that each is given it tells what the definitions say. By `Engine::judge`.
+//! - Parts have one verdict. `Serializable` means that there is no cycle at all, a violation that there is one, and
+//!   with open blocks each cycle passes two of them: `laws`.
 #![tactic(auto)]
 
 mod actor;
