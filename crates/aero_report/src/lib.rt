@@ -16,6 +16,14 @@
 //!     // Only the first `cut.written` bytes of the text went out.
 //! }
 //! ```
+//!
+//! # What is proved
+//!
+//! - The line of a source, with its name, its finding and the steps of its order, is byte by byte as defined:
+//!   `trace_text`.
+//! - So is the summary of what was counted: `summary_text`.
+//! - All bytes go out, or exactly the prefix that is told, and then a write failed: `put`, `all_written`, `no_fault`;
+//!   `cut_written`, `cut_short`, `cut_at_fault`.
 #![tactic(auto)]
 
 mod output;
