@@ -1,3 +1,5 @@
+-- To be believed: Values (what the value of a question is), Schedule (what may happen to questions, answers and jobs),
+-- Kept (what every schedule keeps) and Laws. Nothing here serves proofs alone.
 pub mod Kept
 pub mod Laws
 pub mod Schedule

@@ -14,6 +14,17 @@
 //! let answer = Question::answer(&question, alloc)?;
 //! assert!(rt; same(answer.question(), &question));
 //! ```
+//!
+//! # What is proved
+//!
+//! - The value of a question is what its block says, or the finding on its trace, as the definitions say:
+//!   `Question::value`.
+//! - An answer carries its question with such a value: `Question::answer`. Nobody can make one that lies: the invariant
+//!   of `Answer`, and `Answer::value` and `into_value`, `known`.
+//! - Two questions are the same exactly where their content is: `same`.
+//! - `laws` speak of every schedule of questions and jobs, with answers that are lost, repeated or forged. Values come
+//!   in the order asked: `values_are_given_in_the_order_of_the_questions`.
+//! - Each job posted is in the queue, in one hand or taken back: `each_posted_job_is_in_one_place`.
 #![tactic(auto)]
 
 pub mod answer;
