@@ -8,6 +8,26 @@
 //! Who reads the blocks, and in what order, is for the crates above.
 //!
 //! `laws` says that the blocks of a source have the verdict of its text, however its bytes came.
+//!
+//! # What is proved
+//!
+//! - A plan is made exactly within its ranges, and has what it was made with. It keeps 1,048,576 events of a source at
+//!   most, and 65,536 of the last: `Plan::new`, `within`, `events`, `last_events`, and a clause for each field.
+//! - Another `Keeping` changes nothing else: `Plan::with_keeping`. It has a number for the last source, and one for
+//!   each other: `Keeping::most`.
+//! - A read of a source is one step. A source is broken exactly where a read failed, and whole exactly where one found
+//!   the end; then nothing is left of bytes that the reader's type tells. It is too large after one byte more than the
+//!   limit: `Intake::take`.
+//! - What came is held in the order in which it came, until it is cut. Then its block is the cutter's: `Intake::take`,
+//!   `cut`, `block`, `after`; `finish`, `last`.
+//! - A cut that is refused changes nothing: `cut`, `refused`. After the last block another source may be read, of which
+//!   nothing has come: `finish`, `fresh`.
+//! - A `Live` has exactly the parts that came, in order, under the plan's limits and labels: `Live::new`, `feed`,
+//!   `parts`, `rules`; `len`. `finish` gives the verdict on exactly them.
+//! - Kept or judged as they came, the parts of a source are those that its blocks gave: `Readings::new`, `add`, `len`.
+//! - A whole source is judged by its parts themselves, or has the verdict on them: `Readings::into_judged`.
+//! - However its bytes came, the blocks of a source have the verdicts and orders of its text. After a malformed line,
+//!   or one too many, later blocks don't count: `laws`.
 #![tactic(auto)]
 
 pub mod intake;
