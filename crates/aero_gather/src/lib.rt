@@ -17,6 +17,18 @@
 //! gather.accept(answer_of_first);
 //! let value_of_first = gather.settle()?;
 //! ```
+//!
+//! # What is proved
+//!
+//! - A question is asked exactly where the window has room, and the ticket has its number. A refused one is given back,
+//!   and nothing changes: `Gather::ask`, `ticket`, `room`, `asked`, `full`, `unchanged`, `returned`.
+//! - An answer is kept for the oldest open question of the same content that waits for one: `accept`.
+//! - Values are given in the order asked, each a value of its question, and on request the question with it: `settle`,
+//!   `settle_with_question`, `settled`, `known`, `question`. A refused call changes nothing: `unchanged`.
+//! - A note that a question's answer is missed says whether it was news: `note_missed`, `news`, `noted`.
+//! - How the oldest question stands, which it is, and the counts are as defined: `oldest`, `front`, `tally`.
+//! - Each call is a step of the schedule of which the laws of `aero_pieces` speak, and the values come in the order of
+//!   the questions: `laws`.
 #![tactic(auto)]
 
 pub mod gather;
