@@ -22,6 +22,19 @@
 //! poster.rejoin(taker);
 //! assert!(rt; poster.take_back(&rt).is_none());
 //! ```
+//!
+//! # What is proved
+//!
+//! - On one queue each job posted is in the queue, was taken back or is in one taker's hand. It is there as often as it
+//!   was posted, in the order of the posts: `stage`; `Poster::post`, `stop`, `take_back`, `rejoin`; `Taker::take`.
+//! - Each take hands out the front of the queue: `Taker::take`, `took`; `take_back`, `back`.
+//! - `Full` and `None` come only where the queue was full, or empty, at a moment of the call, as far as the poster can
+//!   know: `post`, `full`; `stop`; `take_back`, `empty`.
+//! - After `None` every take gives `None`: `Taker::take`, `over` and `took`.
+//! - A new queue is the start of a schedule, and each change of it a step, of which the laws of `aero_pieces` speak:
+//!   `laws`.
+//!
+//! No contract says that `Poster::post`, `stop`, `take_back` or `Taker::take` returns.
 #![tactic(auto)]
 
 mod ends;
