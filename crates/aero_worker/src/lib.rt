@@ -29,6 +29,19 @@
 //! }
 //! let CrewReport { by_worker, left } = crew.close(&rt);
 //! ```
+//!
+//! # What is proved
+//!
+//! - A crew has no more workers than asked for, and says how many it has: `Crew::start`, `start_with`, `workers`.
+//! - A job posted is noted by its number. One that isn't is given back, nothing changes, and at least 64 were posted
+//!   before: `Crew::post`, `posted`, `full`, `places`.
+//! - After a crew is closed, its workers' lists, one a worker, and what was left have together each number as often as
+//!   it was posted: `Crew::close`, `workers`, `each`.
+//! - Each of these lists is in the order of the posts: `Crew::close`, `left`, `by_worker`. Where the numbers posted
+//!   rise so does each list: `laws`.
+//!
+//! No contract says that `Crew::start`, `start_with`, `post`, `next_answer` or `close` returns. `ready_answer` and
+//! `let_go` wait for no message, but that they return isn't proved.
 #![tactic(auto)]
 
 mod crew;
