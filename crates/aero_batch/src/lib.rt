@@ -22,6 +22,26 @@
 //! // a: serializable (3 events, 1 blocks)
 //! // traces 1: serializable 1, open 0, violations 0, faults 0
 //! ```
+//!
+//! # What is proved
+//!
+//! - The headline. For every list of sources, every cutting of their bytes, every number of workers and every order of
+//!   answers, a run without refusal writes the report of what was read. It is the clause `ran` of `run` and of
+//!   `run_over`, over `WasRun`.
+//! - That is the first malformed line or ill-formed event with its cause, or a violation with its opening block, or else
+//!   the counts. A violation is reported at exactly the first event up to which the transaction graph has a telling
+//!   cycle: `ran`.
+//! - Where an order is asked for, the line of a serializable trace has its transactions under it: `ran`.
+//! - After a refusal of memory exactly the lines of the first sources stand there. After a failed write a proper part
+//!   of the next text follows: `ran`.
+//! - It holds of each run that returns, whichever answers come, in whatever order, lost, repeated or forged. Any
+//!   `Helpers` may give them, of which a `Crew` is one, or nobody: `run_over`.
+//! - After 1,024 replies in a row that were of no use, the oldest question of the kind that is awaited is given up and
+//!   answered here: `is_patient`, `useless_after`, `give_up` (private).
+//! - A run says how many helpers it had: `workers`. Answers kept and values worked out here are no more than the
+//!   questions, and as many where nothing was refused: `tallied`, `all_settled`.
+//!
+//! No contract says that `run` or `run_over` returns.
 #![tactic(auto)]
 
 mod checking;
