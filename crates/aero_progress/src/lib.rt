@@ -14,6 +14,21 @@
 //!     ticker.stop(&rt);
 //! }
 //! ```
+//!
+//! # What is proved
+//!
+//! - A read adds so many bytes, and a source exactly where it finds the end or fails otherwise than by an interruption:
+//!   `gain_of`, `bytes`, `ends`, `fails`; `gain_of_failure`.
+//! - The text of the line is byte by byte as defined: `text_of`.
+//! - A line that is shown stands, and its text went out whole where the call succeeds. Once it is over none is shown:
+//!   `Line::show`, `shown`, `stands`, `over`.
+//! - What clears it goes out only where it stands: `Line::clear`, `cleared`, `untouched`. `end` clears it too, and then
+//!   it is over: `cleared`, `is_over`.
+//! - A `Metered` reader, and a writer that is `Beside` the line, read and write as the one within, where its type tells
+//!   its bytes: `read`, `write`, `flush`, by `bytes`.
+//!
+//! No contract says that `Ticker::stop`, the thread of `Ticker::start` or a write of a `Beside` returns, nor when the
+//! line is written.
 #![tactic(auto)]
 
 pub mod beside;
