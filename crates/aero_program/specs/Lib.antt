@@ -1,3 +1,6 @@
+-- To be believed: Answers (what goes out, and the exit status), with Failure, Status, Streams and Notes. Also Command
+-- (the limits and the line on progress), Inputs (files and standard input), Retries and Calls (calls that were
+-- interrupted), Starts, Reasons and Sightings. Nothing here serves proofs alone.
 pub mod Answers
 pub mod Calls
 pub mod Command

@@ -11,6 +11,33 @@
 //! let mut errors = Counting::new(Retrying::new(rt.stderr()));
 //! answer(rt, rt.alloc(), asked, &FilesOf::new(rt), rt.stdin(), &mut output, &mut errors)
 //! ```
+//!
+//! # What is proved
+//!
+//! - What goes out on standard output and standard error, and the exit status, are as defined, whatever fails:
+//!   `answer`. No contract says that it returns.
+//! - The status after a run and a flush, or why the program fails: `status`, `status_after`. The line and the status of
+//!   each failure: `Failure::line`, `status`.
+//! - A plan is what the command line asks for, with its labels. Its limits are the greatest, or those of long sources
+//!   where `Config.long` is set: `Config::into_plan`, `limits`, and a clause for each other field.
+//! - A `Config` lies within its ranges, and never has both `long` and `order`: `no_long_order`.
+//! - There is a source for each word, named as it, whose reader stands unopened for that word's file. Without words it
+//!   is standard input: `sources_of`, `names`, `readers`, `sighted`.
+//! - A read of standard input fails exactly where the stream does, interruptions apart, or where it is given up. It
+//!   finds the end exactly where the stream does: `Input::standard`, `read`, `steps`.
+//! - A file is opened at its first read, by any `Opener`, and after a failed open each read fails: `Input::path`,
+//!   `read`, `steps`.
+//! - An input notes its first three bytes and its first failure: `Input::read`, `start`, `reason`.
+//! - A call through `Retrying` is done exactly where one call of the stream was done, and once. It fails exactly where
+//!   one failed otherwise than by an interruption, or after 2^64 - 1 interruptions: `Retrying`: `read`, `write`,
+//!   `flush`.
+//! - It never fails with an interruption, and finds the end exactly where the stream does. What is read or written is
+//!   the stream's, where its type tells its bytes: `lasting`, `idle`, `bytes`.
+//! - The notes on byte order marks and failed reads: `notes_of`. The system's words: `Reason::of`, `words`.
+//! - After how many milliseconds the line on progress is shown first, if ever: `Progress::first_after`.
+//!
+//! No contract says which bytes the files of an `Opener` have. Of `FilesOf` and `MeteredFiles` none says more than the
+//! types of their files do: a `Metered` one reads as the file within.
 #![tactic(auto)]
 
 pub mod answer;
