@@ -11,6 +11,12 @@
 //! The sources are the files that the command line names, or else standard input. `aero_words` reads
 //! the command line, and `aero_program::answer` does what it asks for, beside the line on progress of
 //! `aero_progress`.
+//!
+//! # What is proved
+//!
+//! Every function is safe on every input. No contract says what `main` does: tests of the built program show it. What
+//! its parts do is proved in `aero_words`, `aero_program` and the crates below them. That the program ends isn't
+//! proved: some of its calls may wait.
 #![tactic(auto)]
 
 use aero_model::counting::Counting;
