@@ -28,9 +28,9 @@
 //! - The headline. For every list of sources, every cutting of their bytes, every number of workers and every order of
 //!   answers, a run without refusal writes the report of what was read. It is the clause `ran` of `run` and of
 //!   `run_over`, over `WasRun`.
-//! - That is the first malformed line or ill-formed event with its cause, or a violation with its opening block, or else
-//!   the counts. A violation is reported at exactly the first event up to which the transaction graph has a telling
-//!   cycle: `ran`.
+//! - That is the first malformed line or ill-formed event with its cause, or a violation with its opening block, or
+//!   else the counts. A violation is reported at exactly the first event up to which the transaction graph has a
+//!   telling cycle: `ran`.
 //! - Where an order is asked for, the line of a serializable trace has its transactions under it: `ran`.
 //! - After a refusal of memory exactly the lines of the first sources stand there. After a failed write a proper part
 //!   of the next text follows: `ran`.

@@ -13,7 +13,7 @@
 //! # What is proved
 //!
 //! - A command line that is taken asks for 1 to 16 workers, reads of 1 to 1,048,576 bytes, at most 64 labels and at
-//!   most 65,536 files: `settle_words`, by the type `Config`.
+//!   most 65,536 files: `settle_words`, `Config`.
 //! - `--long` and `--order` are never both taken: `Config`, `no_long_order`.
 //! - What it asks for is what the options have on these words, defaults included, by `clap`'s definitions of how words
 //!   are read. So it is with each number, the labels, the files, `--order`, `--long`, and when the line on progress is
