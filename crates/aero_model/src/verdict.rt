@@ -1,4 +1,5 @@
 //! Faults, verdicts and findings.
+use crate::event::Event;
 use crate::name::Name;
 use thiserror::Error;
 
@@ -94,6 +95,22 @@ pub struct Step {
     pub thread: Name,
 }
 
+/// An event of a telling cycle: its line, the line of the first event of its transaction, both from 1, and what it says.
+#[derive(Drop)]
+pub struct CycleStep {
+    pub line: u32,
+    pub first: u32,
+    pub event: Event,
+}
+
+/// What shows a violation: the label of the block that the verdict names, if it has one, and the events of a telling
+/// cycle that begins in it, in the order in which it is gone round.
+#[derive(Drop)]
+pub struct Cycle {
+    pub label: Option<Name>,
+    pub steps: Vec<CycleStep>,
+}
+
 /// How the reading of a source ended.
 #[derive(Clone, Copy, Debug, PartialEq, Eq)]
 pub enum Ending {
@@ -109,6 +126,8 @@ pub enum Finding {
     Judged(Verdict),
     /// The verdict, which is `Serializable`, and the transactions in the serial order.
     Ordered(Verdict, Vec<Step>),
+    /// The verdict, which is `Violation`, and a telling cycle.
+    Explained(Verdict, Cycle),
     Broken(u64),
     TooLarge,
 }

@@ -1,14 +1,16 @@
 -- The definitions at values that are known from elsewhere.
-use Rattle.std.proofs.Common.{◌≡◌, [], ◌∷◌, ◌++◌, refl, ap}
+use Rattle.std.proofs.Common.{◌≡◌, [], ◌∷◌, ◌++◌, refl, ap, ap₂}
 use Rattle.std.specs.Fmt.{digits}
-use Rattle.std.specs.Prelude.{codes, flat_map, Vec}
+use Rattle.std.specs.Prelude.{codes, flat_map, Vec, Some, None}
 use Rattle.std.specs.Global.{Global}
 use Rattle.aero_model.specs.declared.verdict.Step.{Step}
+use Rattle.aero_model.specs.declared.verdict.Cycle.{Cycle}
+use Rattle.aero_model.specs.declared.event.Op.TheVariants.{Write, Begin, Join}
 use Rattle.aero_model.specs.declared.verdict.LineFault.TheVariants as line_faults
 use Rattle.aero_model.specs.declared.verdict.ShapeFault.TheVariants as shape_faults
 use Rattle.aero_model.specs.declared.verdict.Verdict.TheVariants.{Serializable, Pending, Violation, Malformed, IllFormed}
-use Rattle.aero_model.specs.declared.verdict.Finding.TheVariants.{Judged, Ordered, Broken, TooLarge}
-use Rattle.aero_report.specs.Texts.{step_line, source_line, summary_line, no_counts, counts_of, report}
+use Rattle.aero_model.specs.declared.verdict.Finding.TheVariants.{Judged, Ordered, Explained, Broken, TooLarge}
+use Rattle.aero_report.specs.Texts.{cycle_line, label_line, step_line, source_line, summary_line, no_counts, counts_of, report}
 
 broken : source_line (codes "n") (Broken 20) ≡ codes "n: broken after 20 bytes" ++ 10 ∷ []
 unfolding digits
@@ -42,6 +44,15 @@ two_steps : (steps : Vec Step Global) → steps.items ≡ (record { line = 2; th
     → source_line (codes "n") (Ordered (Serializable 4 1) steps) ≡ codes "n: serializable (4 events, 1 blocks)" ++ 10 ∷ codes "  2 T2" ++ 10 ∷ codes "  1 T1" ++ 10 ∷ []
 unfolding digits
 two_steps steps is = ap (λ s. codes "n: serializable (4 events, 1 blocks)" ++ 10 ∷ flat_map step_line s) is
+
+three_steps : (cycle : Cycle) → cycle.label ≡ Some (codes "f")
+    → cycle.steps.items ≡ (record { line = 4; first = 1; event = record { thread = codes "T1"; op = Write; target = Some (codes "x") } })
+    ∷ (record { line = 5; first = 5; event = record { thread = codes "T2"; op = Begin; target = None } })
+    ∷ (record { line = 6; first = 1; event = record { thread = codes "T1"; op = Join; target = Some (codes "T2") } }) ∷ []
+    → source_line (codes "n") (Explained (Violation 6 (codes "T1") 1) cycle)
+    ≡ codes "n: violation at line 6: block of T1 from line 1" ++ 10 ∷ codes "  label f" ++ 10 ∷ codes "  4 1 T1|w(x)" ++ 10 ∷ codes "  5 5 T2|begin" ++ 10 ∷ codes "  6 1 T1|join(T2)" ++ 10 ∷ []
+unfolding digits
+three_steps cycle labelled is = ap₂ (λ l s. codes "n: violation at line 6: block of T1 from line 1" ++ 10 ∷ (label_line l ++ flat_map cycle_line s)) labelled is
 
 malformed : source_line (codes "n") (Judged (Malformed 2 line_faults.BadParenthesis)) ≡ codes "n:2: malformed: BadParenthesis" ++ 10 ∷ []
 unfolding digits

@@ -1,5 +1,5 @@
 -- The lines of the report, byte by byte, each with the byte 10 that ends it. Names stand as their bytes.
-use Rattle.std.specs.Prelude.{ℕ, ◌+◌, List, [], ◌∷◌, ◌++◌, map, flat_map, fold, codes, decimal}
+use Rattle.std.specs.Prelude.{ℕ, ◌+◌, List, [], ◌∷◌, ◌++◌, Option, Some, None, map, flat_map, fold, codes, decimal}
 use Rattle.aero_model.specs.declared.verdict.LineFault.{LineFault}
 use Rattle.aero_model.specs.declared.verdict.LineFault.TheVariants as line_faults
 use Rattle.aero_model.specs.declared.verdict.ShapeFault.{ShapeFault}
@@ -7,8 +7,12 @@ use Rattle.aero_model.specs.declared.verdict.ShapeFault.TheVariants as shape_fau
 use Rattle.aero_model.specs.declared.verdict.Verdict.{Verdict}
 use Rattle.aero_model.specs.declared.verdict.Verdict.TheVariants.{Serializable, Pending, Violation, Malformed, IllFormed}
 use Rattle.aero_model.specs.declared.verdict.Step.{Step}
+use Rattle.aero_model.specs.declared.verdict.CycleStep.{CycleStep}
 use Rattle.aero_model.specs.declared.verdict.Finding.{Finding}
-use Rattle.aero_model.specs.declared.verdict.Finding.TheVariants.{Judged, Ordered, Broken, TooLarge}
+use Rattle.aero_model.specs.declared.verdict.Finding.TheVariants.{Judged, Ordered, Explained, Broken, TooLarge}
+use Rattle.aero_model.specs.declared.event.Op.{Op}
+use Rattle.aero_model.specs.declared.event.Op.TheVariants as ops
+use Rattle.aero_model.specs.Named.{Named}
 use Rattle.aero_model.specs.declared.verdict.Counts.{Counts}
 
 abbrev pub line_fault_name : LineFault → List ℕ
@@ -50,6 +54,7 @@ verdict_text (IllFormed line fault) = codes ":" ++ decimal line ++ codes ": ill-
 abbrev pub finding_text : Finding → List ℕ
 finding_text (Judged verdict) = verdict_text verdict
 finding_text (Ordered verdict steps) = verdict_text verdict
+finding_text (Explained verdict cycle) = verdict_text verdict
 finding_text (Broken bytes) = codes ": broken after " ++ decimal bytes ++ codes " bytes"
 finding_text TooLarge = codes ": too large"
 
@@ -57,14 +62,42 @@ finding_text TooLarge = codes ": too large"
 abbrev pub step_line : Step → List ℕ
 step_line step = codes "  " ++ decimal step.line ++ codes " " ++ step.thread ++ 10 ∷ []
 
--- the lines of the transactions in order, where the finding has them
+abbrev pub op_name : Op → List ℕ
+op_name ops.Read = codes "r"
+op_name ops.Write = codes "w"
+op_name ops.Acquire = codes "acq"
+op_name ops.Release = codes "rel"
+op_name ops.Fork = codes "fork"
+op_name ops.Join = codes "join"
+op_name ops.Begin = codes "begin"
+op_name ops.End = codes "end"
+
+abbrev pub target_text : Option (List ℕ) → List ℕ
+target_text None = []
+target_text (Some target) = codes "(" ++ (target ++ codes ")")
+
+-- THREAD|OP(TARGET), as a line of a trace has it
+abbrev pub event_text : Named → List ℕ
+event_text event = event.thread ++ (codes "|" ++ (op_name event.op ++ target_text event.target))
+
+-- an event of a cycle: two blanks, its line, a blank, the line of the first event of its transaction, a blank, and what it says
+abbrev pub cycle_line : CycleStep → List ℕ
+cycle_line step = (codes "  " ++ decimal step.line) ++ ((codes " " ++ decimal step.first) ++ (codes " " ++ event_text step.event)) ++ 10 ∷ []
+
+-- the label of the block that is named, if it has one: two blanks, the word label, a blank, and the label
+abbrev pub label_line : Option (List ℕ) → List ℕ
+label_line None = []
+label_line (Some label) = codes "  label " ++ (label ++ codes "\n")
+
+-- the lines of the transactions in order, or of the block's label and the events of a cycle, where the finding has them
 abbrev pub step_lines : Finding → List ℕ
 step_lines (Ordered verdict steps) = flat_map step_line steps.items
+step_lines (Explained verdict cycle) = label_line cycle.label ++ flat_map cycle_line cycle.steps.items
 step_lines (Judged verdict) = []
 step_lines (Broken bytes) = []
 step_lines TooLarge = []
 
--- the line of a source, and behind it those of its transactions in order
+-- the line of a source, and behind it those of its transactions in order, or of the events of its cycle
 abbrev pub source_line : List ℕ → Finding → List ℕ
 source_line name finding = (name ++ finding_text finding ++ 10 ∷ []) ++ step_lines finding
 
@@ -90,6 +123,7 @@ verdict_counted counts (IllFormed line fault) = record counts { faults = counts.
 abbrev pub counted : Counts → Finding → Counts
 counted counts (Judged verdict) = verdict_counted counts verdict
 counted counts (Ordered verdict steps) = verdict_counted counts verdict
+counted counts (Explained verdict cycle) = verdict_counted counts verdict
 counted counts (Broken bytes) = record counts { faults = counts.faults + 1 }
 counted counts TooLarge = record counts { faults = counts.faults + 1 }
 

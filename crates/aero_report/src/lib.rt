@@ -1,7 +1,8 @@
 //! The texts of the report, and the call that writes them.
 //!
 //! `trace_text` makes the line of a source, with its newline: the source's name, then what was
-//! found of it; and behind it the lines of its transactions in order, where the finding has them.
+//! found of it; and behind it the lines of its transactions in order, or of the events of a cycle, where the
+//! finding has them.
 //! `summary_text` makes the last line, which counts what was found. `put` writes a text
 //! to a counting writer, and says how many bytes went out where a write failed. The lines stand byte
 //! by byte in `specs/Texts.antt`.
@@ -19,8 +20,8 @@
 //!
 //! # What is proved
 //!
-//! - The line of a source, with its name, its finding and the steps of its order, is byte by byte as defined:
-//!   `trace_text`.
+//! - The line of a source, with its name, its finding and the steps of its order or of its cycle, is byte by byte as
+//!   defined: `trace_text`.
 //! - So is the summary of what was counted: `summary_text`.
 //! - All bytes go out, or exactly the prefix that is told, and then a write failed: `put`, `all_written`, `no_fault`;
 //!   `cut_written`, `cut_short`, `cut_at_fault`.

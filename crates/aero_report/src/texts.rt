@@ -1,13 +1,15 @@
 //! The text of a finding.
 ghost use Rattle.std.specs.Prelude.{◌≡◌, ◌++◌, codes, decimal, flat_map, IfOk, OnOk};
-ghost use Rattle.aero_report.specs.Texts.{line_fault_name, shape_fault_name, sizes_text, verdict_text, finding_text, step_line, step_lines, source_line};
+ghost use Rattle.aero_report.specs.Texts.{line_fault_name, shape_fault_name, sizes_text, verdict_text, finding_text, op_name, target_text, event_text, cycle_line, label_line, step_line, step_lines, source_line};
 
-use aero_model::verdict::{Finding, LineFault, ShapeFault, Step, Verdict};
+use aero_model::event::{Event, Op};
+use aero_model::name::Name;
+use aero_model::verdict::{Cycle, CycleStep, Finding, LineFault, ShapeFault, Step, Verdict};
 use itoa::Buffer;
 use std::alloc::{AllocError, Global};
 
 /// The line of a source: its name as its bytes stand, what was found of it, and a newline. Where
-/// that has the transactions in order, a line of each follows.
+/// that has the transactions in order, or the events of a cycle, a line of each follows.
 ///
 /// Numbers are decimal, and lines count from 1. Fails only where memory runs out.
 pub fn trace_text(alloc: Global, name: &[u8], finding: &Finding) -> Result<Vec<u8>, AllocError>
@@ -26,6 +28,7 @@ fn append_finding(text: &mut Vec<u8>, finding: &Finding) -> Result<(), AllocErro
     match finding {
         Finding::Judged(verdict) => append_verdict(text, verdict),
         Finding::Ordered(verdict, _) => append_verdict(text, verdict),
+        Finding::Explained(verdict, _) => append_verdict(text, verdict),
         Finding::Broken(bytes) => {
             text.extend_from_slice(b": broken after ")?;
             append_number(text, *bytes)?;
@@ -40,6 +43,7 @@ fn append_steps_of(text: &mut Vec<u8>, finding: &Finding) -> Result<(), AllocErr
 {
     match finding {
         Finding::Ordered(_, steps) => append_steps(text, steps),
+        Finding::Explained(_, cycle) => append_cycle(text, cycle),
         Finding::Judged(_) => Ok(()),
         Finding::Broken(_) => Ok(()),
         Finding::TooLarge => Ok(()),
@@ -64,6 +68,66 @@ fn append_step(text: &mut Vec<u8>, line: u32, thread: &[u8]) -> Result<(), Alloc
     text.extend_from_slice(b" ")?;
     text.extend_from_slice(thread)?;
     text.extend_from_slice(b"\n")
+}
+
+// The label of the block, if it has one, and the events.
+fn append_cycle(text: &mut Vec<u8>, cycle: &Cycle) -> Result<(), AllocError>
+    ensures { OnOk result (text.new.items ≡ text.old.items ++ (label_line cycle.now.label ++ flat_map cycle_line cycle.now.steps.items)) }
+{
+    append_label(text, &cycle.label)?;
+    append_cycle_steps(text, &cycle.steps)
+}
+
+fn append_label(text: &mut Vec<u8>, label: &Option<Name>) -> Result<(), AllocError>
+    ensures { OnOk result (text.new.items ≡ text.old.items ++ label_line label.now) }
+{
+    let Some(label) = label else {
+        return Ok(());
+    };
+    text.extend_from_slice(b"  label ")?;
+    text.extend_from_slice(label.bytes())?;
+    text.extend_from_slice(b"\n")
+}
+
+fn append_cycle_steps(text: &mut Vec<u8>, steps: &[CycleStep]) -> Result<(), AllocError>
+    ensures { OnOk result (text.new.items ≡ text.old.items ++ flat_map cycle_line steps.now) }
+{
+    for step in steps {
+        append_cycle_step(text, step)?;
+    }
+    Ok(())
+}
+
+// The lines of an event of a cycle and of its transaction's first, and what it says.
+fn append_cycle_step(text: &mut Vec<u8>, step: &CycleStep) -> Result<(), AllocError>
+    ensures { OnOk result (text.new.items ≡ text.old.items ++ cycle_line step.now) }
+{
+    append_count(text, b"  ", step.line)?;
+    append_count(text, b" ", step.first)?;
+    text.extend_from_slice(b" ")?;
+    append_event(text, &step.event)?;
+    text.extend_from_slice(b"\n")
+}
+
+// An event as a line of a trace has it.
+fn append_event(text: &mut Vec<u8>, event: &Event) -> Result<(), AllocError>
+    ensures { OnOk result (text.new.items ≡ text.old.items ++ event_text event.now) }
+{
+    text.extend_from_slice(event.thread.bytes())?;
+    text.extend_from_slice(b"|")?;
+    text.extend_from_slice(op_name(event.op))?;
+    append_target(text, &event.target)
+}
+
+fn append_target(text: &mut Vec<u8>, target: &Option<Name>) -> Result<(), AllocError>
+    ensures { OnOk result (text.new.items ≡ text.old.items ++ target_text target.now) }
+{
+    let Some(target) = target else {
+        return Ok(());
+    };
+    text.extend_from_slice(b"(")?;
+    text.extend_from_slice(target.bytes())?;
+    text.extend_from_slice(b")")
 }
 
 fn append_verdict(text: &mut Vec<u8>, verdict: &Verdict) -> Result<(), AllocError>
@@ -166,6 +230,21 @@ pub fn append_number(text: &mut Vec<u8>, number: u64) -> Result<(), AllocError>
 {
     let mut buffer = Buffer::new();
     text.extend_from_slice(buffer.format(number).as_bytes())
+}
+
+fn op_name(op: Op) -> &'static [u8]
+    ensures { result.now ≡ op_name op }
+{
+    match op {
+        Op::Read => b"r",
+        Op::Write => b"w",
+        Op::Acquire => b"acq",
+        Op::Release => b"rel",
+        Op::Fork => b"fork",
+        Op::Join => b"join",
+        Op::Begin => b"begin",
+        Op::End => b"end",
+    }
 }
 
 fn line_fault_name(fault: LineFault) -> &'static [u8]

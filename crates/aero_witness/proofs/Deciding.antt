@@ -1,0 +1,68 @@
+-- The test on two events says whether they conflict.
+use Rattle.std.proofs.Common.{◌≡◌, ℕ, ◌==◌, ◌||◌, true, List, Some, inl, inr, refl, sym, ◌∙◌, ap, ap₂, subst}
+use Rattle.std.specs.Prelude.{slice_get, ◌<◌}
+use Rattle.std.proofs.lemmas.Bool.{or_cases, or_left, or_right, eq-eqb, eqb-true}
+use Rattle.std.proofs.lemmas.Option.{same_Some}
+use Rattle.aero_model.specs.declared.numbered.Numbered.{Numbered}
+use Rattle.aero_model.specs.declared.numbered.What.{What}
+use Rattle.aero_model.specs.declared.numbered.What.TheVariants.{Read, Write, Acquire, Release, Fork, Join}
+use Rattle.aero_model.specs.Graph.{Conflict, Conflicts, same_thread, write_read, read_write, write_write, release_acquire, forks, joined}
+use Rattle.aero_model.specs.Shape.{is_fork_of, is_join_of}
+use Rattle.aero_witness.specs.Deciding.{deeds_conflict, conflicting}
+
+pub fork_is : (u : ℕ) (w : What) → is_fork_of u w ≡ true → w ≡ Fork u
+fork_is u (Fork v) h = ap Fork (sym (eqb-true u v h))
+fork_is u _ h = cc
+
+join_is : (u : ℕ) (w : What) → is_join_of u w ≡ true → w ≡ Join u
+join_is u (Join v) h = ap Join (sym (eqb-true u v h))
+join_is u _ h = cc
+
+module _ (a b : Numbered) where
+  from_deeds : (v w : What) → a.what ≡ v → b.what ≡ w → deeds_conflict v w ≡ true → Conflicts a b
+  from_deeds (Write x) (Read y) p q h = write_read x p (q ∙ ap Read (sym (eqb-true x y h)))
+  from_deeds (Read x) (Write y) p q h = read_write x p (q ∙ ap Write (sym (eqb-true x y h)))
+  from_deeds (Write x) (Write y) p q h = write_write x p (q ∙ ap Write (sym (eqb-true x y h)))
+  from_deeds (Release l) (Acquire m) p q h = release_acquire l p (q ∙ ap Acquire (sym (eqb-true l m h)))
+  from_deeds _ _ p q h = absurd (cc)
+
+  conflicts_from : conflicting a b ≡ true → Conflicts a b
+  conflicts_from h =
+      elim (or_cases ((a.thread == b.thread) || deeds_conflict a.what b.what) (is_fork_of b.thread a.what || is_join_of a.thread b.what) h) [
+        | inl l ↦ elim (or_cases (a.thread == b.thread) (deeds_conflict a.what b.what) l) [
+          | inl t ↦ same_thread (eqb-true a.thread b.thread t)
+          | inr d ↦ from_deeds a.what b.what refl refl d
+        ]
+        | inr r ↦ elim (or_cases (is_fork_of b.thread a.what) (is_join_of a.thread b.what) r) [
+          | inl f ↦ forks (fork_is b.thread a.what f)
+          | inr j ↦ joined (join_is a.thread b.what j)
+        ]
+      ]
+
+  by_thread_or_deeds : ((a.thread == b.thread) || deeds_conflict a.what b.what) ≡ true → conflicting a b ≡ true
+  by_thread_or_deeds h = or_left ((a.thread == b.thread) || deeds_conflict a.what b.what) (is_fork_of b.thread a.what || is_join_of a.thread b.what) h
+
+  by_deeds : deeds_conflict a.what b.what ≡ true → conflicting a b ≡ true
+  by_deeds h = by_thread_or_deeds (or_right (a.thread == b.thread) (deeds_conflict a.what b.what) h)
+
+  by_other : (is_fork_of b.thread a.what || is_join_of a.thread b.what) ≡ true → conflicting a b ≡ true
+  by_other h = or_right ((a.thread == b.thread) || deeds_conflict a.what b.what) (is_fork_of b.thread a.what || is_join_of a.thread b.what) h
+
+to_conflicts : (a b : Numbered) → Conflicts a b → conflicting a b ≡ true
+to_conflicts a b (same_thread e) = by_thread_or_deeds a b (or_left (a.thread == b.thread) (deeds_conflict a.what b.what) (eq-eqb a.thread b.thread e))
+to_conflicts a b (write_read x p q) = by_deeds a b (ap₂ deeds_conflict p q ∙ eq-eqb x x refl)
+to_conflicts a b (read_write x p q) = by_deeds a b (ap₂ deeds_conflict p q ∙ eq-eqb x x refl)
+to_conflicts a b (write_write x p q) = by_deeds a b (ap₂ deeds_conflict p q ∙ eq-eqb x x refl)
+to_conflicts a b (release_acquire l p q) = by_deeds a b (ap₂ deeds_conflict p q ∙ eq-eqb l l refl)
+to_conflicts a b (forks p) = by_other a b (or_left (is_fork_of b.thread a.what) (is_join_of a.thread b.what) (ap (is_fork_of b.thread) p ∙ eq-eqb b.thread b.thread refl))
+to_conflicts a b (joined p) = by_other a b (or_right (is_fork_of b.thread a.what) (is_join_of a.thread b.what) (ap (is_join_of a.thread) p ∙ eq-eqb a.thread a.thread refl))
+
+module _ (trace : List Numbered) (i j : ℕ) (a b : Numbered) (at_i : slice_get trace i ≡ Some a) (at_j : slice_get trace j ≡ Some b) where
+  pub conflict_from : i < j → conflicting a b ≡ true → Conflict trace i j
+  conflict_from l h = record { earlier = l; first = a; first_at = at_i; second = b; second_at = at_j; conflict = conflicts_from a b h }
+
+  pub conflict_to : Conflict trace i j → conflicting a b ≡ true
+  conflict_to c =
+      let first = same_Some c.first a (sym c.first_at ∙ at_i) in
+      let second = same_Some c.second b (sym c.second_at ∙ at_j) in
+      to_conflicts a b (subst (Conflicts a) second (subst (λ e. Conflicts e c.second) first c.conflict))

@@ -1,0 +1,12 @@
+pub mod Deciding
+pub mod Nests
+pub mod Ended
+pub mod Following
+pub mod Noted
+pub mod Linking
+pub mod Walked
+pub mod Starting
+pub mod Swept
+pub mod Round
+pub mod Walking
+pub mod Trail

@@ -1,0 +1,14 @@
+-- To be believed: Telling (telling cycles, and the shortest), Parts (transactions by their first places) and Trail
+-- (what is recorded of a trace).
+-- For proofs alone: Deciding, Following, MarkWords, Marks, Quest, Reached, Levels and Search.
+pub mod Deciding
+pub mod Parts
+pub mod Telling
+pub mod Following
+pub mod MarkWords
+pub mod Marks
+pub mod Quest
+pub mod Reached
+pub mod Levels
+pub mod Search
+pub mod Trail

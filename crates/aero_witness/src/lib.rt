@@ -1,0 +1,41 @@
+//! Telling cycles event by event: what shows a violation, and who checks it.
+//!
+//! A telling cycle is told by its visits. Each is a pair of places in the trace, from 0: where a walk comes into a
+//! transaction, and where it goes out of it. From each visit the walk goes on by a conflict to the next, and from the
+//! last back to the first. So a list of visits is a certificate that a trace has a violation. `is_telling_cycle` checks
+//! one, whoever made it. `shortest_cycle` makes one with as few visits as can be, and `shorten` makes one of another.
+//!
+//! ```text
+//! // T0|begin, T1|begin, T0|w(x), T1|r(x), T1|w(y), T0|r(y): out of T0 at place 2, into T1 at 3, out at 4, back at 5
+//! let visits = shortest_cycle(alloc, &events, 0)?;
+//! let shown = [Visit { enters: 5, leaves: 2 }, Visit { enters: 3, leaves: 4 }];
+//! assert!(rt; visits.as_slice() == shown.as_slice() && is_telling_cycle(alloc, &events, &shown)?);
+//! ```
+//!
+//! Begins and ends that aren't outermost may stand there as such or as `What::Exempt`: by `laws` that changes nothing.
+//!
+//! # What is proved
+//!
+//! - The answer is true exactly where the visits are a telling cycle of all events, by the definition by which verdicts
+//!   are judged: `is_telling_cycle`.
+//! - Where a telling cycle begins in a transaction, one is given that begins there, and none that does has fewer visits:
+//!   `shortest_cycle`.
+//! - The same for the transaction of the first of some visits. `None` exactly where these are no telling cycle:
+//!   `shorten`.
+//! - The transactions of the events, each told by the place of its first event; how deep each thread is at the end, and
+//!   where the block began that it is in: `transactions_of`.
+//! - Where each begin or end that isn't outermost is recorded as `What::Exempt`, and all else as it is, that has the
+//!   transactions and the telling cycles of the trace: `laws`.
+//!
+//! Which of several shortest cycles is given, no contract says.
+#![tactic(auto)]
+
+mod conflict;
+pub mod laws;
+mod marks;
+mod quest;
+mod reached;
+pub mod search;
+pub mod telling;
+pub mod transactions;
+pub mod visit;
