@@ -15,3 +15,4 @@ pub mod Keeping
 pub mod Judged
 pub mod Adding
 pub mod Orders
+pub mod Found

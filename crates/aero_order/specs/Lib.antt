@@ -1,10 +1,12 @@
 -- To be believed: Near (near events), Numbers (transactions by numbers, and edges), Order (each time the least that may
--- come) and Laws. Also Standing (for which trace Transactions stands), with Kept (what is kept of last events).
+-- come), Came (events by line and thread) and Laws. Also Standing (for which trace Transactions stands, and what it
+-- keeps of the events that came), with Kept (what is kept of last events).
 -- For proofs alone: Held, Numbering, Waiting, and MarkWords, by which Standing reads the code's tables.
 pub mod Near
 pub mod Order
 pub mod Waiting
 pub mod Numbers
+pub mod Came
 pub mod Laws
 pub mod Held
 pub mod Kept

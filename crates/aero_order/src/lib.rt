@@ -16,14 +16,15 @@
 //!
 //! - Of the numbers below a count, each time the least is next to which no edge leads from one that isn't there yet:
 //!   `least_order`.
-//! - After the events of a well-formed trace there is an order exactly where its graph has no cycle. It has the places
-//!   of the first events of the transactions, in the serial order: `Transactions::order`, `exact` and `serial`; `new`,
-//!   `add`.
+//! - After the events of a well-formed trace there is an order exactly where its graph has no cycle. It has the first
+//!   events of the transactions, in the serial order: `Transactions::order`, `exact` and `serial`; `new`, `add`. Each comes
+//!   with the line and the thread with which it was added: `kept` of `add` and `order`.
 //! - Near events conflict, and in a well-formed trace chains of them lead wherever a conflict does. The order along
 //!   near edges is the serial order. It has every transaction exactly where it is as long as there are transactions:
 //!   `laws`.
 #![tactic(auto)]
 
+pub mod first;
 mod free;
 pub mod laws;
 mod lookup;

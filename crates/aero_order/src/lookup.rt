@@ -1,22 +1,32 @@
-//! Values by their places in a list.
-ghost use Rattle.std.specs.Prelude.{◌≡◌, map, slice_index_or, IfOk};
+//! First events by the numbers of their transactions.
+ghost use Rattle.std.specs.Prelude.{◌≡◌, map, IfOk};
+ghost use Rattle.aero_order.specs.Came.{first_of};
 
+use crate::first::First;
 use std::alloc::{AllocError, Global};
 
-/// The values at these places, 0 at a place where there is none.
-pub fn look_up(alloc: Global, values: &[u32], places: &[u32]) -> Result<Vec<u32>, AllocError>
-    ensures { IfOk result (λ found. found.items ≡ map (λ place. slice_index_or values.now place 0) places.now) }
+/// The first events of these transactions, all zeros at a number that none has.
+pub fn look_up(alloc: Global, firsts: &[First], numbers: &[u32]) -> Result<Vec<First>, AllocError>
+    ensures { IfOk result (λ found. found.items ≡ map (first_of firsts.now) numbers.now) }
 {
-    let mut found = Vec::with_capacity(alloc, places.len())?;
-    for place in places {
-        found.push(value_at(values, *place))?;
+    let mut found = Vec::with_capacity(alloc, numbers.len())?;
+    for number in numbers {
+        found.push(first_at(firsts, *number))?;
     }
     Ok(found)
 }
 
-fn value_at(values: &[u32], place: u32) -> u32
-    ensures { result ≡ slice_index_or values.now place 0 }
+fn first_at(firsts: &[First], number: u32) -> First
+    ensures { result ≡ first_of firsts.now number }
 {
-    let at = place as usize;
-    if at < values.len() { values[at] } else { 0 }
+    let at = number as usize;
+    if at < firsts.len() {
+        firsts[at]
+    } else {
+        First {
+            place: 0,
+            line: 0,
+            thread: 0,
+        }
+    }
 }

@@ -1,12 +1,14 @@
 //! The transactions of a trace, event by event, and their serial order.
-ghost use Rattle.std.specs.Prelude.{◌≡◌, ◌↔◌, ◌<◌, ◌≤◌, ◌+◌, ◌^◌, List, [], ◌∷◌, ◌++◌, length, map, vec_len, slice_index_or, OnOk, IfOk, IfSome, IsSome};
+ghost use Rattle.std.specs.Prelude.{◌≡◌, ◌↔◌, ◌<◌, ◌≤◌, ◌+◌, ◌^◌, List, [], ◌∷◌, ◌++◌, length, vec_len, All, OnOk, IfOk, IfSome, IsSome};
 ghost use Rattle.aero_model.specs.declared.numbered.Numbered.{Numbered};
 ghost use Rattle.aero_model.specs.Cycle.{IsSerializable};
 ghost use Rattle.aero_model.specs.Serial.{IsSerialOrder};
 ghost use Rattle.aero_model.specs.Shape.{IsWellFormed};
+ghost use Rattle.aero_order.specs.Came.{Came, places_in, IsOf, AreOf};
 ghost use Rattle.aero_order.specs.Numbering.{IsNumbered};
 ghost use Rattle.aero_order.specs.Numbers.{AreFirsts, AreEdges};
 
+use crate::first::First;
 use crate::lookup::look_up;
 use crate::marks::Marks;
 use crate::order::least_order;
@@ -17,7 +19,7 @@ use std::alloc::{AllocError, Global};
 #[derive(Drop)]
 pub struct Transactions {
     events: u32,
-    firsts: Vec<u32>,
+    firsts: Vec<First>,
     edges: Vec<(u32, u32)>,
     marks: Marks,
     ghost few: { vec_len firsts ≤ events },
@@ -27,11 +29,12 @@ impl Transactions {
     ghost use Rattle.std.specs.Prelude.{nat_lt};
     ghost use Rattle.aero_model.specs.Blocks.{depth};
     ghost use Rattle.aero_model.specs.Exempt.{IsJudgedAs};
-    ghost use Rattle.aero_order.specs.Standing.{StandsFor, events_of};
+    ghost use Rattle.aero_order.specs.Standing.{StandsFor, KeepsCame, events_of};
 
     /// Of no event.
     pub fn new(alloc: Global) -> Transactions
-        ensures { StandsFor result [] }
+        ensures stands { StandsFor result [] }
+        ensures none { KeepsCame result [] }
     {
         Transactions {
             events: 0,
@@ -41,12 +44,13 @@ impl Transactions {
         }
     }
 
-    /// Adds the next event as it was read, which is judged as one of its thread; `inside` says
+    /// Adds the next event as it was read on this line, which is judged as one of its thread; `inside` says
     /// whether its thread is in a block before it. Where memory is refused, no more may be asked.
-    pub fn add(&mut self, event: &Numbered, inside: bool) -> Result<(), AllocError>
+    pub fn add(&mut self, line: u32, event: &Numbered, inside: bool) -> Result<(), AllocError>
         requires { events_of self.old < u32.MAX }
         ensures counted { OnOk result (events_of self.new ≡ events_of self.old + 1) }
         ensures stands { OnOk result ((trace : List Numbered) (judged : Numbered) → IsJudgedAs event.now judged → inside ≡ nat_lt 0 (depth trace event.now.thread (length trace)) → StandsFor self.old trace → StandsFor self.new (trace ++ judged ∷ [])) }
+        ensures kept { OnOk result ((came : List Came) → KeepsCame self.old came → KeepsCame self.new (came ++ record { line = line; thread = event.now.thread } ∷ [])) }
     {
         let place = self.events;
         self.events = place + 1;
@@ -55,16 +59,22 @@ impl Transactions {
         } else {
             None
         };
-        let number = number_of(&mut self.firsts, known, place)?;
+        let first = First {
+            place,
+            line,
+            thread: event.thread,
+        };
+        let number = number_of(&mut self.firsts, known, first)?;
         self.marks.look_back(event, number, &mut self.edges)?;
         self.marks.note(event, number)
     }
 
-    /// The places of the transactions' first events in the serial order, unless there is a cycle.
-    pub fn order(self, alloc: Global) -> Result<Option<Vec<u32>>, AllocError>
+    /// The transactions' first events in the serial order, unless there is a cycle.
+    pub fn order(self, alloc: Global) -> Result<Option<Vec<First>>, AllocError>
         requires { (trace : List Numbered) × StandsFor self trace }
         ensures exact { IfOk result (λ order. (trace : List Numbered) → IsWellFormed trace → StandsFor self trace → IsSome order ↔ IsSerializable trace (length trace)) }
-        ensures serial { IfOk result (λ order. IfSome order (λ places. (trace : List Numbered) → IsWellFormed trace → StandsFor self trace → IsSerialOrder trace places.items)) }
+        ensures serial { IfOk result (λ order. IfSome order (λ found. (trace : List Numbered) → IsWellFormed trace → StandsFor self trace → IsSerialOrder trace (places_in found.items))) }
+        ensures kept { IfOk result (λ order. IfSome order (λ found. (came : List Came) → KeepsCame self came → All (IsOf came) found.items)) }
     {
         let firsts = self.firsts;
         let mut edges = self.edges;
@@ -72,33 +82,33 @@ impl Transactions {
     }
 }
 
-// The number of an event's transaction. A new one gets the next, and has its first event at this
-// place.
-fn number_of(firsts: &mut Vec<u32>, known: Option<u32>, place: u32) -> Result<u32, AllocError>
-    requires { vec_len firsts.old ≤ place }
-    ensures numbered { IfOk result (λ v. IsNumbered known place firsts.old.items firsts.new.items v) }
-    ensures few { vec_len firsts.new ≤ place + 1 }
+// The number of an event's transaction. A new one gets the next, and this is its first event.
+fn number_of(firsts: &mut Vec<First>, known: Option<u32>, first: First) -> Result<u32, AllocError>
+    requires { vec_len firsts.old ≤ first.place }
+    ensures numbered { IfOk result (λ v. IsNumbered known first firsts.old.items firsts.new.items v) }
+    ensures few { vec_len firsts.new ≤ first.place + 1 }
 {
     match known {
         Some(number) => Ok(number),
         None => {
             let number = firsts.len() as u32;
-            firsts.push(place)?;
+            firsts.push(first)?;
             Ok(number)
         }
     }
 }
 
-// The first places in the order along the edges, if it has all of them.
+// The first events in the order along the edges, if it has all of them.
 fn order_of(
     alloc: Global,
-    firsts: &[u32],
+    firsts: &[First],
     edges: &mut [(u32, u32)],
-) -> Result<Option<Vec<u32>>, AllocError>
+) -> Result<Option<Vec<First>>, AllocError>
     requires few { length firsts.now < 2 ^ 32 }
-    requires stands { (trace : List Numbered) × AreFirsts trace firsts.now × AreEdges trace firsts.now edges.old }
-    ensures exact { IfOk result (λ order. (trace : List Numbered) → IsWellFormed trace → AreFirsts trace firsts.now → AreEdges trace firsts.now edges.old → IsSome order ↔ IsSerializable trace (length trace)) }
-    ensures serial { IfOk result (λ order. IfSome order (λ places. (trace : List Numbered) → IsWellFormed trace → AreFirsts trace firsts.now → AreEdges trace firsts.now edges.old → IsSerialOrder trace places.items)) }
+    requires stands { (trace : List Numbered) × AreFirsts trace (places_in firsts.now) × AreEdges trace (places_in firsts.now) edges.old }
+    ensures exact { IfOk result (λ order. (trace : List Numbered) → IsWellFormed trace → AreFirsts trace (places_in firsts.now) → AreEdges trace (places_in firsts.now) edges.old → IsSome order ↔ IsSerializable trace (length trace)) }
+    ensures serial { IfOk result (λ order. IfSome order (λ found. (trace : List Numbered) → IsWellFormed trace → AreFirsts trace (places_in firsts.now) → AreEdges trace (places_in firsts.now) edges.old → IsSerialOrder trace (places_in found.items))) }
+    ensures kept { IfOk result (λ order. IfSome order (λ found. (came : List Came) → AreOf came firsts.now → All (IsOf came) found.items)) }
 {
     let order = least_order(alloc, firsts.len() as u32, edges)?;
     if order.len() < firsts.len() {

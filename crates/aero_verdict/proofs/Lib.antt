@@ -4,6 +4,11 @@ pub mod KnownLines
 pub mod Targets
 pub mod Judged
 pub mod Judging
+pub mod Givens
+pub mod Recording
+pub mod Zipped
+pub mod Rising
+pub mod Explaining
 pub mod Steps
 pub mod Lines
 pub mod Openers
@@ -15,6 +20,7 @@ pub mod Feeding
 pub mod OneVerdict
 pub mod Faultless
 pub mod OnLines
-pub mod Starts
-pub mod Found
+pub mod BlockEvents
+pub mod FirstEvents
+pub mod Gathered
 pub mod Vectors

@@ -7,7 +7,6 @@ use Rattle.std.proofs.lemmas.List.Elements.{filter-append}
 use Rattle.std.proofs.lemmas.Option.{slice_get_read, slice_get_within}
 use Rattle.aero_model.specs.declared.verdict.ShapeFault.{ShapeFault}
 use Rattle.aero_model.specs.Cycle.{HasTellingCycle}
-use Rattle.aero_model.specs.declared.numbered.Numbered.{Numbered}
 use Rattle.aero_model.specs.Exempt.{is_exempt}
 use Rattle.aero_model.specs.Named.{Named}
 use Rattle.aero_model.specs.Shape.{IsLawful, fault_at}
@@ -15,24 +14,25 @@ use Rattle.aero_grammar.specs.Reading.{after_lines}
 use Rattle.aero_access.specs.Judgement.{IsTold}
 use Rattle.aero_verdict.specs.declared.checker.Checker.{Checker}
 use Rattle.aero_verdict.specs.declared.checker.Stop.TheVariants.{Refused, Closed}
-use Rattle.aero_verdict.specs.Kept.{trace_in, judged_in, StandsFor, IsNext, IsExpected, Refuses, Judged, up_to, AreNext, AreExpected, StopsIn}
+use Rattle.aero_verdict.specs.Given.{Words}
+use Rattle.aero_verdict.specs.Kept.{trace_in, judged_in, KeepsFirst, StandsFor, IsNext, IsExpected, Refuses, Judged, up_to, AreNext, AreExpected, StopsIn}
 use Rattle.aero_verdict.specs.Known.{AreMarked}
 use Rattle.aero_verdict.specs.Verdict.{Rules}
 use Rattle.aero_verdict.proofs.Steps.{take_pushed, front_and_rest}
 
 -- after the first i of these events: what was kept of those before them is kept of these too
-pub record Admits {E : Type 0} (stands_for : E → List Numbered → Type 0) (start : Checker E) (block : List (List ℕ)) (flags : List Bool) (events : List (ℕ × Named)) (before most i : ℕ) (now : Checker E) : Type 0 where
+pub record Admits {E : Type 0} (words : Words E) (start : Checker E) (block : List (List ℕ)) (flags : List Bool) (events : List (ℕ × Named)) (before most i : ℕ) (now : Checker E) : Type 0 where
   pub count_is : now.shape.admitted ≡ start.shape.admitted + length (up_to most (take i events))
-  pub keeps : (rules : Rules) (all : List (ℕ × Named)) → AreNext stands_for rules start all block flags before (up_to most events) → StandsFor stands_for rules now all
+  pub keeps : (rules : Rules) (all : List (ℕ × Named)) → AreNext words rules start all block flags before (up_to most events) → StandsFor words rules now all
 
 slice_get_seam : {A : Type 0} (xs : List A) (y : A) (ys : List A) → slice_get (xs ++ y ∷ ys) (length xs) ≡ Some y
 slice_get_seam [] y ys = refl
 slice_get_seam (x ∷ xs) y ys = slice_get_seam xs y ys
 
-pub nothing_admitted : {E : Type 0} (stands_for : E → List Numbered → Type 0) (start : Checker E) (block : List (List ℕ)) (flags : List Bool) (events : List (ℕ × Named)) (before most : ℕ) → Admits stands_for start block flags events before most 0 start
-nothing_admitted stands_for start block flags events before most = record { count_is = omega arith; keeps = λ rules all next. next.0 }
+pub nothing_admitted : {E : Type 0} (words : Words E) (start : Checker E) (block : List (List ℕ)) (flags : List Bool) (events : List (ℕ × Named)) (before most : ℕ) → Admits words start block flags events before most 0 start
+nothing_admitted words start block flags events before most = record { count_is = omega arith; keeps = λ rules all next. next.0 }
 
-module _ {E : Type 0} (stands_for : E → List Numbered → Type 0) (start now : Checker E) (block : List (List ℕ)) (flags : List Bool) (events : List (ℕ × Named)) (before most i : ℕ) (so_far : Admits stands_for start block flags events before most i now) (less : i < length events) (item : ℕ × Named) (is : item ≡ get_or events i item) where
+module _ {E : Type 0} (words : Words E) (start now : Checker E) (block : List (List ℕ)) (flags : List Bool) (events : List (ℕ × Named)) (before most i : ℕ) (so_far : Admits words start block flags events before most i now) (less : i < length events) (item : ℕ × Named) (is : item ≡ get_or events i item) where
   item_at : slice_get events i ≡ Some item
   item_at = slice_get_read events (length events) i item refl less is
 
@@ -40,7 +40,7 @@ module _ {E : Type 0} (stands_for : E → List Numbered → Type 0) (start now :
   front_next = ap (λ k. take k events) (add-one i) ∙ take_pushed events i item item_at
 
   -- an event on a line that doesn't count
-  pub passed_over : most < item.0 → Admits stands_for start block flags events before most (i + 1) now
+  pub passed_over : most < item.0 → Admits words start block flags events before most (i + 1) now
   passed_over beyond =
       let same : up_to most (take (i + 1) events) ≡ up_to most (take i events) ++ [] =
       ap (up_to most) front_next
@@ -77,32 +77,32 @@ module _ {E : Type 0} (stands_for : E → List Numbered → Type 0) (start now :
     abbrev here : ℕ × Named
     here = (before + item.0, item.1)
 
-    next_at : (rules : Rules) (all : List (ℕ × Named)) → AreNext stands_for rules start all block flags before (up_to most events) → slice_get all now.shape.admitted ≡ Some here
+    next_at : (rules : Rules) (all : List (ℕ × Named)) → AreNext words rules start all block flags before (up_to most events) → slice_get all now.shape.admitted ≡ Some here
     unfolding place
     next_at rules all next =
         ap (slice_get all) so_far.count_is ∙ next.1 place place_within ∙ ap (option_map (after_lines before)) at_place
 
-    is_next : (rules : Rules) (all : List (ℕ × Named)) → AreNext stands_for rules start all block flags before (up_to most events) → IsNext stands_for rules now all here exempt
+    is_next : (rules : Rules) (all : List (ℕ × Named)) → AreNext words rules start all block flags before (up_to most events) → IsNext words rules now all here exempt
     is_next rules all next = (so_far.keeps rules all next, next_at rules all next, told_exempt rules.labels next.2)
 
-    pub expected : AreExpected stands_for start block flags before (up_to most events) → IsExpected stands_for now here exempt
+    pub expected : AreExpected words start block flags before (up_to most events) → IsExpected words now here exempt
     expected are = (are.0, are.1, are.2, is_next are.0 are.1 are.3)
 
-    line_is : (rules : Rules) (all : List (ℕ × Named)) → AreNext stands_for rules start all block flags before (up_to most events) → option_map (λ (e : ℕ × Named). e.0) (slice_get all (start.shape.admitted + place)) ≡ Some (before + item.0)
+    line_is : (rules : Rules) (all : List (ℕ × Named)) → AreNext words rules start all block flags before (up_to most events) → option_map (λ (e : ℕ × Named). e.0) (slice_get all (start.shape.admitted + place)) ≡ Some (before + item.0)
     unfolding place
     line_is rules all next = ap (λ n. option_map (λ (e : ℕ × Named). e.0) (slice_get all n)) (sym so_far.count_is) ∙ ap (option_map (λ (e : ℕ × Named). e.0)) (next_at rules all next)
 
     pub one_more : (new : Checker E) (told : Option ℕ) → told ≡ None → new.shape.admitted ≡ now.shape.admitted + 1 →
-        ((rules : Rules) (all : List (ℕ × Named)) → IsNext stands_for rules now all here exempt → Judged stands_for rules new all now.shape.admitted told) → Admits stands_for start block flags events before most (i + 1) new
+        ((rules : Rules) (all : List (ℕ × Named)) → IsNext words rules now all here exempt → Judged words rules new all now.shape.admitted told) → Admits words start block flags events before most (i + 1) new
     one_more new told none count kept =
         let more = ap length counted in
         record {
           count_is = omega (arith, count, so_far.count_is, more, length-append (up_to most (take i events)) (item ∷ []));
-          keeps = λ rules all next. subst (Judged stands_for rules new all now.shape.admitted) none (kept rules all (is_next rules all next));
+          keeps = λ rules all next. subst (Judged words rules new all now.shape.admitted) none (kept rules all (is_next rules all next));
         }
 
-    pub refused_in : (new : Checker E) (fault : ShapeFault) → ((rules : Rules) (all : List (ℕ × Named)) → IsNext stands_for rules now all here exempt → Refuses rules now all fault) →
-        (rules : Rules) (all : List (ℕ × Named)) → AreNext stands_for rules start all block flags before (up_to most events) → StopsIn rules new all start.shape.admitted before (up_to most events) (before + item.0) (Refused fault)
+    pub refused_in : (new : Checker E) (fault : ShapeFault) → ((rules : Rules) (all : List (ℕ × Named)) → IsNext words rules now all here exempt → Refuses rules now all fault) →
+        (rules : Rules) (all : List (ℕ × Named)) → AreNext words rules start all block flags before (up_to most events) → StopsIn words rules new all start.shape.admitted before (up_to most events) (before + item.0) (Refused fault)
     unfolding place
     refused_in new fault refuses rules all next =
         let stands = so_far.keeps rules all next in
@@ -118,19 +118,24 @@ module _ {E : Type 0} (stands_for : E → List Numbered → Type 0) (start now :
         }
 
     pub closed_in : (new : Checker E) (t : ℕ) (told : Option ℕ) → told ≡ Some t → new.shape.admitted ≡ now.shape.admitted + 1 →
-        ((rules : Rules) (all : List (ℕ × Named)) → IsNext stands_for rules now all here exempt → Judged stands_for rules new all now.shape.admitted told) →
-        (rules : Rules) (all : List (ℕ × Named)) → AreNext stands_for rules start all block flags before (up_to most events) → StopsIn rules new all start.shape.admitted before (up_to most events) (before + item.0) (Closed t)
+        ((rules : Rules) (all : List (ℕ × Named)) → IsNext words rules now all here exempt → Judged words rules new all now.shape.admitted told) →
+        (rules : Rules) (all : List (ℕ × Named)) → AreNext words rules start all block flags before (up_to most events) → StopsIn words rules new all start.shape.admitted before (up_to most events) (before + item.0) (Closed t)
     unfolding place
     closed_in new t answer is count judged rules all next =
-        let told = subst (Judged stands_for rules new all now.shape.admitted) is (judged rules all (is_next rules all next)) in
+        let told = subst (Judged words rules new all now.shape.admitted) is (judged rules all (is_next rules all next)) in
         record {
           index = place;
           within = place_within;
-          stops = (count ∙ add-one now.shape.admitted ∙ ap suc so_far.count_is, told.0, subst (λ n. IsTold (judged_in rules all) n (Some t)) so_far.count_is told.1);
+          stops = (
+            count ∙ add-one now.shape.admitted ∙ ap suc so_far.count_is,
+            told.0,
+            subst (λ n. IsTold (judged_in rules all) n (Some t)) so_far.count_is told.1,
+            subst (λ n. KeepsFirst words.keeps rules all (suc n) new.engine) so_far.count_is told.2,
+          );
           line_of = line_is rules all next;
         }
 
 -- after all of them
-pub all_admitted : {E : Type 0} (stands_for : E → List Numbered → Type 0) (start now : Checker E) (block : List (List ℕ)) (flags : List Bool) (events : List (ℕ × Named)) (before most i : ℕ) → Admits stands_for start block flags events before most i now → length events ≤ i → now.shape.admitted ≡ start.shape.admitted + length (up_to most events)
-all_admitted stands_for start now block flags events before most i so_far done =
+pub all_admitted : {E : Type 0} (words : Words E) (start now : Checker E) (block : List (List ℕ)) (flags : List Bool) (events : List (ℕ × Named)) (before most i : ℕ) → Admits words start block flags events before most i now → length events ≤ i → now.shape.admitted ≡ start.shape.admitted + length (up_to most events)
+all_admitted words start now block flags events before most i so_far done =
     so_far.count_is ∙ ap (λ es. start.shape.admitted + length (up_to most es)) (take_all i events done)

@@ -7,26 +7,27 @@ use Rattle.std.proofs.lemmas.List.Elements.{filter-append, All-nil, All-append, 
 use Rattle.aero_model.specs.declared.verdict.LineFault.{LineFault}
 use Rattle.aero_model.specs.declared.verdict.LineFault.TheVariants.{TooManyLines}
 use Rattle.aero_model.specs.declared.verdict.Verdict.{Verdict}
-use Rattle.aero_model.specs.declared.numbered.Numbered.{Numbered}
 use Rattle.aero_model.specs.Named.{Named}
 use Rattle.aero_model.specs.Shape.{IsLawful}
 use Rattle.aero_model.specs.Cycle.{HasTellingCycle}
+use Rattle.aero_model.specs.Numbering.{tables_of}
 use Rattle.aero_model.specs.BlockCounts.{count_below, is_outer_begin, is_outer_end}
 use Rattle.aero_grammar.specs.Reading.{Reading, after_lines, whole_reading, IsReading, fault_within, malformed_line}
 use Rattle.aero_verdict.specs.declared.checker.Checker.{Checker}
 use Rattle.aero_verdict.specs.declared.checker.Stop.{Stop}
-use Rattle.aero_verdict.specs.Kept.{StandsFor, HasNamedActor, CanBeTold, up_to, AreNext, AreExpected, StopsIn, TellsStop}
+use Rattle.aero_verdict.specs.Given.{Words}
+use Rattle.aero_verdict.specs.Kept.{StandsFor, KeepsFirst, HasNamedActor, CanBeTold, up_to, AreNext, AreExpected, StopsIn, TellsStop}
 use Rattle.aero_verdict.specs.Known.{AreMarked}
-use Rattle.aero_verdict.specs.Parts.{AreBefore, greatest_number, Stands, StandsForAll, ComesNext}
-use Rattle.aero_verdict.specs.Verdict.{Rules, counted_events, read_trace, checked_trace, IsClean, IsVerdict, IsMalformed, IsFaultless}
+use Rattle.aero_verdict.specs.Parts.{AreBefore, greatest_number, Stands, KeepsAt, NamesAll, ComesNext}
+use Rattle.aero_verdict.specs.Verdict.{Rules, counted_events, events_of, read_trace, checked_trace, IsClean, IsVerdict, IsMalformed, IsFaultless}
 use Rattle.aero_verdict.proofs.Readings.{after_faulty, begins_with, passed_on, rising_within, all_up_to, up_to_shorter, up_to_after, fault_told, goes_on, trace_length, start, here}
-use Rattle.aero_verdict.proofs.Stops.{verdict_at}
+use Rattle.aero_verdict.proofs.Stops.{verdict_at, keeps_at}
 use Rattle.aero_verdict.proofs.ThreadNames.{can_be_told}
 
 -- nothing is wrong with the events, where all of them were admitted
-pub clean_here : {E : Type 0} (stands_for : E → List Numbered → Type 0) (rules : Rules) (parts : List Reading) (checker : Checker E) → StandsFor stands_for rules checker (counted_events parts rules) → checker.shape.admitted ≡ length (checked_trace parts rules) →
+pub clean_here : {E : Type 0} (words : Words E) (rules : Rules) (parts : List Reading) (checker : Checker E) → StandsFor words rules checker (counted_events parts rules) → checker.shape.admitted ≡ length (checked_trace parts rules) →
     IsClean parts rules (length (checked_trace parts rules))
-clean_here stands_for rules parts checker stands all =
+clean_here words rules parts checker stands all =
     record {
       lawful = subst (IsLawful rules.limits (read_trace parts rules)) all stands.counts.lawful;
       no_cycle = subst (λ n. ¬ HasTellingCycle (checked_trace parts rules) n) all stands.untold;
@@ -56,7 +57,7 @@ module _ (rules : Rules) (parts rest : List Reading) (p : Reading) (events : Lis
       let shorter = up_to_shorter most p.events in
       omega (arith, few, all, shorter)
 
-  module _ {E : Type 0} (stands_for : E → List Numbered → Type 0) (checker : Checker E) (lines : ℕ) (k : ℕ) (count_is : checker.shape.admitted ≡ length front) (kept : (later : List (ℕ × Named)) → StandsFor stands_for rules checker (front ++ later)) (lines_are : lines ≡ min total greatest_number) (block : List (List ℕ)) (flags : List Bool) (marked : AreMarked rules.labels block flags) where
+  module _ {E : Type 0} (words : Words E) (checker : Checker E) (lines : ℕ) (k : ℕ) (count_is : checker.shape.admitted ≡ length front) (kept : (later : List (ℕ × Named)) → StandsFor words rules checker (front ++ later)) (lines_are : lines ≡ min total greatest_number) (block : List (List ℕ)) (flags : List Bool) (marked : AreMarked rules.labels block flags) where
     -- where an event counts, the lines before it can be told
     lines_told : 0 < length more → total ≡ lines
     lines_told some =
@@ -64,14 +65,14 @@ module _ (rules : Rules) (parts rest : List Reading) (p : Reading) (events : Lis
         let small : rules.limits.lines ≤ 4000000000 = let below = rules.limits.most_lines in omega (arith, below) in
         omega (arith, some, few, most_is, lines_are, small)
 
-    next_here : (later : List (ℕ × Named)) → AreNext stands_for rules checker (front ++ (map (after_lines total) more ++ later)) block flags lines more
+    next_here : (later : List (ℕ × Named)) → AreNext words rules checker (front ++ (map (after_lines total) more ++ later)) block flags lines more
     next_here later = (
       kept (map (after_lines total) more ++ later),
       λ i less. goes_on front later more total checker.shape.admitted count_is i less ∙ ap (λ n. option_map (after_lines n) (slice_get more i)) (lines_told (omega (arith, less))),
       marked,
     )
 
-    pub expected_here : length front + length more < 2 ^ 32 → AreExpected stands_for checker block flags lines more
+    pub expected_here : length front + length more < 2 ^ 32 → AreExpected words checker block flags lines more
     expected_here short =
         let lengths : length (front ++ (map (after_lines total) more ++ [])) ≡ length front + (length more + 0) =
         length-append front (map (after_lines total) more ++ [])
@@ -93,24 +94,28 @@ module _ (rules : Rules) (parts rest : List Reading) (p : Reading) (events : Lis
         ∙ ap (λ es. es ++ up_to rules.limits.lines (map (after_lines total) (begins_with p (whole_reading rest)).0)) counted_here
         )
 
-    next_whole : AreNext stands_for rules checker (counted_events parts rules) block flags lines more
-    next_whole = subst (λ all. AreNext stands_for rules checker all block flags lines more) (sym counted_whole) (next_here (up_to rules.limits.lines later_events))
+    next_whole : AreNext words rules checker (counted_events parts rules) block flags lines more
+    next_whole = subst (λ all. AreNext words rules checker all block flags lines more) (sym counted_whole) (next_here (up_to rules.limits.lines later_events))
 
     -- what stops in this part is told
-    pub stopped : (new : Checker E) (line : ℕ) (stop : Stop) → ((all : List (ℕ × Named)) → AreNext stands_for rules checker all block flags lines more → StopsIn rules new all checker.shape.admitted lines more line stop) →
-        (verdict : Verdict) → TellsStop new line stop verdict → IsVerdict parts rules verdict
-    stopped new line stop stops verdict tells = verdict_at rules parts new checker.shape.admitted lines more line stop (stops (counted_events parts rules) next_whole) verdict tells
+    pub stopped : (new : Checker E) (line : ℕ) (stop : Stop) → ((all : List (ℕ × Named)) → AreNext words rules checker all block flags lines more → StopsIn words rules new all checker.shape.admitted lines more line stop) →
+        (verdict : Verdict) → TellsStop new line stop verdict → IsVerdict parts rules verdict × KeepsAt words.keeps rules parts new.engine verdict
+    stopped new line stop stops verdict tells =
+        let here = stops (counted_events parts rules) next_whole in (
+          verdict_at words rules parts new checker.shape.admitted lines more line stop here verdict tells,
+          keeps_at words rules parts new checker.shape.admitted lines more line stop here verdict tells,
+        )
 
     -- and where that is a cycle, its thread has a name
-    pub stopped_named : All HasNamedActor front → All HasNamedActor more → (new : Checker E) (line : ℕ) (stop : Stop) → ((all : List (ℕ × Named)) → AreNext stands_for rules checker all block flags lines more → StopsIn rules new all checker.shape.admitted lines more line stop) →
+    pub stopped_named : All HasNamedActor front → All HasNamedActor more → (new : Checker E) (line : ℕ) (stop : Stop) → ((all : List (ℕ × Named)) → AreNext words rules checker all block flags lines more → StopsIn words rules new all checker.shape.admitted lines more line stop) →
         CanBeTold new stop
     stopped_named before_named here_named new line stop stops =
-        can_be_told rules new (front ++ (map (after_lines total) more ++ []))
+        can_be_told words rules new (front ++ (map (after_lines total) more ++ []))
         (All-append HasNamedActor front (map (after_lines total) more ++ []) before_named (All-append HasNamedActor (map (after_lines total) more) [] (All-map HasNamedActor (after_lines total) more here_named) (All-nil HasNamedActor)))
         checker.shape.admitted lines more line stop (stops (front ++ (map (after_lines total) more ++ [])) (next_here []))
 
-    module _ (new : Checker E) (counted : new.shape.admitted ≡ checker.shape.admitted + length more) (kept_on : (all : List (ℕ × Named)) → AreNext stands_for rules checker all block flags lines more → StandsFor stands_for rules new all) where
-      stands_whole : StandsFor stands_for rules new (counted_events parts rules)
+    module _ (new : Checker E) (counted : new.shape.admitted ≡ checker.shape.admitted + length more) (kept_on : (all : List (ℕ × Named)) → AreNext words rules checker all block flags lines more → StandsFor words rules new all) where
+      stands_whole : StandsFor words rules new (counted_events parts rules)
       stands_whole = kept_on (counted_events parts rules) next_whole
 
       -- where this part has a fault, its line is malformed
@@ -128,7 +133,7 @@ module _ (rules : Rules) (parts rest : List Reading) (p : Reading) (events : Lis
           let small : rules.limits.lines ≤ 4000000000 = let below = rules.limits.most_lines in omega (arith, below) in
           let same : min (total + line) greatest_number ≡ min (lines + line) greatest_number = omega arith in
           record {
-            clean = clean_here stands_for rules parts new stands_whole len;
+            clean = clean_here words rules parts new stands_whole len;
             cause =
                 ap (fault_within rules.limits.lines (whole_reading parts).lines) (
                 before.fault_is
@@ -151,7 +156,7 @@ module _ (rules : Rules) (parts rest : List Reading) (p : Reading) (events : Lis
           (All-map (λ e. e.0 ≤ total + p.lines) (after_lines total) p.events (λ i d less. omega (arith, reading.within i d less)))
 
       pub stands_after : All (λ e. e.0 ≤ total) events → All HasNamedActor front → All HasNamedActor more → length front ≤ total → length front ≤ rules.limits.lines → p.fault ≡ None → rest ≡ drop (k + 1) parts →
-          (lines_after : ℕ) → lines_after ≡ min (lines + p.lines) greatest_number → Stands stands_for rules parts (k + 1) lines_after new
+          (lines_after : ℕ) → lines_after ≡ min (lines + p.lines) greatest_number → Stands words rules parts (k + 1) lines_after new
       stands_after before_within before_named here_named few few_enough none rest_is lines_after after_is =
           let len : length (up_to rules.limits.lines (events ++ map (after_lines total) p.events)) ≡ length front + length more =
           ap length counted_with ∙ length-append front (map (after_lines total) more) ∙ ap (λ b. length front + b) (length-map more (after_lines total)) in
@@ -170,11 +175,11 @@ module _ (rules : Rules) (parts rest : List Reading) (p : Reading) (events : Lis
                 All-same HasNamedActor (up_to rules.limits.lines (events ++ map (after_lines total) p.events)) (front ++ map (after_lines total) more) counted_with
                 (All-append HasNamedActor front (map (after_lines total) more) before_named (All-map HasNamedActor (after_lines total) more here_named));
             kept = λ later.
-                subst (StandsFor stands_for rules new) (sym (append_assoc front (map (after_lines total) more) later) ∙ ap (λ es. es ++ later) (sym counted_with)) (kept_on (front ++ (map (after_lines total) more ++ later)) (next_here later));
+                subst (StandsFor words rules new) (sym (append_assoc front (map (after_lines total) more) later) ∙ ap (λ es. es ++ later) (sym counted_with)) (kept_on (front ++ (map (after_lines total) more ++ later)) (next_here later));
           }
 
-pub nothing_yet : {E : Type 0} (stands_for : E → List Numbered → Type 0) (rules : Rules) (parts : List Reading) (checker : Checker E) → checker.shape.admitted ≡ 0 → ((events : List (ℕ × Named)) → StandsFor stands_for rules checker events) → Stands stands_for rules parts 0 0 checker
-nothing_yet stands_for rules parts checker none kept =
+pub nothing_yet : {E : Type 0} (words : Words E) (rules : Rules) (parts : List Reading) (checker : Checker E) → checker.shape.admitted ≡ 0 → ((events : List (ℕ × Named)) → StandsFor words rules checker events) → Stands words rules parts 0 0 checker
+nothing_yet words rules parts checker none kept =
     record {
       events = [];
       total = 0;
@@ -190,7 +195,7 @@ nothing_yet stands_for rules parts checker none kept =
 
 -- after all parts
 
-module _ {E : Type 0} (stands_for : E → List Numbered → Type 0) (rules : Rules) (parts : List Reading) (k lines : ℕ) (checker : Checker E) (stands : Stands stands_for rules parts k lines checker) (all : length parts ≤ k) where
+module _ {E : Type 0} (words : Words E) (rules : Rules) (parts : List Reading) (k lines : ℕ) (checker : Checker E) (stands : Stands words rules parts k lines checker) (all : length parts ≤ k) where
   before_none : AreBefore parts [] stands.events stands.total
   before_none = subst (λ r. AreBefore parts r stands.events stands.total) (drop_all k parts all) stands.before
 
@@ -200,15 +205,26 @@ module _ {E : Type 0} (stands_for : E → List Numbered → Type 0) (rules : Rul
   admitted_are : checker.shape.admitted ≡ length (checked_trace parts rules)
   admitted_are = stands.count_is ∙ ap (λ es. length (up_to rules.limits.lines es)) (sym events_are) ∙ sym (trace_length rules parts)
 
-  at_end : StandsFor stands_for rules checker (counted_events parts rules)
-  at_end = subst (StandsFor stands_for rules checker) (append-nil (up_to rules.limits.lines stands.events) ∙ ap (up_to rules.limits.lines) (sym events_are)) (stands.kept [])
+  at_end : StandsFor words rules checker (counted_events parts rules)
+  at_end = subst (StandsFor words rules checker) (append-nil (up_to rules.limits.lines stands.events) ∙ ap (up_to rules.limits.lines) (sym events_are)) (stands.kept [])
+
+  -- the names are those of all events that count
+  pub names_all : NamesAll rules parts checker.numbering
+  names_all = record {
+    names_are = at_end.counts.names_are ∙ ap tables_of (take_all checker.shape.admitted (events_of parts rules) (let long = length-map (counted_events parts rules) (λ (e : ℕ × Named). e.1) in omega (arith, admitted_are, trace_length rules parts, long)));
+    actors = subst (λ es. All HasNamedActor (up_to rules.limits.lines es)) (sym events_are) stands.actors;
+  }
+
+  -- the engine keeps all events that count
+  pub keeps_all : KeepsFirst words.keeps rules (counted_events parts rules) (length (counted_events parts rules)) checker.engine
+  keeps_all = subst (λ n. KeepsFirst words.keeps rules (counted_events parts rules) n checker.engine) (admitted_are ∙ trace_length rules parts) at_end.engine_keeps
 
   malformed_is : malformed_line rules.limits.lines (whole_reading parts) ≡ (if nat_lt rules.limits.lines (stands.total + 0) then Some (suc rules.limits.lines, TooManyLines) else None)
   malformed_is = ap₂ (λ n f. fault_within rules.limits.lines n f) before_none.lines_are before_none.fault_is
 
   pub too_many : rules.limits.lines < lines → IsMalformed parts rules (rules.limits.lines + 1) TooManyLines
   too_many more = record {
-    clean = clean_here stands_for rules parts checker at_end admitted_are;
+    clean = clean_here words rules parts checker at_end admitted_are;
     cause =
         malformed_is
         ∙ cond-true (nat_lt rules.limits.lines (stands.total + 0)) _ _ (lt-ltb rules.limits.lines (stands.total + 0) (omega (arith, stands.lines_are)))
@@ -221,31 +237,15 @@ module _ {E : Type 0} (stands_for : E → List Numbered → Type 0) (rules : Rul
   ended_whole : checker.blocks.ended ≡ count_below (is_outer_end (checked_trace parts rules)) (length (checked_trace parts rules))
   ended_whole = at_end.counts.ended_are ∙ ap (count_below (is_outer_end (checked_trace parts rules))) admitted_are
 
-  -- where there are no more lines than the limit, each event counts, and the engine stands for all of them
-  pub stands_for_all : lines ≤ rules.limits.lines → StandsForAll (stands_for checker.engine) rules parts
-  stands_for_all few =
-      let small : rules.limits.lines ≤ 4000000000 = let below = rules.limits.most_lines in omega (arith, below) in
-      let count_all : up_to rules.limits.lines stands.events ≡ stands.events = all_up_to rules.limits.lines stands.events (λ i d less. omega (arith, stands.within i d less, few, stands.lines_are, small)) in
-      record {
-        countable =
-            record {
-              no_fault = before_none.fault_is;
-              few_events = let long = ap length events_are in let counted = ap length count_all in omega (arith, stands.few_enough, small, long, counted);
-              few_lines = omega (arith, before_none.lines_are, few, stands.lines_are, small);
-            };
-        all_count =
-            ap (up_to rules.limits.lines) events_are
-            ∙ count_all
-            ∙ sym events_are;
-        stands_for =
-            subst (stands_for checker.engine) (take_all checker.shape.admitted (checked_trace parts rules) (omega (arith, admitted_are))) at_end.engine_stands;
-      }
+  -- the engine stands for all events that count
+  pub stands_for_all : words.stands checker.engine (checked_trace parts rules)
+  stands_for_all = subst (words.stands checker.engine) (take_all checker.shape.admitted (checked_trace parts rules) (omega (arith, admitted_are))) at_end.engine_stands
 
   pub faultless : lines ≤ rules.limits.lines → IsFaultless parts rules checker.shape.admitted checker.blocks.begun (checker.blocks.begun - checker.blocks.ended)
   faultless few =
       let small : rules.limits.lines ≤ 4000000000 = let below = rules.limits.most_lines in omega (arith, below) in
       record {
-        clean = clean_here stands_for rules parts checker at_end admitted_are;
+        clean = clean_here words rules parts checker at_end admitted_are;
         no_fault = malformed_is ∙ cond-false (nat_lt rules.limits.lines (stands.total + 0)) _ _ (le-ltb rules.limits.lines (stands.total + 0) (omega (arith, stands.lines_are, small)));
         events_are = admitted_are;
         blocks_are = begun_whole;
@@ -254,8 +254,8 @@ module _ {E : Type 0} (stands_for : E → List Numbered → Type 0) (rules : Rul
 
 -- the next part
 
-module _ {E : Type 0} (stands_for : E → List Numbered → Type 0) (rules : Rules) (parts : List Reading) (k lines : ℕ) (checker : Checker E) (part : Reading) (next : ComesNext stands_for rules parts k lines checker part) (p : Reading) (view : p ≡ part) (reading : IsReading p) (most : ℕ) (most_is : most ≡ rules.limits.lines - lines) (es : List (ℕ × Named)) (es_are : es ≡ p.events) (block : List (List ℕ)) (flags : List Bool) (marked : AreMarked rules.labels block flags) where
-  abbrev stands : Stands stands_for rules parts k lines checker
+module _ {E : Type 0} (words : Words E) (rules : Rules) (parts : List Reading) (k lines : ℕ) (checker : Checker E) (part : Reading) (next : ComesNext words rules parts k lines checker part) (p : Reading) (view : p ≡ part) (reading : IsReading p) (most : ℕ) (most_is : most ≡ rules.limits.lines - lines) (es : List (ℕ × Named)) (es_are : es ≡ p.events) (block : List (List ℕ)) (flags : List Bool) (marked : AreMarked rules.labels block flags) where
+  abbrev stands : Stands words rules parts k lines checker
   stands = next.so_far
 
   before_here : AreBefore parts (p ∷ drop (k + 1) parts) stands.events stands.total
@@ -270,42 +270,42 @@ module _ {E : Type 0} (stands_for : E → List Numbered → Type 0) (rules : Rul
       let few = few_more rules parts (drop (k + 1) parts) p stands.events stands.total before_here reading most most_here in
       omega (arith, small, few, stands.few_enough, most_is)
 
-  pub part_expected : AreExpected stands_for checker block flags lines (up_to most es)
+  pub part_expected : AreExpected words checker block flags lines (up_to most es)
   part_expected =
-      subst (λ xs. AreExpected stands_for checker block flags lines (up_to most xs)) (sym es_are)
-      (expected_here rules parts (drop (k + 1) parts) p stands.events stands.total before_here reading most most_here stands_for checker lines k stands.count_is stands.kept stands.lines_are block flags marked few_here)
+      subst (λ xs. AreExpected words checker block flags lines (up_to most xs)) (sym es_are)
+      (expected_here rules parts (drop (k + 1) parts) p stands.events stands.total before_here reading most most_here words checker lines k stands.count_is stands.kept stands.lines_are block flags marked few_here)
 
   pub lines_fit : lines + most < 2 ^ 32
   lines_fit = let small : rules.limits.lines ≤ 4000000000 = let below = rules.limits.most_lines in omega (arith, below) in omega (arith, most_is, small, stands.lines_are)
 
-  pub part_stopped : (new : Checker E) (line : ℕ) (stop : Stop) → ((all : List (ℕ × Named)) → AreNext stands_for rules checker all block flags lines (up_to most es) → StopsIn rules new all checker.shape.admitted lines (up_to most es) line stop) →
-      (verdict : Verdict) → TellsStop new line stop verdict → IsVerdict parts rules verdict
+  pub part_stopped : (new : Checker E) (line : ℕ) (stop : Stop) → ((all : List (ℕ × Named)) → AreNext words rules checker all block flags lines (up_to most es) → StopsIn words rules new all checker.shape.admitted lines (up_to most es) line stop) →
+      (verdict : Verdict) → TellsStop new line stop verdict → IsVerdict parts rules verdict × KeepsAt words.keeps rules parts new.engine verdict
   part_stopped new line stop stops =
-      stopped rules parts (drop (k + 1) parts) p stands.events stands.total before_here reading most most_here stands_for checker lines k stands.count_is stands.kept stands.lines_are block flags marked new line stop
-      (subst (λ xs. (all : List (ℕ × Named)) → AreNext stands_for rules checker all block flags lines (up_to most xs) → StopsIn rules new all checker.shape.admitted lines (up_to most xs) line stop) es_are stops)
+      stopped rules parts (drop (k + 1) parts) p stands.events stands.total before_here reading most most_here words checker lines k stands.count_is stands.kept stands.lines_are block flags marked new line stop
+      (subst (λ xs. (all : List (ℕ × Named)) → AreNext words rules checker all block flags lines (up_to most xs) → StopsIn words rules new all checker.shape.admitted lines (up_to most xs) line stop) es_are stops)
 
   named_here : All HasNamedActor es → All HasNamedActor (up_to most p.events)
   named_here named = subst (λ xs. All HasNamedActor (up_to most xs)) es_are (All-filter (λ e. nat_le e.0 most) HasNamedActor es named)
 
-  pub part_can_be_told : All HasNamedActor es → (new : Checker E) (line : ℕ) (stop : Stop) → ((all : List (ℕ × Named)) → AreNext stands_for rules checker all block flags lines (up_to most es) → StopsIn rules new all checker.shape.admitted lines (up_to most es) line stop) →
+  pub part_can_be_told : All HasNamedActor es → (new : Checker E) (line : ℕ) (stop : Stop) → ((all : List (ℕ × Named)) → AreNext words rules checker all block flags lines (up_to most es) → StopsIn words rules new all checker.shape.admitted lines (up_to most es) line stop) →
       CanBeTold new stop
   part_can_be_told named new line stop stops =
-      stopped_named rules parts (drop (k + 1) parts) p stands.events stands.total before_here reading most most_here stands_for checker lines k stands.count_is stands.kept stands.lines_are block flags marked stands.actors (named_here named) new line stop
-      (subst (λ xs. (all : List (ℕ × Named)) → AreNext stands_for rules checker all block flags lines (up_to most xs) → StopsIn rules new all checker.shape.admitted lines (up_to most xs) line stop) es_are stops)
+      stopped_named rules parts (drop (k + 1) parts) p stands.events stands.total before_here reading most most_here words checker lines k stands.count_is stands.kept stands.lines_are block flags marked stands.actors (named_here named) new line stop
+      (subst (λ xs. (all : List (ℕ × Named)) → AreNext words rules checker all block flags lines (up_to most xs) → StopsIn words rules new all checker.shape.admitted lines (up_to most xs) line stop) es_are stops)
 
-  module _ (new : Checker E) (counted : new.shape.admitted ≡ checker.shape.admitted + length (up_to most es)) (kept_on : (all : List (ℕ × Named)) → AreNext stands_for rules checker all block flags lines (up_to most es) → StandsFor stands_for rules new all) where
+  module _ (new : Checker E) (counted : new.shape.admitted ≡ checker.shape.admitted + length (up_to most es)) (kept_on : (all : List (ℕ × Named)) → AreNext words rules checker all block flags lines (up_to most es) → StandsFor words rules new all) where
     counted_on : new.shape.admitted ≡ checker.shape.admitted + length (up_to most p.events)
     counted_on = counted ∙ ap (λ xs. checker.shape.admitted + length (up_to most xs)) es_are
 
-    kept_here : (all : List (ℕ × Named)) → AreNext stands_for rules checker all block flags lines (up_to most p.events) → StandsFor stands_for rules new all
-    kept_here = subst (λ xs. (all : List (ℕ × Named)) → AreNext stands_for rules checker all block flags lines (up_to most xs) → StandsFor stands_for rules new all) es_are kept_on
+    kept_here : (all : List (ℕ × Named)) → AreNext words rules checker all block flags lines (up_to most p.events) → StandsFor words rules new all
+    kept_here = subst (λ xs. (all : List (ℕ × Named)) → AreNext words rules checker all block flags lines (up_to most xs) → StandsFor words rules new all) es_are kept_on
 
     pub part_malformed : (line : ℕ) (fault : LineFault) → p.fault ≡ Some (line, fault) → (told : ℕ × LineFault) →
         ((all_lines : ℕ) → fault_within rules.limits.lines all_lines (Some (min (lines + line) greatest_number, fault)) ≡ Some told) → IsMalformed parts rules told.0 told.1
     part_malformed =
-        malformed rules parts (drop (k + 1) parts) p stands.events stands.total before_here reading most most_here stands_for checker lines k stands.count_is stands.kept stands.lines_are block flags marked new counted_on kept_here
+        malformed rules parts (drop (k + 1) parts) p stands.events stands.total before_here reading most most_here words checker lines k stands.count_is stands.kept stands.lines_are block flags marked new counted_on kept_here
 
-    pub part_passed : All HasNamedActor es → p.fault ≡ None → Stands stands_for rules parts (k + 1) (min (lines + part.lines) greatest_number) new
+    pub part_passed : All HasNamedActor es → p.fault ≡ None → Stands words rules parts (k + 1) (min (lines + part.lines) greatest_number) new
     part_passed named none =
-        stands_after rules parts (drop (k + 1) parts) p stands.events stands.total before_here reading most most_here stands_for checker lines k stands.count_is stands.kept stands.lines_are block flags marked new counted_on kept_here
+        stands_after rules parts (drop (k + 1) parts) p stands.events stands.total before_here reading most most_here words checker lines k stands.count_is stands.kept stands.lines_are block flags marked new counted_on kept_here
         stands.within stands.actors (named_here named) stands.few stands.few_enough none refl (min (lines + part.lines) greatest_number) (ap (λ (r : Reading). min (lines + r.lines) greatest_number) (sym view))

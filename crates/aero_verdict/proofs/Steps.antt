@@ -35,11 +35,13 @@ use Rattle.aero_verdict.specs.declared.numbering.Numbering.{Numbering}
 use Rattle.aero_verdict.specs.declared.blocks.Blocks.{Blocks}
 use Rattle.aero_verdict.specs.Begun.{begin_line, begins_block, ends_block, CountsBlock}
 use Rattle.aero_model.specs.Exempt.{IsBare, IsJudgedWhat, IsJudgedAs}
+use Rattle.aero_verdict.specs.Given.{Given, Words}
 use Rattle.aero_verdict.specs.Judging.{ComesAfter, IsAdmitted, Tells}
-use Rattle.aero_verdict.specs.Kept.{names_of, trace_in, marked_in, judged_in, LastBegins, Counts, StandsFor, IsNext, Refuses, Judged}
+use Rattle.aero_verdict.specs.Kept.{names_of, trace_in, marked_in, judged_in, LastBegins, IsGiven, KeepsFirst, Counts, StandsFor, IsNext, Refuses, Judged}
 use Rattle.aero_verdict.specs.Limited.{names_in, IsLimited, NumbersEvent, RefusesEvent}
 use Rattle.aero_verdict.specs.Verdict.{Rules}
 use Rattle.aero_names.specs.Numbers.{with_event, numbered_after}
+use Rattle.aero_verdict.proofs.Givens.{keeps_more}
 use Rattle.aero_verdict.proofs.Judged.{read_so_far}
 use Rattle.aero_verdict.proofs.Judging.{begins_as, ends_as}
 use Rattle.aero_names.proofs.Fronts.{Extends, tables_pushed, tables_extended, numbered_kept}
@@ -78,7 +80,7 @@ closes_here : (w : What) (t d : ℕ) → (by_thread t is_end (Some (event t w)) 
 closes_here w t d = ap (λ b. (b && is_end w) && (d == 1)) (eq-eqb t t refl)
 
 -- how an operation is judged
-judged_as : (before : List Marked) (t : ℕ) (exempt : Bool) (w : What) → IsJudgedWhat w (judged_what before t exempt w)
+pub judged_as : (before : List Marked) (t : ℕ) (exempt : Bool) (w : What) → IsJudgedWhat w (judged_what before t exempt w)
 judged_as before t true (Begin label) = tt
 judged_as before t false (Begin label) = tt
 judged_as before t exempt End = cond_both (ends_exempt before t) Exempt End IsBare (λ _. tt) (λ _. tt)
@@ -90,7 +92,7 @@ judged_as before t exempt (Release l) = refl
 judged_as before t exempt (Fork u) = refl
 judged_as before t exempt (Join u) = refl
 
-module _ {E : Type 0} (stands_for : E → List Numbered → Type 0) (rules : Rules) (events : List (ℕ × Named)) (checker : Checker E) (line : ℕ) (e : Named) (exempt : Bool) (has : HasItsTarget e.op e.target) (next : IsNext stands_for rules checker events (line, e) exempt) where
+module _ {E : Type 0} (words : Words E) (rules : Rules) (events : List (ℕ × Named)) (checker : Checker E) (line : ℕ) (e : Named) (exempt : Bool) (has : HasItsTarget e.op e.target) (next : IsNext words rules checker events (line, e) exempt) where
   abbrev n : ℕ
   n = checker.shape.admitted
 
@@ -289,7 +291,7 @@ module _ {E : Type 0} (stands_for : E → List Numbered → Type 0) (rules : Rul
             }
 
       -- the event comes after those for which the engine stands
-      pub comes_after : ComesAfter (stands_for checker.engine) (take n trace) m admitted
+      pub comes_after : ComesAfter (words.stands checker.engine) (take n trace) m admitted
       comes_after =
           record {
             standing = next.0.engine_stands;
@@ -303,7 +305,7 @@ module _ {E : Type 0} (stands_for : E → List Numbered → Type 0) (rules : Rul
       pub is_judged_as : IsJudgedAs r m
       is_judged_as = record { thread = refl; what = judged_as front r.thread exempt r.what }
 
-      pub short_enough : length events < 2 ^ 32 → IsAdmitted (stands_for checker.engine) r admitted
+      pub short_enough : length events < 2 ^ 32 → IsAdmitted (words.stands checker.engine) r admitted
       short_enough short =
           let within = slice_get_within events n (line, e) next.1 in
           (take n trace, m, is_judged_as, omega (arith, within, as_many, short), comes_after)
@@ -336,17 +338,33 @@ module _ {E : Type 0} (stands_for : E → List Numbered → Type 0) (rules : Rul
           let front : HasTellingCycle ((take n trace ++ m ∷ []) ++ drop (suc n) trace) (suc n) = subst (λ es. HasTellingCycle es (suc n)) (sym whole) cycle in
           none (subst (λ k. HasTellingCycle (take n trace ++ m ∷ []) (suc k)) (sym many) (telling_back (take n trace ++ m ∷ []) (drop (suc n) trace) (suc n) (omega (arith, many, longer)) front))
 
+      -- it is what the engine is given, who keeps it with those before
+      abbrev given : Given
+      given = record { line = line; event = r; admitted = admitted }
+
+      is_given : IsGiven rules events n given
+      is_given = record {
+        line_is = ap (option_map (λ (p : ℕ × Named). p.0)) next.1;
+        event_is = x_at ∙ ap Some (sym h.numbered_is);
+        admitted_is = ap (option_map (admitted_as (take n trace))) m_at ∙ ap Some (sym kind);
+      }
+
+      keeps_next : (engine : E) → ((gs : List Given) → words.keeps checker.engine gs → words.keeps engine (gs ++ given ∷ [])) → KeepsFirst words.keeps rules events (suc n) engine
+      keeps_next engine kept_on = keeps_more rules events words.keeps n checker.engine engine given next.0.engine_keeps is_given kept_on
+
       pub judged : (counted : Blocks) → CountsBlock checker.blocks counted admitted m.thread line → (told : Option ℕ) → (new : Checker E) → new.numbering ≡ numbering → new.shape ≡ shape → new.blocks ≡ counted →
-          Tells (stands_for new.engine) (take n trace ++ m ∷ []) (length (take n trace)) told → Judged stands_for rules new events n told
-      judged counted counts None new same_numbering same_shape same_blocks tells_new =
+          Tells (words.stands new.engine) (take n trace ++ m ∷ []) (length (take n trace)) told →
+          ((gs : List Given) → words.keeps checker.engine gs → words.keeps new.engine (gs ++ given ∷ [])) → Judged words rules new events n told
+      judged counted counts None new same_numbering same_shape same_blocks tells_new kept_on =
           let count : new.shape.admitted ≡ suc n = ap (λ (s : states.Tables). s.admitted) same_shape ∙ count_next ∙ add-one n in
           record {
             counts = counts_next counted counts new same_numbering same_shape same_blocks;
             untold = subst (λ k. ¬ HasTellingCycle trace k) (sym count) (untold_whole tells_new.is_told);
-            engine_stands = subst (stands_for new.engine) (sym taken ∙ ap (λ k. take k trace) (sym count)) (tells_new.standing refl);
+            engine_stands = subst (words.stands new.engine) (sym taken ∙ ap (λ k. take k trace) (sym count)) (tells_new.standing refl);
+            engine_keeps = subst (λ k. KeepsFirst words.keeps rules events k new.engine) (sym count) (keeps_next new.engine kept_on);
           }
-      judged counted counts (Some t) new same_numbering same_shape same_blocks tells_new =
-          (counts_next counted counts new same_numbering same_shape same_blocks, told_whole t tells_new.is_told)
+      judged counted counts (Some t) new same_numbering same_shape same_blocks tells_new kept_on =
+          (counts_next counted counts new same_numbering same_shape same_blocks, told_whole t tells_new.is_told, keeps_next new.engine kept_on)
 
 count_below_most : (test : ℕ → Bool) (n : ℕ) → count_below test n ≤ n
 count_below_most test zero = omega arith
@@ -355,14 +373,14 @@ count_below_most test (suc n) =
     cond_both (test n) (count_below test n + 1) (count_below test n) (λ k. k ≤ suc n) (λ e. omega arith) (λ e. omega arith)
 
 -- numbers that fit, where the list is short
-pub few_events : {E : Type 0} (stands_for : E → List Numbered → Type 0) (rules : Rules) (events : List (ℕ × Named)) (checker : Checker E) (e : ℕ × Named) (exempt : Bool) → IsNext stands_for rules checker events e exempt → length events < 2 ^ 32 → checker.shape.admitted + 1 < 2 ^ 32
-few_events stands_for rules events checker e exempt next short = let within = slice_get_within events checker.shape.admitted e next.1 in omega arith
+pub few_events : {E : Type 0} (words : Words E) (rules : Rules) (events : List (ℕ × Named)) (checker : Checker E) (e : ℕ × Named) (exempt : Bool) → IsNext words rules checker events e exempt → length events < 2 ^ 32 → checker.shape.admitted + 1 < 2 ^ 32
+few_events words rules events checker e exempt next short = let within = slice_get_within events checker.shape.admitted e next.1 in omega arith
 
-pub few_begun : {E : Type 0} (stands_for : E → List Numbered → Type 0) (rules : Rules) (events : List (ℕ × Named)) (checker : Checker E) → StandsFor stands_for rules checker events → checker.blocks.begun ≤ checker.shape.admitted
-few_begun stands_for rules events checker stands = let most = count_below_most (is_outer_begin (judged_in rules events)) checker.shape.admitted in omega (arith, stands.counts.begun_are, most)
+pub few_begun : {E : Type 0} (words : Words E) (rules : Rules) (events : List (ℕ × Named)) (checker : Checker E) → StandsFor words rules checker events → checker.blocks.begun ≤ checker.shape.admitted
+few_begun words rules events checker stands = let most = count_below_most (is_outer_begin (judged_in rules events)) checker.shape.admitted in omega (arith, stands.counts.begun_are, most)
 
-pub few_ended : {E : Type 0} (stands_for : E → List Numbered → Type 0) (rules : Rules) (events : List (ℕ × Named)) (checker : Checker E) → StandsFor stands_for rules checker events → checker.blocks.ended ≤ checker.shape.admitted
-few_ended stands_for rules events checker stands = let most = count_below_most (is_outer_end (judged_in rules events)) checker.shape.admitted in omega (arith, stands.counts.ended_are, most)
+pub few_ended : {E : Type 0} (words : Words E) (rules : Rules) (events : List (ℕ × Named)) (checker : Checker E) → StandsFor words rules checker events → checker.blocks.ended ≤ checker.shape.admitted
+few_ended words rules events checker stands = let most = count_below_most (is_outer_end (judged_in rules events)) checker.shape.admitted in omega (arith, stands.counts.ended_are, most)
 
 -- what holds where there is a value
 pub on_ok_here : {T E : Type 0} (r : Result T E) (P : Type 0) → is_err r ≡ false → OnOk r P → P

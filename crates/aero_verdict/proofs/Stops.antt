@@ -14,8 +14,10 @@ use Rattle.aero_verdict.specs.declared.checker.Checker.{Checker}
 use Rattle.aero_verdict.specs.declared.checker.Stop.{Stop}
 use Rattle.aero_verdict.specs.declared.checker.Stop.TheVariants.{Refused, Closed}
 use Rattle.aero_verdict.specs.Begun.{begin_line}
+use Rattle.aero_verdict.specs.Given.{Words}
 use Rattle.aero_verdict.specs.Kept.{LastBegins, StopsIn, TellsStop}
 use Rattle.aero_verdict.specs.Limited.{names_in}
+use Rattle.aero_verdict.specs.Parts.{KeepsAt}
 use Rattle.aero_verdict.specs.Verdict.{Rules, IsVerdict, IsViolation, counted_events, events_of, read_trace, checked_trace}
 use Rattle.aero_verdict.proofs.Steps.{front_and_rest}
 use Rattle.aero_names.proofs.Fronts.{tables_extended}
@@ -43,14 +45,14 @@ named_still events n t y at =
     subst (λ es. slice_get (tables_of es).threads t ≡ Some y) (front_and_rest events n)
     (ap (λ ns. slice_get ns t) extends.threads.1 ∙ still_at (tables_of (take n events)).threads extends.threads.0 t y at)
 
-module _ {E : Type 0} (rules : Rules) (parts : List Reading) (new : Checker E) (n before : ℕ) (more : List (ℕ × Named)) (line : ℕ) where
+module _ {E : Type 0} (words : Words E) (rules : Rules) (parts : List Reading) (new : Checker E) (n before : ℕ) (more : List (ℕ × Named)) (line : ℕ) where
   abbrev events : List (ℕ × Named)
   events = counted_events parts rules
 
   abbrev trace : List Numbered
   trace = checked_trace parts rules
 
-  violation : (t : ℕ) (name : List ℕ) → StopsIn rules new events n before more line (Closed t) → slice_get (names_in new.numbering).threads t ≡ Some name →
+  violation : (t : ℕ) (name : List ℕ) → StopsIn words rules new events n before more line (Closed t) → slice_get (names_in new.numbering).threads t ≡ Some name →
       IsViolation parts rules line name (begin_line new.blocks t)
   violation t name stops at =
       let p = n + stops.index in
@@ -75,8 +77,14 @@ module _ {E : Type 0} (rules : Rules) (parts : List Reading) (new : Checker E) (
         begins = record { place = last.place; outermost = last.outermost; block = last.block ∙ ap (Block t) number.1; line_of = last.line_of };
       }
 
-  pub verdict_at : (stop : Stop) → StopsIn rules new events n before more line stop → (verdict : Verdict) → TellsStop new line stop verdict → IsVerdict parts rules verdict
+  pub verdict_at : (stop : Stop) → StopsIn words rules new events n before more line stop → (verdict : Verdict) → TellsStop new line stop verdict → IsVerdict parts rules verdict
   verdict_at (Refused fault) stops verdict tells =
       subst (IsVerdict parts rules) (sym tells.1)
       (record { place = n + stops.index; clean = record { lawful = stops.stops.0; no_cycle = stops.stops.1 }; cause = stops.stops.2 tells.0; line_of = stops.line_of })
   verdict_at (Closed t) stops verdict tells = subst (IsVerdict parts rules) (sym tells.2) (violation t tells.0 stops tells.1)
+
+  -- and which events the engine keeps then
+  pub keeps_at : (stop : Stop) → StopsIn words rules new events n before more line stop → (verdict : Verdict) → TellsStop new line stop verdict → KeepsAt words.keeps rules parts new.engine verdict
+  keeps_at (Refused fault) stops verdict tells = subst (KeepsAt words.keeps rules parts new.engine) (sym tells.1) tt
+  keeps_at (Closed t) stops verdict tells =
+      subst (KeepsAt words.keeps rules parts new.engine) (sym tells.2) (n + stops.index, stops.stops.2.0, stops.line_of, stops.stops.3)

@@ -3,7 +3,7 @@ use Rattle.std.proofs.Common.{◌≡◌, ℕ, zero, suc, ◌+◌, ◌<◌, ◌==
 use Rattle.std.specs.Prelude.{slice_get, option_map, All, bytes_eq}
 use Rattle.std.specs.List.{list_any}
 use Rattle.std.proofs.lemmas.Bool.{and_parts, eqb-true}
-use Rattle.std.proofs.lemmas.Option.{slice_get-map, slice_get_within, slice_get-get_or, get_or_from_slice_get}
+use Rattle.std.proofs.lemmas.Option.{slice_get-map, slice_get_within, slice_get-get_or, get_or_from_slice_get, unwrap_or-slice_get}
 use Rattle.aero_model.specs.declared.numbered.Numbered.{Numbered}
 use Rattle.aero_model.specs.Blocks.{is_begin, by_thread, blocks, depth}
 use Rattle.aero_model.specs.Exempt.{Marked, judged, marked}
@@ -11,7 +11,7 @@ use Rattle.aero_model.specs.Named.{Named}
 use Rattle.aero_model.specs.Numbering.{Tables, tables_of, number_of, thread_target}
 use Rattle.aero_model.specs.Shape.{IsWellFormed}
 use Rattle.aero_model.proofs.Exempt.{judged_at}
-use Rattle.aero_grammar.specs.Tabled.{name_at, line_in, lines_in, numbered_line, IsTabled}
+use Rattle.aero_grammar.specs.Tabled.{name_at, lines_in, IsTabled}
 use Rattle.aero_grammar.specs.Words.{IsName}
 use Rattle.aero_names.proofs.Fronts.{Extends, tables_pushed, tables_extended}
 use Rattle.aero_names.proofs.Listings.{number_of-place}
@@ -20,8 +20,10 @@ use Rattle.aero_verdict.specs.declared.checker.Checker.{Checker}
 use Rattle.aero_verdict.specs.declared.checker.Stop.{Stop}
 use Rattle.aero_verdict.specs.declared.checker.Stop.TheVariants.{Refused, Closed}
 use Rattle.aero_verdict.specs.Begun.{begin_line}
+use Rattle.aero_verdict.specs.Given.{Words}
 use Rattle.aero_verdict.specs.Kept.{names_of, marked_in, judged_in, LastBegins, HasNamedActor, CanBeTold, StopsIn}
 use Rattle.aero_verdict.specs.Verdict.{Rules}
+use Rattle.aero_verdict.proofs.BlockEvents.{thread_within}
 use Rattle.aero_verdict.proofs.Judged.{read_so_far, judged_well}
 use Rattle.aero_verdict.proofs.Openers.{opener_number}
 use Rattle.aero_verdict.proofs.Steps.{take_pushed, front_and_rest}
@@ -32,19 +34,19 @@ pub at_place : {X : Type 0} (P : X → Type 0) (xs : List X) (k : ℕ) (x : X) �
 at_place P xs k x all at = subst P (get_or_from_slice_get xs k x x at) (all k x (slice_get_within xs k x at))
 
 -- what a mapped option was
-record Was {A B : Type 0} (f : A → B) (o : Option A) (y : B) : Type 0 where
+pub record Was {A B : Type 0} (f : A → B) (o : Option A) (y : B) : Type 0 where
   pub value : A
   pub here : o ≡ Some value
   pub gives : f value ≡ y
 
-was : {A B : Type 0} (f : A → B) (o : Option A) (y : B) → option_map f o ≡ Some y → Was f o y
+pub was : {A B : Type 0} (f : A → B) (o : Option A) (y : B) → option_map f o ≡ Some y → Was f o y
 was f None y is = absurd (cc)
 was f (Some x) y is = record { value = x; here = refl; gives = same_value (f x) y is }
   where
     same_value : {B : Type 0} (a b : B) → Some a ≡ Some b → a ≡ b
     same_value a b same = cc
 
-was_at : {A B : Type 0} (f : A → B) (xs : List A) (k : ℕ) (y : B) → slice_get (map f xs) k ≡ Some y → Was f (slice_get xs k) y
+pub was_at : {A B : Type 0} (f : A → B) (xs : List A) (k : ℕ) (y : B) → slice_get (map f xs) k ≡ Some y → Was f (slice_get xs k) y
 was_at f xs k y at = was f (slice_get xs k) y (sym (slice_get-map f xs k) ∙ at)
 
 take_again : {A : Type 0} (xs : List A) (m n : ℕ) → m < suc n → take m (take n xs) ≡ take m xs
@@ -96,20 +98,7 @@ actors_named tables labels events tabled names = λ k d within.
 pub actor_listed : (tables : Tables) (labels : List (List ℕ)) (events : List (ℕ × Numbered)) → IsTabled tables labels events → (k : ℕ) (e : ℕ × Numbered) → slice_get events k ≡ Some e →
     slice_get tables.threads e.1.thread ≡ Some (name_at tables.threads e.1.thread)
 actor_listed tables labels events tabled k e at =
-    let lines = lines_in tables labels events in
-    let named = map (λ (x : ℕ × Named). x.1) lines in
-    let told : ℕ × Named = line_in tables labels e in
-    let line_at : slice_get lines k ≡ Some told = slice_get-map (line_in tables labels) events k ∙ ap (option_map (line_in tables labels)) at in
-    let named_at : slice_get named k ≡ Some told.1 = slice_get-map (λ (x : ℕ × Named). x.1) lines k ∙ ap (option_map (λ (x : ℕ × Named). x.1)) line_at in
-    let again : Some e ≡ Some (numbered_line tables labels told) =
-    sym at ∙ ap (λ xs. slice_get xs k) tabled.numbers_are ∙ slice_get-map (numbered_line tables labels) lines k ∙ ap (option_map (numbered_line tables labels)) line_at in
-    let number : e.1.thread ≡ number_of tables.threads told.1.thread = ap (λ (x : ℕ × Numbered). x.1.thread) (same_inside e (numbered_line tables labels told) again) in
-    ap (slice_get tables.threads) number
-    ∙ ap (λ (t : Tables). slice_get t.threads (number_of t.threads told.1.thread)) tabled.tables_are
-    ∙ in_all named k told.1 named_at
-  where
-    same_inside : {A : Type 0} (a b : A) → Some a ≡ Some b → a ≡ b
-    same_inside a b same = cc
+    slice_get-get_or tables.threads e.1.thread [] (thread_within tables labels events tabled k e at) ∙ ap Some (sym (unwrap_or-slice_get tables.threads e.1.thread []))
 
 -- who begins a block
 record Begins (o : Option Numbered) (t : ℕ) : Type 0 where
@@ -121,7 +110,7 @@ begun_by : (o : Option Numbered) (t : ℕ) → by_thread t is_begin o ≡ true �
 begun_by None t is = absurd (cc)
 begun_by (Some x) t is = record { event = x; here = refl; thread_is = eqb-true x.thread t (and_parts (x.thread == t) (is_begin x.what) is).0 }
 
-module _ {E : Type 0} (rules : Rules) (checker : Checker E) (events : List (ℕ × Named)) (actors : All HasNamedActor events) where
+module _ {E : Type 0} (words : Words E) (rules : Rules) (checker : Checker E) (events : List (ℕ × Named)) (actors : All HasNamedActor events) where
   abbrev all : List Marked
   all = marked_in rules events
 
@@ -142,7 +131,7 @@ module _ {E : Type 0} (rules : Rules) (checker : Checker E) (events : List (ℕ 
         subst (λ (e : Named). IsName e.thread) line_of.gives (at_place HasNamedActor events last.place line_of.value actors line_of.here),
       )
 
-  pub can_be_told : (n before : ℕ) (more : List (ℕ × Named)) (line : ℕ) (stop : Stop) → StopsIn rules checker events n before more line stop → CanBeTold checker stop
+  pub can_be_told : (n before : ℕ) (more : List (ℕ × Named)) (line : ℕ) (stop : Stop) → StopsIn words rules checker events n before more line stop → CanBeTold checker stop
   can_be_told n before more line (Refused fault) stops = tt
   can_be_told n before more line (Closed t) stops =
       let p = n + stops.index in

@@ -1,4 +1,4 @@
--- For which events of a list a `Checker` stands: the first of them, as many as its shape has admitted. `stands` is its engine's own word for the events for which that stands.
+-- For which events of a list a `Checker` stands: the first of them, as many as its shape has admitted. `words` are its engine's own, on the events for which that stands and on those that it keeps.
 use Rattle.std.specs.Prelude.{◌≡◌, ◌≢◌, ℕ, suc, ◌+◌, ◌^◌, ◌<◌, nat_le, Bool, true, List, length, filter, map, take, slice_get, option_map, Option, Some, None}
 use Rattle.aero_model.specs.declared.numbered.Numbered.{Numbered}
 use Rattle.aero_model.specs.declared.verdict.ShapeFault.{ShapeFault}
@@ -15,11 +15,13 @@ use Rattle.aero_model.specs.BlockCounts.{count_below, is_outer_begin, is_outer_e
 use Rattle.aero_grammar.specs.Reading.{after_lines}
 use Rattle.aero_grammar.specs.Words.{IsName}
 use Rattle.aero_access.specs.Judgement.{IsTold}
+use Rattle.aero_shape.specs.Admission.{admitted_as}
 use Rattle.aero_shape.specs.Standing as shapes
 use Rattle.aero_verdict.specs.declared.checker.Checker.{Checker}
 use Rattle.aero_verdict.specs.declared.checker.Stop.{Stop}
 use Rattle.aero_verdict.specs.declared.checker.Stop.TheVariants.{Refused, Closed}
 use Rattle.aero_verdict.specs.Begun.{begin_line}
+use Rattle.aero_verdict.specs.Given.{Given, Words}
 use Rattle.aero_verdict.specs.Known.{AreMarked}
 use Rattle.aero_verdict.specs.Limited.{names_in, IsLimited, IsNamedThread}
 use Rattle.aero_verdict.specs.Verdict.{Rules}
@@ -37,6 +39,23 @@ marked_in rules events = marked_trace rules.labels (names_of events)
 -- and as they are judged
 abbrev pub judged_in : Rules → List (ℕ × Named) → List Numbered
 judged_in rules events = judged_trace (marked_in rules events)
+
+-- the event at place i as an engine is given it
+pub record IsGiven (rules : Rules) (events : List (ℕ × Named)) (i : ℕ) (g : Given) : Type 0 where
+  pub line_is : option_map (λ e. e.0) (slice_get events i) ≡ Some g.line
+  pub event_is : slice_get (trace_in events) i ≡ Some g.event
+  pub admitted_is : option_map (admitted_as (take i (judged_in rules events))) (slice_get (judged_in rules events) i) ≡ Some g.admitted
+
+-- the first n events, as an engine is given them
+pub record AreGiven (rules : Rules) (events : List (ℕ × Named)) (n : ℕ) (gs : List Given) : Type 0 where
+  pub count : length gs ≡ n
+  pub each : (i : ℕ) (g : Given) → slice_get gs i ≡ Some g → IsGiven rules events i g
+
+-- the engine keeps of these what it is to keep
+pub record KeepsFirst {E : Type 0} (keeps : E → List Given → Type 0) (rules : Rules) (events : List (ℕ × Named)) (n : ℕ) (engine : E) : Type 0 where
+  pub given : List Given
+  pub are_given : AreGiven rules events n given
+  pub kept : keeps engine given
 
 -- the latest outermost begin of thread t in the first n events stands on the line
 pub record LastBegins (rules : Rules) (events : List (ℕ × Named)) (n t line : ℕ) : Type 0 where
@@ -56,29 +75,31 @@ pub record Counts {E : Type 0} (rules : Rules) (checker : Checker E) (events : L
   pub lines_are : (t : ℕ) → 0 < blocks (judged_in rules events) t checker.shape.admitted → LastBegins rules events checker.shape.admitted t (begin_line checker.blocks t)
   pub lawful : IsLawful rules.limits (trace_in events) checker.shape.admitted
 
--- They have no telling cycle, and the engine stands for them.
-pub record StandsFor {E : Type 0} (stands : E → List Numbered → Type 0) (rules : Rules) (checker : Checker E) (events : List (ℕ × Named)) : Type 0 where
+-- They have no telling cycle, and the engine stands for them and keeps them.
+pub record StandsFor {E : Type 0} (words : Words E) (rules : Rules) (checker : Checker E) (events : List (ℕ × Named)) : Type 0 where
   pub counts : Counts rules checker events
   pub untold : ¬ HasTellingCycle (judged_in rules events) checker.shape.admitted
-  pub engine_stands : stands checker.engine (take checker.shape.admitted (judged_in rules events))
+  pub engine_stands : words.stands checker.engine (take checker.shape.admitted (judged_in rules events))
+  pub engine_keeps : KeepsFirst words.keeps rules events checker.shape.admitted checker.engine
 
 -- it stands for events of the list, and this is the event after them: an exempt begin, or none
-abbrev pub IsNext : {E : Type 0} → (E → List Numbered → Type 0) → Rules → Checker E → List (ℕ × Named) → ℕ × Named → Bool → Type 0
-IsNext stands rules checker events e exempt =
-    StandsFor stands rules checker events × (slice_get events checker.shape.admitted ≡ Some e) × (exempt ≡ is_exempt rules.labels e.1)
+abbrev pub IsNext : {E : Type 0} → Words E → Rules → Checker E → List (ℕ × Named) → ℕ × Named → Bool → Type 0
+IsNext words rules checker events e exempt =
+    StandsFor words rules checker events × (slice_get events checker.shape.admitted ≡ Some e) × (exempt ≡ is_exempt rules.labels e.1)
 
 -- this is the event after them, for some list of fewer than 2^32 events
-abbrev pub IsExpected : {E : Type 0} → (E → List Numbered → Type 0) → Checker E → ℕ × Named → Bool → Type 0
-IsExpected stands checker e exempt = (rules : Rules) × (events : List (ℕ × Named)) × (length events < 2 ^ 32) × IsNext stands rules checker events e exempt
+abbrev pub IsExpected : {E : Type 0} → Words E → Checker E → ℕ × Named → Bool → Type 0
+IsExpected words checker e exempt = (rules : Rules) × (events : List (ℕ × Named)) × (length events < 2 ^ 32) × IsNext words rules checker events e exempt
 
 -- why the event after them is ill-formed
 abbrev pub Refuses : {E : Type 0} → Rules → Checker E → List (ℕ × Named) → ShapeFault → Type 0
 Refuses rules checker events fault = fault ≢ Memory → fault_at rules.limits (trace_in events) checker.shape.admitted ≡ Some fault
 
--- after the event at place n: nothing is told, or thread t is, with whose open block a cycle closes
-abbrev pub Judged : {E : Type 0} → (E → List Numbered → Type 0) → Rules → Checker E → List (ℕ × Named) → ℕ → Option ℕ → Type 0
-Judged stands rules checker events n None = StandsFor stands rules checker events
-Judged stands rules checker events n (Some t) = Counts rules checker events × IsTold (judged_in rules events) n (Some t)
+-- After the event at place n: nothing is told, or thread t is, with whose open block a cycle closes. Then the engine keeps this event too.
+abbrev pub Judged : {E : Type 0} → Words E → Rules → Checker E → List (ℕ × Named) → ℕ → Option ℕ → Type 0
+Judged words rules checker events n None = StandsFor words rules checker events
+Judged words rules checker events n (Some t) =
+    Counts rules checker events × IsTold (judged_in rules events) n (Some t) × KeepsFirst words.keeps rules events (suc n) checker.engine
 
 -- the events on lines up to this one
 abbrev pub up_to : ℕ → List (ℕ × Named) → List (ℕ × Named)
@@ -89,26 +110,27 @@ abbrev pub GoesOn : List (ℕ × Named) → ℕ → ℕ → List (ℕ × Named) 
 GoesOn events n before more = (i : ℕ) → i < length more → slice_get events (n + i) ≡ option_map (after_lines before) (slice_get more i)
 
 -- it stands for events of the list, and these are the events after them, from a block of whose labels it is told which are exempt
-abbrev pub AreNext : {E : Type 0} → (E → List Numbered → Type 0) → Rules → Checker E → List (ℕ × Named) → List (List ℕ) → List Bool → ℕ → List (ℕ × Named) → Type 0
-AreNext stands rules checker events block exempt before more =
-    StandsFor stands rules checker events × GoesOn events checker.shape.admitted before more × AreMarked rules.labels block exempt
+abbrev pub AreNext : {E : Type 0} → Words E → Rules → Checker E → List (ℕ × Named) → List (List ℕ) → List Bool → ℕ → List (ℕ × Named) → Type 0
+AreNext words rules checker events block exempt before more =
+    StandsFor words rules checker events × GoesOn events checker.shape.admitted before more × AreMarked rules.labels block exempt
 
 -- these are the events after them, for some list of fewer than 2^32 events
-abbrev pub AreExpected : {E : Type 0} → (E → List Numbered → Type 0) → Checker E → List (List ℕ) → List Bool → ℕ → List (ℕ × Named) → Type 0
-AreExpected stands checker block exempt before more =
-    (rules : Rules) × (events : List (ℕ × Named)) × (length events < 2 ^ 32) × AreNext stands rules checker events block exempt before more
+abbrev pub AreExpected : {E : Type 0} → Words E → Checker E → List (List ℕ) → List Bool → ℕ → List (ℕ × Named) → Type 0
+AreExpected words checker block exempt before more =
+    (rules : Rules) × (events : List (ℕ × Named)) × (length events < 2 ^ 32) × AreNext words rules checker events block exempt before more
 
--- the event at the place stands on the line, and is ill-formed or closes a cycle
-abbrev pub StopsAt : {E : Type 0} → Rules → Checker E → List (ℕ × Named) → ℕ → Stop → Type 0
-StopsAt rules checker events n (Refused fault) =
+-- The event at the place is ill-formed or closes a cycle. In a cycle's case the engine keeps the events up to it.
+abbrev pub StopsAt : {E : Type 0} → Words E → Rules → Checker E → List (ℕ × Named) → ℕ → Stop → Type 0
+StopsAt words rules checker events n (Refused fault) =
     IsLawful rules.limits (trace_in events) n × (¬ HasTellingCycle (judged_in rules events) n) × (fault ≢ Memory → fault_at rules.limits (trace_in events) n ≡ Some fault)
-StopsAt rules checker events n (Closed t) = (checker.shape.admitted ≡ suc n) × Counts rules checker events × IsTold (judged_in rules events) n (Some t)
+StopsAt words rules checker events n (Closed t) =
+    (checker.shape.admitted ≡ suc n) × Counts rules checker events × IsTold (judged_in rules events) n (Some t) × KeepsFirst words.keeps rules events (suc n) checker.engine
 
 -- one of these events, which the list has from place n on, stands on the line and stops
-pub record StopsIn {E : Type 0} (rules : Rules) (checker : Checker E) (events : List (ℕ × Named)) (n before : ℕ) (more : List (ℕ × Named)) (line : ℕ) (stop : Stop) : Type 0 where
+pub record StopsIn {E : Type 0} (words : Words E) (rules : Rules) (checker : Checker E) (events : List (ℕ × Named)) (n before : ℕ) (more : List (ℕ × Named)) (line : ℕ) (stop : Stop) : Type 0 where
   pub index : ℕ
   pub within : index < length more
-  pub stops : StopsAt rules checker events (n + index) stop
+  pub stops : StopsAt words rules checker events (n + index) stop
   pub line_of : option_map (λ e. e.0) (slice_get events (n + index)) ≡ Some line
 
 -- the name of the event's thread is one

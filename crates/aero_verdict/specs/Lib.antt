@@ -1,21 +1,26 @@
--- To be believed: Verdict (the verdict on parts under rules), Ordered (the order by lines and steps), Finding (what is
--- found of a source) and Laws. Also Judging (what an engine is given and answers), Fed (what a monitor was fed, and
+-- To be believed: Verdict (the verdict on parts under rules), Ordered (the order by lines and steps), Explained (the
+-- cycle that shows a violation), Finding (what is
+-- found of a source) and Laws. Also Given and Judging (what an engine is given and answers), Fed (what a monitor was fed, and
 -- when its verdict is certain) and Actors.
--- For proofs alone: Numbers, Limited, Begun, Known, Kept, InOrder, Placed, Parts. Monitored tells how the view of
+-- For proofs alone: Numbers, Limited, Begun, Known, Kept, InOrder, Recorded, Records, Spots, Parts. Monitored tells how the view of
 -- Monitor reads its state.
 pub mod Numbers
 pub mod Limited
 pub mod Begun
+pub mod Given
 pub mod Judging
 pub mod Known
 pub mod Kept
 pub mod Verdict
 pub mod Ordered
+pub mod Explained
 pub mod InOrder
-pub mod Placed
+pub mod Recorded
 pub mod Actors
+pub mod Spots
 pub mod Finding
 pub mod Parts
 pub mod Fed
 pub mod Monitored
 pub mod Laws
+pub mod Records

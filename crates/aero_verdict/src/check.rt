@@ -1,10 +1,11 @@
 //! The verdict on what the parts of a trace say.
-ghost use Rattle.std.specs.Prelude.{◌≡◌, ◌≢◌, ◌-◌, ℕ, false, List, Some, IsTrue, IfOk, IfSome, OnOk, OnErr};
+ghost use Rattle.std.specs.Prelude.{◌≡◌, ◌≢◌, ◌-◌, ℕ, true, false, List, Some, IsTrue, IfOk, IfSome, OnOk, OnErr};
 ghost use Rattle.aero_model.specs.Verdicts.{HasOwnFault};
 ghost use Rattle.aero_grammar.specs.Reading.{Reading, fault_within, is_own_fault};
 ghost use Rattle.aero_verdict.specs.Verdict.{Rules, under, IsVerdict, IsFaultless};
 ghost use Rattle.aero_verdict.specs.Kept.{CanBeTold, TellsStop};
 ghost use Rattle.aero_verdict.specs.Ordered.{is_faultless};
+ghost use Rattle.aero_verdict.specs.Given.{words_of};
 ghost use Rattle.aero_verdict.specs.Parts.{IsPartExpected, ComesNext, TellsPart};
 
 use crate::checker::{Checker, Stop};
@@ -76,10 +77,10 @@ pub(crate) fn check_part<E: Engine>(
     limits: &Limits,
     except: &Except,
 ) -> Result<Option<Verdict>, AllocError>
-    requires { IsPartExpected E.stands_for (under limits.now except.now) lines checker.old part.now }
+    requires { IsPartExpected (words_of E.stands_for E.keeps) (under limits.now except.now) lines checker.old part.now }
     ensures told { IfOk result (λ told. (parts : List Reading) (k : ℕ) →
-        ComesNext E.stands_for (under limits.now except.now) parts k lines checker.old part.now →
-        TellsPart E.stands_for (under limits.now except.now) parts k lines checker.new part.now told) }
+        ComesNext (words_of E.stands_for E.keeps) (under limits.now except.now) parts k lines checker.old part.now →
+        TellsPart (words_of E.stands_for E.keeps) (under limits.now except.now) parts k lines checker.new part.now told) }
     ensures own_fault { IfOk result (λ told. IfSome told HasOwnFault) }
     ensures wrong { IfOk result (λ told. IfSome told (λ verdict. is_faultless verdict ≡ false)) }
 {
@@ -133,6 +134,7 @@ pub(crate) fn faultless<E: Engine>(checker: &Checker<E>) -> Verdict
     ensures verdict { (parts : List Reading) (rules : Rules) →
         IsFaultless parts rules checker.now.shape.admitted checker.now.blocks.begun (checker.now.blocks.begun - checker.now.blocks.ended) → IsVerdict parts rules result }
     ensures own_fault { HasOwnFault result }
+    ensures right { is_faultless result ≡ true }
 {
     let events = checker.events();
     let blocks = checker.blocks();

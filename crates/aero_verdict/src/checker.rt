@@ -39,6 +39,7 @@ impl<E: Engine> Checker<E> {
     ghost use Rattle.aero_model.specs.Names.{most_inline_bytes};
     ghost use Rattle.aero_grammar.specs.Words.{IsName};
     ghost use Rattle.aero_verdict.specs.Begun.{begin_line};
+    ghost use Rattle.aero_verdict.specs.Given.{words_of};
     ghost use Rattle.aero_verdict.specs.Kept.{StandsFor, IsNext, IsExpected, Refuses, Judged, up_to, AreNext, AreExpected, StopsIn};
     ghost use Rattle.aero_grammar.specs.Tabled.{named_in, lines_in};
     ghost use Rattle.aero_verdict.specs.Known.{tables_in, Knows, is_told_exempt, HasLabel};
@@ -48,7 +49,7 @@ impl<E: Engine> Checker<E> {
     // No event was admitted yet.
     pub(crate) fn new(alloc: Global, limits: &Limits) -> Checker<E>
         ensures none { result.shape.admitted ≡ 0 }
-        ensures kept { (labels : List (List ℕ)) (events : List (ℕ × Named)) → StandsFor E.stands_for (under limits.now labels) result events }
+        ensures kept { (labels : List (List ℕ)) (events : List (ℕ × Named)) → StandsFor (words_of E.stands_for E.keeps) (under limits.now labels) result events }
     {
         Checker {
             numbering: Numbering::new(alloc, limits),
@@ -58,17 +59,18 @@ impl<E: Engine> Checker<E> {
         }
     }
 
-    // Its engine alone.
-    pub(crate) fn into_engine(self) -> E
-        ensures { result ≡ self.engine }
+    // Its names and its engine.
+    pub(crate) fn into_parts(self) -> (Numbering, E)
+        ensures names { result.0 ≡ self.numbering }
+        ensures engine { result.1 ≡ self.engine }
     {
         let Checker {
-            numbering: _,
+            numbering,
             shape: _,
             engine,
             blocks: _,
         } = self;
-        engine
+        (numbering, engine)
     }
 
     // How many events were admitted.
@@ -121,14 +123,14 @@ impl<E: Engine> Checker<E> {
         line: u32,
         event: Numbered,
     ) -> Result<Option<u32>, ShapeFault>
-        requires next { IsExpected E.stands_for self.old (line, named_in (tables_in block) block.labels.now event) (is_told_exempt block.exempt.now event.what) }
+        requires next { IsExpected (words_of E.stands_for E.keeps) self.old (line, named_in (tables_in block) block.labels.now event) (is_told_exempt block.exempt.now event.what) }
         requires known { Knows self.old.numbering (tables_in block) known.old }
         ensures counted { OnOk result (self.new.shape.admitted ≡ self.old.shape.admitted + 1) }
         ensures judged { IfOk result (λ told. (rules : Rules) (events : List (ℕ × Named)) →
-            IsNext E.stands_for rules self.old events (line, named_in (tables_in block.entry) block.entry.labels.now event) (is_told_exempt block.entry.exempt.now event.what) →
-            Judged E.stands_for rules self.new events self.old.shape.admitted told) }
+            IsNext (words_of E.stands_for E.keeps) rules self.old events (line, named_in (tables_in block.entry) block.entry.labels.now event) (is_told_exempt block.entry.exempt.now event.what) →
+            Judged (words_of E.stands_for E.keeps) rules self.new events self.old.shape.admitted told) }
         ensures refused { IfErr result (λ fault. (rules : Rules) (events : List (ℕ × Named)) →
-            IsNext E.stands_for rules self.old events (line, named_in (tables_in block.entry) block.entry.labels.now event) (is_told_exempt block.entry.exempt.now event.what) →
+            IsNext (words_of E.stands_for E.keeps) rules self.old events (line, named_in (tables_in block.entry) block.entry.labels.now event) (is_told_exempt block.entry.exempt.now event.what) →
             Refuses rules self.old events fault) }
         ensures known { OnOk result (Knows self.new.numbering (tables_in block.entry) known.new) }
     {
@@ -137,7 +139,7 @@ impl<E: Engine> Checker<E> {
         if self.blocks.count(admitted, numbered.thread, line).is_err() {
             return Err(ShapeFault::Memory);
         }
-        match self.engine.judge(&numbered, admitted) {
+        match self.engine.judge(line, &numbered, admitted) {
             Ok(told) => Ok(told),
             Err(_) => Err(ShapeFault::Memory),
         }
@@ -154,15 +156,15 @@ impl<E: Engine> Checker<E> {
         before: u32,
         most: u32,
     ) -> Result<(), (u32, Stop)>
-        requires next { AreExpected E.stands_for self.old block.labels.now block.exempt.now before (up_to most (lines_in (tables_in block) block.labels.now events.now)) }
+        requires next { AreExpected (words_of E.stands_for E.keeps) self.old block.labels.now block.exempt.now before (up_to most (lines_in (tables_in block) block.labels.now events.now)) }
         requires labelled { All (λ e. HasLabel block.labels.now e.1.what) events.now }
         requires lines { before + most < 2 ^ 32 }
         ensures counted { OnOk result (self.new.shape.admitted ≡ self.old.shape.admitted + length (up_to most (lines_in (tables_in block.entry) block.entry.labels.now events.now))) }
         ensures kept { OnOk result ((rules : Rules) (all : List (ℕ × Named)) →
-            AreNext E.stands_for rules self.old all block.entry.labels.now block.entry.exempt.now before (up_to most (lines_in (tables_in block.entry) block.entry.labels.now events.now)) → StandsFor E.stands_for rules self.new all) }
+            AreNext (words_of E.stands_for E.keeps) rules self.old all block.entry.labels.now block.entry.exempt.now before (up_to most (lines_in (tables_in block.entry) block.entry.labels.now events.now)) → StandsFor (words_of E.stands_for E.keeps) rules self.new all) }
         ensures stopped { IfErr result (λ stopped. (rules : Rules) (all : List (ℕ × Named)) →
-            AreNext E.stands_for rules self.old all block.entry.labels.now block.entry.exempt.now before (up_to most (lines_in (tables_in block.entry) block.entry.labels.now events.now)) →
-            StopsIn rules self.new all self.old.shape.admitted before (up_to most (lines_in (tables_in block.entry) block.entry.labels.now events.now)) stopped.0 stopped.1) }
+            AreNext (words_of E.stands_for E.keeps) rules self.old all block.entry.labels.now block.entry.exempt.now before (up_to most (lines_in (tables_in block.entry) block.entry.labels.now events.now)) →
+            StopsIn (words_of E.stands_for E.keeps) rules self.new all self.old.shape.admitted before (up_to most (lines_in (tables_in block.entry) block.entry.labels.now events.now)) stopped.0 stopped.1) }
     {
         let mut known = Known::new(alloc);
         for event in events {

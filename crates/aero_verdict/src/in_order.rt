@@ -1,8 +1,9 @@
 //! First places as an engine that also gathers the transactions, for their serial order.
-ghost use Rattle.std.specs.Prelude.{◌≡◌, ◌++◌, ◌∷◌, [], List, length, IfOk};
+ghost use Rattle.std.specs.Prelude.{◌≡◌, ◌++◌, ◌∷◌, [], List, length, IfOk, OnOk};
 ghost use Rattle.aero_model.specs.declared.numbered.Numbered.{Numbered};
 ghost use Rattle.aero_model.specs.Exempt.{IsJudgedAs};
-ghost use Rattle.aero_verdict.specs.InOrder.{StandsForBoth};
+ghost use Rattle.aero_verdict.specs.Given.{Given};
+ghost use Rattle.aero_verdict.specs.InOrder.{StandsForBoth, KeepsInOrder};
 ghost use Rattle.aero_verdict.specs.Judging.{IsAdmitted, ComesAfter, Tells};
 
 use crate::by_leads;
@@ -14,9 +15,9 @@ use aero_order::transactions::Transactions;
 use aero_shape::admission::Admitted;
 use std::alloc::Global;
 
-// What judges the events, and what keeps their transactions.
+/// What judges the events, by first places, and what keeps their transactions.
 #[derive(Drop)]
-pub(crate) struct InOrder {
+pub struct InOrder {
     leads: Leads,
     transactions: Transactions,
 }
@@ -39,6 +40,8 @@ impl InOrder {
 impl Engine for InOrder {
     ghost stands_for = { StandsForBoth };
 
+    ghost keeps = { KeepsInOrder };
+
     fn new(alloc: Global) -> InOrder {
         InOrder {
             leads: Leads::new(alloc),
@@ -46,23 +49,30 @@ impl Engine for InOrder {
         }
     }
 
-    fn judge(&mut self, event: &Numbered, admitted: Admitted) -> Result<Option<u32>, Spent> {
-        judge(self, event, admitted)
+    fn judge(
+        &mut self,
+        line: u32,
+        event: &Numbered,
+        admitted: Admitted,
+    ) -> Result<Option<u32>, Spent> {
+        judge(self, line, event, admitted)
     }
 }
 
-// The thread whose open block closes a cycle with this event, if there is one. If there is none, the
-// event's transaction is kept.
-fn judge(both: &mut InOrder, event: &Numbered, admitted: Admitted) -> Result<Option<u32>, Spent>
+// The thread whose open block closes a cycle with this event, if there is one. The event is kept with its
+// transaction.
+fn judge(
+    both: &mut InOrder,
+    line: u32,
+    event: &Numbered,
+    admitted: Admitted,
+) -> Result<Option<u32>, Spent>
     requires { IsAdmitted (StandsForBoth both.old) event.now admitted }
-    ensures { (h : List Numbered) (judged : Numbered) → IsJudgedAs event.now judged → ComesAfter (StandsForBoth both.old) h judged admitted → IfOk result (Tells (StandsForBoth both.new) (h ++ judged ∷ []) (length h)) }
+    ensures told { (h : List Numbered) (judged : Numbered) → IsJudgedAs event.now judged → ComesAfter (StandsForBoth both.old) h judged admitted → IfOk result (Tells (StandsForBoth both.new) (h ++ judged ∷ []) (length h)) }
+    ensures kept { OnOk result ((given : List Given) → KeepsInOrder both.old given → KeepsInOrder both.new (given ++ record { line = line; event = event.now; admitted = admitted } ∷ [])) }
 {
     let inside = both.leads.in_block(event.thread);
-    match by_leads::judge(&mut both.leads, event, admitted)? {
-        Some(t) => Ok(Some(t)),
-        None => {
-            both.transactions.add(event, inside)?;
-            Ok(None)
-        }
-    }
+    let told = by_leads::judge(&mut both.leads, event, admitted)?;
+    both.transactions.add(line, event, inside)?;
+    Ok(told)
 }

@@ -32,11 +32,20 @@
 //!   `feed_all`.
 //! - There is a serial order exactly where the verdict is `Serializable` or `Pending` and the graph has no cycle. It is
 //!   told by the lines of first events: `serial_order`, `exact`, `serializable`, `lines`.
-//! - `check_trace_in_order` gives the verdict, and exactly where it is `Serializable` the transactions in the serial
-//!   order. Each is told by the line and the thread of its first event: `told`, `own_fault`.
+//! - A monitor of `InOrder` gives at its end the verdict on what it was fed, and exactly where it is `Serializable` the
+//!   transactions in the serial order, though no part was kept. Each is told by the line and the thread of its first
+//!   event: `Monitor::finish_in_order`, `told`, `own_fault`. `check_trace_in_order` gives the same of parts at once.
+//! - `check_trace_explained` gives the verdict, and exactly where it is a violation the label of the block that it names
+//!   and the events of a telling cycle. It is one of the events up to the closing one, begins in that block, and none
+//!   from there has fewer visits. Each event comes with its line and that of the first event of its transaction: `told`,
+//!   `own_fault`.
 //! - The actor of the event on a line is answered, whatever the limits, if there is one: `actor_at`.
-//! - `Leads` and `Clocks` are engines, and so is `InOrder` (private), first places with the transactions: of the events
-//!   that each is given it tells what the definitions say. By `Engine::judge`.
+//! - `Leads` and `Clocks` are engines, and so are `InOrder`, first places with the transactions, and `Recorder`
+//!   (private), with the events: of the events that each is given it tells what the definitions say. By
+//!   `Engine::judge`, `told`.
+//! - An engine may keep something of each event that it is given, also of the one that closes a cycle: `Engine::judge`,
+//!   `kept`. `InOrder` keeps the line and the thread of each transaction's first event, `Recorder` each event with its
+//!   line; `Leads` and `Clocks` keep none.
 //! - Parts have one verdict. `Serializable` means that there is no cycle at all, a violation that there is one, and
 //!   with open blocks each cycle passes two of them: `laws`.
 #![tactic(auto)]
@@ -48,16 +57,21 @@ mod by_leads;
 mod check;
 mod checker;
 pub mod engine;
+mod event_on;
+mod explained;
+mod first_steps;
 mod ghost_parts;
-mod in_order;
+pub mod in_order;
 mod known;
 pub mod laws;
 pub mod monitor;
 mod named;
 mod numbering;
-mod places;
+mod on_line;
+mod recorder;
 mod serial;
 
 pub use actor::actor_at;
 pub use check::{check_trace, check_trace_by};
+pub use explained::check_trace_explained;
 pub use serial::{check_trace_in_order, serial_order};

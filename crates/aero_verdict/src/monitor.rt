@@ -54,6 +54,7 @@ ghost use Rattle.aero_model.specs.Verdicts.{HasOwnFault};
 ghost use Rattle.aero_verdict.specs.declared.monitor.State.TheVariants.{Undecided};
 ghost use Rattle.aero_verdict.specs.Fed.{IsCertain, IsOpen, IsVerdictOn};
 ghost use Rattle.aero_verdict.specs.Monitored.{FedSo, is_spent, certain_of, TellsFed};
+ghost use Rattle.aero_verdict.specs.Given.{words_of};
 ghost use Rattle.aero_verdict.specs.Parts.{IsPartExpected};
 ghost use Rattle.aero_verdict.specs.Verdict.{Rules, under, IsVerdict};
 
@@ -87,7 +88,7 @@ pub(crate) enum State {
 /// then. Lines count from 1 through all parts.
 #[derive(Drop)]
 pub struct Monitor<E: Engine> {
-    alloc: Global,
+    pub(crate) alloc: Global,
     limits: Limits,
     checker: Checker<E>,
     // The lines of the parts so far, up to the one that decides. A number that a `u32` can't tell is past every limit.
@@ -101,6 +102,7 @@ impl<E: Engine> Model for Monitor<E> {
 
     ghost Value = { Fed };
 
+    ghost use Rattle.aero_verdict.specs.Given.{words_of};
     ghost use Rattle.aero_verdict.specs.Verdict.{under};
     ghost use Rattle.aero_verdict.specs.Monitored.{FedSo, is_spent, certain_of};
 
@@ -111,7 +113,7 @@ impl<E: Engine> Model for Monitor<E> {
       is_spent = is_spent m.state;
     } };
 
-    ghost invariant = { λ m. FedSo E.stands_for (under m.limits m.fed.labels) m.fed.parts m.lines m.checker m.state };
+    ghost invariant = { λ m. FedSo (words_of E.stands_for E.keeps) (under m.limits m.fed.labels) m.fed.parts m.lines m.checker m.state };
 }
 
 impl<E: Engine> Monitor<E> {
@@ -188,13 +190,13 @@ impl<E: Engine> Monitor<E> {
         ensures own_fault { IfOk result HasOwnFault }
         ensures spent { OnErr result (self.is_spent ≡ true) }
     {
-        let (verdict, _engine) = self.into_verdict();
+        let (verdict, _checker) = self.into_verdict();
         verdict
     }
 
-    // The same, with the engine.
-    pub(crate) fn into_verdict(self) -> (Result<Verdict, AllocError>, E)
-        ensures tells { IfOk result.0 (TellsFed E.stands_for self.rules self.parts result.1) }
+    // The same, with the checker.
+    pub(crate) fn into_verdict(self) -> (Result<Verdict, AllocError>, Checker<E>)
+        ensures tells { IfOk result.0 (TellsFed (words_of E.stands_for E.keeps) self.rules self.parts result.1) }
         ensures spent { OnErr result.0 (self.is_spent ≡ true) }
     {
         let Monitor {
@@ -206,7 +208,7 @@ impl<E: Engine> Monitor<E> {
             fed: _,
         } = self;
         let verdict = verdict_of(&checker, lines, &limits, state);
-        (verdict, checker.into_engine())
+        (verdict, checker)
     }
 }
 
@@ -238,9 +240,9 @@ fn judge_part<E: Engine>(
     limits: &Limits,
     except: &Except,
 ) -> (u32, State)
-    requires { IsPartExpected E.stands_for (under limits.now except.now) lines checker.old part.now }
-    ensures { (fed : List Reading) → FedSo E.stands_for (under limits.now except.now) fed lines checker.old Undecided →
-        FedSo E.stands_for (under limits.now except.now) (fed ++ part.now ∷ []) result.0 checker.new result.1 }
+    requires { IsPartExpected (words_of E.stands_for E.keeps) (under limits.now except.now) lines checker.old part.now }
+    ensures { (fed : List Reading) → FedSo (words_of E.stands_for E.keeps) (under limits.now except.now) fed lines checker.old Undecided →
+        FedSo (words_of E.stands_for E.keeps) (under limits.now except.now) (fed ++ part.now ∷ []) result.0 checker.new result.1 }
 {
     match check_part(alloc, checker, part, lines, limits, except) {
         Ok(None) => {}
@@ -261,8 +263,8 @@ fn verdict_of<E: Engine>(
     limits: &Limits,
     state: State,
 ) -> Result<Verdict, AllocError>
-    ensures tells { (labels : List (List ℕ)) (fed : List Reading) → FedSo E.stands_for (under limits.now labels) fed lines checker.now state →
-        IfOk result (TellsFed E.stands_for (under limits.now labels) fed checker.now.engine) }
+    ensures tells { (labels : List (List ℕ)) (fed : List Reading) → FedSo (words_of E.stands_for E.keeps) (under limits.now labels) fed lines checker.now state →
+        IfOk result (TellsFed (words_of E.stands_for E.keeps) (under limits.now labels) fed checker.now) }
     ensures spent { OnErr result (is_spent state ≡ true) }
 {
     match state {
@@ -274,7 +276,7 @@ fn verdict_of<E: Engine>(
 
 // The verdict after all parts, where nothing was wrong with any.
 fn at_end<E: Engine>(checker: &Checker<E>, lines: u32, limits: &Limits) -> Verdict
-    ensures { (labels : List (List ℕ)) (fed : List Reading) → FedSo E.stands_for (under limits.now labels) fed lines checker.now Undecided → TellsFed E.stands_for (under limits.now labels) fed checker.now.engine result }
+    ensures { (labels : List (List ℕ)) (fed : List Reading) → FedSo (words_of E.stands_for E.keeps) (under limits.now labels) fed lines checker.now Undecided → TellsFed (words_of E.stands_for E.keeps) (under limits.now labels) fed checker.now result }
 {
     if lines > limits.lines {
         return too_many_lines(limits);

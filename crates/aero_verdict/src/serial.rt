@@ -1,20 +1,24 @@
 //! The serial order of the transactions of a trace.
-ghost use Rattle.std.specs.Prelude.{◌≡◌, ◌↔◌, ℕ, true, length, option_map, is_some, Ok, IfOk, IfSome, IsSome, IsTrue};
+ghost use Rattle.std.specs.Prelude.{◌≡◌, ◌↔◌, ℕ, true, false, List, length, map, option_map, Ok, All, IfOk, IfSome, IsOk, IsOkAnd, IsSome, IsTrue, OnOk, OnErr};
+ghost use Rattle.aero_model.specs.declared.numbered.Numbered.{Numbered};
 ghost use Rattle.aero_model.specs.declared.verdict.Verdict.{Verdict};
 ghost use Rattle.aero_model.specs.Cycle.{IsSerializable};
 ghost use Rattle.aero_model.specs.Verdicts.{HasOwnFault};
-ghost use Rattle.aero_verdict.specs.Ordered.{is_faultless, has_order, AreLinesInOrder, TellsInOrder};
 ghost use Rattle.aero_order.specs.Standing.{StandsFor};
-ghost use Rattle.aero_verdict.specs.Parts.{StandsForAll};
+ghost use Rattle.aero_verdict.specs.InOrder.{AreFirstsInOrder, step_in};
+ghost use Rattle.aero_verdict.specs.Limited.{IsNamedThread};
+ghost use Rattle.aero_verdict.specs.Ordered.{is_faultless, has_order, AreLinesInOrder, TellsInOrder};
 ghost use Rattle.aero_verdict.specs.Verdict.{under, IsVerdict, checked_trace};
 
+use crate::first_steps::{lines_of, steps_of};
 use crate::in_order::InOrder;
 use crate::monitor::{Monitor, feed_all};
-use crate::places::{lines_at, steps_at};
+use crate::numbering::Numbering;
 use aero_grammar::parsed::Parsed;
 use aero_model::except::Except;
 use aero_model::limits::Limits;
 use aero_model::verdict::{Step, Verdict};
+use aero_order::first::First;
 use aero_order::transactions::Transactions;
 use std::alloc::{AllocError, Global};
 
@@ -37,14 +41,9 @@ pub fn serial_order(
     ensures serializable { IfOk result (λ order. (events blocks : ℕ) → IsVerdict parts.now (under limits.now except.now) (Verdict.Serializable events blocks) → IsSome order) }
     ensures lines { IfOk result (λ order. IfSome order (λ lines. AreLinesInOrder parts.now (under limits.now except.now) lines.items)) }
 {
-    let (_, transactions) = judge_all(alloc, parts, limits, except)?;
-    let Some(transactions) = transactions else {
-        return Ok(None);
-    };
-    match transactions.order(alloc)? {
-        Some(places) => Ok(Some(lines_at(alloc, parts, &places)?)),
-        None => Ok(None),
-    }
+    let mut monitor = Monitor::<InOrder>::new(alloc, limits, except);
+    feed_all(&mut monitor, parts, except);
+    monitor.finish_with_lines()
 }
 
 /// The verdict on the trace that the parts hold, as `check_trace` tells it. Where it is
@@ -61,52 +60,119 @@ pub fn check_trace_in_order(
     ensures told { IfOk result (λ told. TellsInOrder parts.now (under limits.now except.now) told.0 (option_map (λ steps. steps.items) told.1)) }
     ensures own_fault { IfOk result (λ told. HasOwnFault told.0) }
 {
-    let (verdict, transactions) = judge_all(alloc, parts, limits, except)?;
-    if !is_serializable(&verdict) {
-        return Ok((verdict, None));
-    }
-    let Some(transactions) = transactions else {
-        unreachable!();
-    };
-    let Some(places) = transactions.order(alloc)? else {
-        unreachable!();
-    };
-    let steps = steps_at(alloc, parts, &places)?;
-    Ok((verdict, Some(steps)))
-}
-
-// The verdict, and where nothing is wrong all transactions.
-fn judge_all(
-    alloc: Global,
-    parts: &[Parsed],
-    limits: &Limits,
-    except: &Except,
-) -> Result<(Verdict, Option<Transactions>), AllocError>
-    ensures verdict { IfOk result (λ told. IsVerdict parts.now (under limits.now except.now) told.0) }
-    ensures own_fault { IfOk result (λ told. HasOwnFault told.0) }
-    ensures faultless { IfOk result (λ told. is_some told.1 ≡ is_faultless told.0) }
-    ensures stands { IfOk result (λ told. IfSome told.1 (λ transactions. StandsForAll (StandsFor transactions) (under limits.now except.now) parts.now)) }
-{
     let mut monitor = Monitor::<InOrder>::new(alloc, limits, except);
     feed_all(&mut monitor, parts, except);
-    let (verdict, both) = monitor.into_verdict();
-    told_with(both.into_transactions(), verdict)
+    monitor.finish_in_order()
 }
 
-// The verdict, and with it the transactions where nothing is wrong.
-fn told_with(
+impl Monitor<InOrder> {
+    ghost use Rattle.std.specs.Prelude.{◌↔◌, ℕ, length, option_map, IfOk, IfSome, IsSome, IsTrue};
+    ghost use Rattle.aero_model.specs.declared.verdict.Verdict.{Verdict};
+    ghost use Rattle.aero_model.specs.Cycle.{IsSerializable};
+    ghost use Rattle.aero_model.specs.Verdicts.{HasOwnFault};
+    ghost use Rattle.aero_verdict.specs.Ordered.{is_faultless, AreLinesInOrder, TellsInOrder};
+    ghost use Rattle.aero_verdict.specs.Verdict.{IsVerdict, checked_trace};
+
+    /// The verdict on exactly the parts that were fed. Where it is `Serializable`, the transactions come with it
+    /// in the serial order, each by the line and the thread of its first event.
+    ///
+    /// An `AllocError` says that memory was refused.
+    pub fn finish_in_order(self) -> Result<(Verdict, Option<Vec<Step>>), AllocError>
+        ensures told { IfOk result (λ told. TellsInOrder self.parts self.rules told.0 (option_map (λ steps. steps.items) told.1)) }
+        ensures own_fault { IfOk result (λ told. HasOwnFault told.0) }
+    {
+        let alloc = self.alloc;
+        let (verdict, checker) = self.into_verdict();
+        let (numbering, both) = checker.into_parts();
+        let wanted = is_ordered(&verdict);
+        let firsts = firsts_where(alloc, both.into_transactions(), wanted);
+        steps_told(alloc, &numbering, verdict, firsts)
+    }
+
+    // The lines of the first events in the serial order, where nothing is wrong and there is no cycle.
+    fn finish_with_lines(self) -> Result<Option<Vec<u32>>, AllocError>
+        ensures exact { IfOk result (λ order. (verdict : Verdict) → IsVerdict self.parts self.rules verdict →
+            IsSome order ↔ (IsTrue (is_faultless verdict) × IsSerializable (checked_trace self.parts self.rules) (length (checked_trace self.parts self.rules)))) }
+        ensures serializable { IfOk result (λ order. (events blocks : ℕ) → IsVerdict self.parts self.rules (Verdict.Serializable events blocks) → IsSome order) }
+        ensures lines { IfOk result (λ order. IfSome order (λ lines. AreLinesInOrder self.parts self.rules lines.items)) }
+    {
+        let alloc = self.alloc;
+        let (verdict, checker) = self.into_verdict();
+        let (_names, both) = checker.into_parts();
+        let wanted = is_right(&verdict);
+        let firsts = firsts_where(alloc, both.into_transactions(), wanted);
+        lines_told(alloc, verdict, firsts)
+    }
+}
+
+// The first events of the transactions in the serial order, where it is wanted and there is one.
+fn firsts_where(
+    alloc: Global,
     transactions: Transactions,
+    wanted: bool,
+) -> Result<Option<Vec<First>>, AllocError>
+    requires { wanted ≡ true → (trace : List Numbered) × StandsFor transactions trace }
+    ensures { IfOk result (λ found. AreFirstsInOrder transactions wanted (option_map (λ firsts. firsts.items) found)) }
+{
+    if !wanted {
+        return Ok(None);
+    }
+    transactions.order(alloc)
+}
+
+// The verdict, with the lines and the threads' names of the first events.
+fn steps_told(
+    alloc: Global,
+    numbering: &Numbering,
     verdict: Result<Verdict, AllocError>,
-) -> Result<(Verdict, Option<Transactions>), AllocError>
+    firsts: Result<Option<Vec<First>>, AllocError>,
+) -> Result<(Verdict, Option<Vec<Step>>), AllocError>
+    requires { IfOk firsts (λ found. IfSome found (λ firsts. All (λ f. IsNamedThread numbering.now f.thread) firsts.items)) }
     ensures verdict { IfOk result (λ told. verdict ≡ Ok told.0) }
-    ensures faultless { IfOk result (λ told. is_some told.1 ≡ is_faultless told.0) }
-    ensures kept { IfOk result (λ told. IfSome told.1 (λ kept. kept ≡ transactions)) }
+    ensures steps { IfOk result (λ told. IsOkAnd firsts (λ found. option_map (λ steps. steps.items) told.1 ≡ option_map (λ firsts. map (step_in numbering.now) firsts.items) found)) }
 {
     let verdict = verdict?;
-    if is_faultless(&verdict) {
-        Ok((verdict, Some(transactions)))
-    } else {
-        Ok((verdict, None))
+    match firsts? {
+        Some(firsts) => Ok((verdict, Some(steps_of(alloc, numbering, &firsts)?))),
+        None => Ok((verdict, None)),
+    }
+}
+
+// The lines of the first events, where there is a verdict.
+fn lines_told(
+    alloc: Global,
+    verdict: Result<Verdict, AllocError>,
+    firsts: Result<Option<Vec<First>>, AllocError>,
+) -> Result<Option<Vec<u32>>, AllocError>
+    ensures verdict { OnOk result (IsOk verdict) }
+    ensures lines { IfOk result (λ told. IsOkAnd firsts (λ found. option_map (λ lines. lines.items) told ≡ option_map (λ firsts. map (λ f. f.line) firsts.items) found)) }
+{
+    let _ = verdict?;
+    match firsts? {
+        Some(firsts) => Ok(Some(lines_of(alloc, &firsts)?)),
+        None => Ok(None),
+    }
+}
+
+// Whether there is a verdict, and nothing is wrong.
+fn is_right(verdict: &Result<Verdict, AllocError>) -> bool
+    ensures ok { IfOk verdict.now (λ told. result ≡ is_faultless told) }
+    ensures err { OnErr verdict.now (result ≡ false) }
+{
+    match verdict {
+        Ok(told) => is_faultless(told),
+        Err(_) => false,
+    }
+}
+
+// Whether there is a verdict with which the order goes.
+fn is_ordered(verdict: &Result<Verdict, AllocError>) -> bool
+    ensures ok { IfOk verdict.now (λ told. result ≡ has_order true told) }
+    ensures err { OnErr verdict.now (result ≡ false) }
+{
+    match verdict {
+        Ok(told) => is_serializable(told),
+        Err(_) => false,
     }
 }
 

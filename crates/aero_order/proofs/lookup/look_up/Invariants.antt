@@ -1,5 +1,6 @@
-use Rattle.std.proofs.Common.{◌≡◌, map, take, slice_index_or}
+use Rattle.std.proofs.Common.{◌≡◌, map, take}
+use Rattle.aero_order.specs.Came.{first_of}
 use Rattle.aero_order.proofs.lookup.look_up.Given as goal
 
-abbrev pub invariant-loop-place : goal.invariant-loop-place
-invariant-loop-place l = l.found.items ≡ map (λ place. slice_index_or l.values place 0) (take l.place-index l.places)
+abbrev pub invariant-loop-number : goal.invariant-loop-number
+invariant-loop-number l = l.found.items ≡ map (first_of l.firsts) (take l.number-index l.numbers)

@@ -1,10 +1,12 @@
-use Rattle.std.proofs.Common.{List, [], ◌∷◌, ◌++◌, length, ◌∙◌, subst}
+use Rattle.std.proofs.Common.{List, [], ◌∷◌, map, sym, ◌∙◌, subst}
+use Rattle.std.proofs.lemmas.List.{map-append}
 use Rattle.aero_model.specs.declared.numbered.Numbered.{Numbered}
-use Rattle.aero_access.specs.Judgement.{IsTold}
 use Rattle.aero_leads.specs.Standing as leads
+use Rattle.aero_order.specs.Standing as orders
 use Rattle.aero_shape.specs.declared.admission.Admitted.{Admitted}
 use Rattle.aero_verdict.specs.declared.in_order.InOrder.{InOrder}
-use Rattle.aero_verdict.specs.InOrder.{StandsForBoth}
+use Rattle.aero_verdict.specs.Given.{Given}
+use Rattle.aero_verdict.specs.InOrder.{StandsForBoth, came_of}
 use Rattle.aero_verdict.specs.Judging.{ComesAfter}
 use Rattle.aero_verdict.proofs.in_order.judge.Goals as goal
 
@@ -16,16 +18,16 @@ pub judge-requires : goal.judge-requires
 judge-requires c =
     let (h, judged, judges, short, after) = c.requires in (h, judged, judges, short, for_leads c.args.both.now h judged c.args.admitted after)
 
-pub returns-in-Some : goal.returns-in-Some
-returns-in-Some c = λ h judged judges after.
-    let told = c.in_ok-t.ensures h judged judges (for_leads c.args.both.now h judged c.args.admitted after) in
-    record { is_told = subst (IsTold (h ++ judged ∷ []) (length h)) c.in-Some.is told.told; standing = λ none. absurd (cc) }
-
-pub returns-in_ok-add-in-None : goal.returns-in_ok-add-in-None
-returns-in_ok-add-in-None c = λ h judged judges after.
+pub returns-clause-told : goal.returns-clause-told
+returns-clause-told c = λ h judged judges after.
     let t = c.args.event.now.thread in
-    let told = c.in_ok-t.ensures h judged judges (for_leads c.args.both.now h judged c.args.admitted after) in
+    let told = c.in_ok-told.ensures h judged judges (for_leads c.args.both.now h judged c.args.admitted after) in
     record {
-      is_told = subst (IsTold (h ++ judged ∷ []) (length h)) c.in-None.is told.told;
-      standing = λ none. (told.stands c.in-None.is, c.in_ok-add-in-None.ensures.stands h judged judges (c.in_block-inside.ensures ∙ after.standing.0.state.in_block t) after.standing.1);
+      is_told = told.told;
+      standing = λ none. (told.stands none, c.in_ok-add.ensures.stands h judged judges (c.in_block-inside.ensures ∙ after.standing.0.state.in_block t) after.standing.1);
     }
+
+pub returns-clause-kept : goal.returns-clause-kept
+returns-clause-kept c = λ given keeps.
+    let g : Given = record { line = c.args.line; event = c.args.event.now; admitted = c.args.admitted } in
+    subst (orders.KeepsCame c.add.new.self) (sym (map-append came_of given (g ∷ []))) (c.in_ok-add.ensures.kept (map came_of given) keeps)

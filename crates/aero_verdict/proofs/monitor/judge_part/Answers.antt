@@ -1,6 +1,8 @@
 use Rattle.std.proofs.Common.{◌+◌, [], ◌∷◌, ◌++◌, min, sym, ◌∙◌, ap, subst}
 use Rattle.aero_grammar.specs.Reading.{Reading}
-use Rattle.aero_verdict.specs.Fed.{IsCertain}
+use Rattle.aero_verdict.specs.Given.{words_of}
+use Rattle.aero_verdict.specs.declared.monitor.State.TheVariants.{Decided}
+use Rattle.aero_verdict.specs.Monitored.{FedSo}
 use Rattle.aero_verdict.specs.Parts.{greatest_number}
 use Rattle.aero_verdict.specs.Verdict.{under}
 use Rattle.aero_verdict.proofs.Feeding.{wrong_part, right_part, fed_too_many}
@@ -8,7 +10,7 @@ use Rattle.aero_verdict.proofs.monitor.judge_part.Goals as goal
 
 pub returns-in-Ok-Some : goal.returns-in-Ok-Some
 returns-in-Ok-Some g c = λ fed so.
-    wrong_part g.E.Engine.stands_for (under c.args.limits.now c.args.except.now) fed c.args.part.now c.args.lines c.args.checker.now c.check_part.new.checker c.in-Ok-Some.field-0 c.in-Ok-Some.verdict c.in-Ok-Some.field-0-is
+    wrong_part (words_of g.E.Engine.stands_for g.E.Engine.keeps) (under c.args.limits.now c.args.except.now) fed c.args.part.now c.args.lines c.args.checker.now c.check_part.new.checker c.in-Ok-Some.field-0 c.in-Ok-Some.verdict c.in-Ok-Some.field-0-is
     c.in-Ok-Some.ensures.told c.in-Ok-Some.ensures.own_fault c.in-Ok-Some.ensures.wrong so
 
 pub returns-then-lines-limits : goal.returns-then-lines-limits
@@ -16,13 +18,13 @@ returns-then-lines-limits g c = λ fed so.
     let rules = under c.args.limits.now c.args.except.now in
     let more = fed ++ c.args.part.now ∷ [] in
     let lines = ap (λ (r : Reading). min (c.args.lines + r.lines) greatest_number) (sym c.part.view_is) ∙ sym c.saturating_add-lines.ensures in
-    subst (IsCertain more rules) (sym c.too_many_lines.ensures)
-    (fed_too_many g.E.Engine.stands_for rules more c.saturating_add-lines.result c.check_part.new.checker
-    (right_part g.E.Engine.stands_for rules fed c.args.part.now c.args.lines c.args.checker.now c.check_part.new.checker c.in-Ok-None.field-0 c.saturating_add-lines.result c.in-Ok-None.field-0-is c.in-Ok-None.ensures.told lines so)
+    subst (λ v. FedSo (words_of g.E.Engine.stands_for g.E.Engine.keeps) rules more c.saturating_add-lines.result c.check_part.new.checker (Decided v)) (sym c.too_many_lines.ensures)
+    (fed_too_many (words_of g.E.Engine.stands_for g.E.Engine.keeps) rules more c.saturating_add-lines.result c.check_part.new.checker
+    (right_part (words_of g.E.Engine.stands_for g.E.Engine.keeps) rules fed c.args.part.now c.args.lines c.args.checker.now c.check_part.new.checker c.in-Ok-None.field-0 c.saturating_add-lines.result c.in-Ok-None.field-0-is c.in-Ok-None.ensures.told lines so)
     c.if-lines-limits.true)
 
 pub returns : goal.returns
 returns g c = λ fed so.
     let lines = ap (λ (r : Reading). min (c.args.lines + r.lines) greatest_number) (sym c.part.view_is) ∙ sym c.saturating_add-lines.ensures in
-    right_part g.E.Engine.stands_for (under c.args.limits.now c.args.except.now) fed c.args.part.now c.args.lines c.args.checker.now c.check_part.new.checker c.in-Ok-None.field-0 c.saturating_add-lines.result c.in-Ok-None.field-0-is
+    right_part (words_of g.E.Engine.stands_for g.E.Engine.keeps) (under c.args.limits.now c.args.except.now) fed c.args.part.now c.args.lines c.args.checker.now c.check_part.new.checker c.in-Ok-None.field-0 c.saturating_add-lines.result c.in-Ok-None.field-0-is
     c.in-Ok-None.ensures.told lines so

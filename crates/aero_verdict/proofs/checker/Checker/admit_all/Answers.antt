@@ -1,5 +1,6 @@
 use Rattle.std.proofs.Common.{◌∙◌}
 use Rattle.aero_grammar.specs.Tabled.{line_in, lines_in}
+use Rattle.aero_verdict.specs.Given.{words_of}
 use Rattle.aero_verdict.specs.Known.{tables_in, is_told_exempt}
 use Rattle.aero_verdict.proofs.KnownNames.{told_exempt}
 use Rattle.aero_verdict.proofs.KnownLines.{line_is, label_is, line_less}
@@ -12,7 +13,7 @@ admit-requires-clause-next g c =
     let less = c.loop-event-test.true in
     let item = c.parts-line.result in
     let is = c.parts-line.ensures ∙ c.event-item.is in
-    expected g.E.Engine.stands_for c.args.self.now c.loop-event.self c.args.block.labels.now c.args.block.exempt.now (lines_in t c.args.block.labels.now c.args.events.now) c.args.before c.args.most c.loop-event.event-index c.loop-event.invariant.admits (line_less t c.args.block.labels.now c.args.events.now c.loop-event.event-index less)
+    expected (words_of g.E.Engine.stands_for g.E.Engine.keeps) c.args.self.now c.loop-event.self c.args.block.labels.now c.args.block.exempt.now (lines_in t c.args.block.labels.now c.args.events.now) c.args.before c.args.most c.loop-event.event-index c.loop-event.invariant.admits (line_less t c.args.block.labels.now c.args.events.now c.loop-event.event-index less)
     (line_in t c.args.block.labels.now item) (line_is t c.args.block.labels.now c.args.events.now c.loop-event.event-index c.event-item.result item less is)
     c.if-line-most.false (is_told_exempt c.args.block.exempt.now item.1.what) (λ labels. told_exempt t c.args.block.labels.now labels c.args.block.exempt.now item.1.what (label_is t c.args.block.labels.now c.args.events.now c.loop-event.event-index c.event-item.result item less is c.requires.labelled))
     c.requires.next
@@ -23,7 +24,7 @@ returns-in-Ok-Some-clause-stopped g c =
     let less = c.loop-event-test.true in
     let item = c.parts-line.result in
     let is = c.parts-line.ensures ∙ c.event-item.is in
-    closed_in g.E.Engine.stands_for c.args.self.now c.loop-event.self c.args.block.labels.now c.args.block.exempt.now (lines_in t c.args.block.labels.now c.args.events.now) c.args.before c.args.most c.loop-event.event-index c.loop-event.invariant.admits (line_less t c.args.block.labels.now c.args.events.now c.loop-event.event-index less)
+    closed_in (words_of g.E.Engine.stands_for g.E.Engine.keeps) c.args.self.now c.loop-event.self c.args.block.labels.now c.args.block.exempt.now (lines_in t c.args.block.labels.now c.args.events.now) c.args.before c.args.most c.loop-event.event-index c.loop-event.invariant.admits (line_less t c.args.block.labels.now c.args.events.now c.loop-event.event-index less)
     (line_in t c.args.block.labels.now item) (line_is t c.args.block.labels.now c.args.events.now c.loop-event.event-index c.event-item.result item less is)
     c.if-line-most.false (is_told_exempt c.args.block.exempt.now item.1.what) (λ labels. told_exempt t c.args.block.labels.now labels c.args.block.exempt.now item.1.what (label_is t c.args.block.labels.now c.args.events.now c.loop-event.event-index c.event-item.result item less is c.requires.labelled))
     c.admit.new.self c.in-Ok-Some.t c.in-Ok-Some.field-0 c.in-Ok-Some.field-0-is c.in-Ok-Some.ensures.counted c.in-Ok-Some.ensures.judged
@@ -34,7 +35,7 @@ returns-in-Err-clause-stopped g c =
     let less = c.loop-event-test.true in
     let item = c.parts-line.result in
     let is = c.parts-line.ensures ∙ c.event-item.is in
-    refused_in g.E.Engine.stands_for c.args.self.now c.loop-event.self c.args.block.labels.now c.args.block.exempt.now (lines_in t c.args.block.labels.now c.args.events.now) c.args.before c.args.most c.loop-event.event-index c.loop-event.invariant.admits (line_less t c.args.block.labels.now c.args.events.now c.loop-event.event-index less)
+    refused_in (words_of g.E.Engine.stands_for g.E.Engine.keeps) c.args.self.now c.loop-event.self c.args.block.labels.now c.args.block.exempt.now (lines_in t c.args.block.labels.now c.args.events.now) c.args.before c.args.most c.loop-event.event-index c.loop-event.invariant.admits (line_less t c.args.block.labels.now c.args.events.now c.loop-event.event-index less)
     (line_in t c.args.block.labels.now item) (line_is t c.args.block.labels.now c.args.events.now c.loop-event.event-index c.event-item.result item less is)
     c.if-line-most.false (is_told_exempt c.args.block.exempt.now item.1.what) (λ labels. told_exempt t c.args.block.labels.now labels c.args.block.exempt.now item.1.what (label_is t c.args.block.labels.now c.args.events.now c.loop-event.event-index c.event-item.result item less is c.requires.labelled))
     c.admit.new.self c.in-Err.fault c.in-Err.ensures.refused
@@ -47,7 +48,7 @@ loop-event-preserved-then-line-most g c =
     let is = c.parts-line.ensures ∙ c.event-item.is in
     record {
       admits =
-          passed_over g.E.Engine.stands_for c.args.self.now c.loop-event.self c.args.block.labels.now c.args.block.exempt.now (lines_in t c.args.block.labels.now c.args.events.now) c.args.before c.args.most c.loop-event.event-index c.loop-event.invariant.admits (line_less t c.args.block.labels.now c.args.events.now c.loop-event.event-index less)
+          passed_over (words_of g.E.Engine.stands_for g.E.Engine.keeps) c.args.self.now c.loop-event.self c.args.block.labels.now c.args.block.exempt.now (lines_in t c.args.block.labels.now c.args.events.now) c.args.before c.args.most c.loop-event.event-index c.loop-event.invariant.admits (line_less t c.args.block.labels.now c.args.events.now c.loop-event.event-index less)
           (line_in t c.args.block.labels.now item) (line_is t c.args.block.labels.now c.args.events.now c.loop-event.event-index c.event-item.result item less is)
           c.if-line-most.true;
       known = c.loop-event.invariant.known;
@@ -61,7 +62,7 @@ loop-event-preserved g c =
     let is = c.parts-line.ensures ∙ c.event-item.is in
     record {
       admits =
-          one_more g.E.Engine.stands_for c.args.self.now c.loop-event.self c.args.block.labels.now c.args.block.exempt.now (lines_in t c.args.block.labels.now c.args.events.now) c.args.before c.args.most c.loop-event.event-index c.loop-event.invariant.admits (line_less t c.args.block.labels.now c.args.events.now c.loop-event.event-index less)
+          one_more (words_of g.E.Engine.stands_for g.E.Engine.keeps) c.args.self.now c.loop-event.self c.args.block.labels.now c.args.block.exempt.now (lines_in t c.args.block.labels.now c.args.events.now) c.args.before c.args.most c.loop-event.event-index c.loop-event.invariant.admits (line_less t c.args.block.labels.now c.args.events.now c.loop-event.event-index less)
           (line_in t c.args.block.labels.now item) (line_is t c.args.block.labels.now c.args.events.now c.loop-event.event-index c.event-item.result item less is)
           c.if-line-most.false (is_told_exempt c.args.block.exempt.now item.1.what) (λ labels. told_exempt t c.args.block.labels.now labels c.args.block.exempt.now item.1.what (label_is t c.args.block.labels.now c.args.events.now c.loop-event.event-index c.event-item.result item less is c.requires.labelled))
           c.admit.new.self c.in-Ok-None.field-0 c.in-Ok-None.field-0-is c.in-Ok-None.ensures.counted c.in-Ok-None.ensures.judged;

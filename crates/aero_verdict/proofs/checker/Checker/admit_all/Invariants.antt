@@ -1,10 +1,11 @@
 use Rattle.aero_grammar.specs.Tabled.{lines_in}
+use Rattle.aero_verdict.specs.Given.{words_of}
 use Rattle.aero_verdict.specs.Known.{tables_in, Knows}
 use Rattle.aero_verdict.proofs.Lines.{Admits}
 use Rattle.aero_verdict.proofs.checker.Checker.admit_all.Given as goal
 
 abbrev pub invariant-loop-event : goal.invariant-loop-event
 invariant-loop-event g l = record {
-  admits : Admits g.E.Engine.stands_for l.initial.self l.block.labels.now l.block.exempt.now (lines_in (tables_in l.block) l.block.labels.now l.events) l.before l.most l.event-index l.self;
+  admits : Admits (words_of g.E.Engine.stands_for g.E.Engine.keeps) l.initial.self l.block.labels.now l.block.exempt.now (lines_in (tables_in l.block) l.block.labels.now l.events) l.before l.most l.event-index l.self;
   known : Knows l.self.numbering (tables_in l.block) l.known;
 }

@@ -1,5 +1,6 @@
 use Rattle.std.proofs.Common.{List, ◌++◌, length, sym, subst}
 use Rattle.aero_grammar.specs.Reading.{Reading}
+use Rattle.aero_verdict.specs.Given.{words_of}
 use Rattle.aero_verdict.specs.Parts.{Stands}
 use Rattle.aero_verdict.specs.Verdict.{under}
 use Rattle.aero_verdict.proofs.Parts.{nothing_yet}
@@ -8,5 +9,5 @@ use Rattle.aero_verdict.proofs.monitor.Monitor.new.Goals as goal
 pub invariant_of-result : goal.invariant_of-result
 invariant_of-result g c =
     let rules = under c.args.limits.now c.none.result.labels in
-    subst (λ (ps : List Reading). (rest : List Reading) → Stands g.E.Engine.stands_for rules (ps ++ rest) (length ps) 0 c.new.result) (sym c.none.ensures.1)
-    (λ rest. nothing_yet g.E.Engine.stands_for rules rest c.new.result c.new.ensures.none (c.new.ensures.kept c.none.result.labels))
+    subst (λ (ps : List Reading). (rest : List Reading) → Stands (words_of g.E.Engine.stands_for g.E.Engine.keeps) rules (ps ++ rest) (length ps) 0 c.new.result) (sym c.none.ensures.1)
+    (λ rest. nothing_yet (words_of g.E.Engine.stands_for g.E.Engine.keeps) rules rest c.new.result c.new.ensures.none (c.new.ensures.kept c.none.result.labels))

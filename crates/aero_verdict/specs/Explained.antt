@@ -1,0 +1,64 @@
+-- The telling cycle that shows a violation, event by event.
+use Rattle.std.specs.Prelude.{◌≡◌, ◌≢◌, ◌<◌, ◌≤◌, ◌==◌, ℕ, suc, Bool, true, false, if◌then◌else◌, List, [], ◌∷◌, ◌++◌, length, flat_map, slice_get, option_map, Option, Some, is_some, IfSome}
+use Rattle.std.specs.List.{AllZip}
+use Rattle.aero_model.specs.declared.numbered.Numbered.{Numbered}
+use Rattle.aero_model.specs.declared.verdict.Cycle.{Cycle}
+use Rattle.aero_model.specs.declared.verdict.CycleStep.{CycleStep}
+use Rattle.aero_model.specs.declared.verdict.Verdict.{Verdict}
+use Rattle.aero_model.specs.declared.verdict.Verdict.TheVariants.{Violation}
+use Rattle.aero_model.specs.Blocks.{Block, transaction}
+use Rattle.aero_model.specs.Graph.{Visit, IsTelling}
+use Rattle.aero_grammar.specs.Reading.{Reading}
+use Rattle.aero_verdict.specs.Verdict.{Rules, counted_events, checked_trace, IsOnLine, IsViolation, IsVerdict}
+
+-- whether a cycle goes with the verdict: it is asked for, and there is a violation
+abbrev pub has_cycle : Bool → Verdict → Bool
+has_cycle explain (Violation line thread begun) = explain
+has_cycle explain _ = false
+
+-- where a visit comes in, and, if that is another place, where it goes out
+abbrev pub visit_places : Visit → List ℕ
+visit_places v = if v.enters == v.leaves then v.enters ∷ [] else v.enters ∷ v.leaves ∷ []
+
+-- the places of a cycle in the order in which it is gone round: from where its first visit goes out to where that comes in
+abbrev pub round_places : Visit → List Visit → List ℕ
+round_places first rest = first.leaves ∷ (flat_map visit_places rest ++ first.enters ∷ [])
+
+-- the event at place first is the first one of the transaction of the event at this place
+pub record IsFirstOf (trace : List Numbered) (place first : ℕ) : Type 0 where
+  pub one : transaction trace first ≡ transaction trace place
+  pub none : (m : ℕ) → m < first → transaction trace m ≢ transaction trace place
+
+-- the line of the event at this place, that of the first one of its transaction, and what it says
+pub record IsCycleStep (parts : List Reading) (rules : Rules) (place : ℕ) (step : CycleStep) : Type 0 where
+  pub line : IsOnLine parts rules place step.line
+  pub event : option_map (λ e. e.1) (slice_get (counted_events parts rules) place) ≡ Some step.event
+  pub first : ℕ
+  pub is_first : IsFirstOf (checked_trace parts rules) place first
+  pub first_line : IsOnLine parts rules first step.first
+
+-- The label with which the block of the opener begins, if it has one, and the events of a telling cycle that is there with the closing event and begins in that block. None that begins there has fewer visits.
+pub record IsExplained (parts : List Reading) (rules : Rules) (line : ℕ) (thread : List ℕ) (begun : ℕ) (cycle : Cycle) : Type 0 where
+  pub violation : IsViolation parts rules line thread begun
+  pub label : option_map (λ e. e.1.target) (slice_get (counted_events parts rules) violation.begins.place) ≡ Some cycle.label
+  pub first : Visit
+  pub rest : List Visit
+  pub telling : IsTelling (checked_trace parts rules) (suc violation.place) first rest
+  pub begins : transaction (checked_trace parts rules) first.enters ≡ Block violation.t violation.number
+  pub fewest :
+      (other : Visit) (more : List Visit)
+      → IsTelling (checked_trace parts rules) (suc violation.place) other more
+      → transaction (checked_trace parts rules) other.enters ≡ Block violation.t violation.number
+      → length rest ≤ length more
+  pub steps_are : AllZip (IsCycleStep parts rules) (round_places first rest) cycle.steps.items
+
+-- such a cycle, where the verdict is a violation
+abbrev pub IsCycleOf : List Reading → Rules → Verdict → Cycle → Type 0
+IsCycleOf parts rules (Violation line thread begun) cycle = IsExplained parts rules line thread begun cycle
+IsCycleOf parts rules _ cycle = ⊥
+
+-- the verdict, and a cycle exactly where it goes with that
+pub record TellsExplained (parts : List Reading) (rules : Rules) (verdict : Verdict) (cycle : Option Cycle) : Type 0 where
+  pub verdict_is : IsVerdict parts rules verdict
+  pub where_explained : is_some cycle ≡ has_cycle true verdict
+  pub cycle_is : IfSome cycle (IsCycleOf parts rules verdict)

@@ -1,0 +1,208 @@
+//! The telling cycle that shows a violation, event by event.
+ghost use Rattle.std.specs.Prelude.{◌≡◌, ◌++◌, ◌<◌, ◌^◌, ℕ, true, List, All, Some, length, slice_get, flat_map, option_map, IfOk, OnOk, IsSome, IsTrue};
+ghost use Rattle.std.specs.List.{AllZip};
+ghost use Rattle.aero_model.specs.Verdicts.{HasOwnFault};
+ghost use Rattle.aero_grammar.specs.Reading.{IsReading, whole_reading};
+ghost use Rattle.aero_verdict.specs.Actors.{named_on};
+ghost use Rattle.aero_witness.specs.Telling.{visit_of, visits_of};
+ghost use Rattle.aero_verdict.specs.Explained.{TellsExplained, has_cycle, visit_places, IsExplained};
+ghost use Rattle.aero_verdict.specs.Records.{IsRecord, IsRecordOf, CanBeShown, IsStepAt, round_of};
+ghost use Rattle.aero_verdict.specs.Verdict.{Rules, under};
+
+use crate::check::check_trace;
+use crate::event_on::event_on;
+use crate::monitor::{Monitor, feed_all};
+use crate::recorder::Recorder;
+use aero_grammar::parsed::Parsed;
+use aero_model::except::Except;
+use aero_model::limits::Limits;
+use aero_model::name::Name;
+use aero_model::verdict::{Cycle, CycleStep, Verdict};
+use aero_witness::search::shortest_cycle;
+use aero_witness::transactions::transactions_of;
+use aero_witness::visit::Visit;
+use std::alloc::{AllocError, Global};
+
+/// The verdict on the trace that the parts hold, as `check_trace` tells it. Where it is a `Violation`, the label of
+/// the block comes with it that the verdict names, if it has one, and the events of a telling cycle that begins there,
+/// in the order in which it is gone round: from the one by which the block is left to the one by which it is entered
+/// again. None that begins there goes through fewer transactions. The events of a violating trace are gathered once more
+/// for it, in 20 bytes each.
+///
+/// An `AllocError` says that memory was refused.
+pub fn check_trace_explained(
+    alloc: Global,
+    parts: &[Parsed],
+    limits: &Limits,
+    except: &Except,
+) -> Result<(Verdict, Option<Cycle>), AllocError>
+    ensures told { IfOk result (λ told. TellsExplained parts.now (under limits.now except.now) told.0 told.1) }
+    ensures own_fault { IfOk result (λ told. HasOwnFault told.0) }
+{
+    let verdict = check_trace(alloc, parts, limits, except)?;
+    if !is_violation(&verdict) {
+        return Ok((verdict, None));
+    }
+    explain(alloc, parts, limits, except)
+}
+
+fn is_violation(verdict: &Verdict) -> bool
+    ensures { result ≡ has_cycle true verdict.now }
+{
+    matches!(verdict, Verdict::Violation { .. })
+}
+
+// The same, by judging the trace while its events are recorded.
+fn explain(
+    alloc: Global,
+    parts: &[Parsed],
+    limits: &Limits,
+    except: &Except,
+) -> Result<(Verdict, Option<Cycle>), AllocError>
+    ensures told { IfOk result (λ told. TellsExplained parts.now (under limits.now except.now) told.0 told.1) }
+    ensures own_fault { IfOk result (λ told. HasOwnFault told.0) }
+{
+    are_readings(parts);
+    let mut monitor = Monitor::<Recorder>::new(alloc, limits, except);
+    feed_all(&mut monitor, parts, except);
+    let (verdict, checker) = monitor.into_verdict();
+    let verdict = verdict?;
+    let begun = match &verdict {
+        Verdict::Violation { begun, .. } => *begun,
+        _ => return Ok((verdict, None)),
+    };
+    let (_names, recorder) = checker.into_parts();
+    let cycle = cycle_of(alloc, parts, &recorder, begun)?;
+    Ok((verdict, Some(cycle)))
+}
+
+// A shortest cycle that begins in the block that begins on this line.
+fn cycle_of(
+    alloc: Global,
+    parts: &[Parsed],
+    recorder: &Recorder,
+    begun: u32,
+) -> Result<Cycle, AllocError>
+    requires readings { All IsReading parts.now }
+    requires recorded { IsRecord parts.now recorder.now begun }
+    ensures { (rules : Rules) (line : ℕ) (thread : List ℕ) → IsRecordOf parts.now rules recorder.now line thread begun → IfOk result (IsExplained parts.now rules line thread begun) }
+{
+    let begin = place_of(&recorder.lines, begun);
+    let visits = shortest_cycle(alloc, &recorder.events, begin)?;
+    let transactions = transactions_of(alloc, &recorder.events)?;
+    let places = round_of(alloc, &visits)?;
+    let steps = steps_at(alloc, parts, &recorder.lines, &transactions.firsts, &places)?;
+    let label = label_on(alloc, parts, begun)?;
+    Ok(Cycle { label, steps })
+}
+
+// The label of the event on this line, if it has one.
+fn label_on(alloc: Global, parts: &[Parsed], line: u32) -> Result<Option<Name>, AllocError>
+    requires { IsSome (named_on line (whole_reading parts.now).events) }
+    ensures { IfOk result (λ label. option_map (λ e. e.target) (named_on line (whole_reading parts.now).events) ≡ Some label) }
+{
+    match event_on(alloc, parts, line)? {
+        Some(event) => Ok(event.target),
+        None => unreachable!(),
+    }
+}
+
+// That each part is a reading, which is known of one part at a time.
+fn are_readings(parts: &[Parsed])
+    ensures { All IsReading parts.now }
+{
+    for part in parts {
+        is_reading(part);
+    }
+}
+
+fn is_reading(part: &Parsed)
+    ensures { IsReading part.now }
+{
+    let _lines = part.lines;
+}
+
+// The place of the line.
+fn place_of(lines: &[u32], line: u32) -> u32
+    requires few { length lines.now < 2 ^ 32 }
+    requires there { (place : ℕ) × (slice_get lines.now place ≡ Some line) }
+    ensures { slice_get lines.now result ≡ Some line }
+{
+    for (place, at) in lines.iter().enumerate() {
+        if *at == line {
+            return place as u32;
+        }
+    }
+    unreachable!()
+}
+
+// The places of the cycle, from where its first visit goes out to where that comes in.
+fn round_of(alloc: Global, visits: &[Visit]) -> Result<Vec<u32>, AllocError>
+    ensures { IfOk result (λ places. places.items ≡ round_of visits.now) }
+{
+    let mut places = Vec::new(alloc);
+    let [first, rest @ ..] = visits else {
+        return Ok(places);
+    };
+    places.push(first.leaves)?;
+    append_places(&mut places, rest)?;
+    places.push(first.enters)?;
+    Ok(places)
+}
+
+fn append_places(places: &mut Vec<u32>, visits: &[Visit]) -> Result<(), AllocError>
+    ensures { OnOk result (places.new.items ≡ places.old.items ++ flat_map visit_places (visits_of visits.now)) }
+{
+    for visit in visits {
+        append_visit(places, *visit)?;
+    }
+    Ok(())
+}
+
+fn append_visit(places: &mut Vec<u32>, visit: Visit) -> Result<(), AllocError>
+    ensures { OnOk result (places.new.items ≡ places.old.items ++ visit_places (visit_of visit)) }
+{
+    places.push(visit.enters)?;
+    if visit.enters != visit.leaves {
+        places.push(visit.leaves)?;
+    }
+    Ok(())
+}
+
+// The events at these places, where these are the lines and the first places of transactions.
+fn steps_at(
+    alloc: Global,
+    parts: &[Parsed],
+    lines: &[u32],
+    firsts: &[u32],
+    places: &[u32],
+) -> Result<Vec<CycleStep>, AllocError>
+    requires shown { CanBeShown parts.now lines.now firsts.now }
+    requires within { All (λ place. place < length lines.now) places.now }
+    ensures { IfOk result (λ steps. AllZip (IsStepAt parts.now lines.now firsts.now) places.now steps.items) }
+{
+    let mut steps = Vec::with_capacity(alloc, places.len())?;
+    for place in places {
+        steps.push(step_at(alloc, parts, lines, firsts, *place)?)?;
+    }
+    Ok(steps)
+}
+
+fn step_at(
+    alloc: Global,
+    parts: &[Parsed],
+    lines: &[u32],
+    firsts: &[u32],
+    place: u32,
+) -> Result<CycleStep, AllocError>
+    requires shown { CanBeShown parts.now lines.now firsts.now }
+    requires within { place < length lines.now }
+    ensures { IfOk result (λ step. IsStepAt parts.now lines.now firsts.now place step) }
+{
+    let line = lines[place as usize];
+    let first = lines[firsts[place as usize] as usize];
+    match event_on(alloc, parts, line)? {
+        Some(event) => Ok(CycleStep { line, first, event }),
+        None => unreachable!(),
+    }
+}
