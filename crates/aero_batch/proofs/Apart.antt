@@ -8,9 +8,10 @@ use Rattle.aero_pieces.specs.declared.question.Question.TheVariants.{Parse, Chec
 use Rattle.aero_batch.specs.declared.progress.Progress.{Progress}
 use Rattle.aero_batch.specs.Inquiries.{Inquired, AreApart}
 use Rattle.aero_batch.specs.Steps.{with_block, with_check}
+use Rattle.aero_intake.specs.Held.{Known}
 use Rattle.aero_intake.specs.declared.track.Track.{Track}
 use Rattle.aero_intake.specs.declared.track.Track.TheVariants.{Arriving, Arrived, Checking, Found}
-use Rattle.aero_intake.specs.Stories.{Story, own_block, own_check, blocks_asked, checks_asked, IsTracked, AreTracked}
+use Rattle.aero_intake.specs.Stories.{Story, own_block, own_check, blocks_asked, checks_asked, AreSettled, IsTracked, AreTracked}
 use Rattle.aero_intake.proofs.Tracked.{blocks_asked-more, checks_asked-more, nil_right}
 use Rattle.aero_verdict.specs.Finding.{Terms}
 
@@ -31,9 +32,12 @@ pub same_tracked : (terms : Terms) (qs rs : List Question) (tale : ℕ → Story
     AreTracked terms qs tale tracks → AreTracked terms rs tale tracks
 same_tracked terms qs rs tale tracks blocks checks tracked s t at = go t (tracked s t at)
   where
+    settled : (known : Known) → AreSettled terms (tale s) qs s known → AreSettled terms (tale s) rs s known
+    settled known is = record { on = is.on; all = subst (λ bs. known.parts ++ map reading_of bs ≡ map reading_of (tale s).blocks) (blocks s) is.all }
+
     go : (t : Track) → IsTracked terms qs s (tale s) t → IsTracked terms rs s (tale s) t
-    go (Arriving readings) is = (subst (λ bs. readings ++ map reading_of bs ≡ map reading_of (tale s).blocks) (blocks s) is.0, sym (checks s) ∙ is.1, is.2)
-    go (Arrived n k readings) is = (subst (λ bs. readings ++ map reading_of bs ≡ map reading_of (tale s).blocks) (blocks s) is.0, sym (checks s) ∙ is.1, is.2)
+    go (Arriving known) is = (settled known is.0, sym (checks s) ∙ is.1, is.2)
+    go (Arrived n k known) is = (settled known is.0, sym (checks s) ∙ is.1, is.2)
     go (Checking n) is = (subst (λ cs. All (λ a. a ≡ record { parts = map reading_of (tale s).blocks; terms = terms }) cs) (checks s) is.0, is.1)
     go (Found n ending finding) is = is
 
@@ -83,5 +87,5 @@ pub check_apart : (terms : Terms) (i : Inquired) (place : ℕ) (o : Option (List
 check_apart terms i place None apart = apart
 check_apart terms i place (Some rs) apart = record {
   no_checks = apart.no_checks;
-  no_blocks = λ s. blocks_asked-more s i.verdicts (Check place rs terms.rules.limits terms.rules.labels terms.order) ∙ (append-nil (blocks_asked s i.verdicts) ∙ apart.no_blocks s);
+  no_blocks = λ s. blocks_asked-more s i.verdicts (Check place rs terms.rules.limits terms.rules.labels terms.order terms.explain) ∙ (append-nil (blocks_asked s i.verdicts) ∙ apart.no_blocks s);
 }

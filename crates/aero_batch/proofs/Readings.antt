@@ -1,6 +1,6 @@
 -- A step of reading keeps what holds of the sources.
 use Rattle.std.proofs.Common.{◌≡◌, ℕ, ◌+◌, ◌<◌, Bool, true, false, List, [], ◌∷◌, ◌++◌, map, length, slice_get, Option, Some, None, refl, sym, ◌∙◌, ap, subst, append_assoc, inl, inr, arith}
-use Rattle.std.specs.Prelude.{if◌then◌else◌, option_to_list}
+use Rattle.std.specs.Prelude.{option_to_list}
 use Rattle.std.specs.List.{concat}
 use Rattle.std.proofs.lemmas.Bool.{cases_eq}
 use Rattle.std.proofs.lemmas.Grind.{merely}
@@ -9,8 +9,8 @@ use Rattle.aero_model.specs.declared.verdict.Ending.{Ending}
 use Rattle.aero_model.specs.declared.verdict.Ending.TheVariants.{Whole, Broken, TooLarge}
 use Rattle.aero_model.specs.declared.verdict.Finding.TheVariants as findings
 use Rattle.aero_model.specs.CallCounts.{Seen}
-use Rattle.aero_grammar.specs.Reading.{Reading, reading_of}
-use Rattle.aero_lines.specs.Cutting.{block_of}
+use Rattle.aero_grammar.specs.Reading.{reading_of}
+use Rattle.aero_lines.specs.Cutting.{nothing_yet, block_of}
 use Rattle.aero_pieces.specs.declared.question.Question.{Question}
 use Rattle.aero_batch.specs.declared.progress.Progress.{Progress}
 use Rattle.aero_intake.specs.declared.track.Track.{Track}
@@ -18,19 +18,22 @@ use Rattle.aero_intake.specs.declared.track.Track.TheVariants.{Arriving, Arrived
 use Rattle.aero_batch.specs.Founds.{Sighted}
 use Rattle.aero_batch.specs.Holding.{Holds, HasEnded, HasCome, HasComeFrom, nothing_known}
 use Rattle.aero_batch.specs.Inquiries.{Inquired, AreApart, all_open}
-use Rattle.aero_intake.specs.Intake.{Taking, IsTaken, HaveCome}
+use Rattle.aero_intake.specs.Held.{Known, IsDecisive}
+use Rattle.aero_intake.specs.Intake.{Taking, IsTaken, HaveCome, with_passing, fed_all}
 use Rattle.aero_intake.specs.Source.{WasRead}
-use Rattle.aero_batch.specs.Steps.{TakesPiece, NotesEnding, CutsHeld, PassesOn, IsReadFrom, decided_there, has_decided, wanted, with_block, last_of, ended_track}
-use Rattle.aero_intake.specs.Stories.{Story, AreEnough, IsTracked, AreTracked, changed}
-use Rattle.aero_intake.specs.Tracks.{decides}
+use Rattle.aero_batch.specs.Steps.{TakesPiece, NotesEnding, CutsHeld, PassesOver, PassesOn, IsReadFrom, DecidesThere, HasDecided, HasEnough, IsWanted, with_block, last_of, ended_track}
+use Rattle.aero_intake.specs.Stories.{Story, AreEnough, BeginAlike, IsTracked, AreTracked, changed}
 use Rattle.aero_batch.proofs.Apart.{block_apart}
 use Rattle.aero_batch.proofs.Retold.{retold, retold_there, retold_same, retold_elsewhere, with_pieces, block_tracked, still_arriving}
-use Rattle.aero_intake.proofs.Taken.{nothing_is_taken, piece_is_held, held_is_cut, cut_bytes, blocks_with_last, nothing_has_come, more_has_come, source_was_read}
-use Rattle.aero_intake.proofs.Tracked.{changed_there, changed_elsewhere, before_change, enough_asked, enough_dropped, settled_decide}
+use Rattle.aero_intake.proofs.Taken.{nothing_is_taken, piece_is_held, held_is_cut, held_is_passed, cut_bytes, blocks_with_last, nothing_has_come, more_has_come, source_was_read}
+use Rattle.aero_intake.proofs.Tracked.{changed_there, changed_elsewhere, before_change, enough_asked, alike_dropped, begin_alike, settled_decide}
 use Rattle.aero_verdict.specs.Finding.{Terms}
 
 the_some : {A : Type 0} (x y : A) → Some x ≡ Some y → x ≡ y
 the_some x y p = cc p
+
+not_both : (b : Bool) → b ≡ true → b ≡ false → ⊥
+not_both b is_true is_false = cc (is_true, is_false)
 
 -- what became of the other sources stays
 ended_stays : (terms : Terms) (old now after : List Sighted) (place s : ℕ) (story : Story) → ((s : ℕ) → (place ≡ s → ⊥) → slice_get after s ≡ slice_get now s) → (place ≡ s → ⊥) →
@@ -46,26 +49,37 @@ ended_stays terms old now after place s story others other has = record {
 }
 
 -- What is settled of the source that is being read decides, and so do all its blocks that were asked about.
-story_decides : (terms : Terms) (p : Progress) (tale : ℕ → Story) → AreTracked terms (all_open p.inquiry) tale p.tracks.items → has_decided terms p ≡ true →
-    decides terms.rules.limits (map reading_of (tale p.read).blocks) ≡ true
+story_decides : (terms : Terms) (p : Progress) (tale : ℕ → Story) → AreTracked terms (all_open p.inquiry) tale p.tracks.items → HasDecided p →
+    IsDecisive terms (map reading_of (tale p.read).blocks)
 story_decides terms p tale tracked is = go (slice_get p.tracks.items p.read) refl is
   where
-    go : (o : Option Track) → slice_get p.tracks.items p.read ≡ o → decided_there terms o ≡ true → decides terms.rules.limits (map reading_of (tale p.read).blocks) ≡ true
-    go None at is = cc (is)
-    go (Some (Arriving readings)) at is = settled_decide terms.rules (all_open p.inquiry) p.read (tale p.read) readings (tracked p.read (Arriving readings) at).0 is
-    go (Some (Arrived bytes blocks readings)) at is = cc (is)
-    go (Some (Checking bytes)) at is = cc (is)
-    go (Some (Found bytes ending finding)) at is = cc (is)
+    go : (o : Option Track) → slice_get p.tracks.items p.read ≡ o → DecidesThere o → IsDecisive terms (map reading_of (tale p.read).blocks)
+    go None at is = absurd is
+    go (Some (Arriving known)) at is = settled_decide terms (all_open p.inquiry) p.read (tale p.read) known (tracked p.read (Arriving known) at).0 is
+    go (Some (Arrived bytes blocks known)) at is = absurd is
+    go (Some (Checking bytes)) at is = absurd is
+    go (Some (Found bytes ending finding)) at is = absurd is
 
--- the next block is asked about, or what was read decides
-enough_wanted : (terms : Terms) (p : Progress) (tale : ℕ → Story) (cut : List (List ℕ)) (o : Option (List ℕ)) → AreTracked terms (all_open p.inquiry) tale p.tracks.items →
-    AreEnough terms.rules (tale p.read).blocks cut → AreEnough terms.rules ((tale p.read).blocks ++ option_to_list (wanted terms p o)) (cut ++ option_to_list o)
-enough_wanted terms p tale cut o tracked enough = go (has_decided terms p) refl
-  where
-    go : (b : Bool) → has_decided terms p ≡ b → AreEnough terms.rules ((tale p.read).blocks ++ option_to_list (if b then None else o)) (cut ++ option_to_list o)
-    go true is = subst (λ bs. AreEnough terms.rules bs (cut ++ option_to_list o)) (sym (append-nil (tale p.read).blocks))
-        (enough_dropped terms.rules (tale p.read).blocks cut (option_to_list o) (story_decides terms p tale tracked is) enough)
-    go false is = enough_asked terms.rules (tale p.read).blocks cut (option_to_list o) enough
+-- where no further block counts, those that were asked about decide
+enough_begun : (terms : Terms) (old now : List Sighted) (p : Progress) (tale : ℕ → Story) → HasEnough p → (holds : Holds terms old now p tale) → BeginAlike terms (tale p.read).blocks holds.cut
+enough_begun terms old now p tale (inl passed) holds = holds.passed passed
+enough_begun terms old now p tale (inr decided) holds = begin_alike terms (tale p.read).blocks holds.cut (story_decides terms p tale holds.tracked decided) holds.enough
+
+-- the last block of a whole source is asked about, or doesn't count
+enough_wanted : (terms : Terms) (old now : List Sighted) (p : Progress) (tale : ℕ → Story) (ending : Ending) (asked : Option (List ℕ)) → (holds : Holds terms old now p tale) →
+    IsWanted p (last_of p.intake.cutting ending) asked →
+    AreEnough terms ((tale p.read).blocks ++ option_to_list asked) (holds.cut ++ option_to_list (last_of (fed_all nothing_yet (tale p.read).pieces) ending))
+enough_wanted terms old now p tale ending asked holds (inl wanted) =
+    let blocks = (tale p.read).blocks in
+    let last = last_of (fed_all nothing_yet (tale p.read).pieces) ending in
+    let is : asked ≡ last = wanted.0 ∙ ap (λ c. last_of c ending) (holds.taken.cutting wanted.1.none_passed) in
+    subst (λ o. AreEnough terms (blocks ++ option_to_list o) (holds.cut ++ option_to_list last)) (sym is) (enough_asked terms blocks holds.cut (option_to_list last) holds.enough)
+enough_wanted terms old now p tale ending asked holds (inr enough) =
+    let blocks = (tale p.read).blocks in
+    let last = last_of (fed_all nothing_yet (tale p.read).pieces) ending in
+    subst (λ o. AreEnough terms (blocks ++ option_to_list o) (holds.cut ++ option_to_list last)) (sym enough.0)
+    (subst (λ bs. AreEnough terms bs (holds.cut ++ option_to_list last)) (sym (append-nil blocks))
+    (inr (alike_dropped terms blocks holds.cut (option_to_list last) (enough_begun terms old now p tale enough.1 holds))))
 
 block_count : (p : Progress) (o : Option (List ℕ)) (blocks : List (List ℕ)) → p.blocks ≡ length blocks → (with_block p o).blocks ≡ length (blocks ++ option_to_list o)
 block_count p None blocks is = is ∙ ap length (sym (append-nil blocks))
@@ -95,6 +109,7 @@ taking_holds terms old now after p q tale before_read after_read from reading ta
       cut = holds.cut;
       taken = piece_is_held p.intake pieces holds.cut takes.piece holds.taken;
       enough = holds.enough;
+      passed = holds.passed;
       come = come_on terms old now after p.read before_read after_read bytes (concat pieces ++ (p.intake.held ++ takes.piece)) p.ended p.ended from
           (λ first come. subst (λ e. HasCome first after_read limit (concat pieces ++ (p.intake.held ++ takes.piece)) e) (sym reading)
           (subst (λ bs. HaveCome first after_read bs) (append_assoc (concat pieces) p.intake.held takes.piece)
@@ -119,6 +134,7 @@ noting_holds terms old now after p q tale before_read after_read from reading no
       cut = holds.cut;
       taken = holds.taken;
       enough = holds.enough;
+      passed = holds.passed;
       come = come_on terms old now after p.read before_read after_read bytes bytes p.ended (Some notes.ending) from
           (λ first come. source_was_read first before_read after_read limit p.intake.count bytes notes.ending (subst (λ e. HasCome first before_read limit bytes e) reading come) holds.taken.count notes.ends)
           holds.come;
@@ -129,11 +145,11 @@ noting_holds terms old now after p q tale before_read after_read from reading no
 
 -- what is held is cut
 pub cutting_holds : (terms : Terms) (old now after : List Sighted) (p q : Progress) (tale : ℕ → Story) (before_read after_read : Seen) →
-    IsReadFrom now after p.read before_read after_read → after_read ≡ before_read → CutsHeld terms p q → Holds terms old now p tale →
+    IsReadFrom now after p.read before_read after_read → after_read ≡ before_read → CutsHeld p q → Holds terms old now p tale →
     (new : ℕ → Story) × Holds terms old after q new × ((s : ℕ) → s < p.read → new s ≡ tale s)
 cutting_holds terms old now after p q tale before_read after_read from unread cuts holds =
     let given = block_of p.intake.cutting p.intake.held in
-    let o = wanted terms p given in
+    let o = given in
     let cut = holds.cut ++ option_to_list given in
     let pieces = (tale p.read).pieces ++ p.intake.held ∷ [] in
     let bytes = concat (tale p.read).pieces ++ p.intake.held in
@@ -161,8 +177,9 @@ cutting_holds terms old now after p q tale before_read after_read from unread cu
         cut = cut;
         taken = subst (λ (x : Story). IsTaken q.intake x.pieces cut) (sym there')
             (subst (λ (i : Taking). IsTaken i pieces cut) (sym cuts.intake)
-            (held_is_cut p.intake (tale p.read).pieces holds.cut holds.taken));
-        enough = subst (λ (x : Story). AreEnough terms.rules x.blocks cut) (sym there') (enough_wanted terms p tale holds.cut given holds.tracked holds.enough);
+            (held_is_cut p.intake (tale p.read).pieces holds.cut cuts.going_on.none_passed holds.taken));
+        enough = subst (λ (x : Story). AreEnough terms x.blocks cut) (sym there') (enough_asked terms (tale p.read).blocks holds.cut (option_to_list given) holds.enough);
+        passed = λ is_passed. absurd (not_both p.intake.passed (ap (λ (i : Taking). i.passed) (sym cuts.intake) ∙ is_passed) cuts.going_on.none_passed);
         come = subst (λ (x : Story). HasComeFrom terms old after q.read (concat x.pieces ++ q.intake.held) q.ended) (sym there')
             (subst (λ (i : Taking). HasComeFrom terms old after q.read (concat pieces ++ i.held) q.ended) (sym cuts.intake)
             (subst (λ e. HasComeFrom terms old after q.read (concat pieces ++ []) e) (sym cuts.ended)
@@ -177,27 +194,71 @@ cutting_holds terms old now after p q tale before_read after_read from unread cu
       λ s less. elsewhere s (λ e. omega (arith, less, e)),
     )
 
+-- what is held is passed over
+pub passing_over_holds : (terms : Terms) (old now after : List Sighted) (p q : Progress) (tale : ℕ → Story) (before_read after_read : Seen) →
+    IsReadFrom now after p.read before_read after_read → after_read ≡ before_read → PassesOver p q → Holds terms old now p tale →
+    (new : ℕ → Story) × Holds terms old after q new × ((s : ℕ) → s < p.read → new s ≡ tale s)
+passing_over_holds terms old now after p q tale before_read after_read from unread passes holds =
+    let given = block_of (fed_all nothing_yet (tale p.read).pieces) p.intake.held in
+    let cut = holds.cut ++ option_to_list given in
+    let pieces = (tale p.read).pieces ++ p.intake.held ∷ [] in
+    let bytes = concat (tale p.read).pieces ++ p.intake.held in
+    let limit = terms.rules.limits.bytes in
+    let story = with_pieces (tale p.read) pieces None in
+    let new : ℕ → Story = retold tale p.read story in
+    let there : new p.read ≡ story = retold_there tale p.read story in
+    let elsewhere : (s : ℕ) → (p.read ≡ s → ⊥) → new s ≡ tale s = λ s other. retold_elsewhere tale p.read s story other in
+    let same : story.blocks ≡ (tale p.read).blocks = append-nil (tale p.read).blocks in
+    let alike : BeginAlike terms story.blocks cut =
+    subst (λ bs. BeginAlike terms bs cut) (sym same) (alike_dropped terms (tale p.read).blocks holds.cut (option_to_list given) (enough_begun terms old now p tale passes.enough holds)) in
+    let come : HasComeFrom terms old after p.read (concat pieces ++ []) p.ended =
+    come_on terms old now after p.read before_read after_read bytes (concat pieces ++ []) p.ended p.ended from
+    (λ first come. subst (λ bs. HasCome first after_read limit bs p.ended) (sym (cut_bytes (tale p.read).pieces p.intake.held))
+    (subst (λ (x : Seen). HasCome first x limit bytes p.ended) (sym unread) come))
+    holds.come in (
+      new,
+      subst (λ (m : Progress). Holds terms old after m new) (sym passes.new_is)
+          (record {
+            apart = holds.apart;
+            tracked = block_tracked terms p tale pieces None holds.not_ended holds.tracked;
+            ended = λ s below.
+                let other : p.read ≡ s → ⊥ = λ e. omega (arith, below, e) in
+                subst (λ (x : Story). HasEnded terms old after s x) (sym (elsewhere s other)) (ended_stays terms old now after p.read s (tale s) from.others other (holds.ended s below));
+            cut = cut;
+            taken = subst (λ (x : Story). IsTaken (with_passing p.intake) x.pieces cut) (sym there) (held_is_passed p.intake (tale p.read).pieces holds.cut holds.taken);
+            enough = subst (λ (x : Story). AreEnough terms x.blocks cut) (sym there) (inr alike);
+            passed = λ is_passed. subst (λ (x : Story). BeginAlike terms x.blocks cut) (sym there) alike;
+            come = subst (λ (x : Story). HasComeFrom terms old after p.read (concat x.pieces ++ []) p.ended) (sym there) come;
+            asked = holds.asked ∙ ap length (sym same) ∙ ap (λ (x : Story). length x.blocks) (sym there);
+            not_ended = ap (λ (x : Story). x.ending) there;
+            later = λ s above.
+                let other : p.read ≡ s → ⊥ = λ e. omega (arith, above, e) in
+                (elsewhere s other ∙ (holds.later s above).0, from.others s other ∙ (holds.later s above).1);
+          }),
+      λ s less. elsewhere s (λ e. omega (arith, less, e)),
+    )
+
 -- a source that was arriving has ended
-ended_track_fits : (terms : Terms) (qs : List Question) (s count blocks : ℕ) (ending : Ending) (i : Taking) (pieces cut all : List (List ℕ)) (readings : List Reading) →
-    IsTaken i pieces cut → count ≡ length (concat pieces) → AreEnough terms.rules all (cut ++ option_to_list (last_of i.cutting ending)) → blocks ≡ length all →
-    IsTracked terms qs s (record { pieces = pieces; blocks = all; ending = None }) (Arriving readings) →
-    IsTracked terms qs s (record { pieces = pieces; blocks = all; ending = Some ending }) (ended_track ending count blocks (Arriving readings))
-ended_track_fits terms qs s count blocks Whole i pieces cut all readings taken is_count enough is_blocks is = (
-  is.0,
+ended_track_fits : (terms : Terms) (qs : List Question) (s count blocks : ℕ) (ending : Ending) (i : Taking) (pieces cut all : List (List ℕ)) (known : Known) →
+    IsTaken i pieces cut → count ≡ length (concat pieces) → AreEnough terms all (cut ++ option_to_list (last_of (fed_all nothing_yet pieces) ending)) → blocks ≡ length all →
+    IsTracked terms qs s (record { pieces = pieces; blocks = all; ending = None }) (Arriving known) →
+    IsTracked terms qs s (record { pieces = pieces; blocks = all; ending = Some ending }) (ended_track ending count blocks (Arriving known))
+ended_track_fits terms qs s count blocks Whole i pieces cut all known taken is_count enough is_blocks is = (
+  record { on = is.0.on; all = is.0.all },
   is.1,
   record {
     ended = refl;
-    enough = subst (λ bs. AreEnough terms.rules all bs) (blocks_with_last i pieces cut taken) enough;
+    enough = subst (λ bs. AreEnough terms all bs) (blocks_with_last i pieces cut taken) enough;
     byte_count = is_count;
     block_count = is_blocks;
   },
 )
-ended_track_fits terms qs s count blocks Broken i pieces cut all readings taken is_count enough is_blocks is =
+ended_track_fits terms qs s count blocks Broken i pieces cut all known taken is_count enough is_blocks is =
     (refl, is_count, merely (ap findings.Broken is_count))
-ended_track_fits terms qs s count blocks TooLarge i pieces cut all readings taken is_count enough is_blocks is =
+ended_track_fits terms qs s count blocks TooLarge i pieces cut all known taken is_count enough is_blocks is =
     (refl, is_count, merely refl)
 
-ended_tracked : (terms : Terms) (p : Progress) (tale : ℕ → Story) (ending : Ending) (o : Option (List ℕ)) (all cut : List (List ℕ)) → AreEnough terms.rules all (cut ++ option_to_list (last_of p.intake.cutting ending)) →
+ended_tracked : (terms : Terms) (p : Progress) (tale : ℕ → Story) (ending : Ending) (o : Option (List ℕ)) (all cut : List (List ℕ)) → AreEnough terms all (cut ++ option_to_list (last_of (fed_all nothing_yet (tale p.read).pieces) ending)) →
     IsTaken p.intake (tale p.read).pieces cut → p.intake.count ≡ length (concat (tale p.read).pieces) → (with_block p o).blocks ≡ length all →
     AreTracked terms (all_open (with_block p o).inquiry) (retold tale p.read (record { pieces = (tale p.read).pieces; blocks = all; ending = None })) p.tracks.items →
     AreTracked terms (all_open (with_block p o).inquiry) (retold tale p.read (record { pieces = (tale p.read).pieces; blocks = all; ending = Some ending }))
@@ -252,17 +313,16 @@ empty (x ∷ xs) none = absurd (omega (arith, none))
 
 -- the source is passed on from
 pub passing_holds : (terms : Terms) (old now after : List Sighted) (p q : Progress) (tale : ℕ → Story) (before_read after_read : Seen) (first : Sighted) →
-    slice_get old p.read ≡ Some first → IsReadFrom now after p.read before_read after_read → after_read ≡ before_read → PassesOn terms p q →
+    slice_get old p.read ≡ Some first → IsReadFrom now after p.read before_read after_read → after_read ≡ before_read → PassesOn p q →
     Holds terms old now p tale → (new : ℕ → Story) × Holds terms old after q new × ((s : ℕ) → s < p.read → new s ≡ tale s)
 passing_holds terms old now after p q tale before_read after_read first was from unread passes holds =
     let ending = passes.ending in
     let is = passes.ends in
     let limit = terms.rules.limits.bytes in
-    let given = last_of p.intake.cutting ending in
-    let o = wanted terms p given in
+    let o = is.asked in
     let pieces = (tale p.read).pieces in
     let all = (tale p.read).blocks ++ option_to_list o in
-    let bytes_are : concat pieces ++ p.intake.held ≡ concat pieces = ap (λ h. concat pieces ++ h) (empty p.intake.held passes.all_cut) ∙ append-nil (concat pieces) in
+    let bytes_are : concat pieces ++ p.intake.held ≡ concat pieces = ap (λ h. concat pieces ++ h) (empty p.intake.held passes.none_held) ∙ append-nil (concat pieces) in
     let read : WasRead first.reader after_read limit (concat pieces) ending =
     subst (λ (x : Seen). WasRead first.reader x limit (concat pieces) ending) (from.used ∙ sym unread)
     (subst (λ bs. WasRead first.reader from.was.reader limit bs ending) bytes_are
@@ -284,11 +344,12 @@ passing_holds terms old now after p q tale before_read after_read first was from
         apart = subst AreApart (sym is.inquiry) (block_apart p o holds.apart);
         tracked = subst (λ (i : Inquired). AreTracked terms (all_open i) new q.tracks.items) (sym is.inquiry)
             (subst (λ ts. AreTracked terms qs new ts) (sym is.tracks)
-            (ended_tracked terms p tale ending o all holds.cut (enough_wanted terms p tale holds.cut given holds.tracked holds.enough) holds.taken (holds.taken.count ∙ ap length bytes_are) blocks tracked));
+            (ended_tracked terms p tale ending o all holds.cut (enough_wanted terms old now p tale ending o holds is.wanted) holds.taken (holds.taken.count ∙ ap length bytes_are) blocks tracked));
         ended = λ s below. ended_before terms old now after p tale before_read after_read ending first story new was from read holds refl refl there elsewhere s (omega (arith, below, is.read));
         cut = [];
         taken = subst (λ (x : Story). IsTaken q.intake x.pieces []) (sym next_known) (subst (λ (i : Taking). IsTaken i [] []) (sym is.intake) nothing_is_taken);
-        enough = subst (λ (x : Story). AreEnough terms.rules x.blocks []) (sym next_known) (inl refl);
+        enough = subst (λ (x : Story). AreEnough terms x.blocks []) (sym next_known) (inl refl);
+        passed = λ is_passed. absurd (not_both q.intake.passed is_passed (ap (λ (i : Taking). i.passed) is.intake));
         come = subst (λ e. HasComeFrom terms old after q.read (concat (new q.read).pieces ++ q.intake.held) e) (sym is.reading)
             (subst (λ (i : Taking). HasComeFrom terms old after q.read (concat (new q.read).pieces ++ i.held) None) (sym is.intake)
             (subst (λ (x : Story). HasComeFrom terms old after q.read (concat x.pieces ++ []) None) (sym next_known)

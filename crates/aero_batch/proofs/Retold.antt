@@ -15,9 +15,10 @@ use Rattle.aero_batch.specs.Holding.{Holds, HasComeFrom}
 use Rattle.aero_batch.specs.declared.kind.Kind.{Kind}
 use Rattle.aero_batch.specs.declared.kind.Kind.TheVariants.{Block, Verdict}
 use Rattle.aero_batch.specs.Inquiries.{Inquired, AreApart, all_open, open_of, with_open}
+use Rattle.aero_intake.specs.Held.{Known}
 use Rattle.aero_intake.specs.Intake.{Taking, IsTaken}
 use Rattle.aero_batch.specs.Steps.{ChecksNext, SettlesNext, Settles, with_block, with_check}
-use Rattle.aero_intake.specs.Stories.{Story, AreEnough, IsSettledWith, IsTracked, AreTracked, blocks_asked, checks_asked, own_block, own_check, changed}
+use Rattle.aero_intake.specs.Stories.{Story, AreEnough, BeginAlike, IsSettledWith, IsTracked, AreTracked, blocks_asked, checks_asked, own_block, own_check, changed}
 use Rattle.aero_intake.specs.Tracks.{IsReady, GivesReadings}
 use Rattle.aero_batch.proofs.Apart.{block_first, check_before_blocks, check_apart}
 use Rattle.aero_intake.proofs.Tracked.{changed_there, changed_elsewhere, before_change, value_goes, nil_right, asked_other, asked_block, asked_check, found_here}
@@ -46,7 +47,8 @@ without_reading terms old now p q tale read intake blocks ended apart tracked ho
   ended = λ s below. holds.ended s (subst (λ r. s < r) read below);
   cut = holds.cut;
   taken = subst (λ r. IsTaken q.intake (tale r).pieces holds.cut) (sym read) (subst (λ (i : Taking). IsTaken i (tale p.read).pieces holds.cut) (sym intake) holds.taken);
-  enough = subst (λ r. AreEnough terms.rules (tale r).blocks holds.cut) (sym read) holds.enough;
+  enough = subst (λ r. AreEnough terms (tale r).blocks holds.cut) (sym read) holds.enough;
+  passed = λ is_passed. subst (λ r. BeginAlike terms (tale r).blocks holds.cut) (sym read) (holds.passed (ap (λ (i : Taking). i.passed) (sym intake) ∙ is_passed));
   come = subst (λ e. HasComeFrom terms old now q.read (concat (tale q.read).pieces ++ q.intake.held) e) (sym ended)
       (subst (λ (i : Taking). HasComeFrom terms old now q.read (concat (tale q.read).pieces ++ i.held) p.ended) (sym intake)
       (subst (λ r. HasComeFrom terms old now r (concat (tale r).pieces ++ p.intake.held) p.ended) (sym read) holds.come));
@@ -121,24 +123,25 @@ known_after terms qs more tale tracks place before after was there elsewhere tra
 -- the open questions with one more for a verdict, if it is asked for, behind all
 abbrev checked_on : Terms → Inquired → ℕ → Option (List Reading) → List Question
 checked_on terms i place None = all_open i
-checked_on terms i place (Some rs) = all_open i ++ Check place rs terms.rules.limits terms.rules.labels terms.order ∷ []
+checked_on terms i place (Some rs) = all_open i ++ Check place rs terms.rules.limits terms.rules.labels terms.order terms.explain ∷ []
 
 check_asked : (terms : Terms) (i : Inquired) (tale : ℕ → Story) (tracks : List Track) (place : ℕ) (before after : Track) (readings : Option (List Reading)) →
-    slice_get tracks place ≡ Some before → IsReady before → GivesReadings terms before after readings → AreTracked terms (all_open i) tale tracks →
+    slice_get tracks place ≡ Some before → IsReady before → GivesReadings before after readings → AreTracked terms (all_open i) tale tracks →
     AreTracked terms (checked_on terms i place readings) tale (changed place (λ t. after) tracks)
-check_asked terms i tale tracks place (Arriving rs) after readings was ready gives tracked = absurd ready
+check_asked terms i tale tracks place (Arriving known) after readings was ready gives tracked = absurd ready
 check_asked terms i tale tracks place (Checking bytes) after readings was ready gives tracked = absurd ready
-check_asked terms i tale tracks place (Arrived bytes blocks rs) after readings was ready (inl gives) tracked =
+check_asked terms i tale tracks place (Arrived bytes blocks known) after readings was ready (inl gives) tracked =
+    let question = Check place known.parts terms.rules.limits terms.rules.labels terms.order terms.explain in
     subst (λ o. AreTracked terms (checked_on terms i place o) tale (changed place (λ t. after) tracks)) (sym gives.0)
-    (known_after terms (all_open i) (all_open i ++ Check place rs terms.rules.limits terms.rules.labels terms.order ∷ []) tale tracks place (Arrived bytes blocks rs) after was
-    (subst (λ x. IsTracked terms (all_open i ++ Check place rs terms.rules.limits terms.rules.labels terms.order ∷ []) place (tale place) x) (sym gives.1)
-    (asked_check terms (all_open i) place bytes blocks (tale place) rs ready (tracked place (Arrived bytes blocks rs) was)))
-    (λ s t other. asked_other terms (all_open i) (Check place rs terms.rules.limits terms.rules.labels terms.order) s (tale s) t other) tracked)
-check_asked terms i tale tracks place (Arrived bytes blocks rs) after readings was ready (inr gives) tracked =
+    (known_after terms (all_open i) (all_open i ++ question ∷ []) tale tracks place (Arrived bytes blocks known) after was
+    (subst (λ x. IsTracked terms (all_open i ++ question ∷ []) place (tale place) x) (sym gives.1)
+    (asked_check terms (all_open i) place bytes blocks (tale place) known ready (tracked place (Arrived bytes blocks known) was)))
+    (λ s t other. asked_other terms (all_open i) question s (tale s) t other) tracked)
+check_asked terms i tale tracks place (Arrived bytes blocks known) after readings was ready (inr gives) tracked =
     subst (λ o. AreTracked terms (checked_on terms i place o) tale (changed place (λ t. after) tracks)) (sym gives.0)
-    (known_after terms (all_open i) (all_open i) tale tracks place (Arrived bytes blocks rs) after was
+    (known_after terms (all_open i) (all_open i) tale tracks place (Arrived bytes blocks known) after was
     (subst (λ x. IsTracked terms (all_open i) place (tale place) x) (sym gives.3)
-    (found_here terms (all_open i) place bytes blocks (tale place) rs (findings.Judged gives.1) ready gives.2 (tracked place (Arrived bytes blocks rs) was)))
+    (found_here terms (all_open i) place bytes blocks (tale place) known (findings.Judged gives.1) ready gives.2 (tracked place (Arrived bytes blocks known) was)))
     (λ s t other is. is) tracked)
 check_asked terms i tale tracks place (Found bytes ending finding) after readings was ready gives tracked =
     subst (λ o. AreTracked terms (checked_on terms i place o) tale (changed place (λ t. after) tracks)) (sym gives.0)
@@ -151,7 +154,7 @@ check_tracked : (terms : Terms) (i : Inquired) (tale : ℕ → Story) (tracks : 
     AreTracked terms (checked_on terms i place readings) tale tracks → AreTracked terms (all_open (with_check terms i place readings)) tale tracks
 check_tracked terms i tale tracks place None apart tracked = tracked
 check_tracked terms i tale tracks place (Some rs) apart tracked =
-    check_before_blocks terms i.verdicts i.blocks (Check place rs terms.rules.limits terms.rules.labels terms.order) tale tracks apart.no_checks (λ s. refl) tracked
+    check_before_blocks terms i.verdicts i.blocks (Check place rs terms.rules.limits terms.rules.labels terms.order terms.explain) tale tracks apart.no_checks (λ s. refl) tracked
 
 pub checking_holds : (terms : Terms) (old now : List Sighted) (p q : Progress) (tale : ℕ → Story) → ChecksNext terms p q → Holds terms old now p tale → Holds terms old now q tale
 checking_holds terms old now p q tale is holds =
@@ -163,9 +166,9 @@ checking_holds terms old now p q tale is holds =
     (subst (λ ts. AreTracked terms (all_open (with_check terms p.inquiry p.checked is.readings)) tale ts) (sym is.tracks) tracked)) holds
 
 -- a source that hasn't ended is still arriving
-pub still_arriving : (terms : Terms) (qs : List Question) (s : ℕ) (story : Story) (t : Track) → story.ending ≡ None → IsTracked terms qs s story t → (readings : List Reading) × (t ≡ Arriving readings)
-still_arriving terms qs s story (Arriving readings) none is = (readings, refl)
-still_arriving terms qs s story (Arrived bytes blocks readings) none is = absurd (clash none is.2.ended)
+pub still_arriving : (terms : Terms) (qs : List Question) (s : ℕ) (story : Story) (t : Track) → story.ending ≡ None → IsTracked terms qs s story t → (known : Known) × (t ≡ Arriving known)
+still_arriving terms qs s story (Arriving known) none is = (known, refl)
+still_arriving terms qs s story (Arrived bytes blocks known) none is = absurd (clash none is.2.ended)
   where
     clash : {A : Type 0} {o : Option A} {x : A} → o ≡ None → o ≡ Some x → ⊥
     clash p q = cc (p, q)
@@ -199,7 +202,7 @@ block_asked terms p tale pieces None none tracked s t at =
           let arriving = still_arriving terms (all_open p.inquiry) p.read (tale p.read) t none is in
           let is_there = subst (λ x. IsTracked terms (all_open p.inquiry) p.read (tale p.read) x) arriving.1 is in
           let new : IsTracked terms (all_open p.inquiry) p.read (with_pieces (tale p.read) pieces None) (Arriving arriving.0) =
-          (is_there.0 ∙ sym (ap (λ bs. map reading_of bs) (append-nil (tale p.read).blocks)), is_there.1, refl) in
+          (record { on = is_there.0.on; all = is_there.0.all ∙ sym (ap (λ bs. map reading_of bs) (append-nil (tale p.read).blocks)) }, is_there.1, refl) in
           subst (λ x. IsTracked terms (all_open p.inquiry) s x t) (sym (retold_same tale p.read s (with_pieces (tale p.read) pieces None) same))
           (subst (λ n. IsTracked terms (all_open p.inquiry) n (with_pieces (tale p.read) pieces None) t) same
           (subst (λ x. IsTracked terms (all_open p.inquiry) p.read (with_pieces (tale p.read) pieces None) x) (sym arriving.1) new)))

@@ -20,20 +20,24 @@ use Rattle.aero_intake.specs.declared.track.Track.TheVariants as tracks
 use Rattle.aero_batch.specs.Founds.{Sighted, Found, IsFoundAt, AreOfTheFirst, told, ending_of, lines_of_all, counts_of_all, Took, IsNextText, WasCutOff, IsWritten, WasRun}
 use Rattle.aero_batch.specs.Holding.{Holds, HasComeFrom, Counted, AreTold, Tells, Stands, HasNumbers, IsBegun, nothing_known}
 use Rattle.aero_batch.specs.Inquiries.{Inquired, AreApart, all_open, open_count}
+use Rattle.aero_intake.specs.Held.{nothing_read}
 use Rattle.aero_intake.specs.Intake.{Taking, IsTaken, HaveCome}
 use Rattle.aero_intake.specs.Source.{WasRead}
 use Rattle.aero_batch.specs.Steps.{Steps, ReadsOn}
 use Rattle.aero_batch.specs.Telling.{WasCut, TellsText, TellsNext, IsOneMore, cause_of, total}
 use Rattle.aero_intake.specs.Stories.{Story, IsTracked}
 use Rattle.aero_batch.proofs.Apart.{nothing_apart}
-use Rattle.aero_batch.proofs.Readings.{taking_holds, noting_holds, cutting_holds, passing_holds}
+use Rattle.aero_batch.proofs.Readings.{taking_holds, noting_holds, cutting_holds, passing_over_holds, passing_holds}
 use Rattle.aero_intake.proofs.Taken.{nothing_is_taken, nothing_has_come}
 use Rattle.aero_batch.proofs.Retold.{settling_holds, checking_holds}
-use Rattle.aero_batch.proofs.Sums.{settling_counted, checking_counted, taking_counted, noting_counted, cutting_counted, ending_counted}
+use Rattle.aero_batch.proofs.Sums.{settling_counted, checking_counted, taking_counted, noting_counted, cutting_counted, passing_counted, ending_counted}
 use Rattle.aero_verdict.specs.Finding.{Terms}
 
 the_some : {A : Type 0} (x y : A) → Some x ≡ Some y → x ≡ y
 the_some x y p = cc p
+
+not_both : (b : Bool) → b ≡ true → b ≡ false → ⊥
+not_both b is_true is_false = cc (is_true, is_false)
 
 -- the element at a place of a list with one more
 get_push : {A : Type 0} (xs : List A) (x : A) (s : ℕ) (y : A) → slice_get (xs ++ x ∷ []) s ≡ Some y → (slice_get xs s ≡ Some y) ⊎ ((s ≡ length xs) × (y ≡ x))
@@ -304,7 +308,17 @@ step_stands terms old now after before mid p q a (inr (inr is)) names st = go is
     go (inl (reading, inr notes)) =
         same_tale (noting_holds terms old now after p q st.tale is.before_read is.after_read is.from reading notes st.holds)
         (noting_counted terms (length old) p q is.before_read is.after_read notes st.counted) (omega (arith, ap (λ (m : Progress). m.checked) notes.new_is))
-    go (inr (inl (unused, cuts))) =
+    go (inr (inl (unused, inr passes))) =
+        let new = passing_over_holds terms old now after p q st.tale is.before_read is.after_read is.from unused passes st.holds in
+        record {
+          tale = new.0;
+          founds = st.founds;
+          holds = new.1;
+          are_told = still_told terms old before mid p q a st.tale new.0 st.founds st.counted.checked (omega (arith, ap (λ (m : Progress). m.checked) passes.new_is)) new.2 st.are_told;
+          counted = passing_counted terms (length old) p q passes st.counted;
+          names = names ∙ st.names;
+        }
+    go (inr (inl (unused, inl cuts))) =
         let new = cutting_holds terms old now after p q st.tale is.before_read is.after_read is.from unused cuts st.holds in
         record {
           tale = new.0;
@@ -406,12 +420,15 @@ begun_stands terms old before p a is =
       holds = record {
         apart = subst AreApart (sym start.inquiry) nothing_apart;
         tracked = λ s t at.
-            let track : t ≡ tracks.Arriving [] = get_replicate (length old) s (tracks.Arriving []) t (subst (λ ts. slice_get ts s ≡ Some t) start.tracks at) in
-            subst (λ (i : Inquired). IsTracked terms (all_open i) s nothing_known t) (sym start.inquiry) (subst (λ x. IsTracked terms [] s nothing_known x) (sym track) (refl, refl, refl));
+            let none = tracks.Arriving (nothing_read terms) in
+            let track : t ≡ none = get_replicate (length old) s none t (subst (λ ts. slice_get ts s ≡ Some t) start.tracks at) in
+            subst (λ (i : Inquired). IsTracked terms (all_open i) s nothing_known t) (sym start.inquiry)
+            (subst (λ x. IsTracked terms [] s nothing_known x) (sym track) (record { on = refl; all = refl }, refl, refl));
         ended = λ s below. absurd (omega (arith, below, start.none_read));
         cut = [];
         taken = subst (λ (i : Taking). IsTaken i [] []) (sym start.intake) nothing_is_taken;
         enough = inl refl;
+        passed = λ is_passed. absurd (not_both p.intake.passed is_passed (ap (λ (i : Taking). i.passed) start.intake));
         come = subst (λ e. HasComeFrom terms old old p.read ([] ++ p.intake.held) e) (sym start.reading)
             (subst (λ (i : Taking). HasComeFrom terms old old p.read i.held None) (sym start.intake)
             (λ x y at_old at_now. subst (λ (z : Sighted). HaveCome x.reader z.reader []) (the_some x y (sym at_old ∙ at_now)) (nothing_has_come x.reader)));
@@ -429,7 +446,7 @@ begun_stands terms old before p a is =
         room = is.room;
       };
       counted = record {
-        tracks = ap length start.tracks ∙ length-replicate (length old) (tracks.Arriving []);
+        tracks = ap length start.tracks ∙ length-replicate (length old) (tracks.Arriving (nothing_read terms));
         few_sources = is.few;
         read = omega (arith, start.none_read);
         checked = omega (arith, start.none_checked);

@@ -1,5 +1,6 @@
 -- What the code of a step does is the step.
-use Rattle.std.proofs.Common.{◌≡◌, ℕ, ◌+◌, List, [], ◌∷◌, slice_get, Option, Some, None, refl, ◌∙◌, ap, ap₂}
+use Rattle.std.proofs.Common.{◌≡◌, ℕ, ◌+◌, ◌<◌, List, [], ◌∷◌, length, slice_get, Option, Some, None, Bool, true, false, refl, ◌∙◌, ap, ap₂, inl, inr}
+use Rattle.std.specs.Prelude.{if◌then◌else◌}
 use Rattle.std.specs.Vec.{with_item}
 use Rattle.std.proofs.lemmas.Option.{some_pair_parts}
 use Rattle.aero_model.specs.declared.verdict.Ending.{Ending}
@@ -8,12 +9,12 @@ use Rattle.aero_pieces.specs.declared.answer.Value.{Value}
 use Rattle.aero_batch.specs.declared.progress.Progress.{Progress}
 use Rattle.aero_intake.specs.declared.track.Track.{Track}
 use Rattle.aero_batch.specs.Inquiries.{Inquired, Gives}
-use Rattle.aero_intake.specs.Intake.{Taking, nothing_taken}
-use Rattle.aero_batch.specs.Steps.{EndsSource, with_block, wanted, last_of, ended_track, Settles}
+use Rattle.aero_lines.specs.Cutting.{block_of}
+use Rattle.aero_intake.specs.Intake.{Taking, nothing_taken, with_cut}
+use Rattle.aero_batch.specs.Steps.{CutsHeld, HasEnough, GoesOn, EndsSource, IsWanted, faulty_there, with_block, last_of, ended_track, Settles}
 use Rattle.aero_intake.specs.Stories.{changed, trace_of}
-use Rattle.aero_intake.specs.Tracks.{with_value}
+use Rattle.aero_intake.specs.Tracks.{is_faulty, with_value}
 use Rattle.aero_intake.proofs.Tracked.{set_changed}
-use Rattle.aero_verdict.specs.Finding.{Terms}
 
 -- asking about a block changes the questions and the number of blocks alone
 
@@ -45,20 +46,54 @@ block_blocks : (p : Progress) (i : Taking) (o : Option (List ℕ)) → (with_blo
 block_blocks p i None = refl
 block_blocks p i (Some b) = refl
 
-pub ends_source : (terms : Terms) (ending : Ending) (p mid : Progress) (fresh : Taking) (given : Option (List ℕ)) (bytes : ℕ) (x y : Track) →
-    fresh ≡ nothing_taken → bytes ≡ p.intake.count → given ≡ last_of p.intake.cutting ending → mid ≡ with_block (record p { intake = fresh }) (wanted terms p given) →
+-- what is held is cut, and its block asked about
+pub cuts_held : (p q : Progress) (i : Taking) (given : Option (List ℕ)) → 0 < length p.intake.held → GoesOn p → i ≡ with_cut p.intake → given ≡ block_of p.intake.cutting p.intake.held →
+    q ≡ with_block (record p { intake = i }) given → CutsHeld p q
+cuts_held p q i given some going_on is_cut given_is is =
+    let mid : Progress = record p { intake = i } in
+    record {
+      some = some;
+      going_on = going_on;
+      inquiry = ap (λ (m : Progress). m.inquiry) is ∙ (block_inquiry p i given ∙ ap (λ o. (with_block p o).inquiry) given_is);
+      blocks = ap (λ (m : Progress). m.blocks) is ∙ (block_blocks p i given ∙ ap (λ o. (with_block p o).blocks) given_is);
+      intake = ap (λ (m : Progress). m.intake) is ∙ (block_intake mid given ∙ is_cut);
+      tracks = ap (λ (m : Progress). m.tracks.items) is ∙ ap (λ v. v.items) (block_tracks mid given);
+      read = ap (λ (m : Progress). m.read) is ∙ block_read mid given;
+      checked = ap (λ (m : Progress). m.checked) is ∙ block_checked mid given;
+      ended = ap (λ (m : Progress). m.ended) is ∙ block_ended mid given;
+    }
+
+-- where it isn't told that what was read decides, no line is known to be malformed
+pub goes_on : (p : Progress) (t : Track) (told : Bool) → slice_get p.tracks.items p.read ≡ Some t → p.intake.passed ≡ false → (is_faulty t ≡ true → told ≡ true) → told ≡ false → GoesOn p
+goes_on p t told at none faulty not_told = record {
+  none_passed = none;
+  no_fault = ap faulty_there at ∙ not_faulty (is_faulty t) faulty;
+}
+  where
+    not_faulty : (b : Bool) → (b ≡ true → told ≡ true) → b ≡ false
+    not_faulty false is = refl
+    not_faulty true is = let clash : told ≡ true = is refl in cc (clash, not_told)
+
+-- the last block is asked about, unless it doesn't count
+last_wanted : (p : Progress) (b : Bool) (last given : Option (List ℕ)) → (b ≡ true → HasEnough p) → (b ≡ false → GoesOn p) → given ≡ (if b then None else last) → IsWanted p last given
+last_wanted p true last given enough goes_on is = inr (is, enough refl)
+last_wanted p false last given enough goes_on is = inl (is, goes_on refl)
+
+-- the source that was read has ended, and its last block is asked about
+pub ends_source : (ending : Ending) (p mid : Progress) (has_enough : Bool) (fresh : Taking) (last : Option (List ℕ)) (bytes : ℕ) (x y : Track) →
+    fresh ≡ nothing_taken → bytes ≡ p.intake.count → (has_enough ≡ true → HasEnough p) → (has_enough ≡ false → GoesOn p) →
+    last ≡ (if has_enough then None else last_of p.intake.cutting ending) → mid ≡ with_block (record p { intake = fresh }) last →
     slice_get mid.tracks.items mid.read ≡ Some x → y ≡ ended_track ending bytes mid.blocks x →
-    EndsSource terms ending p (record mid { tracks = with_item mid.tracks mid.read y; read = mid.read + 1; blocks = 0; ended = None })
-ends_source terms ending p mid fresh given bytes x y is_fresh bytes_are is_last is at ended =
+    EndsSource ending p (record mid { tracks = with_item mid.tracks mid.read y; read = mid.read + 1; blocks = 0; ended = None })
+ends_source ending p mid has_enough fresh last bytes x y is_fresh bytes_are enough goes_on is_last is at ended =
     let q : Progress = record p { intake = fresh } in
-    let last = wanted terms p given in
-    let block : last ≡ wanted terms p (last_of p.intake.cutting ending) = ap (wanted terms p) is_last in
     let read_is : mid.read ≡ p.read = ap (λ (m : Progress). m.read) is ∙ block_read q last in
     let tracks_are : mid.tracks.items ≡ p.tracks.items = ap (λ (m : Progress). m.tracks.items) is ∙ ap (λ v. v.items) (block_tracks q last) in
-    let blocks_are : mid.blocks ≡ (with_block p (wanted terms p (last_of p.intake.cutting ending))).blocks =
-    ap (λ (m : Progress). m.blocks) is ∙ (block_blocks p fresh last ∙ ap (λ o. (with_block p o).blocks) block) in
+    let blocks_are : mid.blocks ≡ (with_block p last).blocks = ap (λ (m : Progress). m.blocks) is ∙ block_blocks p fresh last in
     record {
-      inquiry = ap (λ (m : Progress). m.inquiry) is ∙ (block_inquiry p fresh last ∙ ap (λ o. (with_block p o).inquiry) block);
+      asked = last;
+      wanted = last_wanted p has_enough (last_of p.intake.cutting ending) last enough goes_on is_last;
+      inquiry = ap (λ (m : Progress). m.inquiry) is ∙ block_inquiry p fresh last;
       tracks = set_changed mid.tracks.items mid.read x y (ended_track ending bytes mid.blocks) at ended
           ∙ (ap₂ (λ r ts. changed r (ended_track ending bytes mid.blocks) ts) read_is tracks_are
           ∙ ap₂ (λ b k. changed p.read (ended_track ending b k) p.tracks.items) bytes_are blocks_are);

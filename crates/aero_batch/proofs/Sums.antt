@@ -14,7 +14,7 @@ use Rattle.aero_batch.specs.declared.kind.Kind.{Kind}
 use Rattle.aero_batch.specs.declared.kind.Kind.TheVariants.{Block, Verdict}
 use Rattle.aero_batch.specs.Inquiries.{Inquired, open_count, open_of, with_open}
 use Rattle.aero_intake.specs.Intake.{Taking}
-use Rattle.aero_batch.specs.Steps.{ChecksNext, SettlesNext, TakesPiece, NotesEnding, CutsHeld, EndsSource, MayAsk, with_block, wanted, with_check, last_of, ended_track, Settles}
+use Rattle.aero_batch.specs.Steps.{ChecksNext, SettlesNext, TakesPiece, NotesEnding, CutsHeld, PassesOver, EndsSource, MayAsk, with_block, with_check, ended_track, Settles}
 use Rattle.aero_intake.specs.Stories.{trace_of}
 use Rattle.aero_intake.specs.Tracks.{with_value}
 use Rattle.aero_intake.proofs.Tracked.{changed_length}
@@ -68,7 +68,7 @@ pub record OneMore (i j : Inquired) (k : ℕ) : Type 0 where
 
 check_more : (terms : Terms) (i : Inquired) (place : ℕ) (o : Option (List Reading)) → (k : ℕ) × OneMore i (with_check terms i place o) k
 check_more terms i place None = (0, record { one = omega arith; questions = omega arith; more_asked = omega arith })
-check_more terms i place (Some rs) = (1, record { one = omega arith; questions = omega (arith, length_push i.verdicts (Check place rs terms.rules.limits terms.rules.labels terms.order)); more_asked = refl })
+check_more terms i place (Some rs) = (1, record { one = omega arith; questions = omega (arith, length_push i.verdicts (Check place rs terms.rules.limits terms.rules.labels terms.order terms.explain)); more_asked = refl })
 
 pub checking_counted : (terms : Terms) (n : ℕ) (p q : Progress) → p.checked < p.read → MayAsk p → ChecksNext terms p q → Counted terms n p → Counted terms n q
 checking_counted terms n p q below may is c =
@@ -125,9 +125,9 @@ noting_counted terms n p q before after is c =
       asked = c.asked;
     })
 
-pub cutting_counted : (terms : Terms) (n : ℕ) (p q : Progress) → MayAsk p → CutsHeld terms p q → Counted terms n p → Counted terms n q
+pub cutting_counted : (terms : Terms) (n : ℕ) (p q : Progress) → MayAsk p → CutsHeld p q → Counted terms n p → Counted terms n q
 cutting_counted terms n p q may is c =
-    let more = block_more p (wanted terms p (block_of p.intake.cutting p.intake.held)) in
+    let more = block_more p (block_of p.intake.cutting p.intake.held) in
     let k = more.0 in
     let m = more.1 in
     let count : q.intake.count ≡ p.intake.count = ap (λ (i : Taking). i.count) is.intake in
@@ -147,9 +147,24 @@ cutting_counted terms n p q may is c =
       asked = omega (arith, more_asked, c.asked, blocks, is.read, is.checked);
     }
 
-pub ending_counted : (terms : Terms) (n : ℕ) (p q : Progress) (ending : Ending) → p.read < n → MayAsk p → EndsSource terms ending p q → Counted terms n p → Counted terms n q
+pub passing_counted : (terms : Terms) (n : ℕ) (p q : Progress) → PassesOver p q → Counted terms n p → Counted terms n q
+passing_counted terms n p q is c =
+    subst (λ (m : Progress). Counted terms n m) (sym is.new_is)
+    (record {
+      tracks = c.tracks;
+      few_sources = c.few_sources;
+      read = c.read;
+      checked = c.checked;
+      open_few = c.open_few;
+      within = c.within;
+      few_bytes = c.few_bytes;
+      blocks = omega (arith, c.blocks);
+      asked = c.asked;
+    })
+
+pub ending_counted : (terms : Terms) (n : ℕ) (p q : Progress) (ending : Ending) → p.read < n → MayAsk p → EndsSource ending p q → Counted terms n p → Counted terms n q
 ending_counted terms n p q ending unread may is c =
-    let more = block_more p (wanted terms p (last_of p.intake.cutting ending)) in
+    let more = block_more p is.asked in
     let k = more.0 in
     let m = more.1 in
     let count : q.intake.count ≡ 0 = ap (λ (i : Taking). i.count) is.intake in
@@ -158,7 +173,7 @@ ending_counted terms n p q ending unread may is c =
     let more_asked : q.inquiry.asked ≡ p.inquiry.asked + k = ap (λ (i : Inquired). i.asked) is.inquiry ∙ m.more_asked in
     let few : terms.rules.limits.bytes ≤ 70368744177664 = c.few_bytes in
     record {
-      tracks = ap length is.tracks ∙ (changed_length p.read (ended_track ending p.intake.count ((with_block p (wanted terms p (last_of p.intake.cutting ending))).blocks)) p.tracks.items ∙ c.tracks);
+      tracks = ap length is.tracks ∙ (changed_length p.read (ended_track ending p.intake.count ((with_block p is.asked).blocks)) p.tracks.items ∙ c.tracks);
       few_sources = c.few_sources;
       read = omega (arith, unread, is.read);
       checked = omega (arith, c.checked, is.checked, is.read);

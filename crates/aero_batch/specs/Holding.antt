@@ -1,5 +1,5 @@
 -- What holds of a run between two steps.
-use Rattle.std.specs.Prelude.{◌≡◌, ℕ, ◌+◌, ◌*◌, ◌<◌, ◌≤◌, ◌^◌, List, [], ◌++◌, map, length, slice_get, Option, Some, None, vec_len, vec_capacity}
+use Rattle.std.specs.Prelude.{◌≡◌, true, ℕ, ◌+◌, ◌*◌, ◌<◌, ◌≤◌, ◌^◌, List, [], ◌++◌, map, length, slice_get, Option, Some, None, vec_len, vec_capacity}
 use Rattle.std.specs.List.{concat}
 use Rattle.aero_model.specs.declared.verdict.Ending.{Ending}
 use Rattle.aero_model.specs.CallCounts.{Seen}
@@ -12,7 +12,7 @@ use Rattle.aero_intake.specs.Source.{WasRead}
 use Rattle.aero_batch.specs.Inquiries.{AreApart, all_open, open_count}
 use Rattle.aero_batch.specs.Steps.{IsStart}
 use Rattle.aero_batch.specs.Telling.{total}
-use Rattle.aero_intake.specs.Stories.{Story, AreEnough, AreTracked}
+use Rattle.aero_intake.specs.Stories.{Story, AreEnough, BeginAlike, AreTracked}
 use Rattle.aero_verdict.specs.Finding.{Terms, IsFinding}
 
 -- of a source that was not read yet
@@ -39,14 +39,15 @@ abbrev pub HasComeFrom : Terms → List Sighted → List Sighted → ℕ → Lis
 HasComeFrom terms old now s bytes ending =
     (before after : Sighted) → slice_get old s ≡ Some before → slice_get now s ≡ Some after → HasCome before.reader after.reader terms.rules.limits.bytes bytes ending
 
--- The open questions on blocks and on verdicts stand apart. Each source has a story: it has ended, is being read, or was not read yet. What is known of each fits its story. Of the blocks that the source that is being read was cut into, enough were asked about. The pieces that were cut and what is held have come from it, and its reading has ended so, if it has.
+-- The open questions on blocks and on verdicts stand apart. Each source has a story: it has ended, is being read, or was not read yet. What is known of each fits its story. Of the blocks that the source that is being read was cut into, enough were asked about, and where some of it was passed over those decide. The pieces that were cut or passed over and what is held have come from it, and its reading has ended so, if it has.
 pub record Holds (terms : Terms) (old now : List Sighted) (p : Progress) (tale : ℕ → Story) : Type 0 where
   pub apart : AreApart p.inquiry
   pub tracked : AreTracked terms (all_open p.inquiry) tale p.tracks.items
   pub ended : (s : ℕ) → s < p.read → HasEnded terms old now s (tale s)
   pub cut : List (List ℕ)
   pub taken : IsTaken p.intake (tale p.read).pieces cut
-  pub enough : AreEnough terms.rules (tale p.read).blocks cut
+  pub enough : AreEnough terms (tale p.read).blocks cut
+  pub passed : p.intake.passed ≡ true → BeginAlike terms (tale p.read).blocks cut
   pub come : HasComeFrom terms old now p.read (concat (tale p.read).pieces ++ p.intake.held) p.ended
   pub asked : p.blocks ≡ length (tale p.read).blocks
   pub not_ended : (tale p.read).ending ≡ None
@@ -101,7 +102,7 @@ pub record HasNumbers (terms : Terms) (sources : ℕ) (p : Progress) (told : Tol
 
 -- before the first step
 pub record IsBegun (terms : Terms) (sources : ℕ) (p : Progress) (told : Told) : Type 0 where
-  pub start : IsStart sources p
+  pub start : IsStart terms sources p
   pub few : sources ≤ 65536
   pub few_bytes : terms.rules.limits.bytes ≤ 2 ^ 46
   pub endings : told.endings.items ≡ []

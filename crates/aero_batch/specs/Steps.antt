@@ -1,5 +1,5 @@
 -- The steps of a run.
-use Rattle.std.specs.Prelude.{◌≡◌, ℕ, ◌+◌, ◌-◌, ◌<◌, ◌^◌, ◌⊎◌, Bool, false, if◌then◌else◌, List, [], ◌∷◌, length, replicate, slice_get, Option, Some, None}
+use Rattle.std.specs.Prelude.{◌≡◌, ℕ, ◌+◌, ◌-◌, ◌<◌, ◌^◌, ◌⊎◌, Bool, true, false, List, [], ◌∷◌, length, replicate, slice_get, Option, Some, None}
 use Rattle.aero_model.specs.declared.verdict.Ending.{Ending}
 use Rattle.aero_model.specs.declared.verdict.Ending.TheVariants as endings
 use Rattle.aero_model.specs.declared.verdict.Finding.TheVariants as findings
@@ -15,15 +15,16 @@ use Rattle.aero_batch.specs.Founds.{Sighted}
 use Rattle.aero_batch.specs.declared.kind.Kind.{Kind}
 use Rattle.aero_batch.specs.declared.kind.Kind.TheVariants.{Block, Verdict}
 use Rattle.aero_batch.specs.Inquiries.{Inquired, nothing_asked, open_count, open_of, with_open, with_question}
-use Rattle.aero_intake.specs.Intake.{nothing_taken, with_piece, with_cut, Comes, Ends}
-use Rattle.aero_intake.specs.Tracks.{is_decided, with_arrival, IsReady, GivesReadings}
+use Rattle.aero_intake.specs.Held.{nothing_read}
+use Rattle.aero_intake.specs.Intake.{nothing_taken, with_piece, with_cut, with_passing, Comes, Ends}
+use Rattle.aero_intake.specs.Tracks.{is_faulty, IsDecided, with_arrival, IsReady, GivesReadings}
 use Rattle.aero_intake.specs.Stories.{changed, IsSettledWith}
 use Rattle.aero_verdict.specs.Finding.{Terms}
 
 -- before the first step
-pub record IsStart (sources : ℕ) (progress : Progress) : Type 0 where
+pub record IsStart (terms : Terms) (sources : ℕ) (progress : Progress) : Type 0 where
   pub inquiry : progress.inquiry ≡ nothing_asked
-  pub tracks : progress.tracks.items ≡ replicate sources (Arriving [])
+  pub tracks : progress.tracks.items ≡ replicate sources (Arriving (nothing_read terms))
   pub none_read : progress.read ≡ 0
   pub none_checked : progress.checked ≡ 0
   pub intake : progress.intake ≡ nothing_taken
@@ -41,17 +42,34 @@ abbrev pub with_block : Progress → Option (List ℕ) → Progress
 with_block p None = p
 with_block p (Some block) = record p { inquiry = with_question Block p.inquiry (Parse p.read p.blocks block); blocks = p.blocks + 1 }
 
--- whether what was read of the source that is being read decides
-abbrev pub decided_there : Terms → Option Track → Bool
-decided_there terms None = false
-decided_there terms (Some track) = is_decided terms.rules.limits track
+-- whether a line of the source that is being read is known to be malformed, or one too many
+abbrev pub faulty_there : Option Track → Bool
+faulty_there None = false
+faulty_there (Some track) = is_faulty track
 
-abbrev pub has_decided : Terms → Progress → Bool
-has_decided terms p = decided_there terms (slice_get p.tracks.items p.read)
+abbrev pub has_fault : Progress → Bool
+has_fault p = faulty_there (slice_get p.tracks.items p.read)
 
--- the block that is to be asked about: none, once what was read decides
-abbrev pub wanted : Terms → Progress → Option (List ℕ) → Option (List ℕ)
-wanted terms p block = if has_decided terms p then None else block
+-- what was read of the source that is being read decides
+abbrev pub DecidesThere : Option Track → Type 0
+DecidesThere None = ⊥
+DecidesThere (Some track) = IsDecided track
+
+abbrev pub HasDecided : Progress → Type 0
+HasDecided p = DecidesThere (slice_get p.tracks.items p.read)
+
+-- No further block of the source that is being read counts: some of it was passed over, or what was read decides.
+abbrev pub HasEnough : Progress → Type 0
+HasEnough p = (p.intake.passed ≡ true) ⊎ HasDecided p
+
+-- Its next block counts: nothing of it was passed over, and no line is known to be malformed, or one too many.
+pub record GoesOn (p : Progress) : Type 0 where
+  pub none_passed : p.intake.passed ≡ false
+  pub no_fault : has_fault p ≡ false
+
+-- The block that is asked about of the last one, if there is one: none, where it doesn't count.
+abbrev pub IsWanted : Progress → (given asked : Option (List ℕ)) → Type 0
+IsWanted p given asked = ((asked ≡ given) × GoesOn p) ⊎ ((asked ≡ None) × HasEnough p)
 
 -- the last block of a source that is whole
 abbrev pub last_of : Cutting → Ending → Option (List ℕ)
@@ -66,9 +84,11 @@ ended_track endings.Broken bytes blocks t = Found bytes endings.Broken (findings
 ended_track endings.TooLarge bytes blocks t = Found bytes endings.TooLarge findings.TooLarge
 
 -- The source that was being read has ended so, and the next one is to be read.
-pub record EndsSource (terms : Terms) (ending : Ending) (old new : Progress) : Type 0 where
-  pub inquiry : new.inquiry ≡ (with_block old (wanted terms old (last_of old.intake.cutting ending))).inquiry
-  pub tracks : new.tracks.items ≡ changed old.read (ended_track ending old.intake.count ((with_block old (wanted terms old (last_of old.intake.cutting ending))).blocks)) old.tracks.items
+pub record EndsSource (ending : Ending) (old new : Progress) : Type 0 where
+  pub asked : Option (List ℕ)
+  pub wanted : IsWanted old (last_of old.intake.cutting ending) asked
+  pub inquiry : new.inquiry ≡ (with_block old asked).inquiry
+  pub tracks : new.tracks.items ≡ changed old.read (ended_track ending old.intake.count ((with_block old asked).blocks)) old.tracks.items
   pub read : new.read ≡ old.read + 1
   pub checked : new.checked ≡ old.checked
   pub intake : new.intake ≡ nothing_taken
@@ -92,34 +112,44 @@ pub record NotesEnding (terms : Terms) (before after : Seen) (old new : Progress
 abbrev pub ReadsPiece : Terms → Seen → Seen → Progress → Progress → Type 0
 ReadsPiece terms before after old new = TakesPiece terms before after old new ⊎ NotesEnding terms before after old new
 
--- What is held is cut, and the block that it gives, if it gives one, is asked about, unless what was read decides.
-pub record CutsHeld (terms : Terms) (old new : Progress) : Type 0 where
+-- What is held is cut, and the block that it gives, if it gives one, is asked about.
+pub record CutsHeld (old new : Progress) : Type 0 where
   pub some : 0 < length old.intake.held
-  pub inquiry : new.inquiry ≡ (with_block old (wanted terms old (block_of old.intake.cutting old.intake.held))).inquiry
-  pub blocks : new.blocks ≡ (with_block old (wanted terms old (block_of old.intake.cutting old.intake.held))).blocks
+  pub going_on : GoesOn old
+  pub inquiry : new.inquiry ≡ (with_block old (block_of old.intake.cutting old.intake.held)).inquiry
+  pub blocks : new.blocks ≡ (with_block old (block_of old.intake.cutting old.intake.held)).blocks
   pub intake : new.intake ≡ with_cut old.intake
   pub tracks : new.tracks.items ≡ old.tracks.items
   pub read : new.read ≡ old.read
   pub checked : new.checked ≡ old.checked
   pub ended : new.ended ≡ old.ended
 
--- The reading of the source has ended so, all that came is cut, and the next source is to be read.
-pub record PassesOn (terms : Terms) (old new : Progress) : Type 0 where
+-- What is held is passed over.
+pub record PassesOver (old new : Progress) : Type 0 where
+  pub enough : HasEnough old
+  pub new_is : new ≡ record old { intake = with_passing old.intake }
+
+-- What is held is cut, or passed over.
+abbrev pub LetsHeldGo : Progress → Progress → Type 0
+LetsHeldGo old new = CutsHeld old new ⊎ PassesOver old new
+
+-- The reading of the source has ended so, nothing that came is held any more, and the next source is to be read.
+pub record PassesOn (old new : Progress) : Type 0 where
   pub ending : Ending
   pub ended : old.ended ≡ Some ending
-  pub all_cut : length old.intake.held ≡ 0
-  pub ends : EndsSource terms ending old new
+  pub none_held : length old.intake.held ≡ 0
+  pub ends : EndsSource ending old new
 
--- One step of reading: the reader is used while the reading has not ended; or what is held is cut; or the source is passed on from.
+-- One step of reading: the reader is used while the reading has not ended; or what is held is cut, or passed over; or the source is passed on from.
 abbrev pub ReadsOn : Terms → Seen → Seen → Progress → Progress → Type 0
 ReadsOn terms before after old new =
     ((old.ended ≡ None) × ReadsPiece terms before after old new)
-    ⊎ (((after ≡ before) × CutsHeld terms old new) ⊎ ((after ≡ before) × PassesOn terms old new))
+    ⊎ (((after ≡ before) × LetsHeldGo old new) ⊎ ((after ≡ before) × PassesOn old new))
 
 -- the verdict is asked for on what the blocks of a source say
 abbrev pub with_check : Terms → Inquired → ℕ → Option (List Reading) → Inquired
 with_check terms i trace None = i
-with_check terms i trace (Some readings) = with_question Verdict i (Check trace readings terms.rules.limits terms.rules.labels terms.order)
+with_check terms i trace (Some readings) = with_question Verdict i (Check trace readings terms.rules.limits terms.rules.labels terms.order terms.explain)
 
 -- The verdict on the next source is asked for, where it needs one.
 pub record ChecksNext (terms : Terms) (old new : Progress) : Type 0 where
@@ -128,7 +158,7 @@ pub record ChecksNext (terms : Terms) (old new : Progress) : Type 0 where
   pub readings : Option (List Reading)
   pub was : slice_get old.tracks.items old.checked ≡ Some before
   pub ready : IsReady before
-  pub gives : GivesReadings terms before after readings
+  pub gives : GivesReadings before after readings
   pub tracks : new.tracks.items ≡ changed old.checked (λ t. after) old.tracks.items
   pub inquiry : new.inquiry ≡ with_check terms old.inquiry old.checked readings
   pub checked : new.checked ≡ old.checked + 1

@@ -32,7 +32,7 @@ pub fn check_next<H: Helpers, T: Wait>(
     ensures { OnOk result (ChecksNext (terms_of plan.now) progress.old progress.new) }
 {
     let place = progress.checked;
-    let readings = take_parts(&mut progress.tracks[place], plan)?;
+    let readings = take_parts(&mut progress.tracks[place])?;
     ask_check(
         rt,
         alloc,
@@ -72,7 +72,7 @@ fn check_question(
     trace: u64,
     readings: Parts,
 ) -> Result<Arc<Question, Global>, AllocError>
-    ensures { IfOk result (λ question. arc_value question ≡ Question.Check trace readings plan.now.limits plan.now.except plan.now.order) }
+    ensures { IfOk result (λ question. arc_value question ≡ Question.Check trace readings plan.now.limits plan.now.except plan.now.order plan.now.explain) }
 {
     Question::Check {
         trace,
@@ -80,6 +80,7 @@ fn check_question(
         limits: plan.limits,
         except: plan.except.share()?,
         order: plan.order,
+        explain: plan.explain,
     }
     .share(alloc)
 }
@@ -116,6 +117,6 @@ fn give_value(
     if trace >= count {
         return Ok(());
     }
-    let is_last = trace + 1 == count;
-    take_value(&mut tracks[trace as usize], alloc, value, plan, is_last)
+    let most = plan.keeping.most(trace + 1 == count);
+    take_value(&mut tracks[trace as usize], alloc, value, most)
 }

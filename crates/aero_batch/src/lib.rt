@@ -32,6 +32,8 @@
 //!   else the counts. A violation is reported at exactly the first event up to which the transaction graph has a
 //!   telling cycle: `ran`.
 //! - Where an order is asked for, the line of a serializable trace has its transactions under it: `ran`.
+//! - Where violations are to be explained, the line of each has the events of a telling cycle under it, which begins in
+//!   the block that the line names and goes through as few transactions as may be: `ran`.
 //! - After a refusal of memory exactly the lines of the first sources stand there. After a failed write a proper part
 //!   of the next text follows: `ran`.
 //! - It holds of each run that returns, whichever answers come, in whatever order, lost, repeated or forged. Any

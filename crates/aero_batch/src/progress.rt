@@ -1,5 +1,7 @@
 //! How far a run is.
-ghost use Rattle.std.specs.Prelude.{◌≡◌, replicate, length, IfOk, []};
+ghost use Rattle.std.specs.Prelude.{◌≡◌, replicate, IfOk};
+ghost use Rattle.aero_intake.specs.Held.{nothing_read};
+ghost use Rattle.aero_intake.specs.PlanTerms.{terms_of};
 ghost use Rattle.aero_batch.specs.Steps.{IsStart};
 
 use crate::inquiry::Inquiry;
@@ -35,11 +37,11 @@ impl Progress {
         sources: usize,
         is_alone: bool,
     ) -> Result<Progress, AllocError>
-        ensures { IfOk result (IsStart sources) }
+        ensures { IfOk result (IsStart (terms_of plan.now) sources) }
     {
         Ok(Progress {
             inquiry: Inquiry::new(alloc, is_alone)?,
-            tracks: new_tracks(alloc, sources)?,
+            tracks: new_tracks(alloc, plan, sources)?,
             read: 0,
             checked: 0,
             intake: Intake::new(alloc, plan.piece)?,
@@ -49,12 +51,13 @@ impl Progress {
     }
 }
 
-fn new_tracks(alloc: Global, sources: usize) -> Result<Vec<Track>, AllocError>
-    ensures { IfOk result (λ tracks. tracks.items ≡ replicate sources (Track.Arriving [])) }
+// Nothing is known yet of so many sources, which are judged on the plan's terms.
+fn new_tracks(alloc: Global, plan: &Plan, sources: usize) -> Result<Vec<Track>, AllocError>
+    ensures { IfOk result (λ tracks. tracks.items ≡ replicate sources (Track.Arriving (nothing_read (terms_of plan.now)))) }
 {
     let mut tracks = Vec::with_capacity(alloc, sources)?;
     for i in 0..sources {
-        tracks.push(Track::Arriving(Readings::new(alloc)))?;
+        tracks.push(Track::Arriving(Readings::new(alloc, plan.terms()?)))?;
     }
     Ok(tracks)
 }

@@ -1,10 +1,10 @@
 //! Reading the sources, and asking about their blocks.
-ghost use Rattle.std.specs.Prelude.{◌≡◌, ◌<◌, ◌≤◌, ◌+◌, ◌^◌, length, vec_len, None, IfOk, IfSome, OnOk};
+ghost use Rattle.std.specs.Prelude.{◌≡◌, ◌<◌, ◌≤◌, ◌+◌, ◌^◌, length, vec_len, None, if◌then◌else◌, IfOk, IfSome, OnOk, true, false};
 ghost use Rattle.std.specs.Arc.{arc_value};
 ghost use Rattle.aero_model.specs.CallCounts.{seen_by};
 ghost use Rattle.aero_intake.specs.PlanTerms.{terms_of};
 ghost use Rattle.aero_intake.specs.Intake.{nothing_taken};
-ghost use Rattle.aero_batch.specs.Steps.{MayAsk, ReadsOn, ReadsPiece, CutsHeld, EndsSource, with_block, wanted, last_of, ended_track};
+ghost use Rattle.aero_batch.specs.Steps.{MayAsk, ReadsOn, ReadsPiece, CutsHeld, LetsHeldGo, HasEnough, GoesOn, EndsSource, with_block, last_of, ended_track};
 
 use crate::helpers::Helpers;
 use crate::kind::Kind;
@@ -21,8 +21,8 @@ use std::io::Read;
 use std::sync::{Arc, Wait};
 
 /// One step of reading the next source: a piece of it comes, or is known not to come any more; or what is
-/// held of it is cut, and its block asked about, unless what was read before decides; or, once all is
-/// cut, it is noted how it has ended. An `AllocError` says that memory was refused.
+/// held of it is cut, and its block asked about, or is passed over where what was read before decides; or, once
+/// nothing is held, it is noted how it has ended. An `AllocError` says that memory was refused.
 pub fn read_on<R: Read, H: Helpers, T: Wait>(
     rt: &T,
     alloc: Global,
@@ -38,13 +38,13 @@ pub fn read_on<R: Read, H: Helpers, T: Wait>(
 {
     match progress.ended {
         Some(ending) if progress.intake.is_cut() => {
-            end_source(rt, alloc, plan, helpers, progress, ending)
+            end_source(rt, alloc, helpers, progress, ending)
         }
         None if !progress.intake.is_full() => {
             read_piece(plan, reader, progress);
             Ok(())
         }
-        _ => cut_held(rt, alloc, plan, helpers, progress),
+        _ => let_held_go(rt, alloc, helpers, progress),
     }
 }
 
@@ -61,29 +61,59 @@ fn read_piece<R: Read>(plan: &Plan, reader: &mut Counting<R>, progress: &mut Pro
     };
 }
 
-// Cuts what is held of the source that is being read, and asks about its block.
-fn cut_held<H: Helpers, T: Wait>(
+// Passes over what is held of the source that is being read, where no further block of it counts, and else cuts it
+// and asks about its block.
+fn let_held_go<H: Helpers, T: Wait>(
     rt: &T,
     alloc: Global,
-    plan: &Plan,
     helpers: &mut H,
     progress: &mut Progress,
 ) -> Result<(), AllocError>
     requires may { MayAsk progress.old }
     requires unread { progress.old.read < vec_len progress.old.tracks }
     requires some { 0 < length progress.old.intake.held }
-    ensures { OnOk result (CutsHeld (terms_of plan.now) progress.old progress.new) }
+    ensures { OnOk result (LetsHeldGo progress.old progress.new) }
 {
-    let block = progress.intake.cut()?;
-    ask_block(rt, alloc, plan, helpers, progress, block)
+    if has_enough(progress) {
+        progress.intake.pass_over();
+        return Ok(());
+    }
+    cut_held(rt, alloc, helpers, progress)
 }
 
-// Asks about the next block of the source that is being read, if there is one, unless what was read of
-// it decides.
+// Whether no further block of the source that is being read counts.
+fn has_enough(progress: &Progress) -> bool
+    requires { progress.now.read < vec_len progress.now.tracks }
+    ensures enough { result ≡ true → HasEnough progress.now }
+    ensures not_yet { result ≡ false → GoesOn progress.now }
+{
+    if progress.intake.has_passed() {
+        return true;
+    }
+    is_decided(&progress.tracks[progress.read])
+}
+
+// Cuts what is held of the source that is being read, and asks about its block.
+fn cut_held<H: Helpers, T: Wait>(
+    rt: &T,
+    alloc: Global,
+    helpers: &mut H,
+    progress: &mut Progress,
+) -> Result<(), AllocError>
+    requires may { MayAsk progress.old }
+    requires unread { progress.old.read < vec_len progress.old.tracks }
+    requires some { 0 < length progress.old.intake.held }
+    requires going_on { GoesOn progress.old }
+    ensures { OnOk result (CutsHeld progress.old progress.new) }
+{
+    let block = progress.intake.cut()?;
+    ask_block(rt, alloc, helpers, progress, block)
+}
+
+// Asks about the next block of the source that is being read, if there is one.
 fn ask_block<H: Helpers, T: Wait>(
     rt: &T,
     alloc: Global,
-    plan: &Plan,
     helpers: &mut H,
     progress: &mut Progress,
     block: Option<Block>,
@@ -91,11 +121,8 @@ fn ask_block<H: Helpers, T: Wait>(
     requires may { MayAsk progress.old }
     requires unread { progress.old.read < vec_len progress.old.tracks }
     requires short { IfSome block (λ bytes. length bytes ≤ 2 ^ 30) }
-    ensures { OnOk result (progress.new ≡ with_block progress.old (wanted (terms_of plan.now) progress.old block)) }
+    ensures { OnOk result (progress.new ≡ with_block progress.old block) }
 {
-    if is_decided(&progress.tracks[progress.read], &plan.limits) {
-        return Ok(());
-    }
     let Some(block) = block else {
         return Ok(());
     };
@@ -129,18 +156,18 @@ fn block_question(
 fn end_source<H: Helpers, T: Wait>(
     rt: &T,
     alloc: Global,
-    plan: &Plan,
     helpers: &mut H,
     progress: &mut Progress,
     ending: Ending,
 ) -> Result<(), AllocError>
     requires may { MayAsk progress.old }
     requires unread { progress.old.read < vec_len progress.old.tracks }
-    ensures { OnOk result (EndsSource (terms_of plan.now) ending progress.old progress.new) }
+    ensures { OnOk result (EndsSource ending progress.old progress.new) }
 {
     let bytes = progress.intake.count();
-    let last = last_block(&mut progress.intake, ending)?;
-    ask_block(rt, alloc, plan, helpers, progress, last)?;
+    let enough = has_enough(progress);
+    let last = last_block(&mut progress.intake, ending, enough)?;
+    ask_block(rt, alloc, helpers, progress, last)?;
     let place = progress.read;
     end_track(&mut progress.tracks[place], ending, bytes, progress.blocks);
     progress.blocks = 0;
@@ -149,17 +176,21 @@ fn end_source<H: Helpers, T: Wait>(
     Ok(())
 }
 
-// The last block of a source that is whole. Of another nothing more is asked. The next source may be read
-// then.
-fn last_block(intake: &mut Intake, ending: Ending) -> Result<Option<Block>, AllocError>
-    ensures last { IfOk result (λ block. block ≡ last_of intake.old.cutting ending) }
+// The last block of a source that is whole, unless it doesn't count. Of another nothing more is asked. The next
+// source may be read then.
+fn last_block(
+    intake: &mut Intake,
+    ending: Ending,
+    enough: bool,
+) -> Result<Option<Block>, AllocError>
+    ensures last { IfOk result (λ block. block ≡ (if enough then None else last_of intake.old.cutting ending)) }
     ensures short { IfOk result (λ block. IfSome block (λ bytes. length bytes ≤ 2 ^ 30)) }
     ensures fresh { intake.new ≡ nothing_taken }
 {
     let last = intake.finish()?;
     match ending {
-        Ending::Whole => Ok(last),
-        Ending::Broken | Ending::TooLarge => Ok(None),
+        Ending::Whole if !enough => Ok(last),
+        Ending::Whole | Ending::Broken | Ending::TooLarge => Ok(None),
     }
 }
 

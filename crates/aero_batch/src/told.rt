@@ -103,6 +103,7 @@ fn with_finding(counts: &Counts, finding: &Finding) -> Counts
     match finding {
         Finding::Judged(verdict) => with_verdict(counts, verdict),
         Finding::Ordered(verdict, _) => with_verdict(counts, verdict),
+        Finding::Explained(verdict, _) => with_verdict(counts, verdict),
         Finding::Broken(_) | Finding::TooLarge => Counts {
             faults: counts.faults + 1,
             ..*counts

@@ -1,7 +1,7 @@
 -- Blocks after a malformed line, or after one line too many, don't count.
-use Rattle.std.proofs.Common.{◌≡◌, ℕ, suc, ◌+◌, ◌<◌, nat_le, nat_lt, true, false, List, [], ◌∷◌, ◌++◌, map, filter, Option, Some, None, refl, sym, ◌∙◌, ap, inl, inr, arith}
+use Rattle.std.proofs.Common.{◌≡◌, ℕ, suc, ◌+◌, ◌<◌, nat_le, nat_lt, true, false, List, [], ◌∷◌, ◌++◌, map, filter, Option, Some, None, refl, sym, ◌∙◌, ap, subst, inl, inr, arith}
 use Rattle.std.specs.Prelude.{IfSome, is_some, option_map, if◌then◌else◌}
-use Rattle.std.proofs.lemmas.Bool.{cond-true, cond-false, cond_both, cases_lt, lt-leb, lt-ltb, le-ltb}
+use Rattle.std.proofs.lemmas.Bool.{cond-true, cond-false, cases_lt, lt-leb, lt-ltb, le-ltb}
 use Rattle.std.proofs.lemmas.List.{map-append}
 use Rattle.aero_model.specs.declared.verdict.LineFault.{LineFault}
 use Rattle.aero_model.specs.declared.verdict.LineFault.TheVariants.{TooManyLines}
@@ -12,7 +12,7 @@ use Rattle.aero_grammar.specs.Reading.{Reading, after_lines, followed_by, whole_
 use Rattle.aero_grammar.proofs.Joined.{reading, whole_reading-append}
 use Rattle.aero_verdict.proofs.Readings.{after_faulty, after_faultless}
 use Rattle.aero_verdict.specs.Verdict.{Rules}
-use Rattle.aero_intake.specs.Laws.{FirstBlocksDecide}
+use Rattle.aero_intake.specs.Laws.{AreJudgedAlike, FirstBlocksDecide}
 use Rattle.aero_intake.specs.Tracks.{decides}
 use Rattle.aero_intake.proofs.Judged.{one_read, counted_alike}
 
@@ -84,35 +84,21 @@ counts_alike limit e n None v is above =
       fault = too_many limit n beyond ∙ sym (fault_later limit n v.lines v.fault beyond above);
     }
 
-pub front_counts : (rules : Rules) (front more : List (List ℕ)) → decides rules.limits (map reading_of front) ≡ true →
-    CountsAlike rules.limits.lines (whole_reading (map reading_of front)) (whole_reading (map reading_of (front ++ more)))
-front_counts rules front more is =
-    let w = whole_reading (map reading_of front) in
+front_counts : (rules : Rules) (parts : List Reading) (more : List (List ℕ)) → decides rules.limits parts ≡ true →
+    CountsAlike rules.limits.lines (whole_reading parts) (whole_reading (parts ++ map reading_of more))
+front_counts rules parts more is =
+    let w = whole_reading parts in
     let v = whole_reading (map reading_of more) in
-    let joined : whole_reading (map reading_of (front ++ more)) ≡ followed_by w v = ap whole_reading (map-append reading_of front more) ∙ whole_reading-append (map reading_of front) (map reading_of more) in
-    rw joined (counts_alike rules.limits.lines w.events w.lines w.fault v is (blocks_above more))
+    rw (whole_reading-append parts (map reading_of more)) (counts_alike rules.limits.lines w.events w.lines w.fault v is (blocks_above more))
+
+pub first_parts_decide : (rules : Rules) (parts : List Reading) (more : List (List ℕ)) → decides rules.limits parts ≡ true → AreJudgedAlike parts (parts ++ map reading_of more) rules
+first_parts_decide rules parts more is =
+    let alike = front_counts rules parts more is in
+    counted_alike rules parts (parts ++ map reading_of more) alike.events alike.fault
 
 pub first_blocks_decide : FirstBlocksDecide
 first_blocks_decide front more rules is =
-    let alike = front_counts rules front more is in
-    counted_alike rules (map reading_of front) (map reading_of (front ++ more)) alike.events alike.fault
-
--- more blocks decide where the first ones do
-
-still_decides : (limit : ℕ) (e : List (ℕ × Named)) (n : ℕ) (f : Option (ℕ × LineFault)) (d : List (ℕ × Named)) (m : ℕ) (g : Option (ℕ × LineFault)) →
-    is_some (malformed_line limit (reading e n f)) ≡ true → is_some (malformed_line limit (followed_by (reading e n f) (reading d m g))) ≡ true
-still_decides limit e n (Some f) d m g is = is
-still_decides limit e n None d m None is = ap is_some (too_many limit (n + m) (omega (arith, beyond_limit limit n is)))
-still_decides limit e n None d m (Some g) is = fault_is limit (n + g.0) g.1
-  where
-    fault_is : (limit line : ℕ) (fault : LineFault) → is_some (fault_within limit 0 (Some (line, fault))) ≡ true
-    fault_is limit line fault = cond_both (nat_le line (suc limit)) (Some (line, fault)) (Some (suc limit, TooManyLines)) (λ o. is_some o ≡ true) (λ _. refl) (λ _. refl)
-
-pub more_decide : (rules : Rules) (front more : List Reading) → decides rules.limits front ≡ true → decides rules.limits (front ++ more) ≡ true
-more_decide rules front more is =
-    let w = whole_reading front in
-    let v = whole_reading more in
-    rw (whole_reading-append front more) (still_decides rules.limits.lines w.events w.lines w.fault v.events v.lines v.fault is)
+    subst (λ rs. AreJudgedAlike (map reading_of front) rs rules) (sym (map-append reading_of front more)) (first_parts_decide rules (map reading_of front) more is)
 
 -- how many lines there are with one block more, and whether one of them is malformed
 

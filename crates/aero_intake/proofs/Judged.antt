@@ -1,19 +1,22 @@
--- The blocks of a text have its verdicts and its serial order.
+-- The blocks of a text have its verdicts, its serial order and its telling cycles.
 use Rattle.std.proofs.Common.{◌≡◌, ℕ, suc, ◌+◌, true, List, [], ◌∷◌, Option, Some, None, refl, sym, ◌∙◌, ap, subst, arith}
 use Rattle.std.proofs.lemmas.List.{append-nil}
-use Rattle.std.specs.Prelude.{map, option_map, slice_get, length}
-use Rattle.std.specs.List.{concat}
+use Rattle.std.specs.Prelude.{◌≤◌, map, option_map, slice_get, length}
+use Rattle.std.specs.List.{concat, AllZip}
 use Rattle.aero_model.specs.declared.numbered.Numbered.{Numbered}
 use Rattle.aero_model.specs.declared.verdict.LineFault.{LineFault}
 use Rattle.aero_model.specs.declared.verdict.Finding.{Finding}
-use Rattle.aero_model.specs.declared.verdict.Finding.TheVariants.{Judged, Ordered, Broken, TooLarge}
+use Rattle.aero_model.specs.declared.verdict.Finding.TheVariants.{Judged, Ordered, Explained, Broken, TooLarge}
 use Rattle.aero_model.specs.declared.verdict.ShapeFault.{ShapeFault}
+use Rattle.aero_model.specs.declared.verdict.Cycle.{Cycle}
+use Rattle.aero_model.specs.declared.verdict.CycleStep.{CycleStep}
 use Rattle.aero_model.specs.declared.verdict.Step.{Step}
 use Rattle.aero_model.specs.declared.verdict.Verdict.{Verdict}
 use Rattle.aero_model.specs.declared.verdict.Verdict.TheVariants.{Serializable, Pending, Violation, Malformed, IllFormed}
 use Rattle.aero_model.specs.Blocks.{Block, opens, transaction}
 use Rattle.aero_model.specs.Cycle.{HasTellingCycle, IsClosing, IsOpener}
 use Rattle.aero_model.specs.Exempt.{judged_trace, marked_trace}
+use Rattle.aero_model.specs.Graph.{Visit, IsTelling}
 use Rattle.aero_model.specs.Named.{Named}
 use Rattle.aero_model.specs.Numbering.{tables_of, trace_of}
 use Rattle.aero_model.specs.Serial.{IsSerialOrder}
@@ -24,6 +27,7 @@ use Rattle.aero_grammar.proofs.Joined.{reading_of-cap, reading_of-concat}
 use Rattle.aero_lines.specs.Cutting.{nothing_yet, blocks_from}
 use Rattle.aero_lines.proofs.Runs.{blocks_are_the_text}
 use Rattle.aero_verdict.specs.Finding.{Terms, IsTraceFinding}
+use Rattle.aero_verdict.specs.Explained.{round_places, IsFirstOf, IsCycleStep, IsExplained, IsCycleOf}
 use Rattle.aero_verdict.specs.Ordered.{step_at, AreStepsInOrder}
 use Rattle.aero_verdict.specs.Verdict.{Rules, IsVerdict, IsViolation, IsIllFormed, IsMalformed, IsFaultless, IsClean, BeginsOnLine}
 use Rattle.aero_intake.specs.Laws.{AreJudgedAlike, BlocksJudgeAsTheText}
@@ -45,7 +49,7 @@ one_read r = go r.events r.lines r.fault
         ap (λ es. record { events = es; lines = lines + 0; fault = None }) (append-nil events) ∙ ap (λ n. record { events = events; lines = n; fault = None }) none
     go events lines (Some f) = refl
 
--- a verdict, and the serial order, speak of parts through the events that count and the malformed line
+-- a verdict, the serial order and the events of a cycle speak of parts through the events that count and the malformed line
 module _ (rules : Rules) (parts others : List Reading) (same : events_within rules.limits.lines (whole_reading parts) ≡ events_within rules.limits.lines (whole_reading others))
     (same_fault : malformed_line rules.limits.lines (whole_reading parts) ≡ malformed_line rules.limits.lines (whole_reading others)) where
   abbrev counted : List Reading → List (ℕ × Named)
@@ -133,12 +137,51 @@ module _ (rules : Rules) (parts others : List Reading) (same : events_within rul
     subst (λ es. steps ≡ map (step_at es) is.0) same is.2,
   )
 
+  cycle_step : (place : ℕ) (step : CycleStep) → IsCycleStep parts rules place step → IsCycleStep others rules place step
+  cycle_step place step is = record {
+    line = on_line place step.line is.line;
+    event = subst (λ es. option_map (λ e. e.1) (slice_get es place) ≡ Some step.event) same is.event;
+    first = is.first;
+    is_first = subst (λ es. IsFirstOf (trace es) place is.first) same is.is_first;
+    first_line = on_line is.first step.first is.first_line;
+  }
+
+  cycle_steps : (places : List ℕ) (steps : List CycleStep) → AllZip (IsCycleStep parts rules) places steps → AllZip (IsCycleStep others rules) places steps
+  cycle_steps [] [] zip = tt
+  cycle_steps [] (s ∷ more) zip = absurd zip
+  cycle_steps (p ∷ places) [] zip = absurd zip
+  cycle_steps (p ∷ places) (s ∷ more) zip = (cycle_step p s zip.0, cycle_steps places more zip.1)
+
+  explained : (line : ℕ) (thread : List ℕ) (begun : ℕ) (cycle : Cycle) → IsExplained parts rules line thread begun cycle → IsExplained others rules line thread begun cycle
+  unfolding violation begins
+  explained line thread begun cycle is =
+      let v = is.violation in
+      record {
+        violation = violation line thread begun v;
+        label = subst (λ es. option_map (λ e. e.1.target) (slice_get es v.begins.place) ≡ Some cycle.label) same is.label;
+        first = is.first;
+        rest = is.rest;
+        telling = subst (λ es. IsTelling (trace es) (suc v.place) is.first is.rest) same is.telling;
+        begins = subst (λ es. transaction (trace es) is.first.enters ≡ Block v.t v.number) same is.begins;
+        fewest = subst (λ es. (other : Visit) (more : List Visit) → IsTelling (trace es) (suc v.place) other more →
+            transaction (trace es) other.enters ≡ Block v.t v.number → length is.rest ≤ length more) same is.fewest;
+        steps_are = cycle_steps (round_places is.first is.rest) cycle.steps.items is.steps_are;
+      }
+
+  pub same_cycle : (verdict : Verdict) (cycle : Cycle) → IsCycleOf parts rules verdict cycle → IsCycleOf others rules verdict cycle
+  same_cycle (Serializable events blocks) cycle is = absurd is
+  same_cycle (Pending events blocks pending) cycle is = absurd is
+  same_cycle (Violation line thread begun) cycle is = explained line thread begun cycle is
+  same_cycle (Malformed line fault) cycle is = absurd is
+  same_cycle (IllFormed line fault) cycle is = absurd is
+
 pub counted_alike : (rules : Rules) (parts others : List Reading) → events_within rules.limits.lines (whole_reading parts) ≡ events_within rules.limits.lines (whole_reading others) →
     malformed_line rules.limits.lines (whole_reading parts) ≡ malformed_line rules.limits.lines (whole_reading others) → AreJudgedAlike parts others rules
 counted_alike rules parts others same same_fault =
     record {
       verdicts = λ verdict. (same_verdict rules parts others same same_fault verdict, same_verdict rules others parts (sym same) (sym same_fault) verdict);
       orders = λ steps. (same_order rules parts others same same_fault steps, same_order rules others parts (sym same) (sym same_fault) steps);
+      cycles = λ verdict cycle. (same_cycle rules parts others same same_fault verdict cycle, same_cycle rules others parts (sym same) (sym same_fault) verdict cycle);
     }
 
 pub alike_back : (rules : Rules) (parts others : List Reading) → AreJudgedAlike parts others rules → AreJudgedAlike others parts rules
@@ -146,13 +189,15 @@ alike_back rules parts others alike =
     record {
       verdicts = λ verdict. ((alike.verdicts verdict).1, (alike.verdicts verdict).0);
       orders = λ steps. ((alike.orders steps).1, (alike.orders steps).0);
+      cycles = λ verdict cycle. ((alike.cycles verdict cycle).1, (alike.cycles verdict cycle).0);
     }
 
 -- what is judged alike has the same findings
 pub same_finding : (terms : Terms) (parts others : List Reading) (f : Finding) → AreJudgedAlike parts others terms.rules →
     IsTraceFinding parts terms f → IsTraceFinding others terms f
-same_finding terms parts others (Judged verdict) alike is = ((alike.verdicts verdict).0 is.0, is.1)
+same_finding terms parts others (Judged verdict) alike is = ((alike.verdicts verdict).0 is.0, is.1, is.2)
 same_finding terms parts others (Ordered verdict steps) alike is = ((alike.verdicts verdict).0 is.0, is.1, (alike.orders steps.items).0 is.2)
+same_finding terms parts others (Explained verdict cycle) alike is = ((alike.verdicts verdict).0 is.0, is.1, (alike.cycles verdict cycle).0 is.2)
 same_finding terms parts others (Broken bytes) alike is = absurd is
 same_finding terms parts others TooLarge alike is = absurd is
 

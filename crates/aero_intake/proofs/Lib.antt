@@ -1,4 +1,5 @@
 pub mod Decided
+pub mod Decisive
 mod Filled
 pub mod Judged
 pub mod Taken

@@ -1,5 +1,5 @@
 -- A source as far as it was read.
-use Rattle.std.proofs.Common.{◌≡◌, ℕ, ◌+◌, ◌≤◌, List, [], ◌∷◌, ◌++◌, length, refl, sym, ◌∙◌, ap, ap₂, subst, append_assoc, arith}
+use Rattle.std.proofs.Common.{◌≡◌, ℕ, ◌+◌, ◌≤◌, List, [], ◌∷◌, ◌++◌, length, refl, sym, ◌∙◌, ap, ap₂, subst, append_assoc, false, arith}
 use Rattle.std.proofs.lemmas.List.{append-nil, length-append}
 use Rattle.std.proofs.KnownBytes.{Consumes-nil, Consumes-trans}
 use Rattle.std.specs.Prelude.{option_to_list}
@@ -10,7 +10,7 @@ use Rattle.aero_model.specs.declared.verdict.Ending.TheVariants.{Whole, Broken, 
 use Rattle.aero_model.specs.CallCounts.{Seen}
 use Rattle.aero_lines.specs.Cutting.{Cutting, nothing_yet, fed, block_of, last_block, blocks_from}
 use Rattle.aero_intake.specs.Source.{WasRead}
-use Rattle.aero_intake.specs.Intake.{Taking, nothing_taken, with_piece, with_cut, fed_all, blocks_so_far, IsTaken, HaveCome, Ends}
+use Rattle.aero_intake.specs.Intake.{Taking, nothing_taken, with_piece, with_cut, with_passing, fed_all, blocks_so_far, IsTaken, HaveCome, Ends}
 
 fed_all-more : (c : Cutting) (pieces : List (List ℕ)) (piece : List ℕ) → fed_all c (pieces ++ piece ∷ []) ≡ fed (fed_all c pieces) piece
 fed_all-more c [] piece = refl
@@ -34,7 +34,7 @@ concat-more [] piece = append-nil piece
 concat-more (first ∷ pieces) piece = ap (λ bs. first ++ bs) (concat-more pieces piece) ∙ sym (append_assoc first (concat pieces) piece)
 
 pub nothing_is_taken : IsTaken nothing_taken [] []
-nothing_is_taken = record { cutting = refl; given = refl; count = refl }
+nothing_is_taken = record { cutting = λ not. refl; given = refl; count = refl }
 
 -- a piece comes, and is held
 pub piece_is_held : (i : Taking) (pieces blocks : List (List ℕ)) (piece : List ℕ) → IsTaken i pieces blocks → IsTaken (with_piece i piece) pieces blocks
@@ -49,18 +49,27 @@ pub cut_bytes : (pieces : List (List ℕ)) (held : List ℕ) → concat (pieces 
 cut_bytes pieces held = append-nil (concat (pieces ++ held ∷ [])) ∙ concat-more pieces held
 
 -- what is held is cut, and gives its block
-pub held_is_cut : (i : Taking) (pieces blocks : List (List ℕ)) → IsTaken i pieces blocks →
+pub held_is_cut : (i : Taking) (pieces blocks : List (List ℕ)) → i.passed ≡ false → IsTaken i pieces blocks →
     IsTaken (with_cut i) (pieces ++ i.held ∷ []) (blocks ++ option_to_list (block_of i.cutting i.held))
-held_is_cut i pieces blocks is = record {
-  cutting = ap (λ c. fed c i.held) is.cutting ∙ sym (fed_all-more nothing_yet pieces i.held);
-  given = ap₂ (λ bs c. bs ++ option_to_list (block_of c i.held)) is.given is.cutting ∙ sym (blocks_so_far-more nothing_yet pieces i.held);
+held_is_cut i pieces blocks none is = record {
+  cutting = λ not. ap (λ c. fed c i.held) (is.cutting not) ∙ sym (fed_all-more nothing_yet pieces i.held);
+  given = ap₂ (λ bs c. bs ++ option_to_list (block_of c i.held)) is.given (is.cutting none) ∙ sym (blocks_so_far-more nothing_yet pieces i.held);
+  count = is.count ∙ sym (ap length (cut_bytes pieces i.held));
+}
+
+-- what is held is passed over, and would have given its block
+pub held_is_passed : (i : Taking) (pieces blocks : List (List ℕ)) → IsTaken i pieces blocks →
+    IsTaken (with_passing i) (pieces ++ i.held ∷ []) (blocks ++ option_to_list (block_of (fed_all nothing_yet pieces) i.held))
+held_is_passed i pieces blocks is = record {
+  cutting = λ not. cc (not);
+  given = ap (λ bs. bs ++ option_to_list (block_of (fed_all nothing_yet pieces) i.held)) is.given ∙ sym (blocks_so_far-more nothing_yet pieces i.held);
   count = is.count ∙ sym (ap length (cut_bytes pieces i.held));
 }
 
 -- the text ends
-pub blocks_with_last : (i : Taking) (pieces blocks : List (List ℕ)) → IsTaken i pieces blocks → blocks ++ option_to_list (last_block i.cutting) ≡ blocks_from nothing_yet pieces
+pub blocks_with_last : (i : Taking) (pieces blocks : List (List ℕ)) → IsTaken i pieces blocks → blocks ++ option_to_list (last_block (fed_all nothing_yet pieces)) ≡ blocks_from nothing_yet pieces
 blocks_with_last i pieces blocks is =
-    ap₂ (λ bs c. bs ++ option_to_list (last_block c)) is.given is.cutting ∙ blocks_from-last nothing_yet pieces
+    ap (λ bs. bs ++ option_to_list (last_block (fed_all nothing_yet pieces))) is.given ∙ blocks_from-last nothing_yet pieces
 
 pub nothing_has_come : (seen : Seen) → HaveCome seen seen []
 nothing_has_come seen = record { came = Consumes-nil seen.bytes; quiet = record { faults = refl; ends = refl } }

@@ -1,6 +1,6 @@
 -- Asking and settling questions keep what is known of each source.
 use Rattle.std.proofs.Common.{◌≡◌, ℕ, zero, suc, ◌≤◌, List, [], ◌∷◌, ◌++◌, map, length, slice_get, slice_set, Option, Some, None, refl, sym, ◌∙◌, ap, ap₂, subst, append_assoc, inl, inr, arith}
-use Rattle.std.specs.Prelude.{All, Bool, true, option_map, if◌then◌else◌}
+use Rattle.std.specs.Prelude.{All, Bool, option_map, if◌then◌else◌}
 use Rattle.std.specs.List.{concat}
 use Rattle.std.proofs.Math.Logic.{∥∥₁_elim}
 use Rattle.std.proofs.lemmas.Bool.{cases_eq, eq-eqb, ne_eqb}
@@ -16,17 +16,17 @@ use Rattle.aero_lines.specs.Cutting.{nothing_yet, blocks_from}
 use Rattle.aero_pieces.specs.declared.question.Question.{Question}
 use Rattle.aero_pieces.specs.declared.question.Question.TheVariants.{Parse, Check}
 use Rattle.aero_pieces.specs.declared.answer.Value.{Value}
-use Rattle.aero_pieces.specs.declared.answer.Value.TheVariants.{Parsed, Judged, Ordered}
+use Rattle.aero_pieces.specs.declared.answer.Value.TheVariants.{Parsed, Judged, Ordered, Explained}
 use Rattle.aero_pieces.specs.Values.{IsValueOf}
 use Rattle.aero_verdict.specs.Finding.{Terms, asking, IsFinding, IsTraceFinding}
-use Rattle.aero_verdict.specs.Verdict.{Rules}
+use Rattle.aero_intake.specs.Held.{Known, with_next, IsDecisive}
 use Rattle.aero_intake.specs.declared.track.Track.{Track}
 use Rattle.aero_intake.specs.declared.track.Track.TheVariants.{Arriving, Arrived, Checking, Found}
-use Rattle.aero_intake.specs.Stories.{Story, Asked, AreEnough, own_block, own_check, blocks_asked, checks_asked, HasArrived, AreSettled, IsTracked, AreTracked, changed, trace_of}
-use Rattle.aero_intake.specs.Tracks.{decides, with_finding, with_value}
-use Rattle.aero_intake.proofs.Decided.{first_blocks_decide, more_decide}
-use Rattle.aero_intake.proofs.Judged.{judged_alike, alike_back, same_finding}
-use Rattle.aero_intake.proofs.Values.{parsed_value, not_judged, not_ordered, not_parsed}
+use Rattle.aero_intake.specs.Stories.{Story, Asked, AreEnough, BeginAlike, own_block, own_check, blocks_asked, checks_asked, HasArrived, AreSettled, IsTracked, AreTracked, changed, trace_of}
+use Rattle.aero_intake.specs.Tracks.{with_finding, with_value}
+use Rattle.aero_intake.proofs.Decisive.{more_decide}
+use Rattle.aero_intake.proofs.Judged.{judged_alike, same_finding}
+use Rattle.aero_intake.proofs.Values.{parsed_value, not_judged, not_ordered, not_explained, not_parsed}
 
 -- what is asked of the sources
 
@@ -35,14 +35,14 @@ own_block-same s trace number bytes same = ap (λ b. if b then bytes ∷ [] else
 
 pub own_block-other : (s : ℕ) (q : Question) → (trace_of q ≡ s → ⊥) → own_block s q ≡ []
 own_block-other s (Parse trace number bytes) other = ap (λ b. if b then bytes ∷ [] else []) (ne_eqb trace s other)
-own_block-other s (Check trace parts limits labels order) other = refl
+own_block-other s (Check trace parts limits labels order explain) other = refl
 
-own_check-same : (s trace : ℕ) (parts : List Reading) (limits : Limits) (labels : List (List ℕ)) (order : Bool) → trace ≡ s → own_check s (Check trace parts limits labels order) ≡ record { parts = parts; terms = asking limits labels order } ∷ []
-own_check-same s trace parts limits labels order same = ap (λ b. if b then record { parts = parts; terms = asking limits labels order } ∷ [] else []) (eq-eqb trace s same)
+own_check-same : (s trace : ℕ) (parts : List Reading) (limits : Limits) (labels : List (List ℕ)) (order explain : Bool) → trace ≡ s → own_check s (Check trace parts limits labels order explain) ≡ record { parts = parts; terms = asking limits labels order explain } ∷ []
+own_check-same s trace parts limits labels order explain same = ap (λ b. if b then record { parts = parts; terms = asking limits labels order explain } ∷ [] else []) (eq-eqb trace s same)
 
 pub own_check-other : (s : ℕ) (q : Question) → (trace_of q ≡ s → ⊥) → own_check s q ≡ []
 own_check-other s (Parse trace number bytes) other = refl
-own_check-other s (Check trace parts limits labels order) other = ap (λ b. if b then record { parts = parts; terms = asking limits labels order } ∷ [] else []) (ne_eqb trace s other)
+own_check-other s (Check trace parts limits labels order explain) other = ap (λ b. if b then record { parts = parts; terms = asking limits labels order explain } ∷ [] else []) (ne_eqb trace s other)
 
 pub blocks_asked-more : (s : ℕ) (qs : List Question) (q : Question) → blocks_asked s (qs ++ q ∷ []) ≡ blocks_asked s qs ++ own_block s q
 blocks_asked-more s [] q = append-nil (own_block s q)
@@ -85,13 +85,13 @@ nil_right (x ∷ xs) ys is = cc
 -- what is known of a source of which nothing is settled
 settled_other : (terms : Terms) (q : Question) (rest : List Question) (s : ℕ) (story : Story) (t : Track) → own_block s q ≡ [] → own_check s q ≡ [] →
     IsTracked terms (q ∷ rest) s story t → IsTracked terms rest s story t
-settled_other terms q rest s story (Arriving readings) no_block no_check is = (
-  subst (λ bs. readings ++ map reading_of (bs ++ blocks_asked s rest) ≡ map reading_of story.blocks) no_block is.0,
+settled_other terms q rest s story (Arriving known) no_block no_check is = (
+  record { on = is.0.on; all = subst (λ bs. known.parts ++ map reading_of (bs ++ blocks_asked s rest) ≡ map reading_of story.blocks) no_block is.0.all },
   subst (λ cs. cs ++ checks_asked s rest ≡ []) no_check is.1,
   is.2,
 )
-settled_other terms q rest s story (Arrived bytes blocks readings) no_block no_check is = (
-  subst (λ bs. readings ++ map reading_of (bs ++ blocks_asked s rest) ≡ map reading_of story.blocks) no_block is.0,
+settled_other terms q rest s story (Arrived bytes blocks known) no_block no_check is = (
+  record { on = is.0.on; all = subst (λ bs. known.parts ++ map reading_of (bs ++ blocks_asked s rest) ≡ map reading_of story.blocks) no_block is.0.all },
   subst (λ cs. cs ++ checks_asked s rest ≡ []) no_check is.1,
   is.2,
 )
@@ -102,29 +102,29 @@ settled_other terms q rest s story (Checking bytes) no_block no_check is = (
 settled_other terms q rest s story (Found bytes ending finding) no_block no_check is = is
 
 -- the block that is settled goes from those that are asked about to those that are read
-part_settled : (story : Story) (rest : List Question) (s trace number : ℕ) (bytes : List ℕ) (readings : List Reading) (r : Reading) → trace ≡ s → r ≡ reading_of bytes →
-    AreSettled story (Parse trace number bytes ∷ rest) s readings → AreSettled story rest s (readings ++ r ∷ [])
-part_settled story rest s trace number bytes readings r same is before =
-    append_assoc readings (r ∷ []) (map reading_of (blocks_asked s rest))
-    ∙ (ap (λ x. readings ++ (x ∷ map reading_of (blocks_asked s rest))) is
-    ∙ (sym (ap (λ bs. readings ++ map reading_of (bs ++ blocks_asked s rest)) (own_block-same s trace number bytes same)) ∙ before))
+part_settled : (terms : Terms) (story : Story) (rest : List Question) (s trace number : ℕ) (bytes : List ℕ) (known : Known) (r : Reading) → trace ≡ s → r ≡ reading_of bytes →
+    AreSettled terms story (Parse trace number bytes ∷ rest) s known → AreSettled terms story rest s (with_next known r)
+part_settled terms story rest s trace number bytes known r same is before = record {
+  on = before.on;
+  all = append_assoc known.parts (r ∷ []) (map reading_of (blocks_asked s rest))
+      ∙ (ap (λ x. known.parts ++ (x ∷ map reading_of (blocks_asked s rest))) is
+      ∙ (sym (ap (λ bs. known.parts ++ map reading_of (bs ++ blocks_asked s rest)) (own_block-same s trace number bytes same)) ∙ before.all));
+}
 
 -- what is found of the blocks that were asked about is found of all
-enough_found : (terms : Terms) (asked all : List (List ℕ)) (f : Finding) → AreEnough terms.rules asked all →
+enough_found : (terms : Terms) (asked all : List (List ℕ)) (f : Finding) → AreEnough terms asked all →
     IsTraceFinding (map reading_of asked) terms f → IsTraceFinding (map reading_of all) terms f
 enough_found terms asked all f (inl same) is = subst (λ bs. IsTraceFinding (map reading_of bs) terms f) same is
 enough_found terms asked all f (inr alike) is =
-    let front = map reading_of alike.front in
-    let asked_parts = map reading_of (alike.front ++ alike.rest) in
-    let asked_alike = alike_back terms.rules front asked_parts (first_blocks_decide alike.front alike.rest terms.rules alike.decided) in
-    let first = same_finding terms asked_parts front f asked_alike (subst (λ bs. IsTraceFinding (map reading_of bs) terms f) alike.asked_are is) in
-    let all_alike = first_blocks_decide alike.front alike.others terms.rules alike.decided in
-    subst (λ bs. IsTraceFinding (map reading_of bs) terms f) (sym alike.all_are) (same_finding terms front (map reading_of (alike.front ++ alike.others)) f all_alike first)
+    let joined : (blocks rest : List (List ℕ)) → blocks ≡ alike.front ++ rest → map reading_of blocks ≡ map reading_of alike.front ++ map reading_of rest =
+    λ blocks rest are. ap (map reading_of) are ∙ map-append reading_of alike.front rest in
+    let first = (alike.decided alike.rest f).0 (subst (λ rs. IsTraceFinding rs terms f) (joined asked alike.rest alike.asked_are) is) in
+    subst (λ rs. IsTraceFinding rs terms f) (sym (joined all alike.others alike.all_are)) ((alike.decided alike.others f).1 first)
 
 -- one more block is asked about, or none
-pub enough_asked : (rules : Rules) (asked all more : List (List ℕ)) → AreEnough rules asked all → AreEnough rules (asked ++ more) (all ++ more)
-enough_asked rules asked all more (inl same) = inl (ap (λ bs. bs ++ more) same)
-enough_asked rules asked all more (inr alike) = inr (record {
+pub enough_asked : (terms : Terms) (asked all more : List (List ℕ)) → AreEnough terms asked all → AreEnough terms (asked ++ more) (all ++ more)
+enough_asked terms asked all more (inl same) = inl (ap (λ bs. bs ++ more) same)
+enough_asked terms asked all more (inr alike) = inr (record {
   front = alike.front;
   rest = alike.rest ++ more;
   others = alike.others ++ more;
@@ -133,28 +133,32 @@ enough_asked rules asked all more (inr alike) = inr (record {
   decided = alike.decided;
 })
 
--- one more block is dropped, or none, where those that were asked about decide
-pub enough_dropped : (rules : Rules) (asked all more : List (List ℕ)) → decides rules.limits (map reading_of asked) ≡ true → AreEnough rules asked all → AreEnough rules asked (all ++ more)
-enough_dropped rules asked all more decided (inl same) = inr (record {
-  front = asked;
-  rest = [];
-  others = more;
-  asked_are = sym (append-nil asked);
-  all_are = ap (λ bs. bs ++ more) (sym same);
-  decided = decided;
-})
-enough_dropped rules asked all more decided (inr alike) = inr (record {
+-- more blocks are dropped
+pub alike_dropped : (terms : Terms) (asked all more : List (List ℕ)) → BeginAlike terms asked all → BeginAlike terms asked (all ++ more)
+alike_dropped terms asked all more alike = record {
   front = alike.front;
   rest = alike.rest;
   others = alike.others ++ more;
   asked_are = alike.asked_are;
   all_are = ap (λ bs. bs ++ more) alike.all_are ∙ append_assoc alike.front alike.others more;
   decided = alike.decided;
-})
+}
+
+-- those that were asked about decide
+pub begin_alike : (terms : Terms) (asked all : List (List ℕ)) → IsDecisive terms (map reading_of asked) → AreEnough terms asked all → BeginAlike terms asked all
+begin_alike terms asked all decided (inl same) = record {
+  front = asked;
+  rest = [];
+  others = [];
+  asked_are = sym (append-nil asked);
+  all_are = sym same ∙ sym (append-nil asked);
+  decided = decided;
+}
+begin_alike terms asked all decided (inr alike) = alike
 
 trace_found : (terms : Terms) (story : Story) (bytes : ℕ) (parts : List Reading) (asked : Terms) (f : Finding) →
     ◌≡◌ {A = Asked} (record { parts = parts; terms = asked }) (record { parts = map reading_of story.blocks; terms = terms }) →
-    HasArrived terms.rules story bytes (length story.blocks) → ∥ IsTraceFinding parts asked f ∥₁ → ∥ IsFinding (concat story.pieces) endings.Whole terms f ∥₁
+    HasArrived terms story bytes (length story.blocks) → ∥ IsTraceFinding parts asked f ∥₁ → ∥ IsFinding (concat story.pieces) endings.Whole terms f ∥₁
 trace_found terms story bytes parts asked f same has known =
     let there : ∥ IsTraceFinding (map reading_of story.blocks) terms f ∥₁ = subst (λ (a : Asked). ∥ IsTraceFinding a.parts a.terms f ∥₁) same known in
     let all = blocks_from nothing_yet story.pieces in
@@ -162,34 +166,37 @@ trace_found terms story bytes parts asked f same has known =
     ∥∥₁_elim there squash₁ (λ found. merely (same_finding terms (map reading_of all) (reading_of (concat story.pieces) ∷ []) f alike (enough_found terms story.blocks all f has.enough found)))
 
 -- what is known of the source whose trace was checked
-settled_check : (terms : Terms) (trace : ℕ) (parts : List Reading) (limits : Limits) (labels : List (List ℕ)) (order : Bool) (rest : List Question) (s : ℕ) (story : Story) (t : Track) (f : Finding) →
-    trace ≡ s → ∥ IsTraceFinding parts (asking limits labels order) f ∥₁ → IsTracked terms (Check trace parts limits labels order ∷ rest) s story t → IsTracked terms rest s story (with_finding t f)
-settled_check terms trace parts limits labels order rest s story (Arriving readings) f same known is =
-    (is.0, nil_right (own_check s (Check trace parts limits labels order)) (checks_asked s rest) is.1, is.2)
-settled_check terms trace parts limits labels order rest s story (Arrived n blocks readings) f same known is =
-    (is.0, nil_right (own_check s (Check trace parts limits labels order)) (checks_asked s rest) is.1, is.2)
-settled_check terms trace parts limits labels order rest s story (Checking n) f same known is =
-    let all = subst (λ cs. All (λ a. a ≡ record { parts = map reading_of story.blocks; terms = terms }) (cs ++ checks_asked s rest)) (own_check-same s trace parts limits labels order same) is.0 in
-    let first = All-head (λ a. a ≡ record { parts = map reading_of story.blocks; terms = terms }) (record { parts = parts; terms = asking limits labels order }) (checks_asked s rest) all in
-    (is.1.ended, is.1.byte_count, trace_found terms story n parts (asking limits labels order) f first is.1 known)
-settled_check terms trace parts limits labels order rest s story (Found n ending finding) f same known is = is
+settled_check : (terms : Terms) (trace : ℕ) (parts : List Reading) (limits : Limits) (labels : List (List ℕ)) (order explain : Bool) (rest : List Question) (s : ℕ) (story : Story) (t : Track) (f : Finding) →
+    trace ≡ s → ∥ IsTraceFinding parts (asking limits labels order explain) f ∥₁ → IsTracked terms (Check trace parts limits labels order explain ∷ rest) s story t → IsTracked terms rest s story (with_finding t f)
+settled_check terms trace parts limits labels order explain rest s story (Arriving k) f same known is =
+    (record { on = is.0.on; all = is.0.all }, nil_right (own_check s (Check trace parts limits labels order explain)) (checks_asked s rest) is.1, is.2)
+settled_check terms trace parts limits labels order explain rest s story (Arrived n blocks k) f same known is =
+    (record { on = is.0.on; all = is.0.all }, nil_right (own_check s (Check trace parts limits labels order explain)) (checks_asked s rest) is.1, is.2)
+settled_check terms trace parts limits labels order explain rest s story (Checking n) f same known is =
+    let all = subst (λ cs. All (λ a. a ≡ record { parts = map reading_of story.blocks; terms = terms }) (cs ++ checks_asked s rest)) (own_check-same s trace parts limits labels order explain same) is.0 in
+    let first = All-head (λ a. a ≡ record { parts = map reading_of story.blocks; terms = terms }) (record { parts = parts; terms = asking limits labels order explain }) (checks_asked s rest) all in
+    (is.1.ended, is.1.byte_count, trace_found terms story n parts (asking limits labels order explain) f first is.1 known)
+settled_check terms trace parts limits labels order explain rest s story (Found n ending finding) f same known is = is
 
 -- what is known of the source of which a question is settled
 settled_own : (terms : Terms) (q : Question) (rest : List Question) (s : ℕ) (story : Story) (t : Track) (v : Value) → trace_of q ≡ s → IsValueOf q v →
     IsTracked terms (q ∷ rest) s story t → IsTracked terms rest s story (with_value t v)
-settled_own terms (Parse trace number bytes) rest s story (Arriving readings) (Parsed r) same known is =
-    (part_settled story rest s trace number bytes readings r same (parsed_value trace number bytes r known) is.0, is.1, is.2)
-settled_own terms (Parse trace number bytes) rest s story (Arrived n blocks readings) (Parsed r) same known is =
-    (part_settled story rest s trace number bytes readings r same (parsed_value trace number bytes r known) is.0, is.1, is.2)
+settled_own terms (Parse trace number bytes) rest s story (Arriving k) (Parsed r) same known is =
+    (part_settled terms story rest s trace number bytes k r same (parsed_value trace number bytes r known) is.0, is.1, is.2)
+settled_own terms (Parse trace number bytes) rest s story (Arrived n blocks k) (Parsed r) same known is =
+    (part_settled terms story rest s trace number bytes k r same (parsed_value trace number bytes r known) is.0, is.1, is.2)
 settled_own terms (Parse trace number bytes) rest s story (Checking n) (Parsed r) same known is = is
 settled_own terms (Parse trace number bytes) rest s story (Found n ending finding) (Parsed r) same known is = is
 settled_own terms (Parse trace number bytes) rest s story t (Judged w) same known is = absurd (not_judged trace number bytes w known)
 settled_own terms (Parse trace number bytes) rest s story t (Ordered w steps) same known is = absurd (not_ordered trace number bytes w steps known)
-settled_own terms (Check trace parts limits labels order) rest s story t (Parsed r) same known is = absurd (not_parsed trace parts limits labels order r known)
-settled_own terms (Check trace parts limits labels order) rest s story t (Judged w) same known is =
-    settled_check terms trace parts limits labels order rest s story t (findings.Judged w) same known is
-settled_own terms (Check trace parts limits labels order) rest s story t (Ordered w steps) same known is =
-    settled_check terms trace parts limits labels order rest s story t (findings.Ordered w steps) same known is
+settled_own terms (Parse trace number bytes) rest s story t (Explained w steps) same known is = absurd (not_explained trace number bytes w steps known)
+settled_own terms (Check trace parts limits labels order explain) rest s story t (Parsed r) same known is = absurd (not_parsed trace parts limits labels order explain r known)
+settled_own terms (Check trace parts limits labels order explain) rest s story t (Judged w) same known is =
+    settled_check terms trace parts limits labels order explain rest s story t (findings.Judged w) same known is
+settled_own terms (Check trace parts limits labels order explain) rest s story t (Ordered w steps) same known is =
+    settled_check terms trace parts limits labels order explain rest s story t (findings.Ordered w steps) same known is
+settled_own terms (Check trace parts limits labels order explain) rest s story t (Explained w steps) same known is =
+    settled_check terms trace parts limits labels order explain rest s story t (findings.Explained w steps) same known is
 
 pub value_goes : (terms : Terms) (tale : ℕ → Story) (q : Question) (rest : List Question) (v : Value) (tracks : List Track) → IsValueOf q v →
     AreTracked terms (q ∷ rest) tale tracks → AreTracked terms rest tale (changed (trace_of q) (λ x. with_value x v) tracks)
@@ -216,31 +223,38 @@ asked_other terms qs q s story t other is = go t is
     checks : checks_asked s (qs ++ q ∷ []) ≡ checks_asked s qs
     checks = checks_asked-more s qs q ∙ (ap (λ cs. checks_asked s qs ++ cs) (own_check-other s q other) ∙ append-nil (checks_asked s qs))
 
+    settled : (known : Known) → AreSettled terms story qs s known → AreSettled terms story (qs ++ q ∷ []) s known
+    settled known is = record { on = is.on; all = subst (λ bs. known.parts ++ map reading_of bs ≡ map reading_of story.blocks) (sym blocks) is.all }
+
     go : (t : Track) → IsTracked terms qs s story t → IsTracked terms (qs ++ q ∷ []) s story t
-    go (Arriving readings) is = (subst (λ bs. readings ++ map reading_of bs ≡ map reading_of story.blocks) (sym blocks) is.0, checks ∙ is.1, is.2)
-    go (Arrived n k readings) is = (subst (λ bs. readings ++ map reading_of bs ≡ map reading_of story.blocks) (sym blocks) is.0, checks ∙ is.1, is.2)
+    go (Arriving known) is = (settled known is.0, checks ∙ is.1, is.2)
+    go (Arrived n k known) is = (settled known is.0, checks ∙ is.1, is.2)
     go (Checking n) is = (subst (λ cs. All (λ a. a ≡ record { parts = map reading_of story.blocks; terms = terms }) cs) (sym checks) is.0, is.1)
     go (Found n ending finding) is = is
 
 -- one more block of a source that hasn't ended is asked about
-pub asked_block : (terms : Terms) (qs : List Question) (s number : ℕ) (block : List ℕ) (story : Story) (pieces : List (List ℕ)) (readings : List Reading) →
-    IsTracked terms qs s story (Arriving readings) →
-    IsTracked terms (qs ++ Parse s number block ∷ []) s (record { pieces = pieces; blocks = story.blocks ++ block ∷ []; ending = None }) (Arriving readings)
-asked_block terms qs s number block story pieces readings is = (
-  ap (λ bs. readings ++ map reading_of bs) (blocks_asked-more s qs (Parse s number block) ∙ ap (λ bs. blocks_asked s qs ++ bs) (own_block-same s s number block refl))
-      ∙ (ap (λ rs. readings ++ rs) (map-append reading_of (blocks_asked s qs) (block ∷ []))
-      ∙ (sym (append_assoc readings (map reading_of (blocks_asked s qs)) (reading_of block ∷ []))
-      ∙ (ap (λ rs. rs ++ reading_of block ∷ []) is.0
-      ∙ sym (map-append reading_of story.blocks (block ∷ []))))),
+pub asked_block : (terms : Terms) (qs : List Question) (s number : ℕ) (block : List ℕ) (story : Story) (pieces : List (List ℕ)) (known : Known) →
+    IsTracked terms qs s story (Arriving known) →
+    IsTracked terms (qs ++ Parse s number block ∷ []) s (record { pieces = pieces; blocks = story.blocks ++ block ∷ []; ending = None }) (Arriving known)
+asked_block terms qs s number block story pieces known is = (
+  record {
+    on = is.0.on;
+    all = ap (λ bs. known.parts ++ map reading_of bs) (blocks_asked-more s qs (Parse s number block) ∙ ap (λ bs. blocks_asked s qs ++ bs) (own_block-same s s number block refl))
+        ∙ (ap (λ rs. known.parts ++ rs) (map-append reading_of (blocks_asked s qs) (block ∷ []))
+        ∙ (sym (append_assoc known.parts (map reading_of (blocks_asked s qs)) (reading_of block ∷ []))
+        ∙ (ap (λ rs. rs ++ reading_of block ∷ []) is.0.all
+        ∙ sym (map-append reading_of story.blocks (block ∷ [])))));
+  },
   checks_asked-more s qs (Parse s number block) ∙ (append-nil (checks_asked s qs) ∙ is.1),
   refl,
 )
 
 -- what is settled of the blocks that were asked about decides, and so do all of them
-pub settled_decide : (rules : Rules) (qs : List Question) (s : ℕ) (story : Story) (readings : List Reading) → AreSettled story qs s readings → decides rules.limits readings ≡ true →
-    decides rules.limits (map reading_of story.blocks) ≡ true
-settled_decide rules qs s story readings are is =
-    subst (λ rs. decides rules.limits rs ≡ true) are (more_decide rules readings (map reading_of (blocks_asked s qs)) is)
+pub settled_decide : (terms : Terms) (qs : List Question) (s : ℕ) (story : Story) (known : Known) → AreSettled terms story qs s known → IsDecisive known.terms known.parts →
+    IsDecisive terms (map reading_of story.blocks)
+settled_decide terms qs s story known are is =
+    let here : IsDecisive terms known.parts = subst (λ t. IsDecisive t known.parts) are.on is in
+    subst (IsDecisive terms) are.all (more_decide terms known.parts (blocks_asked s qs) here)
 
 no_blocks_left : (readings rs : List Reading) (blocks : List (List ℕ)) (bs : List (List ℕ)) → readings ++ map reading_of bs ≡ map reading_of blocks → length readings ≡ length blocks →
     readings ≡ map reading_of blocks
@@ -250,12 +264,13 @@ no_blocks_left readings rs blocks (b ∷ bs) is same =
     absurd (omega (arith, lengths, same, length-append readings (reading_of b ∷ map reading_of bs), length-map blocks reading_of))
 
 -- the verdict on a whole source is asked for once all its blocks are read
-pub asked_check : (terms : Terms) (qs : List Question) (s bytes blocks : ℕ) (story : Story) (readings : List Reading) → length readings ≡ blocks →
-    IsTracked terms qs s story (Arrived bytes blocks readings) → IsTracked terms (qs ++ Check s readings terms.rules.limits terms.rules.labels terms.order ∷ []) s story (Checking bytes)
-asked_check terms qs s bytes blocks story readings ready is =
-    let all_read = no_blocks_left readings [] story.blocks (blocks_asked s qs) is.0 (ready ∙ is.2.block_count) in
-    let one : checks_asked s (qs ++ Check s readings terms.rules.limits terms.rules.labels terms.order ∷ []) ≡ record { parts = readings; terms = terms } ∷ [] =
-    checks_asked-more s qs (Check s readings terms.rules.limits terms.rules.labels terms.order) ∙ ap₂ (λ xs ys. xs ++ ys) is.1 (own_check-same s s readings terms.rules.limits terms.rules.labels terms.order refl) in (
+pub asked_check : (terms : Terms) (qs : List Question) (s bytes blocks : ℕ) (story : Story) (known : Known) → length known.parts ≡ blocks →
+    IsTracked terms qs s story (Arrived bytes blocks known) → IsTracked terms (qs ++ Check s known.parts terms.rules.limits terms.rules.labels terms.order terms.explain ∷ []) s story (Checking bytes)
+asked_check terms qs s bytes blocks story known ready is =
+    let readings = known.parts in
+    let all_read = no_blocks_left readings [] story.blocks (blocks_asked s qs) is.0.all (ready ∙ is.2.block_count) in
+    let one : checks_asked s (qs ++ Check s readings terms.rules.limits terms.rules.labels terms.order terms.explain ∷ []) ≡ record { parts = readings; terms = terms } ∷ [] =
+    checks_asked-more s qs (Check s readings terms.rules.limits terms.rules.labels terms.order terms.explain) ∙ ap₂ (λ xs ys. xs ++ ys) is.1 (own_check-same s s readings terms.rules.limits terms.rules.labels terms.order terms.explain refl) in (
       subst (λ cs. All (λ a. a ≡ record { parts = map reading_of story.blocks; terms = terms }) cs) (sym one)
           (All-cons (λ a. a ≡ record { parts = map reading_of story.blocks; terms = terms }) (record { parts = readings; terms = terms }) []
           (ap (λ rs. record { parts = rs; terms = terms }) all_read) (All-nil (λ a. a ≡ record { parts = map reading_of story.blocks; terms = terms }))),
@@ -263,12 +278,14 @@ asked_check terms qs s bytes blocks story readings ready is =
     )
 
 -- it is known what is found of a whole source once all its blocks are read
-pub found_here : (terms : Terms) (qs : List Question) (s bytes blocks : ℕ) (story : Story) (readings : List Reading) (f : Finding) → length readings ≡ blocks →
-    IsTraceFinding readings terms f → IsTracked terms qs s story (Arrived bytes blocks readings) → IsTracked terms qs s story (Found bytes endings.Whole f)
-found_here terms qs s bytes blocks story readings f ready known is =
-    let all_read = no_blocks_left readings [] story.blocks (blocks_asked s qs) is.0 (ready ∙ is.2.block_count) in
-    let has : HasArrived terms.rules story bytes (length story.blocks) = record { ended = is.2.ended; enough = is.2.enough; byte_count = is.2.byte_count; block_count = refl } in
-    (is.2.ended, is.2.byte_count, trace_found terms story bytes readings terms f (ap (λ rs. record { parts = rs; terms = terms }) all_read) has (merely known))
+pub found_here : (terms : Terms) (qs : List Question) (s bytes blocks : ℕ) (story : Story) (known : Known) (f : Finding) → length known.parts ≡ blocks →
+    IsTraceFinding known.parts known.terms f → IsTracked terms qs s story (Arrived bytes blocks known) → IsTracked terms qs s story (Found bytes endings.Whole f)
+found_here terms qs s bytes blocks story known f ready found is =
+    let all_read = no_blocks_left known.parts [] story.blocks (blocks_asked s qs) is.0.all (ready ∙ is.2.block_count) in
+    let has : HasArrived terms story bytes (length story.blocks) = record { ended = is.2.ended; enough = is.2.enough; byte_count = is.2.byte_count; block_count = refl } in
+    let same : ◌≡◌ {A = Asked} (record { parts = known.parts; terms = known.terms }) (record { parts = map reading_of story.blocks; terms = terms }) =
+    ap₂ (λ rs (t : Terms). record { parts = rs; terms = t }) all_read is.0.on in
+    (is.2.ended, is.2.byte_count, trace_found terms story bytes known.parts known.terms f same has (merely found))
 
 -- a list with an element written at a place
 

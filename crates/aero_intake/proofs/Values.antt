@@ -4,11 +4,12 @@ use Rattle.std.specs.Global.{Vec}
 use Rattle.std.proofs.Math.Logic.{∥∥₁_elim}
 use Rattle.std.specs.Coded.{Coded, Coded-set, codes}
 use Rattle.aero_model.specs.declared.limits.Limits.{Limits}
+use Rattle.aero_model.specs.declared.verdict.Cycle.{Cycle}
 use Rattle.aero_model.specs.declared.verdict.Step.{Step}
 use Rattle.aero_model.specs.declared.verdict.Verdict.{Verdict}
 use Rattle.aero_grammar.specs.Reading.{Reading, reading_of}
 use Rattle.aero_pieces.specs.declared.question.Question.TheVariants.{Parse, Check}
-use Rattle.aero_pieces.specs.declared.answer.Value.TheVariants.{Parsed, Judged, Ordered}
+use Rattle.aero_pieces.specs.declared.answer.Value.TheVariants.{Parsed, Judged, Ordered, Explained}
 use Rattle.aero_pieces.specs.Values.{IsValueOf}
 
 reading_code : Coded Reading
@@ -24,6 +25,9 @@ not_judged trace number bytes verdict is = ∥∥₁_elim is (λ x y. absurd x) 
 pub not_ordered : (trace number : ℕ) (bytes : List ℕ) (verdict : Verdict) (steps : Vec Step) → IsValueOf (Parse trace number bytes) (Ordered verdict steps) → ⊥
 not_ordered trace number bytes verdict steps is = ∥∥₁_elim is (λ x y. absurd x) (λ e. e)
 
+pub not_explained : (trace number : ℕ) (bytes : List ℕ) (verdict : Verdict) (cycle : Cycle) → IsValueOf (Parse trace number bytes) (Explained verdict cycle) → ⊥
+not_explained trace number bytes verdict cycle is = ∥∥₁_elim is (λ x y. absurd x) (λ e. e)
+
 -- and the question on a trace by a verdict
-pub not_parsed : (trace : ℕ) (parts : List Reading) (limits : Limits) (labels : List (List ℕ)) (order : Bool) (parsed : Reading) → IsValueOf (Check trace parts limits labels order) (Parsed parsed) → ⊥
-not_parsed trace parts limits labels order parsed is = ∥∥₁_elim is (λ x y. absurd x) (λ e. e)
+pub not_parsed : (trace : ℕ) (parts : List Reading) (limits : Limits) (labels : List (List ℕ)) (order explain : Bool) (parsed : Reading) → IsValueOf (Check trace parts limits labels order explain) (Parsed parsed) → ⊥
+not_parsed trace parts limits labels order explain parsed is = ∥∥₁_elim is (λ x y. absurd x) (λ e. e)

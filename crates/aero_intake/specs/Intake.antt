@@ -1,5 +1,5 @@
 -- A source that is being read and cut.
-use Rattle.std.specs.Prelude.{◌≡◌, ℕ, zero, suc, ◌+◌, ◌<◌, ◌≤◌, List, [], ◌∷◌, ◌++◌, length, take, option_to_list, Result, Ok, Err}
+use Rattle.std.specs.Prelude.{◌≡◌, Bool, true, false, ℕ, zero, suc, ◌+◌, ◌<◌, ◌≤◌, List, [], ◌∷◌, ◌++◌, length, take, option_to_list, Result, Ok, Err}
 use Rattle.std.specs.List.{concat}
 use Rattle.std.specs.Io.KnownBytes.{Consumes}
 use Rattle.aero_model.specs.declared.verdict.Ending.{Ending}
@@ -10,23 +10,28 @@ use Rattle.aero_intake.specs.Source.{WasRead, IsQuiet}
 use Rattle.aero_intake.specs.declared.intake.Taken.{Taken}
 use Rattle.aero_intake.specs.declared.intake.Taken.TheVariants.{Piece, Ended}
 
--- where the cutting stands, the bytes that came and aren't cut yet, and how many have come in all
+-- where the cutting stands, the bytes that came and aren't cut yet, how many have come in all, and whether some were passed over
 pub record Taking : Type 0 where
   pub cutting : Cutting
   pub held : List ℕ
   pub count : ℕ
+  pub passed : Bool
 
 -- before the first piece
 abbrev pub nothing_taken : Taking
-nothing_taken = record { cutting = nothing_yet; held = []; count = 0 }
+nothing_taken = record { cutting = nothing_yet; held = []; count = 0; passed = false }
 
 -- with one piece more, which is held
 abbrev pub with_piece : Taking → List ℕ → Taking
-with_piece i piece = record { cutting = i.cutting; held = i.held ++ piece; count = i.count + length piece }
+with_piece i piece = record { cutting = i.cutting; held = i.held ++ piece; count = i.count + length piece; passed = i.passed }
 
 -- with all that was held fed to the cutting
 abbrev pub with_cut : Taking → Taking
-with_cut i = record { cutting = fed i.cutting i.held; held = []; count = i.count }
+with_cut i = record { cutting = fed i.cutting i.held; held = []; count = i.count; passed = i.passed }
+
+-- with all that was held passed over
+abbrev pub with_passing : Taking → Taking
+with_passing i = record { cutting = i.cutting; held = []; count = i.count; passed = true }
 
 -- what a cutting becomes with these pieces, one after the other
 abbrev pub fed_all : Cutting → List (List ℕ) → Cutting
@@ -38,9 +43,9 @@ abbrev pub blocks_so_far : Cutting → List (List ℕ) → List (List ℕ)
 blocks_so_far c [] = []
 blocks_so_far c (piece ∷ pieces) = option_to_list (block_of c piece) ++ blocks_so_far (fed c piece) pieces
 
--- These pieces were cut, one after the other, and gave these blocks, and what is held came after them.
+-- These pieces were cut, one after the other, and gave these blocks, and what is held came after them. Where some were passed over, these are the blocks that they would have given.
 pub record IsTaken (i : Taking) (pieces blocks : List (List ℕ)) : Type 0 where
-  pub cutting : i.cutting ≡ fed_all nothing_yet pieces
+  pub cutting : i.passed ≡ false → i.cutting ≡ fed_all nothing_yet pieces
   pub given : blocks ≡ blocks_so_far nothing_yet pieces
   pub count : i.count ≡ length (concat pieces ++ i.held)
 

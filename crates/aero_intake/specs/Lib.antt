@@ -1,6 +1,6 @@
--- To be believed: Source (what was read of a source), Intake (which pieces came, are held and were cut), Plans and
--- PlanTerms (what a plan may say, and its terms) and Laws. Also Held and Lives (what is kept of a source, or judged as
--- it comes) and Tracks (how far it is).
+-- To be believed: Source (what was read of a source), Intake (which pieces came, are held, and were cut or passed
+-- over), Plans and PlanTerms (what a plan may say, and its terms) and Laws. Also Held and Lives (on what terms a source
+-- is judged, what is kept of it, or judged as it comes, and when that decides) and Tracks (how far it is).
 -- For proofs alone: Stories (what a run knows of a source meanwhile), which proofs of aero_batch use.
 pub mod Held
 pub mod Intake

@@ -1,5 +1,5 @@
 -- What is known of each source, while questions on it are asked and settled.
-use Rattle.std.specs.Prelude.{◌≡◌, ◌⊎◌, ℕ, zero, suc, ◌==◌, true, if◌then◌else◌, List, [], ◌∷◌, ◌++◌, map, length, slice_get, Option, Some, None, All}
+use Rattle.std.specs.Prelude.{◌≡◌, ◌⊎◌, ℕ, zero, suc, ◌==◌, if◌then◌else◌, List, [], ◌∷◌, ◌++◌, map, length, slice_get, Option, Some, None, All}
 use Rattle.std.specs.List.{concat}
 use Rattle.aero_model.specs.declared.verdict.Ending.{Ending}
 use Rattle.aero_model.specs.declared.verdict.Ending.TheVariants as endings
@@ -10,10 +10,10 @@ use Rattle.aero_pieces.specs.declared.question.Question.TheVariants.{Parse, Chec
 use Rattle.aero_pieces.specs.declared.answer.Value.{Value}
 use Rattle.aero_pieces.specs.Values.{IsValueOf}
 use Rattle.aero_verdict.specs.Finding.{Terms, asking, IsFinding}
-use Rattle.aero_verdict.specs.Verdict.{Rules}
+use Rattle.aero_intake.specs.Held.{Known, IsDecisive}
 use Rattle.aero_intake.specs.declared.track.Track.{Track}
 use Rattle.aero_intake.specs.declared.track.Track.TheVariants.{Arriving, Arrived, Checking, Found}
-use Rattle.aero_intake.specs.Tracks.{decides, with_value}
+use Rattle.aero_intake.specs.Tracks.{with_value}
 
 -- what became of a source so far: the pieces that came, those of the blocks that they were cut into that were asked about, and how it ended, if it has
 pub record Story : Type 0 where
@@ -29,7 +29,7 @@ pub record Asked : Type 0 where
 -- the block that a question is about, where it is of the source
 abbrev pub own_block : ℕ → Question → List (List ℕ)
 own_block s (Parse trace number bytes) = if trace == s then bytes ∷ [] else []
-own_block s (Check trace parts limits labels order) = []
+own_block s (Check trace parts limits labels order explain) = []
 
 -- the blocks of the source that are asked about, in order
 abbrev pub blocks_asked : ℕ → List Question → List (List ℕ)
@@ -38,42 +38,43 @@ blocks_asked s (q ∷ more) = own_block s q ++ blocks_asked s more
 
 abbrev pub own_check : ℕ → Question → List Asked
 own_check s (Parse trace number bytes) = []
-own_check s (Check trace parts limits labels order) = if trace == s then record { parts = parts; terms = asking limits labels order } ∷ [] else []
+own_check s (Check trace parts limits labels order explain) = if trace == s then record { parts = parts; terms = asking limits labels order explain } ∷ [] else []
 
 abbrev pub checks_asked : ℕ → List Question → List Asked
 checks_asked s [] = []
 checks_asked s (q ∷ more) = own_check s q ++ checks_asked s more
 
 -- Both begin with the same blocks, and these decide.
-pub record BeginAlike (rules : Rules) (asked all : List (List ℕ)) : Type 0 where
+pub record BeginAlike (terms : Terms) (asked all : List (List ℕ)) : Type 0 where
   pub front : List (List ℕ)
   pub rest : List (List ℕ)
   pub others : List (List ℕ)
   pub asked_are : asked ≡ front ++ rest
   pub all_are : all ≡ front ++ others
-  pub decided : decides rules.limits (map reading_of front) ≡ true
+  pub decided : IsDecisive terms (map reading_of front)
 
 -- The blocks that were asked about are all, or have the same first ones, and those decide.
-abbrev pub AreEnough : Rules → List (List ℕ) → List (List ℕ) → Type 0
-AreEnough rules asked all = (asked ≡ all) ⊎ BeginAlike rules asked all
+abbrev pub AreEnough : Terms → List (List ℕ) → List (List ℕ) → Type 0
+AreEnough terms asked all = (asked ≡ all) ⊎ BeginAlike terms asked all
 
 -- What is known of a source that has come whole: how many bytes came, and how many of its blocks were asked about.
-pub record HasArrived (rules : Rules) (story : Story) (bytes blocks : ℕ) : Type 0 where
+pub record HasArrived (terms : Terms) (story : Story) (bytes blocks : ℕ) : Type 0 where
   pub ended : story.ending ≡ Some endings.Whole
-  pub enough : AreEnough rules story.blocks (blocks_from nothing_yet story.pieces)
+  pub enough : AreEnough terms story.blocks (blocks_from nothing_yet story.pieces)
   pub byte_count : bytes ≡ length (concat story.pieces)
   pub block_count : blocks ≡ length story.blocks
 
--- What its blocks say that are settled, and what those say that are still asked about, is what all say that were asked about.
-abbrev pub AreSettled : Story → List Question → ℕ → List Reading → Type 0
-AreSettled story qs s readings = readings ++ map reading_of (blocks_asked s qs) ≡ map reading_of story.blocks
+-- On the terms is judged what its blocks say, and that of those that are settled, with what those say that are still asked about, is what all say that were asked about.
+pub record AreSettled (terms : Terms) (story : Story) (qs : List Question) (s : ℕ) (known : Known) : Type 0 where
+  pub on : known.terms ≡ terms
+  pub all : known.parts ++ map reading_of (blocks_asked s qs) ≡ map reading_of story.blocks
 
 -- The track of source s fits the story.
 abbrev pub IsTracked : Terms → List Question → ℕ → Story → Track → Type 0
-IsTracked terms qs s story (Arriving readings) = AreSettled story qs s readings × (checks_asked s qs ≡ []) × (story.ending ≡ None)
-IsTracked terms qs s story (Arrived bytes blocks readings) = AreSettled story qs s readings × (checks_asked s qs ≡ []) × HasArrived terms.rules story bytes blocks
+IsTracked terms qs s story (Arriving known) = AreSettled terms story qs s known × (checks_asked s qs ≡ []) × (story.ending ≡ None)
+IsTracked terms qs s story (Arrived bytes blocks known) = AreSettled terms story qs s known × (checks_asked s qs ≡ []) × HasArrived terms story bytes blocks
 IsTracked terms qs s story (Checking bytes) =
-    All (λ a. a ≡ record { parts = map reading_of story.blocks; terms = terms }) (checks_asked s qs) × HasArrived terms.rules story bytes (length story.blocks)
+    All (λ a. a ≡ record { parts = map reading_of story.blocks; terms = terms }) (checks_asked s qs) × HasArrived terms story bytes (length story.blocks)
 IsTracked terms qs s story (Found bytes ending finding) =
     (story.ending ≡ Some ending) × (bytes ≡ length (concat story.pieces)) × ∥ IsFinding (concat story.pieces) ending terms finding ∥₁
 
@@ -83,7 +84,7 @@ AreTracked terms qs tale tracks = (s : ℕ) (t : Track) → slice_get tracks s �
 -- the number of the trace that a question is about
 abbrev pub trace_of : Question → ℕ
 trace_of (Parse trace number bytes) = trace
-trace_of (Check trace parts limits labels order) = trace
+trace_of (Check trace parts limits labels order explain) = trace
 
 -- the list with another element at the place, if it has one there
 abbrev pub changed : {A : Type 0} → ℕ → (A → A) → List A → List A

@@ -1,14 +1,15 @@
 -- How far a source is.
-use Rattle.std.specs.Prelude.{◌≡◌, ◌⊎◌, ℕ, Bool, false, is_some, List, [], ◌∷◌, ◌++◌, length, Option, Some, None, ⊤}
+use Rattle.std.specs.Prelude.{◌≡◌, ◌⊎◌, ℕ, Bool, false, is_some, List, length, Option, Some, None, ⊤}
 use Rattle.aero_model.specs.declared.limits.Limits.{Limits}
 use Rattle.aero_model.specs.declared.verdict.Ending.TheVariants as endings
 use Rattle.aero_model.specs.declared.verdict.Finding.{Finding}
 use Rattle.aero_model.specs.declared.verdict.Finding.TheVariants as findings
 use Rattle.aero_model.specs.declared.verdict.Verdict.{Verdict}
 use Rattle.aero_grammar.specs.Reading.{Reading, whole_reading, malformed_line}
-use Rattle.aero_verdict.specs.Finding.{Terms, IsTraceFinding}
+use Rattle.aero_verdict.specs.Finding.{IsTraceFinding}
 use Rattle.aero_pieces.specs.declared.answer.Value.{Value}
-use Rattle.aero_pieces.specs.declared.answer.Value.TheVariants.{Parsed, Judged, Ordered}
+use Rattle.aero_pieces.specs.declared.answer.Value.TheVariants.{Parsed, Judged, Ordered, Explained}
+use Rattle.aero_intake.specs.Held.{Known, with_next, IsDecisive}
 use Rattle.aero_intake.specs.declared.track.Track.{Track}
 use Rattle.aero_intake.specs.declared.track.Track.TheVariants.{Arriving, Arrived, Checking, Found}
 
@@ -17,21 +18,26 @@ abbrev pub decides : Limits → List Reading → Bool
 decides limits readings = is_some (malformed_line limits.lines (whole_reading readings))
 
 -- whether that is so of what is known of a source that is still coming
-abbrev pub is_decided : Limits → Track → Bool
-is_decided limits (Arriving readings) = decides limits readings
-is_decided limits track = false
+abbrev pub is_faulty : Track → Bool
+is_faulty (Arriving known) = decides known.terms.rules.limits known.parts
+is_faulty track = false
+
+-- what is known of a source that is still coming decides
+abbrev pub IsDecided : Track → Type 0
+IsDecided (Arriving known) = IsDecisive known.terms known.parts
+IsDecided track = ⊥
 
 -- the track with one more part of its source read
 abbrev pub with_part : Track → Reading → Track
-with_part (Arriving readings) r = Arriving (readings ++ r ∷ [])
-with_part (Arrived bytes blocks readings) r = Arrived bytes blocks (readings ++ r ∷ [])
+with_part (Arriving known) r = Arriving (with_next known r)
+with_part (Arrived bytes blocks known) r = Arrived bytes blocks (with_next known r)
 with_part (Checking bytes) r = Checking bytes
 with_part (Found bytes ending finding) r = Found bytes ending finding
 
 -- the track with what is found of its source
 abbrev pub with_finding : Track → Finding → Track
-with_finding (Arriving readings) f = Arriving readings
-with_finding (Arrived bytes blocks readings) f = Arrived bytes blocks readings
+with_finding (Arriving known) f = Arriving known
+with_finding (Arrived bytes blocks known) f = Arrived bytes blocks known
 with_finding (Checking bytes) f = Found bytes endings.Whole f
 with_finding (Found bytes ending finding) f = Found bytes ending finding
 
@@ -39,27 +45,28 @@ abbrev pub with_value : Track → Value → Track
 with_value track (Parsed r) = with_part track r
 with_value track (Judged verdict) = with_finding track (findings.Judged verdict)
 with_value track (Ordered verdict steps) = with_finding track (findings.Ordered verdict steps)
+with_value track (Explained verdict cycle) = with_finding track (findings.Explained verdict cycle)
 
 -- the track of a source that came whole
 abbrev pub with_arrival : Track → ℕ → ℕ → Track
-with_arrival (Arriving readings) bytes blocks = Arrived bytes blocks readings
+with_arrival (Arriving known) bytes blocks = Arrived bytes blocks known
 with_arrival track bytes blocks = track
 
 -- all blocks of the source that were asked about were read, or it is found what is to be said of it
 abbrev pub IsReady : Track → Type 0
-IsReady (Arriving readings) = ⊥
-IsReady (Arrived bytes blocks readings) = length readings ≡ blocks
+IsReady (Arriving known) = ⊥
+IsReady (Arrived bytes blocks known) = length known.parts ≡ blocks
 IsReady (Checking bytes) = ⊥
 IsReady (Found bytes ending finding) = ⊤
 
 -- what the blocks of a whole source say is taken from its track
-abbrev pub TakesReadings : Track → Track → Option (List Reading) → Type 0
-TakesReadings (Arrived bytes blocks readings) new given = (given ≡ Some readings) × (new ≡ Checking bytes)
+abbrev pub TakesReadings : Track → Track → Option Known → Type 0
+TakesReadings (Arrived bytes blocks known) new given = (given ≡ Some known) × (new ≡ Checking bytes)
 TakesReadings old new given = (given ≡ None) × (new ≡ old)
 
 -- the verdict is asked for where a whole source waits for it, unless the source was judged as it came: then it is known what is found of it
-abbrev pub GivesReadings : Terms → Track → Track → Option (List Reading) → Type 0
-GivesReadings terms (Arrived bytes blocks readings) new given =
-    ((given ≡ Some readings) × (new ≡ Checking bytes))
-    ⊎ ((given ≡ None) × (verdict : Verdict) × IsTraceFinding readings terms (findings.Judged verdict) × (new ≡ Found bytes endings.Whole (findings.Judged verdict)))
-GivesReadings terms old new given = (given ≡ None) × (new ≡ old)
+abbrev pub GivesReadings : Track → Track → Option (List Reading) → Type 0
+GivesReadings (Arrived bytes blocks known) new given =
+    ((given ≡ Some known.parts) × (new ≡ Checking bytes))
+    ⊎ ((given ≡ None) × (verdict : Verdict) × IsTraceFinding known.parts known.terms (findings.Judged verdict) × (new ≡ Found bytes endings.Whole (findings.Judged verdict)))
+GivesReadings old new given = (given ≡ None) × (new ≡ old)

@@ -3,7 +3,7 @@ ghost use Rattle.std.specs.Prelude.{◌≡◌, ◌<◌, ◌≤◌, ◌+◌, ◌^
 ghost use Rattle.aero_model.specs.CallCounts.{seen_by};
 ghost use Rattle.aero_model.specs.Lines.{most_line_bytes};
 ghost use Rattle.aero_lines.specs.Cutting.{block_of, last_block};
-ghost use Rattle.aero_intake.specs.Intake.{Takes, Fills, nothing_taken, with_cut};
+ghost use Rattle.aero_intake.specs.Intake.{Takes, Fills, nothing_taken, with_cut, with_passing};
 
 use aero_lines::cutter::{Block, Cutter};
 use aero_model::counting::Counting;
@@ -28,7 +28,7 @@ pub enum Taken {
 }
 
 /// One source as far as it was read: where its cutting stands, the bytes that came and aren't cut yet,
-/// and how many have come in all.
+/// how many have come in all, and whether some were passed over.
 #[derive(Drop)]
 pub struct Intake {
     alloc: Global,
@@ -37,6 +37,7 @@ pub struct Intake {
     buffer: Vec<u8>,
     held: usize,
     count: u64,
+    has_passed: bool,
 }
 
 impl Model for Intake {
@@ -45,7 +46,7 @@ impl Model for Intake {
 
     ghost Value = { Taking };
 
-    ghost view = { λ i. record { cutting = i.cutter; held = take i.held i.buffer.items; count = i.count } };
+    ghost view = { λ i. record { cutting = i.cutter; held = take i.held i.buffer.items; count = i.count; passed = i.has_passed } };
 
     ghost use Rattle.std.specs.Prelude.{◌≤◌, ◌^◌, vec_len};
 
@@ -70,6 +71,7 @@ impl Intake {
             buffer: vec![in alloc; 0u8; room]?,
             held: 0,
             count: 0,
+            has_passed: false,
         })
     }
 
@@ -92,6 +94,13 @@ impl Intake {
         ensures { IsTrue result ↔ (length self.now.held ≡ 0) }
     {
         self.held == 0
+    }
+
+    /// Whether some bytes of the source were passed over.
+    pub fn has_passed(&self) -> bool
+        ensures { result ≡ self.now.passed }
+    {
+        self.has_passed
     }
 
     /// Reads one piece, which is held until it is cut. A read asks for at least 1 byte, for so many at
@@ -141,6 +150,15 @@ impl Intake {
         Ok(block)
     }
 
+    /// Passes over what is held: it counts as having come, and is in no block. What `cut` and `finish` give of the
+    /// source from then on isn't what follows in it.
+    pub fn pass_over(&mut self)
+        ensures { self.new ≡ with_passing self.old }
+    {
+        self.held = 0;
+        self.has_passed = true;
+    }
+
     /// Gives the last line of a source that is whole and was cut, where no byte 10 ended it: 4,096
     /// bytes at most. Another source may be read then, of which nothing has come.
     ///
@@ -155,6 +173,7 @@ impl Intake {
         let cutter = mem::replace(&mut self.cutter, Cutter::new(self.alloc));
         self.held = 0;
         self.count = 0;
+        self.has_passed = false;
         cutter.finish()
     }
 }

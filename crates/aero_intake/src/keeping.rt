@@ -1,11 +1,11 @@
 //! What is held of a source whose blocks are being read.
-ghost use Rattle.std.specs.Prelude.{◌≡◌, ◌++◌, ◌∷◌, [], length, IfOk, OnOk};
-ghost use Rattle.aero_intake.specs.Held.{parts_in, IsJudgedFrom};
+ghost use Rattle.std.specs.Prelude.{◌≡◌, ◌++◌, ◌∷◌, [], length, true, false, IfOk, OnOk, IsTrue};
+ghost use Rattle.aero_intake.specs.Held.{parts_in, FitsTerms, IsDecisive, IsJudgedFrom};
 ghost use Rattle.aero_model.specs.declared.verdict.Finding.{Finding};
-ghost use Rattle.aero_verdict.specs.Finding.{asking, IsTraceFinding};
+ghost use Rattle.aero_verdict.specs.Finding.{Terms as Asked, IsTraceFinding};
 
 use crate::live::Live;
-use crate::plan::Plan;
+use crate::terms::Terms;
 use aero_grammar::parsed::Parsed;
 use aero_model::verdict::{Finding, Verdict};
 use aero_pieces::question::Parts;
@@ -30,7 +30,8 @@ pub enum Judged {
 
 /// Nothing is held yet.
 pub fn nothing_held(alloc: Global) -> Held
-    ensures { parts_in result ≡ [] }
+    ensures parts { parts_in result ≡ [] }
+    ensures fits { (terms : Asked) → FitsTerms terms result }
 {
     Held::Kept {
         parts: Vec::new(alloc),
@@ -48,22 +49,37 @@ pub fn held_count(held: &Held) -> u64
     }
 }
 
-/// Adds what the next block says, of the last source or of another. An `AllocError` says that memory was refused.
+/// Whether the verdict on a source that is judged as it comes is certain by now, whatever blocks come.
+pub fn is_certain(held: &Held) -> bool
+    ensures { IsTrue result → (terms : Asked) → FitsTerms terms held.now → IsDecisive terms (parts_in held.now) }
+{
+    match held {
+        Held::Kept { .. } => false,
+        Held::Live(live) => live.is_certain(),
+    }
+}
+
+/// Adds what the next block says of a source that is judged on these terms, and of which so many events are kept at
+/// most. An `AllocError` says that memory was refused.
 pub fn add_to(
     held: &mut Held,
     alloc: Global,
     part: Parsed,
-    plan: &Plan,
-    is_last: bool,
+    terms: &Terms,
+    most: u64,
 ) -> Result<(), AllocError>
-    ensures { OnOk result (parts_in held.new ≡ parts_in held.old ++ part ∷ []) }
+    requires { FitsTerms terms.now held.old }
+    ensures parts { OnOk result (parts_in held.new ≡ parts_in held.old ++ part ∷ []) }
+    ensures fits { OnOk result (FitsTerms terms.now held.new) }
 {
-    keep_or_feed(held, part)?;
-    go_live(held, alloc, plan, is_last)
+    keep_or_feed(held, part, terms)?;
+    go_live(held, alloc, terms, most)
 }
 
-fn keep_or_feed(held: &mut Held, part: Parsed) -> Result<(), AllocError>
-    ensures { OnOk result (parts_in held.new ≡ parts_in held.old ++ part ∷ []) }
+fn keep_or_feed(held: &mut Held, part: Parsed, terms: &Terms) -> Result<(), AllocError>
+    requires { FitsTerms terms.now held.old }
+    ensures parts { OnOk result (parts_in held.new ≡ parts_in held.old ++ part ∷ []) }
+    ensures fits { OnOk result (FitsTerms terms.now held.new) }
 {
     match held {
         Held::Kept { parts, events } => {
@@ -71,55 +87,61 @@ fn keep_or_feed(held: &mut Held, part: Parsed) -> Result<(), AllocError>
             parts.push(part)?;
             Ok(())
         }
-        Held::Live(live) => live.feed(part),
+        Held::Live(live) => live.feed(part, terms.except()),
     }
 }
 
-// Where more events are kept than the plan says, they are to be judged from here on.
-fn go_live(held: &mut Held, alloc: Global, plan: &Plan, is_last: bool) -> Result<(), AllocError>
-    ensures { OnOk result (parts_in held.new ≡ parts_in held.old) }
+// Where more events are kept than may be, they are to be judged from here on, unless the order is asked for, or a
+// violation is to be explained: then the parts are gone over again.
+fn go_live(held: &mut Held, alloc: Global, terms: &Terms, most: u64) -> Result<(), AllocError>
+    requires { FitsTerms terms.now held.old }
+    ensures parts { OnOk result (parts_in held.new ≡ parts_in held.old) }
+    ensures fits { OnOk result (FitsTerms terms.now held.new) }
 {
-    if !has_many(held, plan, is_last) {
+    if terms.order() || terms.explain() || !has_more(held, most) {
         return Ok(());
     }
     let kept = mem::replace(held, nothing_held(alloc));
-    *held = Held::Live(live_from(kept, alloc, plan)?);
+    *held = Held::Live(live_from(kept, alloc, terms)?);
     Ok(())
 }
 
-// Where the order is asked for all are kept.
-fn has_many(held: &Held, plan: &Plan, is_last: bool) -> bool {
+// Whether more events are kept.
+fn has_more(held: &Held, most: u64) -> bool {
     match held {
-        Held::Kept { events, .. } => !plan.order && *events > plan.keeping.most(is_last),
+        Held::Kept { events, .. } => *events > most,
         Held::Live(_) => false,
     }
 }
 
-fn live_from(held: Held, alloc: Global, plan: &Plan) -> Result<Live, AllocError>
-    ensures { IfOk result (λ live. live.parts ≡ parts_in held) }
+fn live_from(held: Held, alloc: Global, terms: &Terms) -> Result<Live, AllocError>
+    requires { FitsTerms terms.now held }
+    ensures parts { IfOk result (λ live. live.parts ≡ parts_in held) }
+    ensures rules { IfOk result (λ live. live.rules ≡ terms.now.rules) }
 {
     match held {
-        Held::Kept { parts, .. } => Live::new(alloc, plan, parts),
+        Held::Kept { parts, .. } => Live::new(alloc, terms.limits(), terms.except(), parts),
         Held::Live(live) => Ok(live),
     }
 }
 
-/// What a whole source is judged by. An `AllocError` says that memory was refused.
-pub fn judged_from(held: Held, plan: &Plan) -> Result<Judged, AllocError>
-    ensures { IfOk result (IsJudgedFrom (parts_in held) (asking plan.now.limits plan.now.except plan.now.order)) }
+/// What a whole source is judged by, on these terms. An `AllocError` says that memory was refused.
+pub fn judged_from(held: Held, terms: &Terms) -> Result<Judged, AllocError>
+    requires { FitsTerms terms.now held }
+    ensures { IfOk result (IsJudgedFrom (parts_in held) terms.now) }
 {
     match held {
         Held::Kept { parts, .. } => Ok(Judged::ByParts(Parts::new(parts))),
-        Held::Live(live) => Ok(Judged::Already(found(live, plan)?)),
+        Held::Live(live) => Ok(Judged::Already(found(live, terms)?)),
     }
 }
 
-// The verdict on a source that was judged as it came, whose order isn't asked for.
-fn found(live: Live, plan: &Plan) -> Result<Verdict, AllocError>
-    ensures { IfOk result (λ verdict. IsTraceFinding live.parts (asking plan.now.limits plan.now.except plan.now.order) (Finding.Judged verdict)) }
+// The verdict on a source that was judged as it came, where nothing besides it is asked for.
+fn found(live: Live, terms: &Terms) -> Result<Verdict, AllocError>
+    requires rules { live.rules ≡ terms.now.rules }
+    requires no_order { terms.now.order ≡ false }
+    requires no_cycle { terms.now.explain ≡ false }
+    ensures { IfOk result (λ verdict. IsTraceFinding live.parts terms.now (Finding.Judged verdict)) }
 {
-    if plan.order {
-        return Err(AllocError);
-    }
-    live.finish(plan)
+    live.finish(terms.except())
 }

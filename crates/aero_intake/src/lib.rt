@@ -14,20 +14,28 @@
 //! - A plan is made exactly within its ranges, and has what it was made with. It keeps 1,048,576 events of a source at
 //!   most, and 65,536 of the last: `Plan::new`, `within`, `events`, `last_events`, and a clause for each field.
 //! - Another `Keeping` changes nothing else: `Plan::with_keeping`. It has a number for the last source, and one for
-//!   each other: `Keeping::most`.
+//!   each other: `Keeping::most`. Nor does it that violations are to be explained: `Plan::explaining`.
 //! - A read of a source is one step. A source is broken exactly where a read failed, and whole exactly where one found
 //!   the end; then nothing is left of bytes that the reader's type tells. It is too large after one byte more than the
 //!   limit: `Intake::take`.
 //! - What came is held in the order in which it came, until it is cut. Then its block is the cutter's: `Intake::take`,
 //!   `cut`, `block`, `after`; `finish`, `last`.
-//! - A cut that is refused changes nothing: `cut`, `refused`. After the last block another source may be read, of which
-//!   nothing has come: `finish`, `fresh`.
-//! - A `Live` has exactly the parts that came, in order, under the plan's limits and labels: `Live::new`, `feed`,
-//!   `parts`, `rules`; `len`. `finish` gives the verdict on exactly them.
-//! - Kept or judged as they came, the parts of a source are those that its blocks gave: `Readings::new`, `add`, `len`.
-//! - A whole source is judged by its parts themselves, or has the verdict on them: `Readings::into_judged`.
-//! - However its bytes came, the blocks of a source have the verdicts and orders of its text. After a malformed line,
-//!   or one too many, later blocks don't count: `laws`.
+//! - A cut that is refused changes nothing: `cut`, `refused`. What is passed over counts as having come, and that some
+//!   was is kept: `pass_over`, `has_passed`. After the last block another source may be read, of which nothing has
+//!   come: `finish`, `fresh`.
+//! - The terms of a plan are its limits, its labels, and whether it asks for the order, and for the events of a cycle:
+//!   `Plan::terms`; `Terms::new`, `limits`, `except`, `order`, `explain`.
+//! - A `Live` has exactly the parts that came, in order, under the limits and labels that it began with: `Live::new`,
+//!   `feed`, `parts`, `rules`; `len`. `finish` gives the verdict on exactly them.
+//! - Kept or judged as they came, the parts of a source are those that its blocks gave, on the terms that it began
+//!   with: `Readings::new`, `add`, `len`.
+//! - A whole source is judged by its parts themselves, or has the finding on them, on its own terms:
+//!   `Readings::into_judged`.
+//! - Where it is told that the first blocks of a source decide, what is found of it is the same whatever blocks come
+//!   after them. It is told after each malformed line, and each line too many: `Readings::decide`, `faulty`,
+//!   `decisive`; `is_decided`. And where the verdict of a `Live` is certain: `Live::is_certain`.
+//! - However its bytes came, the blocks of a source have the verdicts, orders and events of telling cycles of its text.
+//!   After a malformed line, or one too many, later blocks don't count: `laws`.
 #![tactic(auto)]
 
 pub mod intake;
@@ -36,4 +44,5 @@ pub mod laws;
 pub mod live;
 pub mod plan;
 pub mod source;
+pub mod terms;
 pub mod track;

@@ -1,11 +1,11 @@
 //! A source that is judged as it comes.
-ghost use Rattle.std.specs.Prelude.{◌≡◌, ◌++◌, ◌∷◌, [], ◌↔◌, length, IfOk, OnOk, IsTrue};
+ghost use Rattle.std.specs.Prelude.{◌≡◌, ◌++◌, ◌∷◌, [], length, is_some, IfOk, IfSome, OnOk};
+ghost use Rattle.aero_verdict.specs.Fed.{IsCertain};
 ghost use Rattle.aero_verdict.specs.Verdict.{under, IsVerdict};
 
-use crate::plan::Plan;
 use aero_grammar::parsed::Parsed;
 use aero_leads::leads::Leads;
-use aero_model::except::{Except, SharedExcept};
+use aero_model::except::Except;
 use aero_model::limits::Limits;
 use aero_model::verdict::Verdict;
 use aero_verdict::monitor::{Monitor, feed_all};
@@ -20,8 +20,6 @@ pub struct Live {
     monitor: Box<Monitor<Leads>, Global>,
     // The blocks that came and aren't judged yet.
     waiting: VecDeque<Parsed>,
-    limits: Limits,
-    except: SharedExcept,
     count: u64,
 }
 
@@ -32,36 +30,36 @@ impl Model for Live {
 
     ghost use Rattle.std.specs.Prelude.{◌≡◌, ◌++◌, length};
 
-    ghost view = { λ l. record { parts = l.monitor.value.parts ++ l.waiting.items; rules = l.monitor.value.rules } };
+    ghost view = { λ l. record { parts = l.monitor.value.parts ++ l.waiting.items; rules = l.monitor.value.rules; certain = l.monitor.value.certain } };
 
-    ghost use Rattle.aero_verdict.specs.Verdict.{under};
-
-    ghost invariant = { λ l. record {
-      count : l.count ≡ length (l.monitor.value.parts ++ l.waiting.items);
-      rules : l.monitor.value.rules ≡ under l.limits l.except;
-    } };
+    ghost invariant = { λ l. l.count ≡ length (l.monitor.value.parts ++ l.waiting.items) };
 }
 
 impl Live {
-    /// What was kept of a source that is read by this plan is to be judged.
-    pub fn new(alloc: Global, plan: &Plan, kept: Vec<Parsed>) -> Result<Live, AllocError>
+    /// What was kept of a source is to be judged, under these limits. A block that begins with one of the labels of
+    /// `except` is no transaction. An `AllocError` says that memory was refused.
+    pub fn new(
+        alloc: Global,
+        limits: &Limits,
+        except: &Except,
+        kept: Vec<Parsed>,
+    ) -> Result<Live, AllocError>
         ensures parts { IfOk result (λ live. live.parts ≡ kept.items) }
-        ensures rules { IfOk result (λ live. live.rules ≡ under plan.now.limits plan.now.except) }
+        ensures rules { IfOk result (λ live. live.rules ≡ under limits.now except.now) }
     {
         let count = kept.len() as u64;
-        let except = plan.except.share()?;
-        let monitor = Monitor::<Leads>::new(alloc, &plan.limits, except.get());
+        let monitor = Monitor::<Leads>::new(alloc, limits, except);
         Ok(Live {
             monitor: Box::new(alloc, monitor)?,
             waiting: VecDeque::from_vec(kept),
-            limits: plan.limits,
-            except,
             count,
         })
     }
 
-    /// Takes what the next block says, and judges the next two that wait. An `AllocError` says that memory was refused.
-    pub fn feed(&mut self, part: Parsed) -> Result<(), AllocError>
+    /// Takes what the next block says, and judges the next two that wait, with the same labels as at first. An
+    /// `AllocError` says that memory was refused.
+    pub fn feed(&mut self, part: Parsed, except: &Except) -> Result<(), AllocError>
+        requires { except.now ≡ self.old.rules.labels }
         ensures parts { OnOk result (self.new.parts ≡ self.old.parts ++ part ∷ []) }
         ensures rules { self.new.rules ≡ self.old.rules }
     {
@@ -70,8 +68,8 @@ impl Live {
         };
         self.waiting.push_back(part)?;
         self.count = count;
-        judge_next(&mut self.monitor, &mut self.waiting, self.except.get())?;
-        judge_next(&mut self.monitor, &mut self.waiting, self.except.get())
+        judge_next(&mut self.monitor, &mut self.waiting, except)?;
+        judge_next(&mut self.monitor, &mut self.waiting, except)
     }
 
     /// How many blocks have come.
@@ -81,22 +79,26 @@ impl Live {
         self.count
     }
 
-    /// The verdict on what came. An `AllocError` says that memory was refused, or that the plan is another.
-    pub fn finish(self, plan: &Plan) -> Result<Verdict, AllocError>
-        ensures { IfOk result (IsVerdict self.parts (under plan.now.limits plan.now.except)) }
+    /// Whether the verdict is certain by what was judged so far, whatever blocks come.
+    pub fn is_certain(&self) -> bool
+        ensures told { result ≡ is_some self.now.certain }
+        ensures certain { IfSome self.now.certain (IsCertain self.now.parts self.now.rules) }
+    {
+        self.monitor.certain().is_some()
+    }
+
+    /// The verdict on what came, with the same labels as at first. An `AllocError` says that memory was refused.
+    pub fn finish(self, except: &Except) -> Result<Verdict, AllocError>
+        requires { except.now ≡ self.rules.labels }
+        ensures { IfOk result (IsVerdict self.parts self.rules) }
     {
         let Live {
             monitor,
             waiting,
-            limits,
-            except,
             count: _,
         } = self;
-        if !is_same(&limits, &except, plan) {
-            return Err(AllocError);
-        }
         let mut monitor = Box::into_inner(monitor);
-        judge_rest(&mut monitor, waiting, except.get());
+        judge_rest(&mut monitor, waiting, except);
         monitor.finish()
     }
 }
@@ -125,18 +127,4 @@ fn judge_next(
         return Ok(());
     };
     monitor.feed(&part, except).map(|_| ())
-}
-
-// Whether the plan has these limits and labels.
-fn is_same(limits: &Limits, except: &SharedExcept, plan: &Plan) -> bool
-    ensures limits { IsTrue result → limits.now ≡ plan.now.limits }
-    ensures labels { IsTrue result → except.now ≡ plan.now.except }
-{
-    are_same_limits(limits, &plan.limits) && except.get().has_same_labels(plan.except.get())
-}
-
-fn are_same_limits(a: &Limits, b: &Limits) -> bool
-    ensures { IsTrue result ↔ (a.now ≡ b.now) }
-{
-    a.bytes == b.bytes && a.lines == b.lines && a.threads == b.threads && a.names == b.names
 }

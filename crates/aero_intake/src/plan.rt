@@ -1,9 +1,12 @@
 //! How a run is made.
-ghost use Rattle.std.specs.Prelude.{◌≡◌, ◌<◌, ◌≤◌, ◌^◌, ◌↔◌, IsSome, IfSome, if◌then◌else◌};
+ghost use Rattle.std.specs.Prelude.{◌≡◌, ◌<◌, ◌≤◌, ◌^◌, ◌↔◌, IsSome, IfSome, IfOk, true, false, if◌then◌else◌};
 ghost use Rattle.aero_intake.specs.Plans.{IsPlan};
+ghost use Rattle.aero_verdict.specs.Finding.{asking};
 
+use crate::terms::Terms;
 use aero_model::except::SharedExcept;
 use aero_model::limits::Limits;
+use std::alloc::AllocError;
 
 /// How many events of a source are kept at most until it is judged. Once more have come its blocks are judged as they
 /// come, and let go. It changes how much memory a run takes, who judges a source, and when, and not what is found.
@@ -30,7 +33,8 @@ impl Keeping {
 
 /// How many workers are to be started, 1 to 16, how many bytes one read asks for at most, 1 to
 /// 1,048,576, the limits of each source, the labels of the blocks that are no transactions, whether
-/// the serial order of a serializable trace is asked for, and how much is kept of a source where it isn't.
+/// the serial order of a serializable trace is asked for, whether the events of a telling cycle are asked for that
+/// shows a violation, and how much is kept of a source where neither is.
 #[derive(Drop)]
 pub struct Plan {
     pub workers: u32,
@@ -38,6 +42,7 @@ pub struct Plan {
     pub limits: Limits,
     pub except: SharedExcept,
     pub order: bool,
+    pub explain: bool,
     pub keeping: Keeping,
     ghost some_workers: { 0 < workers },
     ghost most_workers: { workers ≤ 16 },
@@ -56,7 +61,8 @@ const KEEPING: Keeping = Keeping {
 
 impl Plan {
     /// This plan, or `None` where a number is 0, there are more than 16 workers, or a piece is of
-    /// more than 1,048,576 bytes. Of a source 1,048,576 events are kept at most, and 65,536 of the last one.
+    /// more than 1,048,576 bytes. Of a source 1,048,576 events are kept at most, and 65,536 of the last one. No
+    /// violation is to be explained.
     pub fn new(
         workers: u32,
         piece: u32,
@@ -70,6 +76,7 @@ impl Plan {
         ensures limits { IfSome result (λ plan. plan.limits ≡ limits) }
         ensures except { IfSome result (λ plan. plan.except ≡ except) }
         ensures order { IfSome result (λ plan. plan.order ≡ order) }
+        ensures explain { IfSome result (λ plan. plan.explain ≡ false) }
         ensures events { IfSome result (λ plan. plan.keeping.events ≡ 2 ^ 20) }
         ensures last_events { IfSome result (λ plan. plan.keeping.last_events ≡ 2 ^ 16) }
     {
@@ -85,6 +92,7 @@ impl Plan {
             limits,
             except,
             order,
+            explain: false,
             keeping: KEEPING,
         })
     }
@@ -96,10 +104,33 @@ impl Plan {
         ensures limits { result.limits ≡ self.limits }
         ensures except { result.except ≡ self.except }
         ensures order { result.order ≡ self.order }
+        ensures explain { result.explain ≡ self.explain }
         ensures keeping { result.keeping ≡ keeping }
     {
         let mut plan = self;
         plan.keeping = keeping;
         plan
+    }
+
+    /// The same plan, by which violations are to be explained.
+    pub fn explaining(self) -> Plan
+        ensures workers { result.workers ≡ self.workers }
+        ensures piece { result.piece ≡ self.piece }
+        ensures limits { result.limits ≡ self.limits }
+        ensures except { result.except ≡ self.except }
+        ensures order { result.order ≡ self.order }
+        ensures explain { result.explain ≡ true }
+        ensures keeping { result.keeping ≡ self.keeping }
+    {
+        let mut plan = self;
+        plan.explain = true;
+        plan
+    }
+
+    /// On what terms the sources are judged. An `AllocError` says that the labels have too many holders.
+    pub fn terms(&self) -> Result<Terms, AllocError>
+        ensures { IfOk result (λ terms. terms ≡ asking self.now.limits self.now.except self.now.order self.now.explain) }
+    {
+        Ok(Terms::new(self.limits, self.except.share()?, self.order, self.explain))
     }
 }

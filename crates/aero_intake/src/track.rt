@@ -1,13 +1,11 @@
 //! What is known of a source while it is worked on.
-ghost use Rattle.std.specs.Prelude.{◌≡◌, ◌++◌, ◌∷◌, [], length, OnOk, IfOk, MatchOption, ◌↔◌, IsTrue};
-ghost use Rattle.aero_intake.specs.Held.{IsJudgedFrom};
-ghost use Rattle.aero_verdict.specs.Finding.{asking};
-ghost use Rattle.aero_intake.specs.Tracks.{with_part, with_finding, with_value, with_arrival, decides, is_decided, IsReady, TakesReadings, GivesReadings};
+ghost use Rattle.std.specs.Prelude.{◌≡◌, length, true, OnOk, IfOk, ◌↔◌, IsTrue};
+ghost use Rattle.aero_intake.specs.Held.{nothing_read, with_next, IsDecisive, IsJudgedFrom};
+ghost use Rattle.aero_intake.specs.Tracks.{with_part, with_finding, with_value, with_arrival, decides, is_faulty, IsDecided, IsReady, TakesReadings, GivesReadings};
 
-use crate::keeping::{Held, Judged, add_to, held_count, judged_from, nothing_held};
-use crate::plan::Plan;
+use crate::keeping::{Held, Judged, add_to, held_count, is_certain, judged_from, nothing_held};
+use crate::terms::Terms;
 use aero_grammar::parsed::Parsed;
-use aero_model::limits::Limits;
 use aero_model::verdict::{Ending, Finding};
 use aero_pieces::answer::Value;
 use aero_pieces::question::Parts;
@@ -15,9 +13,10 @@ use std::alloc::{AllocError, Global};
 use std::marker::Model;
 use std::mem;
 
-/// What the first blocks of a source say, in their order.
+/// On what terms a source is judged, and what its first blocks say, in their order.
 #[derive(Drop)]
 pub struct Readings {
+    terms: Terms,
     held: Held,
     // How many lines they have, up to the first fault, but no more than 2^32 - 1.
     lines: u32,
@@ -25,49 +24,48 @@ pub struct Readings {
 }
 
 impl Model for Readings {
-    ghost use Rattle.std.specs.Prelude.{List};
-    ghost use Rattle.aero_grammar.specs.Reading.{Reading};
+    ghost use Rattle.aero_intake.specs.Held.{Known};
 
-    ghost Value = { List Reading };
+    ghost Value = { Known };
 
-    ghost use Rattle.aero_intake.specs.Held.{parts_in};
+    ghost use Rattle.aero_intake.specs.Held.{parts_in, FitsTerms};
 
-    ghost view = { λ r. parts_in r.held };
+    ghost view = { λ r. record { terms = r.terms; parts = parts_in r.held } };
 
     ghost use Rattle.std.specs.Prelude.{◌≡◌, ◌-◌, ◌^◌, min, is_some};
     ghost use Rattle.aero_grammar.specs.Reading.{whole_reading};
 
     ghost invariant = { λ r. record {
+      fits : FitsTerms r.terms r.held;
       lines : r.lines ≡ min (whole_reading (parts_in r.held)).lines (2 ^ 32 - 1);
       fault : r.has_fault ≡ is_some (whole_reading (parts_in r.held)).fault;
     } };
 }
 
 impl Readings {
-    pub fn new(alloc: Global) -> Readings
-        ensures { result ≡ [] }
+    /// Nothing is read yet of a source that is judged on these terms.
+    pub fn new(alloc: Global, terms: Terms) -> Readings
+        ensures { result ≡ nothing_read terms }
     {
         Readings {
+            terms,
             held: nothing_held(alloc),
             lines: 0,
             has_fault: false,
         }
     }
 
-    /// Adds what the next block says, of the last source or of another. An `AllocError` says that memory was refused.
-    pub fn add(
-        &mut self,
-        alloc: Global,
-        part: Parsed,
-        plan: &Plan,
-        is_last: bool,
-    ) -> Result<(), AllocError>
-        ensures { OnOk result (self.new ≡ self.old ++ part ∷ []) }
+    /// Adds what the next block says. At most so many events are kept; once more have come they are judged. An
+    /// `AllocError` says that memory was refused.
+    pub fn add(&mut self, alloc: Global, part: Parsed, most: u64) -> Result<(), AllocError>
+        ensures { OnOk result (self.new ≡ with_next self.old part) }
     {
         let more_lines = part.lines;
         let is_faulty = part.fault.is_some();
-        if let Err(refused) = add_to(&mut self.held, alloc, part, plan, is_last) {
-            *self = Readings::new(alloc);
+        if let Err(refused) = add_to(&mut self.held, alloc, part, &self.terms, most) {
+            self.held = nothing_held(alloc);
+            self.lines = 0;
+            self.has_fault = false;
             return Err(refused);
         }
         if !self.has_fault {
@@ -77,26 +75,34 @@ impl Readings {
         Ok(())
     }
 
-    /// Whether they decide under these limits, whatever comes after them: a line of them is
-    /// malformed, or they have more lines than may be.
-    pub fn decide(&self, limits: &Limits) -> bool
-        ensures { result ≡ decides limits.now self.now }
+    /// Whether it is known that they decide, whatever blocks come after them: a line of them is malformed, or they
+    /// have more lines than may be, or they are judged as they come and the verdict is certain.
+    pub fn decide(&self) -> bool
+        ensures faulty { decides self.now.terms.rules.limits self.now.parts ≡ true → IsTrue result }
+        ensures decisive { IsTrue result → IsDecisive self.now.terms self.now.parts }
     {
-        self.has_fault || self.lines > limits.lines
+        self.have_fault() || is_certain(&self.held)
+    }
+
+    // Whether a line of them is malformed, or they have more lines than may be.
+    fn have_fault(&self) -> bool
+        ensures { result ≡ decides self.now.terms.rules.limits self.now.parts }
+    {
+        self.has_fault || self.lines > self.terms.limits().lines
     }
 
     pub fn len(&self) -> u64
-        ensures { result ≡ length self.now }
+        ensures { result ≡ length self.now.parts }
     {
         held_count(&self.held)
     }
 
     /// What a whole source is judged by. An `AllocError` says that memory was refused.
-    pub fn into_judged(self, plan: &Plan) -> Result<Judged, AllocError>
-        ensures { IfOk result (IsJudgedFrom self (asking plan.now.limits plan.now.except plan.now.order)) }
+    pub fn into_judged(self) -> Result<Judged, AllocError>
+        ensures { IfOk result (IsJudgedFrom self.parts self.terms) }
     {
-        let Readings { held, .. } = self;
-        judged_from(held, plan)
+        let Readings { terms, held, .. } = self;
+        judged_from(held, &terms)
     }
 }
 
@@ -123,19 +129,18 @@ pub enum Track {
     },
 }
 
-/// Gives a value to the track of its source, which is the last of all or isn't. What is of no use any more is
+/// Gives a value to the track of its source, of which so many events are kept at most. What is of no use any more is
 /// dropped. An `AllocError` says that memory was refused.
 pub fn take_value(
     track: &mut Track,
     alloc: Global,
     value: Value,
-    plan: &Plan,
-    is_last: bool,
+    most: u64,
 ) -> Result<(), AllocError>
     ensures { OnOk result (track.new ≡ with_value track.old value) }
 {
     match value {
-        Value::Parsed(part) => take_part(track, alloc, part, plan, is_last),
+        Value::Parsed(part) => take_part(track, alloc, part, most),
         Value::Judged(verdict) => {
             take_finding(track, Finding::Judged(verdict));
             Ok(())
@@ -144,21 +149,19 @@ pub fn take_value(
             take_finding(track, Finding::Ordered(verdict, steps));
             Ok(())
         }
+        Value::Explained(verdict, cycle) => {
+            take_finding(track, Finding::Explained(verdict, cycle));
+            Ok(())
+        }
     }
 }
 
-fn take_part(
-    track: &mut Track,
-    alloc: Global,
-    part: Parsed,
-    plan: &Plan,
-    is_last: bool,
-) -> Result<(), AllocError>
+fn take_part(track: &mut Track, alloc: Global, part: Parsed, most: u64) -> Result<(), AllocError>
     ensures { OnOk result (track.new ≡ with_part track.old part) }
 {
     match track {
-        Track::Arriving(readings) => readings.add(alloc, part, plan, is_last),
-        Track::Arrived { readings, .. } => readings.add(alloc, part, plan, is_last),
+        Track::Arriving(readings) => readings.add(alloc, part, most),
+        Track::Arrived { readings, .. } => readings.add(alloc, part, most),
         Track::Checking { .. } | Track::Found { .. } => Ok(()),
     }
 }
@@ -208,13 +211,14 @@ pub fn is_ready(track: &Track) -> bool
     }
 }
 
-/// Whether what was read of a source that is still coming decides what is to be said of it, unless
+/// Whether it is known that what was read of a source that is still coming decides what is to be said of it, unless
 /// its bytes end otherwise than whole: no later block of it counts.
-pub fn is_decided(track: &Track, limits: &Limits) -> bool
-    ensures { result ≡ is_decided limits.now track.now }
+pub fn is_decided(track: &Track) -> bool
+    ensures faulty { is_faulty track.now ≡ true → IsTrue result }
+    ensures decided { IsTrue result → IsDecided track.now }
 {
     match track {
-        Track::Arriving(readings) => readings.decide(limits),
+        Track::Arriving(readings) => readings.decide(),
         Track::Arrived { .. } | Track::Checking { .. } | Track::Found { .. } => false,
     }
 }
@@ -222,13 +226,13 @@ pub fn is_decided(track: &Track, limits: &Limits) -> bool
 /// Takes what the blocks of a whole source say that were asked about, where that is what its verdict
 /// is to be asked for. Where the source was judged as they came, it is noted what is found of it. An `AllocError`
 /// says that memory was refused.
-pub fn take_parts(track: &mut Track, plan: &Plan) -> Result<Option<Parts>, AllocError>
-    ensures { IfOk result (GivesReadings (asking plan.now.limits plan.now.except plan.now.order) track.old track.new) }
+pub fn take_parts(track: &mut Track) -> Result<Option<Parts>, AllocError>
+    ensures { IfOk result (GivesReadings track.old track.new) }
 {
     let Some(readings) = take_readings(track) else {
         return Ok(None);
     };
-    match readings.into_judged(plan)? {
+    match readings.into_judged()? {
         Judged::ByParts(parts) => Ok(Some(parts)),
         Judged::Already(verdict) => {
             take_finding(track, Finding::Judged(verdict));

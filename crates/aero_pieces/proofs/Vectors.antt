@@ -39,7 +39,7 @@ greatest =
       most_names = lit≤ tt;
     }
 
-value_of_check : IsValueOf (Check 0 (reading ∷ []) greatest [] false) (Judged (Serializable 1 0))
+value_of_check : IsValueOf (Check 0 (reading ∷ []) greatest [] false false) (Judged (Serializable 1 0))
 value_of_check =
     ∣ (
       record {
@@ -49,6 +49,7 @@ value_of_check =
         blocks_are = refl;
         open_are = refl;
       },
+      refl,
       refl,
     ) ∣₁
 

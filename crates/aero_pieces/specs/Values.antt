@@ -4,15 +4,16 @@ use Rattle.aero_model.specs.declared.verdict.Finding.TheVariants as findings
 use Rattle.aero_pieces.specs.declared.question.Question.{Question}
 use Rattle.aero_pieces.specs.declared.question.Question.TheVariants.{Parse, Check}
 use Rattle.aero_pieces.specs.declared.answer.Value.{Value}
-use Rattle.aero_pieces.specs.declared.answer.Value.TheVariants.{Parsed, Judged, Ordered}
+use Rattle.aero_pieces.specs.declared.answer.Value.TheVariants.{Parsed, Judged, Ordered, Explained}
 use Rattle.aero_grammar.specs.Reading.{reading_of}
 use Rattle.aero_verdict.specs.Finding.{asking, IsTraceFinding}
 
 -- what a block says, or what is found of the trace that the blocks hold
 abbrev pub ValueFits : Question → Value → Type 0
 ValueFits (Parse trace number bytes) (Parsed parsed) = parsed ≡ reading_of bytes
-ValueFits (Check trace parts limits labels order) (Judged verdict) = IsTraceFinding parts (asking limits labels order) (findings.Judged verdict)
-ValueFits (Check trace parts limits labels order) (Ordered verdict steps) = IsTraceFinding parts (asking limits labels order) (findings.Ordered verdict steps)
+ValueFits (Check trace parts limits labels order explain) (Judged verdict) = IsTraceFinding parts (asking limits labels order explain) (findings.Judged verdict)
+ValueFits (Check trace parts limits labels order explain) (Ordered verdict steps) = IsTraceFinding parts (asking limits labels order explain) (findings.Ordered verdict steps)
+ValueFits (Check trace parts limits labels order explain) (Explained verdict cycle) = IsTraceFinding parts (asking limits labels order explain) (findings.Explained verdict cycle)
 ValueFits _ _ = ⊥
 
 -- the same as a mere fact: what shows the verdict isn't kept

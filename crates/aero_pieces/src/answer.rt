@@ -1,6 +1,9 @@
 //! Answers, each with its question.
-ghost use Rattle.std.specs.Prelude.{◌≡◌, ℕ, IfOk};
+ghost use Rattle.std.specs.Prelude.{◌≡◌, ℕ, Bool, false, IfOk};
 ghost use Rattle.std.specs.Arc.{arc_value};
+ghost use Rattle.aero_verdict.specs.Explained.{has_cycle};
+ghost use Rattle.aero_verdict.specs.Ordered.{has_order};
+ghost use Rattle.aero_verdict.specs.Verdict.{under, IsVerdict};
 ghost use Rattle.aero_pieces.specs.Values.{IsValueOf};
 
 use crate::question::Question;
@@ -8,8 +11,8 @@ use aero_grammar::block::parse_block;
 use aero_grammar::parsed::Parsed;
 use aero_model::except::Except;
 use aero_model::limits::Limits;
-use aero_model::verdict::{Step, Verdict};
-use aero_verdict::{check_trace, check_trace_in_order};
+use aero_model::verdict::{Cycle, Step, Verdict};
+use aero_verdict::{check_trace, check_trace_explained, check_trace_in_order};
 use std::alloc::{AllocError, Global};
 use std::marker::Model;
 use std::sync::Arc;
@@ -24,6 +27,9 @@ pub enum Value {
     /// The verdict, which is `Serializable`, and the transactions in the serial order. It is given
     /// exactly where the order is asked for and the verdict is `Serializable`.
     Ordered(Verdict, Vec<Step>),
+    /// The verdict, which is `Violation`, and a telling cycle with the label of the block in which it begins. It
+    /// is given exactly where a violation is to be explained and the verdict is one.
+    Explained(Verdict, Cycle),
 }
 
 /// A question with its value. `Question::answer` alone makes one.
@@ -56,8 +62,15 @@ impl Question {
                 limits,
                 except,
                 order,
+                explain,
                 ..
-            } => check(alloc, parsed.get(), limits, except.get(), *order),
+            } => {
+                let asked = Asked {
+                    order: *order,
+                    explain: *explain,
+                };
+                check(alloc, parsed.get(), limits, except.get(), asked)
+            }
         }
     }
 
@@ -74,24 +87,64 @@ impl Question {
     }
 }
 
-// The verdict on the trace that the parts hold, and, where `order` is true and the trace is
-// serializable, its transactions in the serial order.
+// What is asked for besides the verdict.
+#[derive(Clone, Copy)]
+struct Asked {
+    order: bool,
+    explain: bool,
+}
+
+// The verdict on the trace that the parts hold, and what is asked for besides where it goes with that.
 fn check(
     alloc: Global,
     parts: &[Parsed],
     limits: &Limits,
     except: &Except,
-    order: bool,
+    asked: Asked,
 ) -> Result<Value, AllocError>
-    ensures { IfOk result (λ value. (trace : ℕ) → IsValueOf (Question.Check trace parts.now limits.now except.now order) value) }
+    ensures { IfOk result (λ value. (trace : ℕ) → IsValueOf (Question.Check trace parts.now limits.now except.now asked.order asked.explain) value) }
 {
-    if !order {
-        let verdict = check_trace(alloc, parts, limits, except)?;
-        return Ok(Value::Judged(verdict));
+    if !asked.order {
+        return judge(alloc, parts, limits, except, asked.explain);
     }
     let (verdict, steps) = check_trace_in_order(alloc, parts, limits, except)?;
     match steps {
         Some(steps) => Ok(Value::Ordered(verdict, steps)),
+        None if has_cycle(&verdict, asked.explain) => judge(alloc, parts, limits, except, true),
+        None => Ok(Value::Judged(verdict)),
+    }
+}
+
+// Whether the events of a cycle go with the verdict.
+fn has_cycle(verdict: &Verdict, explain: bool) -> bool
+    ensures { result ≡ has_cycle explain verdict.now }
+{
+    match verdict {
+        Verdict::Violation { .. } => explain,
+        _ => false,
+    }
+}
+
+// The verdict on the trace that the parts hold, and, where `explain` is true and it is a violation, the events of a
+// telling cycle. It is the value of each question on them for which no order goes with the verdict.
+fn judge(
+    alloc: Global,
+    parts: &[Parsed],
+    limits: &Limits,
+    except: &Except,
+    explain: bool,
+) -> Result<Value, AllocError>
+    ensures { IfOk result (λ value. (trace : ℕ) (order : Bool) →
+        ((verdict : Verdict) → IsVerdict parts.now (under limits.now except.now) verdict → has_order order verdict ≡ false) →
+        IsValueOf (Question.Check trace parts.now limits.now except.now order explain) value) }
+{
+    if !explain {
+        let verdict = check_trace(alloc, parts, limits, except)?;
+        return Ok(Value::Judged(verdict));
+    }
+    let (verdict, cycle) = check_trace_explained(alloc, parts, limits, except)?;
+    match cycle {
+        Some(cycle) => Ok(Value::Explained(verdict, cycle)),
         None => Ok(Value::Judged(verdict)),
     }
 }

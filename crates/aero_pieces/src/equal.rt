@@ -34,6 +34,7 @@ pub fn same(a: &Question, b: &Question) -> bool
             limits,
             except,
             order,
+            explain,
         } => match b {
             Question::Check {
                 trace: other_trace,
@@ -41,9 +42,11 @@ pub fn same(a: &Question, b: &Question) -> bool
                 limits: other_limits,
                 except: other_except,
                 order: other_order,
+                explain: other_explain,
             } => {
                 *trace == *other_trace
                     && *order == *other_order
+                    && *explain == *other_explain
                     && are_same_limits(limits, other_limits)
                     && except.get().has_same_labels(other_except.get())
                     && are_same_parts(parsed.get(), other_parsed.get())

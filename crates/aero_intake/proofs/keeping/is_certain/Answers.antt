@@ -1,0 +1,12 @@
+use Rattle.std.proofs.Common.{sym, ◌∙◌, subst}
+use Rattle.aero_intake.specs.declared.keeping.Held.{Held}
+use Rattle.aero_intake.specs.Held.{parts_in, FitsTerms, IsDecisive}
+use Rattle.aero_intake.proofs.Decisive.{some_certain_decides}
+use Rattle.aero_intake.proofs.keeping.is_certain.Goals as goal
+
+pub returns-in-Live : goal.returns-in-Live
+returns-in-Live c = λ is_true terms fits.
+    let live = c.in-Live.live in
+    let fit = subst (FitsTerms terms) c.in-Live.is fits in
+    subst (λ (h : Held). IsDecisive terms (parts_in h)) (sym c.in-Live.is)
+    (some_certain_decides terms fit.2 live.parts live.rules live.certain fit.0 c.is_certain.ensures.certain (sym c.is_certain.ensures.told ∙ is_true))

@@ -1,0 +1,7 @@
+use Rattle.std.proofs.Common.{sym, ◌∙◌}
+use Rattle.aero_intake.proofs.Decisive.{faulty_decides}
+use Rattle.aero_intake.proofs.track.Readings.decide.Goals as goal
+
+pub returns-then-have_fault-clause-decisive : goal.returns-then-have_fault-clause-decisive
+returns-then-have_fault-clause-decisive c = λ is_true.
+    faulty_decides c.args.self.now.terms c.args.self.now.parts (sym c.have_fault.ensures ∙ is_true)
