@@ -1,5 +1,5 @@
 -- A run, a flush and what was told after it, as one.
-use Rattle.std.proofs.Common.{◌≡◌, ◌∙◌, ℕ, Bool, List, [], ◌∷◌, map, Option, Result, ap, subst, refl}
+use Rattle.std.proofs.Common.{◌≡◌, ◌∙◌, ℕ, Bool, if◌then◌else◌, List, [], ◌∷◌, map, Option, Result, ap, subst, refl}
 use Rattle.aero_model.specs.declared.limits.Limits.{Limits}
 use Rattle.aero_model.specs.declared.verdict.Counts.{Counts}
 use Rattle.aero_model.specs.declared.verdict.Ending.{Ending}
@@ -14,6 +14,7 @@ use Rattle.aero_program.specs.Answers.{Ends, WasJudged}
 use Rattle.aero_program.specs.Command.{AreLimitsFor}
 use Rattle.aero_program.specs.Inputs.{source_names}
 use Rattle.aero_program.specs.Notes.{noted_of_all}
+use Rattle.aero_program.proofs.Noting.{are_noted}
 use Rattle.aero_program.specs.Sightings.{file_sighting, source_sightings}
 use Rattle.aero_program.specs.Status.{end_of_run}
 use Rattle.aero_program.specs.Streams.{Shown, WasFlushed}
@@ -26,25 +27,27 @@ names_of_sources : (files : List (List ℕ)) (given : Option (List ℕ)) → map
 names_of_sources [] given = refl
 names_of_sources (file ∷ more) given = names_of_files (file ∷ more)
 
-names_noted : {S O F : Type 0} (known : Input S O F → Option (List ℕ)) (sources : List (Source (Input S O F)))
-    → map (λ n. n.name) (noted_of_all sources) ≡ map (λ s. s.name) (map (sighted known) sources)
-names_noted known [] = refl
-names_noted known (source ∷ more) = ap (λ l. source.name.items ∷ l) (names_noted known more)
+names_noted : {S O F : Type 0} (known : Input S O F → Option (List ℕ)) (sources : List (Source (Input S O F))) (endings : List (ℕ × Ending))
+    → map (λ n. n.name) (noted_of_all sources endings) ≡ map (λ s. s.name) (map (sighted known) sources)
+names_noted known [] endings = refl
+names_noted known (source ∷ more) [] = ap (λ l. source.name.items ∷ l) (names_noted known more [])
+names_noted known (source ∷ more) (ending ∷ rest) = ap (λ l. source.name.items ∷ l) (names_noted known more rest)
 
-pub judged : {S O F : Type 0} (known : Input S O F → Option (List ℕ)) (labels : List (List ℕ)) (order long : Bool) (files : List (List ℕ)) (given : Option (List ℕ)) (limits : Limits)
+pub judged : {S O F : Type 0} (known : Input S O F → Option (List ℕ)) (labels : List (List ℕ)) (order explain long : Bool) (files : List (List ℕ)) (given : Option (List ℕ)) (limits : Limits)
     (was lent new now : List (Source (Input S O F))) (before between after : Shown) (endings : List (ℕ × Ending)) (counts : Counts) (cause : Option Cause)
     (has_failed : Bool) (end : Result ℕ Failure) (told told_after : Seen) (status : ℕ) (terms : Terms)
-    → terms ≡ asking limits labels order → AreLimitsFor long limits → map (sighted known) was ≡ source_sightings files given → lent ≡ was → now ≡ new
+    → terms ≡ asking limits labels order explain → AreLimitsFor long limits → map (sighted known) was ≡ source_sightings files given → lent ≡ was → now ≡ new
     → WasRun terms (map (sighted known) lent) (map (sighted known) new) before.writer between.writer endings counts cause
     → between.unflushed ≡ before.unflushed → WasFlushed between after has_failed → end ≡ end_of_run cause counts has_failed
-    → Ends (noted_of_all now) end told told_after status
-    → WasJudged labels order long files given before after told told_after status
-judged known labels order long files given limits was lent new now before between after endings counts cause has_failed end told told_after status terms
+    → Ends (noted_of_all now (if long then [] else endings)) end told told_after status
+    → WasJudged labels order explain long files given before after told told_after status
+judged known labels order explain long files given limits was lent new now before between after endings counts cause has_failed end told told_after status terms
     on_terms are seen is_was is_new run same flushed ended ends =
     let seen_lent : map (sighted known) lent ≡ source_sightings files given = ap (map (sighted known)) is_was ∙ seen in
-    let ran : WasRun (asking limits labels order) (source_sightings files given) (map (sighted known) new) before.writer between.writer endings counts cause =
+    let ran : WasRun (asking limits labels order explain) (source_sightings files given) (map (sighted known) new) before.writer between.writer endings counts cause =
     subst (λ r. WasRun r (source_sightings files given) (map (sighted known) new) before.writer between.writer endings counts cause) on_terms
     (subst (λ old. WasRun terms old (map (sighted known) new) before.writer between.writer endings counts cause) seen_lent run) in
+    let noted_endings : List (ℕ × Ending) = if long then [] else endings in
     record {
       limits = limits;
       limits_are = are;
@@ -57,8 +60,9 @@ judged known labels order long files given limits was lent new now before betwee
       same = same;
       has_failed = has_failed;
       flushed = flushed;
-      noted = noted_of_all new;
-      names = names_noted known new ∙ ran.names ∙ names_of_sources files given;
-      ends = subst (λ l. Ends (noted_of_all l) (end_of_run cause counts has_failed) told told_after status) is_new
-          (subst (λ e. Ends (noted_of_all now) e told told_after status) ended ends);
+      noted = noted_of_all new noted_endings;
+      names = names_noted known new noted_endings ∙ ran.names ∙ names_of_sources files given;
+      are_noted = are_noted new noted_endings;
+      ends = subst (λ l. Ends (noted_of_all l noted_endings) (end_of_run cause counts has_failed) told told_after status) is_new
+          (subst (λ e. Ends (noted_of_all now noted_endings) e told told_after status) ended ends);
     }

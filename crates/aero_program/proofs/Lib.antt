@@ -1,5 +1,6 @@
 mod Fronts
 mod Interruptions
 mod Judged
+mod Noting
 mod Parts
 mod Tells

@@ -1,9 +1,9 @@
 //! What the program does with what its words ask for.
-ghost use Rattle.std.specs.Prelude.{◌≡◌, map, string_bytes, OnOk, OnErr};
+ghost use Rattle.std.specs.Prelude.{◌≡◌, List, [], if◌then◌else◌, map, string_bytes, IfOk, OnOk, OnErr};
 ghost use Rattle.aero_model.specs.CallCounts.{seen_by};
 ghost use Rattle.aero_batch.specs.Founds.{Took};
 ghost use Rattle.aero_program.specs.Answers.{AnswersTo, Ends, Fails, Helps, Judges, Stops};
-ghost use Rattle.aero_program.specs.Notes.{noted_of_all};
+ghost use Rattle.aero_program.specs.Notes.{Noted, notes as notes_on};
 ghost use Rattle.aero_program.specs.Retries.{tried_by};
 ghost use Rattle.aero_program.specs.Streams.{WasCut, shown_by};
 
@@ -19,9 +19,10 @@ use crate::status::status_after;
 use aero_batch::run::run;
 use aero_batch::source::Source;
 use aero_model::counting::Counting;
+use aero_model::verdict::Ending;
 use aero_report::{Cut, put};
 use aero_worker::NoGate;
-use std::alloc::Global;
+use std::alloc::{AllocError, Global};
 use std::io::{Read, Write};
 use std::sync::{Arc, Wait};
 use std::thread::Threads;
@@ -30,10 +31,11 @@ use std::thread::Threads;
 ///
 /// Where they ask for traces to be judged, it judges the files, or standard input where there are
 /// none, in which blocks with the labels that they give are no transactions, writes the report, with
-/// the serial orders where they ask for those, to standard output and flushes it, and then writes the
-/// notes on the sources to standard error. Help goes to standard output, which is flushed; why there
-/// is nothing to judge, and why the program fails, goes to standard error. Where standard error takes
-/// nothing, the status still tells. A read, a write or a flush that is interrupted is tried again.
+/// the serial orders and the events of cycles where they ask for those, to standard output and
+/// flushes it, and then writes the notes on the sources to standard error. Help goes to standard
+/// output, which is flushed; why there is nothing to judge, and why the program fails, goes to
+/// standard error. Where standard error takes nothing, the status still tells. A read, a write or a
+/// flush that is interrupted is tried again.
 pub fn answer<
     S: Read + Drop,
     F: Opener + Drop,
@@ -74,12 +76,13 @@ fn judge<
     output: &mut Output<O>,
     errors: &mut Counting<E>,
 ) -> u8
-    ensures { Judges config.except.items config.order config.long (map string_bytes config.files.items) (S.remaining stdin) (shown_by O.contents output.old) (shown_by O.contents output.new)
+    ensures { Judges config.except.items config.order config.explain config.long (map string_bytes config.files.items) (S.remaining stdin) (shown_by O.contents output.old) (shown_by O.contents output.new)
         (seen_by E.contents errors.old) (seen_by E.contents errors.new) result }
 {
     let Ok(gate) = Arc::new(alloc, NoGate) else {
         return fail(Failure::Memory, errors);
     };
+    let long = config.long;
     let Ok((plan, words)) = config.into_plan(alloc) else {
         return fail(Failure::Memory, errors);
     };
@@ -89,19 +92,26 @@ fn judge<
     let outcome = run(rt, alloc, &mut sources, &mut output.writer, &plan, gate);
     let flushed = output.flush();
     let end = status_after(&outcome, &flushed);
-    finish(alloc, end, sources, errors)
+    let notes = notes_of(alloc, sources, noted(&outcome.endings, long));
+    finish(end, notes, errors)
+}
+
+// The endings by which it is noted which sources are too large: of long ones none are.
+fn noted(endings: &[(u64, Ending)], long: bool) -> &[(u64, Ending)]
+    ensures { result.now ≡ (if long then [] else endings.now) }
+{
+    if long { &[] } else { endings }
 }
 
 // Tells the notes on the sources, and then why the program fails, where it does.
-fn finish<S: Read + Drop, F: Opener + Drop, E: Write>(
-    alloc: Global,
+fn finish<E: Write>(
     end: Result<u8, Failure>,
-    sources: Vec<Source<Input<S, F>>>,
+    notes: Result<Vec<u8>, AllocError>,
     errors: &mut Counting<E>,
 ) -> u8
-    ensures { Ends (noted_of_all sources.items) end (seen_by E.contents errors.old) (seen_by E.contents errors.new) result }
+    ensures { (noted : List Noted) → IfOk notes (λ text. text.items ≡ notes_on noted) → Ends noted end (seen_by E.contents errors.old) (seen_by E.contents errors.new) result }
 {
-    let Ok(notes) = notes_of(alloc, sources) else {
+    let Ok(notes) = notes else {
         return match end {
             Ok(_) => fail(Failure::Memory, errors),
             Err(failure) => fail(failure, errors),

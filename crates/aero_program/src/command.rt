@@ -17,9 +17,9 @@ const LONG_RUN: u64 = 2_000;
 
 /// What a command line asks for: 1 to 16 workers, reads of 1 to 1,048,576 bytes, at most 65,536
 /// files, and at most 64 labels of blocks that are no transactions, both in the order of the words,
-/// whether the serial order is asked for, whether long sources are to be judged, and when the line on
-/// progress is shown. No files at all means standard input. The serial orders of long sources aren't
-/// to be had: each source is kept for its order.
+/// whether the serial order is asked for, whether violations are to be explained, whether long sources
+/// are to be judged, and when the line on progress is shown. No files at all means standard input. The
+/// serial orders of long sources aren't to be had: each source is kept for its order.
 #[derive(Drop)]
 pub struct Config {
     pub workers: u32,
@@ -27,6 +27,7 @@ pub struct Config {
     pub files: Vec<String>,
     pub except: Vec<Name>,
     pub order: bool,
+    pub explain: bool,
     pub long: bool,
     /// No report, note or status depends on it.
     pub progress: Progress,
@@ -73,12 +74,18 @@ impl Config {
         ensures limits { IfOk result (λ made. AreLimitsFor self.long made.0.limits) }
         ensures except { IfOk result (λ made. made.0.except ≡ self.except.items) }
         ensures order { IfOk result (λ made. made.0.order ≡ self.order) }
+        ensures explain { IfOk result (λ made. made.0.explain ≡ self.explain) }
         ensures files { IfOk result (λ made. made.1 ≡ self.files) }
     {
         let except = Except::new(self.except).unwrap();
         let shared = SharedExcept::new(alloc, except)?;
         let limits = limits_for(self.long);
         let plan = Plan::new(self.workers, self.piece, limits, shared, self.order).unwrap();
+        let plan = if self.explain {
+            plan.explaining()
+        } else {
+            plan
+        };
         Ok((plan, self.files))
     }
 }

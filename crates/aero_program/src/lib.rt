@@ -33,7 +33,7 @@
 //!   `flush`.
 //! - It never fails with an interruption, and finds the end exactly where the stream does. What is read or written is
 //!   the stream's, where its type tells its bytes: `lasting`, `idle`, `bytes`.
-//! - The notes on byte order marks and failed reads: `notes_of`. The system's words: `Reason::of`, `words`.
+//! - The notes on byte order marks, failed reads and sizes: `notes_of`. The system's words: `Reason::of`, `words`.
 //! - After how many milliseconds the line on progress is shown first, if ever: `Progress::first_after`.
 //!
 //! No contract says which bytes the files of an `Opener` have. Of `FilesOf` and `MeteredFiles` none says more than the

@@ -43,10 +43,10 @@ no_rules = record (new_app (codes "aerodrome")) {
 }
 
 abbrev pub program : App
-program = with_rule (with_rule (with_rule (with_rule (with_rule (with_rule (with_rule (with_rule no_rules
+program = with_rule (with_rule (with_rule (with_rule (with_rule (with_rule (with_rule (with_rule (with_rule no_rules
     (number_rule (codes "workers") 16 (codes "4")))
     (number_rule (codes "piece") (2 ^ 20) (codes "65536")))
-    label_rule) (flag_rule (codes "order"))) (flag_rule (codes "long"))) (flag_rule (codes "progress"))) (flag_rule (codes "quiet"))) files_rule
+    label_rule) (flag_rule (codes "order"))) (flag_rule (codes "explain"))) (flag_rule (codes "long"))) (flag_rule (codes "progress"))) (flag_rule (codes "quiet"))) files_rule
 
 -- what each option has of these words, its default included
 abbrev pub rows_given : List Text → List Row
@@ -77,6 +77,7 @@ pub record AsksFor (config : Config) (rows : List Row) : Type 0 where
   pub piece : config.piece ≡ number_told 65536 (one_of (codes "piece") rows)
   pub except : config.except.items ≡ texts_told (all_of (codes "except") rows)
   pub order : config.order ≡ is_told (one_of (codes "order") rows)
+  pub explain : config.explain ≡ is_told (one_of (codes "explain") rows)
   pub long : config.long ≡ is_told (one_of (codes "long") rows)
   pub progress : config.progress ≡ progress_told (is_told (one_of (codes "quiet") rows)) (is_told (one_of (codes "progress") rows))
   pub files : map string_bytes config.files.items ≡ texts_told (all_of (codes "files") rows)

@@ -19,6 +19,7 @@ pub record IsRead (found : Found) : Type 0 where
   pub workers : ReadsWithin found (codes "workers") 16
   pub piece : ReadsWithin found (codes "piece") (2 ^ 20)
   pub order : ReadsFlag found (codes "order")
+  pub explain : ReadsFlag found (codes "explain")
   pub long : ReadsFlag found (codes "long")
   pub progress : ReadsFlag found (codes "progress")
   pub quiet : ReadsFlag found (codes "quiet")

@@ -54,6 +54,18 @@ after the other: for each, two spaces, the line of its first event, a
 space, its thread. Each time the one whose first event is earliest
 comes next, of those before which nothing is left that must come first";
 
+pub const EXPLAIN: &str = "Under each violation stand the events of the cycle that shows it";
+
+pub const LONG_EXPLAIN: &str = "Under the line of a violation stand the events of a cycle that shows
+it: for each, two spaces, its line, a space, the line of the first
+event of its transaction, a space, and THREAD|OPERATION(TARGET). The
+cycle leaves the block that is named at the first of them and comes
+back to it at the last. From one event to the next it goes by a
+conflict, or within a transaction, where the second number stays. No
+cycle from that block has fewer transactions. Ahead of them stands
+the block's label, if it has one: two spaces, `label`, a space, and
+the label. Each trace is kept in memory for it";
+
 pub const LONG: &str = "A source may have up to 4000000000 lines, of any number of bytes";
 
 pub const LONG_LONG: &str = "A source may have up to 4000000000 lines, of any number of bytes: up
@@ -94,7 +106,8 @@ all of them. NAME is the FILE's word, byte by byte.
   NAME: violation at line L: block of THREAD from line M
       With the event on line L it is certain that the block of THREAD that
       begins on line M didn't behave as if it had run alone. What follows
-      line L isn't looked at.
+      line L isn't looked at. With --explain the events of a cycle follow
+      that shows it, a line for each.
   NAME:L: malformed: FAULT
       Line L is the first that is neither blank nor an event: TooLong (over
       4096 bytes), BadByte (a control character), NoOperation, EmptyThread,
@@ -122,6 +135,8 @@ After the report, on standard error, in the order of the traces:
       Such a mark (the bytes 239, 187, 191) is no part of the text form.
   aerodrome: NAME: REASON
       Why it couldn't be opened or read, as `No such file or directory`.
+  aerodrome: NAME: over 1073741824 bytes: --long judges sources of any size
+      It is too large without --long.
 
 The exit status, the highest that applies, so that 2 hides 1:
   0  no trace has a violation or a fault; also after --help and --version

@@ -16,8 +16,8 @@
 //!   most 65,536 files: `settle_words`, `Config`.
 //! - `--long` and `--order` are never both taken: `Config`, `no_long_order`.
 //! - What it asks for is what the options have on these words, defaults included, by `clap`'s definitions of how words
-//!   are read. So it is with each number, the labels, the files, `--order`, `--long`, and when the line on progress is
-//!   shown: `settle_words`.
+//!   are read. So it is with each number, the labels, the files, `--order`, `--explain`, `--long`, and when the line on
+//!   progress is shown: `settle_words`.
 //! - A label is the text that is given for it, or is refused where that is none. Want of memory is answered only for
 //!   one of more than 16 bytes: `label_of`.
 #![tactic(auto)]

@@ -54,6 +54,7 @@ fn command_line<'a>(alloc: Global) -> Result<Command<'a>, AllocError>
         .arg(number_option(alloc, "piece", MOST_PIECE, "65536", help::PIECE))?
         .arg(label_option(alloc))?
         .arg(flag(alloc, "order", help::ORDER, help::LONG_ORDER))?
+        .arg(flag(alloc, "explain", help::EXPLAIN, help::LONG_EXPLAIN))?
         .arg(flag(alloc, "long", help::LONG, help::LONG_LONG))?
         .arg(flag(alloc, "progress", help::PROGRESS, help::LONG_PROGRESS))?
         .arg(flag(alloc, "quiet", help::QUIET, help::LONG_QUIET))?
@@ -173,6 +174,7 @@ fn settle(alloc: Global, matches: &ArgMatches<'_>) -> Result<Config, Refused>
         files,
         except,
         order,
+        explain: flag_in(matches, "explain"),
         long,
         progress: progress_in(matches),
     })

@@ -1,24 +1,25 @@
-use Rattle.std.proofs.Common.{◌∙◌}
-use Rattle.aero_program.specs.Notes.{noted_of_all}
+use Rattle.std.proofs.Common.{◌≡◌, ◌∙◌, List, Result, Ok, subst}
+use Rattle.std.specs.Prelude.{IfOk}
+use Rattle.aero_program.specs.Notes.{Noted, notes}
 use Rattle.aero_program.proofs.Tells.{is_told, ends_well, ends_failing, ends_cut, fails_unnoted}
 use Rattle.aero_program.proofs.answer.finish.Goals as goal
 
 pub returns-in-Err : goal.returns-in-Err
-returns-in-Err g c =
-    fails_unnoted (noted_of_all c.args.sources.items) c.args.end c.in-Err.failure _ _ c.fail-in-Err.result c.in-Err.is c.fail-in-Err.ensures
+returns-in-Err g c = λ noted are.
+    fails_unnoted noted c.args.end c.in-Err.failure _ _ c.fail-in-Err.result c.in-Err.is c.fail-in-Err.ensures
 
 pub returns-in-Ok-end-2 : goal.returns-in-Ok-end-2
-returns-in-Ok-end-2 g c =
-    ends_well (noted_of_all c.args.sources.items) c.args.end c.in-Ok-end-2.status _ _ c.deref.result.now c.in-Ok-end-2.is
-    (c.deref.ensures.value ∙ c.in-Ok.ensures)
+returns-in-Ok-end-2 g c = λ noted are.
+    ends_well noted c.args.end c.in-Ok-end-2.status _ _ c.deref.result.now c.in-Ok-end-2.is
+    (c.deref.ensures.value ∙ subst (λ r. IfOk r (λ text. text.items ≡ notes noted)) c.in-Ok.is are)
     (is_told c.tell-told.result _ _ c.deref.result.now c.tell-told.ensures.whole c.tell-told.ensures.cut)
 
 pub returns-in-Ok-told : goal.returns-in-Ok-told
-returns-in-Ok-told g c =
-    ends_failing (noted_of_all c.args.sources.items) c.args.end c.in-Err-end.failure _ _ _ c.deref.result.now c.fail-in-Ok-told.result c.in-Err-end.is
-    (c.deref.ensures.value ∙ c.in-Ok.ensures) c.in-Ok-told.ensures.whole c.fail-in-Ok-told.ensures
+returns-in-Ok-told g c = λ noted are.
+    ends_failing noted c.args.end c.in-Err-end.failure _ _ _ c.deref.result.now c.fail-in-Ok-told.result c.in-Err-end.is
+    (c.deref.ensures.value ∙ subst (λ r. IfOk r (λ text. text.items ≡ notes noted)) c.in-Ok.is are) c.in-Ok-told.ensures.whole c.fail-in-Ok-told.ensures
 
 pub returns : goal.returns
-returns g c =
-    ends_cut (noted_of_all c.args.sources.items) c.args.end c.in-Err-end.failure _ _ c.deref.result.now c.status.result c.in-Err-end.is
-    (c.deref.ensures.value ∙ c.in-Ok.ensures) c.in-Err-told.ensures.cut c.status.ensures
+returns g c = λ noted are.
+    ends_cut noted c.args.end c.in-Err-end.failure _ _ c.deref.result.now c.status.result c.in-Err-end.is
+    (c.deref.ensures.value ∙ subst (λ r. IfOk r (λ text. text.items ≡ notes noted)) c.in-Ok.is are) c.in-Err-told.ensures.cut c.status.ensures
