@@ -256,6 +256,7 @@ fn config_of(alloc: Global, file: Option<&str>, order: bool) -> Result<Config, F
         except: Vec::new(alloc),
         files,
         order,
+        explain: false,
         long: false,
         progress: Progress::Auto,
     })

@@ -91,7 +91,9 @@ fn push_what(alloc: Global, words: &mut String, what: What) -> bool {
 fn push_value(alloc: Global, words: &mut String, value: &Value) -> bool {
     match value {
         Value::Parsed(parsed) => push_event(alloc, words, parsed),
-        Value::Judged(_) | Value::Ordered(..) => words.push_str("a verdict").is_ok(),
+        Value::Judged(_) | Value::Ordered(..) | Value::Explained(..) => words
+            .push_str("a verdict")
+            .is_ok(),
     }
 }
 

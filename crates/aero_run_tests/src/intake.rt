@@ -41,16 +41,17 @@ fn lines_of(alloc: Global, text: &str) -> Result<Vec<u8>, AllocError> {
     Ok(bytes)
 }
 
-// What is asked of a source: a piece of it, or to cut what is held.
+// What is asked of a source: a piece of it, or to cut what is held, or to pass it over.
 #[derive(Clone, Copy)]
 enum Call {
     Next,
     Cut,
+    PassOver,
 }
 
-use Call::{Cut, Next};
+use Call::{Cut, Next, PassOver};
 
-// What a call gives: `+` for a piece, the ending, a block, or `-` for none.
+// What a call gives: `+` for a piece, the ending, a block, or `-` for none. `~` stands for what was passed over.
 fn given<R: Read>(
     intake: &mut Intake,
     reader: &mut Counting<R>,
@@ -66,8 +67,20 @@ fn given<R: Read>(
             Some(block) => block.into_bytes(),
             None => b"-".to_vec(alloc)?,
         },
+        Call::PassOver => passed_over(intake).to_vec(alloc)?,
     };
     Ok(text)
+}
+
+// `~` where nothing is held once that was passed over, and it is known that it was.
+fn passed_over(intake: &mut Intake) -> &'static [u8] {
+    let had_passed = intake.has_passed();
+    intake.pass_over();
+    if !had_passed && intake.has_passed() && intake.is_cut() {
+        b"~"
+    } else {
+        b"?"
+    }
 }
 
 fn name_of(taken: &Taken) -> &'static str {
@@ -151,7 +164,7 @@ fn fault_at(
         return Ok(Some("another last line"));
     }
     // Then another source may be read.
-    if intake.count() != 0 || !intake.is_cut() {
+    if intake.count() != 0 || intake.has_passed() || !intake.is_cut() {
         return Ok(Some("it isn't new"));
     }
     Ok(None)
@@ -214,6 +227,22 @@ fn a_source_comes_in_pieces_until_it_ends(rt: HostRuntime) -> Result<(), Fail> {
             calls: &[(Next, "+", 3), (Next, "too large", 3), (Cut, "a/", 3)],
             left: "cd",
             last: "b",
+        },
+        // What is passed over is in no block.
+        Row {
+            text: "ab/c/d",
+            piece: 3,
+            limit: 100,
+            fails_after: 100,
+            calls: &[
+                (Next, "+", 3),
+                (PassOver, "~", 3),
+                (Next, "+", 6),
+                (Cut, "c/", 6),
+                (Next, "whole", 6),
+            ],
+            left: "",
+            last: "d",
         },
         Row {
             text: "abc",
@@ -319,5 +348,21 @@ fn a_plan_says_how_much_is_kept(rt: HostRuntime) -> Result<(), Fail> {
     });
     let other = (plan.keeping.most(false), plan.keeping.most(true));
     assert_eq!(rt; (usual, other), ((1_048_576, 65_536), (7, 3)));
+    Ok(())
+}
+
+// Nothing is to be explained, unless that is asked for, and nothing else changes by that.
+#[test]
+fn a_plan_may_explain_violations(rt: HostRuntime) -> Result<(), Fail> {
+    let labels = listed(rt.alloc(), "a").ok_or("labels")?;
+    let plan = Plan::new(2, 3, Limits::greatest(), labels, true).ok_or("no plan")?;
+    assert!(rt; !plan.explain && !plan.terms()?.explain());
+    let plan = plan.explaining();
+    let terms = plan.terms()?;
+    assert!(rt; plan.explain && terms.explain() && terms.order());
+    assert_eq!(rt;
+        (plan.workers, plan.piece, plan.keeping.most(true)),
+        (2, 3, 65_536)
+    );
     Ok(())
 }

@@ -1,9 +1,11 @@
 use crate::except::listed;
 use aero_grammar::block::parse_block;
 use aero_grammar::parsed::Parsed;
+use aero_model::event::Event;
 use aero_model::limits::Limits;
+use aero_model::name::Name;
 use aero_model::numbered::What;
-use aero_model::verdict::{Step, Verdict};
+use aero_model::verdict::{Cycle, CycleStep, Step, Verdict};
 use aero_pieces::answer::{Answer, Value};
 use aero_pieces::question::{Bytes, Parts, Question};
 use aero_pieces::same;
@@ -64,7 +66,30 @@ fn trace_question(
         limits,
         except,
         order,
+        explain: false,
     })
+}
+
+// The question, where a violation is to be explained.
+fn explained(question: Question) -> Question {
+    match question {
+        Question::Check {
+            trace,
+            parsed,
+            limits,
+            except,
+            order,
+            ..
+        } => Question::Check {
+            trace,
+            parsed,
+            limits,
+            except,
+            order,
+            explain: true,
+        },
+        question => question,
+    }
 }
 
 // Whether the value is the one event, a read of `x` by `T1` on the first line.
@@ -81,7 +106,7 @@ fn is_read(value: &Value) -> bool {
                 && parsed.threads.name(event.thread) == Some(b"T1".as_slice())
                 && parsed.variables.name(0) == Some(b"x".as_slice())
         }
-        Value::Judged(_) | Value::Ordered(..) => false,
+        Value::Judged(_) | Value::Ordered(..) | Value::Explained(..) => false,
     }
 }
 
@@ -146,11 +171,50 @@ fn push_steps(alloc: Global, words: &mut String, steps: &[Step]) -> bool {
     fits
 }
 
-// Puts the order that goes with the verdict behind the words so far, or else what the value is.
+fn target_of(event: &Event) -> &str {
+    match &event.target {
+        Some(target) => str::from_utf8(target.bytes()).unwrap_or("?"),
+        None => "-",
+    }
+}
+
+fn push_cycle_step(alloc: Global, words: &mut String, step: &CycleStep) -> bool {
+    let (line, first, op) = (step.line, step.first, step.event.op);
+    let target = target_of(&step.event);
+    let Ok(thread) = str::from_utf8(step.event.thread.bytes()) else {
+        return false;
+    };
+    match format!(in alloc; "{line} {first} {thread} {op:?} {target}/") {
+        Ok(word) => words.push_str(&word).is_ok(),
+        Err(_) => false,
+    }
+}
+
+fn push_label(words: &mut String, label: &Option<Name>) -> bool {
+    let Some(label) = label else {
+        return true;
+    };
+    let Ok(text) = str::from_utf8(label.bytes()) else {
+        return false;
+    };
+    words.push_str(text).is_ok() && words.push_str("/").is_ok()
+}
+
+fn push_cycle(alloc: Global, words: &mut String, cycle: &Cycle) -> bool {
+    let mut fits = push_label(words, &cycle.label);
+    for step in &cycle.steps {
+        fits &= push_cycle_step(alloc, words, step);
+    }
+    fits
+}
+
+// Puts what goes with the verdict, an order or a cycle, behind the words so far, or else what the value is.
 fn push_order(alloc: Global, words: &mut String, value: &Value) -> bool {
     match value {
         Value::Ordered(Verdict::Serializable { .. }, steps) => push_steps(alloc, words, steps),
         Value::Ordered(..) => words.push_str("an order of another verdict").is_ok(),
+        Value::Explained(Verdict::Violation { .. }, cycle) => push_cycle(alloc, words, cycle),
+        Value::Explained(..) => words.push_str("a cycle of another verdict").is_ok(),
         Value::Judged(_) => words.push_str("a verdict").is_ok(),
         Value::Parsed(_) => words.push_str("a block").is_ok(),
     }
@@ -208,6 +272,49 @@ static ORDERED: [Ordered; 9] = [
     ("T1|w(x);T1|end", true, "a verdict"),
 ];
 
+// Blocks of a trace, whether its order is asked for, and what is told where a violation is to be explained.
+fn is_explained_so(alloc: Global, row: &Ordered) -> bool {
+    let (blocks, order, wanted) = *row;
+    match trace_question(alloc, 0, Limits::greatest(), "a", blocks, order) {
+        Some(question) => is_answered(alloc, explained(question), wanted),
+        None => false,
+    }
+}
+
+// The first row that doesn't hold.
+fn first_unexplained(alloc: Global, rows: &[Ordered]) -> Option<usize> {
+    for i in 0..rows.len() {
+        if !is_explained_so(alloc, &rows[i]) {
+            return Some(i);
+        }
+    }
+    None
+}
+
+const TWO_BLOCKS: &str = "T1|begin/T2|begin;T1|w(x)/T2|r(x)/T2|w(y);T1|r(y)";
+
+const TWO_BLOCKS_CYCLE: &str = "3 1 T1 Write x/4 2 T2 Read x/5 2 T2 Write y/6 1 T1 Read y/";
+
+static EXPLAINED: [Ordered; 8] = [
+    (TWO_BLOCKS, false, TWO_BLOCKS_CYCLE),
+    (TWO_BLOCKS, true, TWO_BLOCKS_CYCLE),
+    (
+        "T1|begin(f)/T1|w(x);T2|w(x)/T1|r(x)",
+        false,
+        "f/2 1 T1 Write x/3 3 T2 Write x/4 1 T1 Read x/",
+    ),
+    ("T1|begin/T2|w(x);T1|r(x)/T1|end", false, "a verdict"),
+    ("T1|begin/T2|w(x);T1|r(x)/T1|end", true, "2 T2/1 T1/"),
+    ("T1|begin/T2|w(x);T1|r(x)", true, "a verdict"),
+    ("T1|w(x);T1", false, "a verdict"),
+    ("T1|begin(a)/T1|w(x);T2|w(x)/T1|r(x)", false, "a verdict"),
+];
+
+#[test]
+fn a_violation_is_explained_where_that_is_asked_for(rt: HostRuntime) {
+    assert_eq!(rt; first_unexplained(rt.alloc(), &EXPLAINED), None);
+}
+
 #[test]
 fn the_order_of_a_serializable_trace_is_given_where_it_is_asked_for(rt: HostRuntime) {
     assert_eq!(rt; first_misordered(rt.alloc(), &ORDERED), None);
@@ -219,6 +326,8 @@ fn the_order_of_a_serializable_trace_is_given_where_it_is_asked_for(rt: HostRunt
 enum Asked {
     Block(u64, u64, &'static str),
     Trace(u64, bool, &'static str, &'static str, bool),
+    // The same of trace 0 with the greatest limits, where the order isn't asked for, and a violation is to be explained.
+    Explained(&'static str, &'static str),
 }
 
 fn limits_of(are_greatest: bool) -> Option<Limits> {
@@ -235,6 +344,10 @@ fn question_of(alloc: Global, asked: Asked) -> Option<Question> {
         Asked::Trace(trace, are_greatest, labels, blocks, order) => {
             let limits = limits_of(are_greatest)?;
             trace_question(alloc, trace, limits, labels, blocks, order)
+        }
+        Asked::Explained(labels, blocks) => {
+            let question = trace_question(alloc, 0, Limits::greatest(), labels, blocks, false)?;
+            Some(explained(question))
         }
     }
 }
@@ -351,7 +464,11 @@ fn traces_with_the_same_parts_are_the_same_question(rt: HostRuntime) {
 
 const LISTING: Asked = Asked::Trace(0, true, "a b", "T1|begin(a)", false);
 
-static LABELS: [Compared; 8] = [
+const EXPLAINING: Asked = Asked::Explained("a b", "T1|begin(a)");
+
+static LABELS: [Compared; 10] = [
+    (LISTING, EXPLAINING, false),
+    (EXPLAINING, EXPLAINING, true),
     (
         LISTING,
         Asked::Trace(0, true, "a b", "T1|begin(a)", false),

@@ -2,8 +2,11 @@
 ghost use Rattle.std.specs.Prelude.{◌≡◌, ◌≤◌, IfOk, Some};
 
 use aero_model::counting::Counting;
+use aero_model::event::{Event, Op};
 use aero_model::name::Name;
-use aero_model::verdict::{Counts, Finding, LineFault as Line, ShapeFault as Shape, Step, Verdict};
+use aero_model::verdict::{
+    Counts, Cycle, CycleStep, Finding, LineFault as Line, ShapeFault as Shape, Step, Verdict,
+};
 use aero_report::{Cut, put, summary_text, trace_text};
 use std::alloc::Global;
 use std::io;
@@ -203,6 +206,59 @@ fn is_pending_so(alloc: Global) -> bool {
     };
     let line = "n: no violation, 2 blocks open (5 events, 2 blocks)\n";
     has_line(alloc, &Finding::Judged(verdict), line)
+}
+
+// The line of a write of `target`, the first line of its transaction, and its thread and target.
+type Written = (u32, u32, &'static str, &'static str);
+
+fn push_write(alloc: Global, steps: &mut Vec<CycleStep>, row: &Written) -> bool {
+    let (line, first, thread, target) = *row;
+    let Ok(thread) = Name::read(alloc, thread.as_bytes()) else {
+        return false;
+    };
+    let Ok(target) = Name::read(alloc, target.as_bytes()) else {
+        return false;
+    };
+    let event = Event {
+        thread,
+        op: Op::Write,
+        target: Some(target),
+    };
+    steps.push(CycleStep { line, first, event }).is_ok()
+}
+
+static CYCLE: [Written; 3] = [(2, 1, "T1", "x"), (3, 3, "T2", "x"), (4, 1, "T1", "x")];
+
+fn is_explained_so(alloc: Global) -> bool {
+    let Ok(thread) = Name::read(alloc, b"T1") else {
+        return false;
+    };
+    let verdict = Verdict::Violation {
+        line: 4,
+        thread,
+        begun: 1,
+    };
+    let Ok(label) = Name::read(alloc, b"f g") else {
+        return false;
+    };
+    let mut steps = Vec::new(alloc);
+    let mut fits = true;
+    for i in 0..CYCLE.len() {
+        fits &= push_write(alloc, &mut steps, &CYCLE[i]);
+    }
+    let cycle = Cycle {
+        label: Some(label),
+        steps,
+    };
+    let lines =
+        "n: violation at line 4: block of T1 from line 1\n  label f g\n  2 1 T1|w(x)\n  3 3 T2|w(x)\n  4 1 T1|w(x)\n";
+    fits && has_line(alloc, &Finding::Explained(verdict, cycle), lines)
+}
+
+// The label of the block and the events of a cycle have a line each behind that of the violation.
+#[test]
+fn each_event_of_a_cycle_has_its_line(rt: HostRuntime) {
+    assert!(rt; is_explained_so(rt.alloc()));
 }
 
 fn is_violation_so(alloc: Global) -> bool {

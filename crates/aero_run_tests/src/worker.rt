@@ -58,6 +58,7 @@ fn trace_question(alloc: Global) -> Option<Arc<Question>> {
         limits: Limits::greatest(),
         except: listed(alloc, "")?,
         order: false,
+        explain: false,
     };
     question.share(alloc).ok()
 }

@@ -13,6 +13,8 @@ mod clock;
 #[cfg(test)]
 mod end;
 #[cfg(test)]
+mod explained;
+#[cfg(test)]
 mod grammar;
 #[cfg(test)]
 mod leads;
@@ -34,3 +36,5 @@ mod serial;
 mod shape;
 #[cfg(test)]
 mod verdict;
+#[cfg(test)]
+mod witness;

@@ -4,6 +4,7 @@ ghost use Rattle.aero_model.specs.Exempt.{IsJudgedWhat};
 
 use crate::leads::{Event, event_of};
 use aero_model::numbered::{Numbered, What};
+use aero_order::first::First;
 use aero_order::order::least_order;
 use aero_order::transactions::Transactions;
 use std::alloc::{AllocError, Global};
@@ -110,8 +111,8 @@ fn depth_before(events: &[Numbered], t: u32, n: usize) -> u32
     deep
 }
 
-// The first places in the serial order of the events, unless there is a cycle.
-fn order_of(alloc: Global, events: &[Numbered]) -> Result<Option<Vec<u32>>, AllocError>
+// The first events in the serial order of the events, unless there is a cycle. The event at place n is on line n + 1.
+fn order_of(alloc: Global, events: &[Numbered]) -> Result<Option<Vec<First>>, AllocError>
     requires { length events.now < 1000 }
 {
     let mut transactions = Transactions::new(alloc);
@@ -121,7 +122,8 @@ fn order_of(alloc: Global, events: &[Numbered]) -> Result<Option<Vec<u32>>, Allo
             return Ok(None);
         }
         let inside = depth_before(events, event.thread, i) > 0;
-        transactions.add(&event, inside)?;
+        let line = i as u32 + 1;
+        transactions.add(line, &event, inside)?;
     }
     transactions.order(alloc)
 }
@@ -134,7 +136,7 @@ fn push_event(events: &mut Vec<Numbered>, line: &str) -> bool {
 }
 
 // The events of a trace, with `/` between its lines. `None` where memory is refused.
-fn events_of(alloc: Global, trace: &str) -> Option<Vec<Numbered>> {
+pub(crate) fn events_of(alloc: Global, trace: &str) -> Option<Vec<Numbered>> {
     let mut events = Vec::new(alloc);
     let mut fits = true;
     for line in trace.split('/') {
@@ -143,9 +145,28 @@ fn events_of(alloc: Global, trace: &str) -> Option<Vec<Numbered>> {
     fits.then_some(events)
 }
 
-fn is(order: &Option<Vec<u32>>, wanted: Option<&[u32]>) -> bool {
+// Whether this is the event at its place, on its line and by its thread.
+fn is_first(first: &First, events: &[Numbered]) -> bool {
+    match events.get(first.place as usize) {
+        Some(event) => first.thread == event.thread
+            && first.line.checked_sub(1) == Some(first.place),
+        None => false,
+    }
+}
+
+// Whether these are the events at the wanted places.
+fn are_firsts(firsts: &[First], events: &[Numbered], wanted: &[u32]) -> bool {
+    let mut right = firsts.len() == wanted.len();
+    for i in 0..firsts.len() {
+        right &= wanted.get(i) == Some(&firsts[i].place);
+        right &= is_first(&firsts[i], events);
+    }
+    right
+}
+
+fn is(order: &Option<Vec<First>>, events: &[Numbered], wanted: Option<&[u32]>) -> bool {
     match (order, wanted) {
-        (Some(places), Some(wanted)) => places.as_slice() == wanted,
+        (Some(firsts), Some(wanted)) => are_firsts(firsts, events, wanted),
         (None, None) => true,
         _ => false,
     }
@@ -166,7 +187,7 @@ fn are_in_order(alloc: Global, events: &[Numbered], wanted: Option<&[u32]>) -> b
         return false;
     }
     match order_of(alloc, events) {
-        Ok(order) => is(&order, wanted),
+        Ok(order) => is(&order, events, wanted),
         Err(_) => false,
     }
 }

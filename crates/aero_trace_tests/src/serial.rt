@@ -4,6 +4,8 @@ use aero_grammar::parsed::Parsed;
 use aero_model::except::Except;
 use aero_model::limits::Limits;
 use aero_model::verdict::{Step, Verdict};
+use aero_verdict::in_order::InOrder;
+use aero_verdict::monitor::{Monitor, feed_all};
 use aero_verdict::{actor_at, check_trace_in_order, serial_order};
 use std::alloc::Global;
 
@@ -98,6 +100,22 @@ fn is_told(
     }
 }
 
+// Whether a monitor of these parts tells the same at its end.
+fn is_told_at_end(
+    alloc: Global,
+    parts: &[Parsed],
+    limits: &Limits,
+    except: &Except,
+    wanted: &str,
+) -> bool {
+    let mut monitor = Monitor::<InOrder>::new(alloc, limits, except);
+    feed_all(&mut monitor, parts, except);
+    match monitor.finish_in_order() {
+        Ok((verdict, steps)) => says(alloc, &verdict, &steps, wanted),
+        Err(_) => false,
+    }
+}
+
 // Labels whose blocks are no transactions, a trace, its order, and what is told of it with that.
 type Row = (&'static str, &'static str, &'static str, &'static str);
 
@@ -107,7 +125,8 @@ fn is_in_order(alloc: Global, limits: &Limits, row: &Row) -> Option<bool> {
     let except = except_of(alloc, labels)?;
     Some(
         has_order(alloc, &parts, limits, &except, order)
-            && is_told(alloc, &parts, limits, &except, told),
+            && is_told(alloc, &parts, limits, &except, told)
+            && is_told_at_end(alloc, &parts, limits, &except, told),
     )
 }
 

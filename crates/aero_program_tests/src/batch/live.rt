@@ -242,14 +242,14 @@ fn a_violation_is_found_where_a_source_turns_live_whoever_helps(
     Ok(())
 }
 
-// A text of 320 lines of 4,096 bytes, of which 64 make a block: line 1 begins a block of T1, a write by T2 is at this line, if
-// there is one, and all others are reads by T1.
-fn long_text(alloc: Global, written: u32) -> Result<Vec<u8>, AllocError> {
+// A text of so many lines of 4,096 bytes, of which 64 make a block: line 1 begins a block of T1, a write by T2 is at this
+// line, if there is one, and all others are reads by T1.
+fn long_text(alloc: Global, lines: u32, written: u32) -> Result<Vec<u8>, AllocError> {
     let begin = long_line(alloc, b"T1|begin|", 4_096)?;
     let read = long_line(alloc, b"T1|r(x)|", 4_096)?;
     let write = long_line(alloc, b"T2|w(x)|", 4_096)?;
     let mut text = Vec::new(alloc);
-    for number in 1..=320 {
+    for number in 1..=lines {
         let line = if number == 1 {
             &begin
         } else if number == written {
@@ -307,7 +307,7 @@ fn has_long_line<T: AllocGlobal + Threads + Wait + Copy + Send + 'static>(
     who: Who,
     (written, bytes, fails_after, line): &LongRow,
 ) -> Result<bool, Fail> {
-    let text = long_text(rt.alloc(), *written)?;
+    let text = long_text(rt.alloc(), 320, *written)?;
     let start = lines_of(rt.alloc(), line)?;
     let plan = plan_of(rt.alloc(), (who, 65_536), (*bytes, 320), 128)?;
     let report = written_of(rt, who, (&text, *fails_after), &plan)?;
@@ -320,6 +320,45 @@ fn a_long_source_has_its_line_where_some_blocks_are_kept(rt: HostRuntime) -> Res
         for who in [Who::Alone, Who::Crew(2)] {
             assert!(rt; has_long_line(&rt, who, row)?, "{}", row.3);
         }
+    }
+    Ok(())
+}
+
+// How many questions are asked about a long text with a violation at line 4, of which no event is kept.
+fn asked_of_violation<T: AllocGlobal + Threads + Wait + Copy + Send + 'static>(
+    rt: &T,
+    who: Who,
+    text: &[u8],
+) -> Result<u64, Fail> {
+    let plan = plan_of(rt.alloc(), (who, 65_536), (20_000_000, 5_000), 0)?;
+    let mut sources: Vec<Source<&[u8]>> = Vec::new(rt.alloc());
+    add_source(&mut sources, rt.alloc(), "n", text)?;
+    let (report, outcome) = report_by(rt, who, &mut sources, &plan)?;
+    if !report
+        .as_slice()
+        .starts_with(b"n: violation at line 4: block of T1 from line 1\n")
+    {
+        return Err("another line".into());
+    }
+    Ok(outcome.tally.asked)
+}
+
+// A text of 70 blocks. A block is judged once the next one has come, so that the violation in the first is certain when
+// the second is settled. Where each is settled before the next is read, two are asked about; and else at most as many as
+// may be open, since only the first one was settled before and made room.
+#[test]
+fn no_block_is_asked_about_once_a_violation_is_certain(rt: HostRuntime) -> Result<(), Fail> {
+    let text = long_text(rt.alloc(), 4_480, 3)?;
+    let rows = [
+        (Who::Alone, 2),
+        (Who::Helped(Habit::Twice), 2),
+        (Who::Crew(1), 65),
+        (Who::Crew(2), 65),
+        (Who::Crew(16), 65),
+    ];
+    for (who, most) in rows {
+        let asked = asked_of_violation(&rt, who, &text)?;
+        assert!(rt; 2 <= asked && asked <= most);
     }
     Ok(())
 }

@@ -1,0 +1,170 @@
+use crate::model::except_of;
+use crate::verdict::{parts_of, push_words};
+use aero_grammar::parsed::Parsed;
+use aero_model::event::Event;
+use aero_model::except::Except;
+use aero_model::limits::Limits;
+use aero_model::name::Name;
+use aero_model::verdict::{Cycle, CycleStep, Verdict};
+use aero_verdict::check_trace_explained;
+use std::alloc::Global;
+
+// The helpers below say that a row doesn't hold where memory is refused.
+
+fn target_in(event: &Event) -> Option<&str> {
+    match &event.target {
+        Some(target) => str::from_utf8(target.bytes()).ok(),
+        None => Some("-"),
+    }
+}
+
+// Its two lines, its thread, what it does, and with what.
+fn word_of(alloc: Global, step: &CycleStep) -> Option<String> {
+    let line = step.line;
+    let first = step.first;
+    let thread = str::from_utf8(step.event.thread.bytes()).ok()?;
+    let op = step.event.op;
+    let target = target_in(&step.event)?;
+    format!(in alloc; "/{line} {first} {thread} {op:?} {target}").ok()
+}
+
+fn push_step(alloc: Global, words: &mut String, step: &CycleStep) -> bool {
+    match word_of(alloc, step) {
+        Some(word) => words.push_str(&word).is_ok(),
+        None => false,
+    }
+}
+
+fn push_steps(alloc: Global, words: &mut String, steps: &[CycleStep]) -> bool {
+    let mut fits = true;
+    for step in steps {
+        fits &= push_step(alloc, words, step);
+    }
+    fits
+}
+
+fn push_label(words: &mut String, label: &Option<Name>) -> bool {
+    let Some(label) = label else {
+        return true;
+    };
+    let Ok(text) = str::from_utf8(label.bytes()) else {
+        return false;
+    };
+    words.push_str("/label ").is_ok() && words.push_str(text).is_ok()
+}
+
+fn says(alloc: Global, verdict: &Verdict, cycle: &Option<Cycle>, wanted: &str) -> bool {
+    let mut words = String::new(alloc);
+    if !push_words(alloc, &mut words, verdict) {
+        return false;
+    }
+    let fits = match cycle {
+        Some(cycle) => {
+            push_label(&mut words, &cycle.label) && push_steps(alloc, &mut words, &cycle.steps)
+        }
+        None => true,
+    };
+    fits && words.as_str() == wanted
+}
+
+fn is_told(
+    alloc: Global,
+    parts: &[Parsed],
+    limits: &Limits,
+    except: &Except,
+    wanted: &str,
+) -> bool {
+    match check_trace_explained(alloc, parts, limits, except) {
+        Ok((verdict, cycle)) => says(alloc, &verdict, &cycle, wanted),
+        Err(_) => false,
+    }
+}
+
+// Labels whose blocks are no transactions, a trace, and its verdict with the label of the block and the events of a cycle.
+type Row = (&'static str, &'static str, &'static str);
+
+fn is_explained(alloc: Global, limits: &Limits, row: &Row) -> Option<bool> {
+    let (labels, text, wanted) = *row;
+    let parts = parts_of(alloc, text)?;
+    let except = except_of(alloc, labels)?;
+    Some(is_told(alloc, &parts, limits, &except, wanted))
+}
+
+// The first row that doesn't hold.
+fn first_wrong(alloc: Global, limits: &Limits, rows: &[Row]) -> Option<usize> {
+    for i in 0..rows.len() {
+        if is_explained(alloc, limits, &rows[i]) != Some(true) {
+            return Some(i);
+        }
+    }
+    None
+}
+
+static EXPLAINED: [Row; 11] = [
+    // In one part, and in three, of which the last is malformed.
+    (
+        "",
+        "T1|begin/T2|begin/T1|w(x)/T2|r(x)/T2|w(y)/T1|r(y)+",
+        "violation 6 T1 1/3 1 T1 Write x/4 2 T2 Read x/5 2 T2 Write y/6 1 T1 Read y",
+    ),
+    (
+        "",
+        "T1|begin/T2|begin/T1|w(x)/+T2|r(x)/T2|w(y)/T1|r(y)/+T1|r(y)/no/+",
+        "violation 6 T1 1/3 1 T1 Write x/4 2 T2 Read x/5 2 T2 Write y/6 1 T1 Read y",
+    ),
+    // By the end of a block, which then is passed backwards. A blank line has a number and no event.
+    (
+        "",
+        "T1|begin/T2|begin/T2|w(y)/T1|w(x)/T2|r(x)/T1|r(y)//T1|end+",
+        "violation 8 T2 2/3 2 T2 Write y/6 1 T1 Read y/4 1 T1 Write x/5 2 T2 Read x",
+    ),
+    // Through a block that has ended, and events outside of blocks.
+    (
+        "",
+        "T3|begin/T2|begin/T2|w(y)/T1|r(y)/T1|w(v)/T3|w(x)/T2|r(x)/T2|end/T3|r(v)+",
+        "violation 9 T3 1/6 1 T3 Write x/7 2 T2 Read x/3 2 T2 Write y/4 4 T1 Read y/5 5 T1 Write v/9 1 T3 Read v",
+    ),
+    // By a fork and a join.
+    (
+        "",
+        "T1|begin/T1|fork(T2)/T2|w(x)/T1|join(T2)/T1|end+",
+        "violation 4 T1 1/2 1 T1 Fork T2/3 3 T2 Write x/4 1 T1 Join T2",
+    ),
+    // By a lock.
+    (
+        "",
+        "T1|begin/T1|acq(l)/T1|rel(l)/T2|acq(l)/T2|rel(l)/T1|acq(l)+",
+        "violation 6 T1 1/3 1 T1 Release l/4 4 T2 Acquire l/5 5 T2 Release l/6 1 T1 Acquire l",
+    ),
+    // By a write after a read.
+    (
+        "",
+        "T1|begin/T1|w(y)/T2|r(y)/T2|r(x)/T1|w(x)+",
+        "violation 5 T1 1/2 1 T1 Write y/3 3 T2 Read y/4 4 T2 Read x/5 1 T1 Write x",
+    ),
+    // The first event of a block is its outermost begin, which has its label.
+    (
+        "",
+        "T1|begin(f g)/T1|begin(h)/T1|w(x)/T2|w(x)/T1|r(x)+",
+        "violation 5 T1 1/label f g/3 1 T1 Write x/4 4 T2 Write x/5 1 T1 Read x",
+    ),
+    // The end of a block that is left out ends no other.
+    (
+        "m",
+        "T1|begin/T1|begin(m)/T1|end/T1|w(x)/T2|w(x)/T1|r(x)+",
+        "violation 6 T1 1/4 1 T1 Write x/5 5 T2 Write x/6 1 T1 Read x",
+    ),
+    // A trace that is serializable, and one that isn't well-formed.
+    ("", "T1|begin/T1|w(x)/T1|end+", "serializable 3 1"),
+    (
+        "",
+        "T1|begin/T1|end/T1|end+",
+        "ill-formed 3 EndWithoutBegin",
+    ),
+];
+
+#[test]
+fn violations_are_explained(rt: HostRuntime) {
+    let wrong = first_wrong(rt.alloc(), &Limits::greatest(), &EXPLAINED);
+    assert!(rt; wrong == None);
+}
