@@ -12,7 +12,7 @@ all: bin/aerodrome
 bin/aerodrome: $(SOURCES)
 	@tools/build
 
-# `rt ci`, and then the cases, the check of printed orders and the pages, by what stands in tests/, on the program that it built.
+# `rt ci`, and then the cases, the checks of printed orders and cycles, and the pages, by what stands in tests/, on the program that it built.
 test:
 	@tests/all
 

@@ -1,38 +1,10 @@
 # Checks a report that was made with --order against the traces that it is about, by the definitions alone.
 #
-#   awk -v except=LABEL -f check.awk REPORT TRACE..
+#   awk -v except=LABEL -f transactions.awk -f check.awk REPORT TRACE..
 #
-# It makes the transactions of each trace and all their edges anew, pair of events by pair, and the order from these. The
-# traces have to be well-formed and without a malformed line, and `except` is the one label of --except, if there is one.
-# The first things that are wrong are told, a line each; the last line counts them all. Fails also where too few of the traces are serializable,
-# or too few of these have an order other than that of their first events.
-
-function wrong(text) {
-    if (++wrongs <= 20)
-        print name ": " text
-}
-
-# The report: the line of each source, and its steps behind it.
-FNR == NR {
-    if (substr($0, 1, 2) == "  ")
-        steps[reported, ++step_count[reported]] = substr($0, 3)
-    else {
-        said[++reported] = $0
-        step_count[reported] = 0
-    }
-    next
-}
-
-FNR == 1 {
-    if (traces > 0)
-        judge()
-    start()
-}
-
-/[^ \t]/ {
-    split($0, parts, "|")
-    read_event(parts[1], parts[2])
-}
+# It makes all edges between the transactions of each trace anew, pair of events by pair, and the order from these. The last
+# line counts what is wrong. Fails also where too few of the traces are serializable, or too few of these have an order other
+# than that of their first events.
 
 END {
     if (traces > 0)
@@ -46,60 +18,6 @@ END {
         wrong("the traces show too little")
     print traces " traces: " serializable + 0 " serializable, " other_orders + 0 " of them in another order than that of first events, " open + 0 " open, " violations + 0 " violations; " wrongs + 0 " wrong"
     exit (wrongs > 0)
-}
-
-# A new trace.
-function start() {
-    name = FILENAME
-    sub(/.*\//, "", name)
-    traces++
-    events = transactions = blocks = 0
-    split("", depth)
-    split("", inside)
-    split("", block_of)
-    split("", is_exempt)
-}
-
-# The event on this line: who, what and on what, and to which transaction it belongs.
-function read_event(thread, operation,    at, is_block, exempt) {
-    events++
-    at = index(operation, "(")
-    who[events] = thread
-    what[events] = at ? substr(operation, 1, at - 1) : operation
-    target[events] = at ? substr(operation, at + 1, length(operation) - at - 1) : ""
-    # `inside` counts the blocks that are open and count, `depth` all that are open.
-    is_block = inside[thread] > 0
-    if (what[events] == "begin") {
-        exempt = except != "" && target[events] == except
-        is_exempt[thread, ++depth[thread]] = exempt
-        if (!exempt && inside[thread]++ == 0) {
-            blocks++
-            block_of[thread] = ++transactions
-            first_line[transactions] = FNR
-            first_thread[transactions] = thread
-            is_block = 1
-        }
-    }
-    if (what[events] == "end" && !is_exempt[thread, depth[thread]--])
-        inside[thread]--
-    if (!is_block) {
-        first_line[++transactions] = FNR
-        first_thread[transactions] = thread
-    }
-    transaction[events] = is_block ? block_of[thread] : transactions
-}
-
-# Whether event i conflicts with the later event j.
-function conflict(i, j) {
-    if (who[i] == who[j])
-        return 1
-    if (what[i] == "fork" && target[i] == who[j] || what[j] == "join" && target[j] == who[i])
-        return 1
-    if (what[i] == "rel" && what[j] == "acq")
-        return target[i] == target[j]
-    if ((what[i] == "w" && (what[j] == "w" || what[j] == "r")) || (what[i] == "r" && what[j] == "w"))
-        return target[i] == target[j]
-    return 0
 }
 
 # The transactions in order: each time, of those before which nothing is left that must come first, the one with the

@@ -4,7 +4,8 @@
 #
 # The same seed gives the same traces. A trace has 2 to 5 threads, some of them forked and joined by others, up to 4
 # variables, 2 locks, blocks in blocks, some with a label, events outside of blocks, a few blank lines and 5 to some 40
-# events. In about one of ten, blocks are left open.
+# events. In about one of ten, blocks are left open. With -v more_threads=N, more_variables=N or more_events=N it has so
+# many more of these.
 
 # A number from 0 on, below n.
 function below(n) {
@@ -96,14 +97,14 @@ function act(thread,    some) {
 
 function make(    thread, lock, wanted) {
     events = 0
-    threads = 2 + below(4)
-    variables = 1 + below(4)
+    threads = 2 + more_threads + below(4)
+    variables = 1 + more_variables + below(4)
     burst = 1 + below(5)
     begins = 5 + below(25)
     ends = 10 + below(40)
     locks = below(2) * below(30)
     writes = 10 + below(60)
-    wanted = 5 + below(31)
+    wanted = 5 + more_events + below(31)
     for (thread = 1; thread <= threads; thread++) {
         is_started[thread] = thread < 3 || often(60)
         is_joined[thread] = depth[thread] = 0
