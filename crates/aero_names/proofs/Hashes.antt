@@ -1,10 +1,11 @@
 -- The hash of a name, word by word.
-use Rattle.std.proofs.Common.{◌≡◌, ℕ, ◌<◌, ◌≤◌, List, [], ◌∷◌, length, take, drop, Some, None, refl, sym, ap, arith}
+use Rattle.std.proofs.Common.{◌≡◌, ℕ, ◌<◌, ◌≤◌, List, [], ◌∷◌, length, take, drop, Some, None, refl, sym, ◌∙◌, ap, arith}
 use Rattle.std.specs.Prelude.{option_map, unwrap_or}
-use Rattle.std.specs.Int.{w64, from_le_bytes}
+use Rattle.std.specs.Int.{w64, w128, from_le_bytes}
+use Rattle.sha2.specs.Sha256.{sha256}
 use Rattle.aero_names.specs.declared.key.Key.{Key}
 use Rattle.aero_names.specs.Keys.{key_of}
-use Rattle.aero_names.specs.Hash.{mixed, short_word, hash_from, mixed_again, hash_of_key, hash_of_long, hash_of}
+use Rattle.aero_names.specs.Hash.{mixed, short_word, hash_from, mixed_again, hash_of_key, hash_of_long, hash_of, print_of_key, print_of_long, print_of}
 
 -- one word more
 pub one_word : (hash : ℕ) (bytes : List ℕ) → 8 ≤ length bytes → hash_from (mixed hash (from_le_bytes w64 (take 8 bytes))) (drop 8 bytes) ≡ hash_from hash bytes
@@ -44,3 +45,18 @@ hash_with_key name key is = ap (λ k. unwrap_or (option_map hash_of_key k) (hash
 pub hash_without_key : (name : List ℕ) → key_of name ≡ None → hash_of_long name ≡ hash_of name
 unfolding hash_of
 hash_without_key name is = ap (λ k. unwrap_or (option_map hash_of_key k) (hash_of_long name)) (sym is)
+
+-- the print of a name with its key
+pub print_with_key : (name : List ℕ) (key : Key) → key_of name ≡ Some key → print_of_key key ≡ print_of name
+unfolding print_of
+print_with_key name key is = ap (λ k. unwrap_or (option_map print_of_key k) (print_of_long name)) (sym is)
+
+-- and with none
+pub print_without_key : (name : List ℕ) → key_of name ≡ None → print_of_long name ≡ print_of name
+unfolding print_of
+print_without_key name is = ap (λ k. unwrap_or (option_map print_of_key k) (print_of_long name)) (sym is)
+
+-- that of a long name is the front of its digest
+pub long_print_is : (print : ℕ) (first digest name : List ℕ) → print ≡ from_le_bytes w128 first → first ≡ take 16 digest → digest ≡ sha256 name → print ≡ print_of_long name
+unfolding print_of_long
+long_print_is print first digest name is first_is digest_is = is ∙ ap (from_le_bytes w128) (first_is ∙ ap (take 16) digest_is)

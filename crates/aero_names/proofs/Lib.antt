@@ -6,5 +6,6 @@ pub mod Links
 pub mod Listings
 pub mod NewNames
 pub mod Searches
+pub mod Spreads
 pub mod Vectors
 pub mod LimitRule

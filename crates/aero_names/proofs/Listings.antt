@@ -9,7 +9,6 @@ use Rattle.std.specs.Prelude.{bytes_eq, slice_get, slice_index, unwrap_or, Resul
 use Rattle.std.specs.List.{list_any}
 use Rattle.aero_model.specs.Numbering.{with_name, different_names, number_of}
 use Rattle.aero_names.specs.declared.key.Key.{Key}
-use Rattle.aero_names.specs.Hash.{hash_of}
 use Rattle.aero_names.specs.Keys.{AreKeys}
 use Rattle.aero_names.specs.Indexed.{name_in, IsLatest, IsIndexed, AreDistinct, AreFound}
 use Rattle.aero_names.specs.Listing.{Listing, IsListing, is_listed}
@@ -100,27 +99,27 @@ last_place : (names : List (List ℕ)) (name : List ℕ) → slice_get (names ++
 last_place [] name = refl
 last_place (first ∷ names) name = last_place names name
 
-latest_longer : (names more : List (List ℕ)) (hash below next : ℕ) → below ≤ length names → IsLatest names hash below next → IsLatest (names ++ more) hash below next
-latest_longer names more hash below next within latest =
+latest_longer : (of : List ℕ → ℕ) (names more : List (List ℕ)) (hash below next : ℕ) → below ≤ length names → IsLatest of names hash below next → IsLatest of (names ++ more) hash below next
+latest_longer of names more hash below next within latest =
     record {
       within = latest.within;
-      here = λ n is. ap hash_of (same_name names more n (let le = latest.within in omega (arith, le, is, within))) ∙ latest.here n is;
-      others = λ n le less at. latest.others n le less (sym (ap hash_of (same_name names more n (omega (arith, less, within)))) ∙ at);
+      here = λ n is. ap of (same_name names more n (let le = latest.within in omega (arith, le, is, within))) ∙ latest.here n is;
+      others = λ n le less at. latest.others n le less (sym (ap of (same_name names more n (omega (arith, less, within)))) ∙ at);
     }
 
-indexed_longer : (names more : List (List ℕ)) (count : ℕ) (next : ℕ → ℕ) (before : List ℕ) → count ≤ length names → IsIndexed names count next before → IsIndexed (names ++ more) count next before
-indexed_longer names more count next before within indexed =
+indexed_longer : (of : List ℕ → ℕ) (names more : List (List ℕ)) (count : ℕ) (next : ℕ → ℕ) (before : List ℕ) → count ≤ length names → IsIndexed of names count next before → IsIndexed of (names ++ more) count next before
+indexed_longer of names more count next before within indexed =
     record {
-      at_hashes = λ h. latest_longer names more h count (next h) within (indexed.at_hashes h);
+      at_hashes = λ h. latest_longer of names more h count (next h) within (indexed.at_hashes h);
       behind = λ n less.
-          subst (λ name. IsLatest (names ++ more) (hash_of name) n (slice_index before n)) (sym (same_name names more n (omega (arith, less, within))))
-          (latest_longer names more (hash_of (name_in names n)) n (slice_index before n) (omega (arith, less, within)) (indexed.behind n less));
+          subst (λ name. IsLatest of (names ++ more) (of name) n (slice_index before n)) (sym (same_name names more n (omega (arith, less, within))))
+          (latest_longer of names more (of (name_in names n)) n (slice_index before n) (omega (arith, less, within)) (indexed.behind n less));
       long = indexed.long;
     }
 
-pub indexed_pushed : (names after : List (List ℕ)) (name : List ℕ) (next : ℕ → ℕ) (before : List ℕ) → after ≡ names ++ name ∷ [] → IsIndexed names (length names) next before → IsIndexed after (length names) next before
-indexed_pushed names after name next before is indexed =
-    subst (λ ns. IsIndexed ns (length names) next before) (sym is) (indexed_longer names (name ∷ []) (length names) next before (omega arith) indexed)
+pub indexed_pushed : (of : List ℕ → ℕ) (names after : List (List ℕ)) (name : List ℕ) (next : ℕ → ℕ) (before : List ℕ) → after ≡ names ++ name ∷ [] → IsIndexed of names (length names) next before → IsIndexed of after (length names) next before
+indexed_pushed of names after name next before is indexed =
+    subst (λ ns. IsIndexed of ns (length names) next before) (sym is) (indexed_longer of names (name ∷ []) (length names) next before (omega arith) indexed)
 
 -- the last name
 pub last_name : (names after : List (List ℕ)) (name : List ℕ) → after ≡ names ++ name ∷ [] → name_in after (length names) ≡ name
@@ -134,13 +133,13 @@ listing_pushed l name listing new room =
       in_range = listing.in_range;
     }
 
-pub found_pushed : (l : Listing) (name : List ℕ) (after : List (List ℕ)) (next next' : ℕ → ℕ) (before before' : List ℕ) (keys keys' : List Key) → AreFound l next before keys → is_listed l name ≡ false → length l.names < l.limit → after ≡ l.names ++ name ∷ [] →
-    IsIndexed after (length l.names + 1) next' before' → AreKeys after keys' → AreFound (record l { names = after }) next' before' keys'
-found_pushed l name after next next' before before' keys keys' found new room is indexed keyed =
+pub found_pushed : (of of' : List ℕ → ℕ) (l : Listing) (name : List ℕ) (after : List (List ℕ)) (next next' : ℕ → ℕ) (before before' : List ℕ) (keys keys' : List Key) → AreFound of l next before keys → is_listed l name ≡ false → length l.names < l.limit → after ≡ l.names ++ name ∷ [] →
+    IsIndexed of' after (length l.names + 1) next' before' → AreKeys after keys' → AreFound of' (record l { names = after }) next' before' keys'
+found_pushed of of' l name after next next' before before' keys keys' found new room is indexed keyed =
     record {
       listing = subst (λ ns. IsListing (record l { names = ns })) (sym is) (listing_pushed l name found.listing new room);
       distinct = subst AreDistinct (sym is) (distinct_pushed l.names name new found.distinct);
-      indexed = subst (λ n. IsIndexed after n next' before') (sym (ap length is ∙ length-append l.names (name ∷ []))) indexed;
+      indexed = subst (λ n. IsIndexed of' after n next' before') (sym (ap length is ∙ length-append l.names (name ∷ []))) indexed;
       keyed = keyed;
     }
 

@@ -1,7 +1,8 @@
 -- A number made of all bytes of a name. Nothing is meant by it: a name is looked for among those with the same number.
-use Rattle.std.specs.Prelude.{ℕ, ◌+◌, ◌*◌, ◌/◌, ◌%◌, ◌^◌, List, [], ◌∷◌, length, fold, option_map, unwrap_or}
-use Rattle.std.specs.Int.{w64, from_le_bytes, rotate_left}
+use Rattle.std.specs.Prelude.{ℕ, ◌+◌, ◌*◌, ◌/◌, ◌%◌, ◌^◌, List, [], ◌∷◌, length, fold, option_map, unwrap_or, take}
+use Rattle.std.specs.Int.{w64, w128, from_le_bytes, rotate_left}
 use Rattle.std.specs.Int.Bits.{bit_xor}
+use Rattle.sha2.specs.Sha256.{sha256}
 use Rattle.aero_names.specs.declared.key.Key.{Key}
 use Rattle.aero_names.specs.Keys.{key_of}
 
@@ -31,3 +32,15 @@ hash_of_long name = mixed_again (hash_from (length name) name)
 -- that of its key, where it has one
 unfoldable pub hash_of : List ℕ → ℕ
 hash_of name = unwrap_or (option_map hash_of_key (key_of name)) (hash_of_long name)
+
+-- the last bytes of the name and its first as one number
+unfoldable pub print_of_key : Key → ℕ
+print_of_key key = key.last * 2 ^ 64 + key.first
+
+-- the first sixteen bytes of its SHA-256, as a number
+unfoldable pub print_of_long : List ℕ → ℕ
+print_of_long name = from_le_bytes w128 (take 16 (sha256 name))
+
+-- that of its key, where it has one
+unfoldable pub print_of : List ℕ → ℕ
+print_of name = unwrap_or (option_map print_of_key (key_of name)) (print_of_long name)

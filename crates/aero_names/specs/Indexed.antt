@@ -1,8 +1,10 @@
--- Where the names of a list are looked for: a table leads from a hash to the latest name that has it, and each name to the one before it with the same hash.
-use Rattle.std.specs.Prelude.{◌≡◌, ◌+◌, ◌<◌, ◌≤◌, ℕ, List, [], length, slice_get, slice_index, unwrap_or, nat_eq, Some}
-use Rattle.indexmap.specs.IndexMap.{IndexMap, get}
+-- Where the names of a list are looked for: a table leads from a mark to the latest name that has it, and each name to the one before it with the same mark.
+use Rattle.std.specs.Prelude.{◌≡◌, ◌+◌, ◌-◌, ◌/◌, ◌^◌, ◌<◌, ◌≤◌, ℕ, Bool, true, false, if◌then◌else◌, List, [], length, slice_get, slice_index, unwrap_or, bit_and, Some}
+use Rattle.std.specs.Ordering.{nat_cmp}
+use Rattle.std.specs.BTreeMap.{BTreeMap, ContainsKey, get}
+use Rattle.aero_names.specs.declared.latest.Latest.{Latest}
 use Rattle.aero_names.specs.declared.key.Key.{Key}
-use Rattle.aero_names.specs.Hash.{hash_of}
+use Rattle.aero_names.specs.Hash.{hash_of, print_of}
 use Rattle.aero_names.specs.Keys.{AreKeys}
 use Rattle.aero_names.specs.Listing.{Listing, IsListing}
 
@@ -10,20 +12,48 @@ use Rattle.aero_names.specs.Listing.{Listing, IsListing}
 abbrev pub name_in : List (List ℕ) → ℕ → List ℕ
 name_in names n = unwrap_or (slice_get names n) []
 
--- where the table leads from this hash: 0 where it has none
-abbrev pub next_at : {S : Type 0} → IndexMap ℕ ℕ S → ℕ → ℕ
-next_at latest hash = unwrap_or (get nat_eq latest hash) 0
+-- of so many heads, the place of the one for this hash
+abbrev pub place_in : ℕ → ℕ → ℕ
+place_in places hash = bit_and (hash / 2 ^ 32) (places - 1)
 
--- one more than the greatest number below this one whose name has the hash, or 0 where there is none
-pub record IsLatest (names : List (List ℕ)) (hash below next : ℕ) : Type 0 where
+-- whether the names are looked for by their prints, and by how many heads they are where they aren't
+abbrev pub marks_of : Latest → Bool × ℕ
+marks_of latest = (latest.is_spread, length latest.heads.items)
+
+-- what a name is looked for by
+abbrev pub mark_of : Bool × ℕ → List ℕ → ℕ
+mark_of marks name = if marks.0 then print_of name else place_in marks.1 (hash_of name)
+
+-- where the table leads from this mark: 0 where it has none
+abbrev pub next_print : BTreeMap ℕ ℕ → ℕ → ℕ
+next_print prints mark = unwrap_or (get nat_cmp prints mark) 0
+
+abbrev pub next_at : Latest → ℕ → ℕ
+next_at latest mark = if latest.is_spread then next_print latest.prints mark else slice_index latest.heads.items mark
+
+-- there is a head, where names are looked for by heads
+abbrev pub HasHeads : Latest → Type 0
+HasHeads latest = latest.is_spread ≡ false → 0 < length latest.heads.items
+
+-- the mark is the place of a head there
+abbrev pub IsWithin : Latest → ℕ → Type 0
+IsWithin latest mark = latest.is_spread ≡ false → mark < length latest.heads.items
+
+-- the next name with this mark takes no memory
+pub record HasRoom (latest : Latest) (mark : ℕ) : Type 0 where
+  pub print : latest.is_spread ≡ true → ContainsKey nat_cmp latest.prints mark
+  pub head : IsWithin latest mark
+
+-- one more than the greatest number below this one whose name has the mark, or 0 where there is none
+pub record IsLatest (of : List ℕ → ℕ) (names : List (List ℕ)) (mark below next : ℕ) : Type 0 where
   pub within : next ≤ below
-  pub here : (n : ℕ) → next ≡ n + 1 → hash_of (name_in names n) ≡ hash
-  pub others : (n : ℕ) → next ≤ n → n < below → hash_of (name_in names n) ≡ hash → ⊥
+  pub here : (n : ℕ) → next ≡ n + 1 → of (name_in names n) ≡ mark
+  pub others : (n : ℕ) → next ≤ n → n < below → of (name_in names n) ≡ mark → ⊥
 
 -- so the first names are found, as many as are counted, by a table and by what stands behind each
-pub record IsIndexed (names : List (List ℕ)) (count : ℕ) (next : ℕ → ℕ) (before : List ℕ) : Type 0 where
-  pub at_hashes : (hash : ℕ) → IsLatest names hash count (next hash)
-  pub behind : (n : ℕ) → n < count → IsLatest names (hash_of (name_in names n)) n (slice_index before n)
+pub record IsIndexed (of : List ℕ → ℕ) (names : List (List ℕ)) (count : ℕ) (next : ℕ → ℕ) (before : List ℕ) : Type 0 where
+  pub at_hashes : (mark : ℕ) → IsLatest of names mark count (next mark)
+  pub behind : (n : ℕ) → n < count → IsLatest of names (of (name_in names n)) n (slice_index before n)
   pub long : length before ≡ count
 
 -- no two have the same name
@@ -31,8 +61,8 @@ abbrev pub AreDistinct : List (List ℕ) → Type 0
 AreDistinct names = (a b : ℕ) (name : List ℕ) → slice_get names a ≡ Some name → slice_get names b ≡ Some name → a ≡ b
 
 -- the names are different, each is found by the two tables, and these are their keys
-pub record AreFound (l : Listing) (next : ℕ → ℕ) (before : List ℕ) (keys : List Key) : Type 0 where
+pub record AreFound (of : List ℕ → ℕ) (l : Listing) (next : ℕ → ℕ) (before : List ℕ) (keys : List Key) : Type 0 where
   pub listing : IsListing l
   pub distinct : AreDistinct l.names
-  pub indexed : IsIndexed l.names (length l.names) next before
+  pub indexed : IsIndexed of l.names (length l.names) next before
   pub keyed : AreKeys l.names keys

@@ -1,8 +1,8 @@
 //! A number made of all bytes of a name. Nothing is known of it but that equal names have equal ones.
 ghost use Rattle.std.specs.Prelude.{◌≡◌};
-ghost use Rattle.aero_names.specs.Hash.{mixed as mixed_in, short_word as word_in, mixed_again as mixed_again_in, hash_of_key as key_hash, hash_of_long as long_hash};
+ghost use Rattle.aero_names.specs.Hash.{mixed as mixed_in, short_word as word_in, mixed_again as mixed_again_in, hash_of_key as key_hash, hash_of_long as long_hash, hash_of as hash_in};
 
-use crate::key::Key;
+use crate::key::{Key, key_of};
 
 // An odd number with no pattern in its bits.
 const FACTOR: u64 = 17_378_887_893_183_147_461;
@@ -57,4 +57,14 @@ pub(crate) fn hash_of_long(name: &[u8]) -> u64
         rest = behind;
     }
     mixed_again(mixed(hash, short_word(rest)))
+}
+
+// The hash of a name.
+pub(crate) fn hash_of(name: &[u8]) -> u64
+    ensures { result ≡ hash_in name.now }
+{
+    match key_of(name) {
+        Some(key) => hash_of_key(key),
+        None => hash_of_long(name),
+    }
 }

@@ -1,28 +1,21 @@
-//! How the names of a list are found. `latest` leads from a hash to one more than the number of the latest
-//! name that has it, and `before` has for each name the same of the one before it with its hash; 0 where
-//! there is none. A name is looked for along those of its hash, and compared with each.
-//!
-//! Hints come first: a place for some bits of the hash, and there the number of a name. What it says is
-//! compared too, so it may be wrong or old: by the keys, which are kept for each name, or, where the name
-//! has none, by its bytes.
-ghost use Rattle.std.specs.Prelude.{◌≡◌, ◌+◌, ◌<◌, ◌↔◌, ◌++◌, ◌∷◌, [], ℕ, IsTrue, false, length, slice_get, Some, IfSome, IfNone, OnOk, bytes_eq, nat_eq, if◌then◌else◌, vec_capacity, vec_len};
+//! How the names of a list are found. The table `latest` leads from a mark to one more than the number of the latest
+//! name that has it, and `before` has for each name the same of the one before it with its mark; 0 where there is
+//! none. A name is looked for along those of its mark, and compared with each: by the keys, which are kept for each
+//! name, or, where the name has none, by its bytes.
+ghost use Rattle.std.specs.Prelude.{◌≡◌, ◌+◌, ◌<◌, ◌↔◌, ◌++◌, ◌∷◌, [], ℕ, IsTrue, false, length, slice_get, Some, IfSome, IfNone, IfOk, OnOk, bytes_eq, nat_eq, if◌then◌else◌, vec_capacity, vec_len};
 ghost use Rattle.std.specs.List.{list_any};
-ghost use Rattle.indexmap.specs.IndexMap.{spare};
 ghost use Rattle.aero_names.specs.Hash.{hash_of as hash_in, hash_of_long as long_hash};
-ghost use Rattle.aero_names.specs.Indexed.{IsIndexed, next_at};
+ghost use Rattle.aero_names.specs.Indexed.{IsIndexed, mark_of as mark_in, marks_of, next_at, HasHeads, HasRoom, IsWithin};
 ghost use Rattle.aero_names.specs.Keys.{AreKeys, key_of as key_in};
 
-use crate::hash::{hash_of_key, hash_of_long};
+use crate::hash::{hash_of, hash_of_key, hash_of_long};
 use crate::key::{Key, key_of};
+use crate::latest::{Latest, place_of};
 use crate::list::NameList;
-use indexmap::IndexMap;
 use std::alloc::{AllocError, Global};
 
-// How many places hints have at first, and at most: powers of two. Growing loses them, so the first are
-// enough for most blocks.
-const FEWEST_HINTS: usize = 1_024;
-
-const MOST_HINTS: usize = 4_194_304;
+// How many heads there are at first: enough for most blocks.
+const FEWEST_HEADS: usize = 1_024;
 
 // Whether the list's name with this number is this one.
 #[inline(always)]
@@ -46,11 +39,10 @@ fn is_key_here(keys: &[Key], number: u32, key: Key) -> bool
     }
 }
 
-// The hash of the name, and the number that the hint for it tells, where it is the name's. These are the
-// keys of the names.
+// The hash of the name, and its number, where it is the latest one at its place. These are the keys of the names.
 #[inline(always)]
-pub(crate) fn hinted(
-    hints: &[u32],
+pub(crate) fn found_at_head(
+    heads: &[u32],
     keys: &[Key],
     names: &NameList,
     name: &[u8],
@@ -62,81 +54,50 @@ pub(crate) fn hinted(
     match key_of(name) {
         Some(key) => {
             let hash = hash_of_key(key);
-            (hash, hinted_by_key(hints, keys, key, hash))
+            (hash, found_by_key(heads, keys, key, hash))
         }
-        None => hinted_long(hints, names, name),
+        None => found_long(heads, names, name),
     }
 }
 
-// The number that the hint for this hash tells, where the name there has this key.
+// The number of the latest name at the place of this hash, where it has this key.
 #[inline(always)]
-fn hinted_by_key(hints: &[u32], keys: &[Key], key: Key, hash: u64) -> Option<u32>
+fn found_by_key(heads: &[u32], keys: &[Key], key: Key, hash: u64) -> Option<u32>
     ensures { IfSome result (λ number. slice_get keys.now number ≡ Some key) }
 {
-    let hint = *hints.get(hint_place(hash, hints.len()))?;
-    if is_key_here(keys, hint, key) {
-        return Some(hint);
+    let number = head_number(heads, hash)?;
+    if is_key_here(keys, number, key) {
+        return Some(number);
     }
     None
 }
 
 // The same of a name with no key.
-fn hinted_long(hints: &[u32], names: &NameList, name: &[u8]) -> (u64, Option<u32>)
+fn found_long(heads: &[u32], names: &NameList, name: &[u8]) -> (u64, Option<u32>)
     ensures hash { result.0 ≡ long_hash name.now }
     ensures number { IfSome result.1 (λ number. slice_get names.now number ≡ Some name.now) }
 {
     let hash = hash_of_long(name);
-    (hash, hinted_by_bytes(hints, names, name, hash))
+    (hash, found_by_bytes(heads, names, name, hash))
 }
 
-// The number that the hint for this hash tells, where the name there is this one.
+// The number of the latest name at the place of this hash, where it is this one.
 #[inline(always)]
-fn hinted_by_bytes(hints: &[u32], names: &NameList, name: &[u8], hash: u64) -> Option<u32>
+fn found_by_bytes(heads: &[u32], names: &NameList, name: &[u8], hash: u64) -> Option<u32>
     ensures { IfSome result (λ number. slice_get names.now number ≡ Some name.now) }
 {
-    let hint = *hints.get(hint_place(hash, hints.len()))?;
-    if is_here(names, hint, name) {
-        return Some(hint);
+    let number = head_number(heads, hash)?;
+    if is_here(names, number, name) {
+        return Some(number);
     }
     None
 }
 
-// Of so many hints, which is a power of two, the place of the one for this hash. There is none among none.
+// The number of the latest name at the place of this hash. Where there is none it is one that no name has.
 #[inline(always)]
-fn hint_place(hash: u64, hints: usize) -> usize {
-    (hash >> 32) as usize & hints.wrapping_sub(1)
-}
-
-// The next time the hint is this number.
-#[inline(always)]
-pub(crate) fn set_hint(hints: &mut [u32], hash: u64, number: u32) {
-    let place = hint_place(hash, hints.len());
-    if let Some(hint) = hints.get_mut(place) {
-        *hint = number;
-    }
-}
-
-// Twice as many hints as there are names, or more, but no more than 2^22, where memory isn't refused.
-pub(crate) fn grow_hints(alloc: Global, hints: &mut Vec<u32>, names: u32) {
-    let places = hints.len();
-    if places / 2 > names as usize || places >= MOST_HINTS {
-        return;
-    }
-    let more = places.saturating_mul(2).max(FEWEST_HINTS);
-    if let Ok(grown) = vec![in alloc; 0u32; more] {
-        *hints = grown;
-    }
-}
-
-// Where the table leads from this hash: 0 where it has none.
-#[inline(always)]
-fn latest_with(latest: &IndexMap<u64, u32>, hash: u64) -> u32
-    ensures { result ≡ next_at latest.now hash }
-{
-    match latest.get(&hash) {
-        Some(next) => *next,
-        None => 0,
-    }
+fn head_number(heads: &[u32], hash: u64) -> Option<u32> {
+    let next = *heads.get(place_of(hash, heads.len()))?;
+    Some(next.wrapping_sub(1))
 }
 
 // Whether the name with this number, of which these are the keys, is this one, whose key this is.
@@ -152,63 +113,137 @@ fn is_named(keys: &[Key], names: &NameList, number: u32, name: &[u8], key: Optio
     }
 }
 
-// The number of the name, whose hash this is, where the list has it.
+// The number of the name, whose mark this is, where the list has it, and how many names were passed before.
 pub(crate) fn find(
-    latest: &IndexMap<u64, u32>,
+    latest: &Latest,
     before: &[u32],
     keys: &[Key],
     names: &NameList,
     name: &[u8],
-    hash: u64,
-) -> Option<u32>
-    requires indexed { IsIndexed names.now (length names.now) (next_at latest.now) before.now }
+    mark: u128,
+) -> (Option<u32>, u32)
+    requires indexed { IsIndexed (mark_in (marks_of latest.now)) names.now (length names.now) (next_at latest.now) before.now }
     requires keyed { AreKeys names.now keys.now }
-    requires hashed { hash ≡ hash_in name.now }
-    ensures found { IfSome result (λ number. slice_get names.now number ≡ Some name.now) }
-    ensures missed { IfNone result (list_any (bytes_eq name.now) names.now ≡ false) }
+    requires marked { mark ≡ mark_in (marks_of latest.now) name.now }
+    ensures found { IfSome result.0 (λ number. slice_get names.now number ≡ Some name.now) }
+    ensures missed { IfNone result.0 (list_any (bytes_eq name.now) names.now ≡ false) }
 {
     let key = key_of(name);
-    let mut next = latest_with(latest, hash);
+    let mut passed = 0u32;
+    let mut next = latest.next(mark);
     while next > 0 {
         let number = next - 1;
         if is_named(keys, names, number, name, key) {
-            return Some(number);
+            return (Some(number), passed);
         }
+        passed = passed.saturating_add(1);
         next = before[number as usize];
     }
-    None
+    (None, passed)
 }
 
 // Room for one name more in the tables and among the keys, so that `link` and a push need no memory.
 pub(crate) fn make_room(
-    latest: &mut IndexMap<u64, u32>,
+    latest: &mut Latest,
     before: &mut Vec<u32>,
     keys: &mut Vec<Key>,
+    mark: u128,
 ) -> Result<(), AllocError>
-    ensures same { (h : ℕ) → next_at latest.new h ≡ next_at latest.old h }
+    requires { IsWithin latest.old mark }
+    ensures marks { marks_of latest.new ≡ marks_of latest.old }
+    ensures same { (m : ℕ) → next_at latest.new m ≡ next_at latest.old m }
     ensures rows { before.new.items ≡ before.old.items }
     ensures keys { keys.new.items ≡ keys.old.items }
-    ensures spare { OnOk result (0 < spare latest.new) }
+    ensures spare { OnOk result (HasRoom latest.new mark) }
     ensures room { OnOk result (vec_len before.new < vec_capacity before.new) }
     ensures key { OnOk result (vec_len keys.new < vec_capacity keys.new) }
 {
     keys.reserve(1)?;
     before.reserve(1)?;
-    latest.reserve(1)?;
+    latest.make_room(mark)?;
     Ok(())
 }
 
-// The next name, whose number and hash these are, is found too.
-pub(crate) fn link(latest: &mut IndexMap<u64, u32>, before: &mut Vec<u32>, number: u32, hash: u64)
+// The next name, whose number and mark these are, is found too.
+pub(crate) fn link(latest: &mut Latest, before: &mut Vec<u32>, number: u32, mark: u128)
     requires fits { number < u32.MAX }
-    requires spare { 0 < spare latest.old }
+    requires spare { HasRoom latest.old mark }
     requires room { vec_len before.old < vec_capacity before.old }
-    ensures latest { (h : ℕ) → next_at latest.new h ≡ (if nat_eq hash h then number + 1 else next_at latest.old h) }
-    ensures rows { before.new.items ≡ before.old.items ++ next_at latest.old hash ∷ [] }
+    ensures marks { marks_of latest.new ≡ marks_of latest.old }
+    ensures latest { (m : ℕ) → next_at latest.new m ≡ (if nat_eq mark m then number + 1 else next_at latest.old m) }
+    ensures rows { before.new.items ≡ before.old.items ++ next_at latest.old mark ∷ [] }
 {
-    let Ok(previous) = latest.insert(hash, number + 1) else {
-        unreachable!()
-    };
-    let next = previous.unwrap_or(0);
+    let next = latest.put(mark, number + 1);
     before.push(next).unwrap();
+}
+
+// The next name, whose number and mark these are, is found too, where memory isn't refused.
+fn link_with_room(
+    latest: &mut Latest,
+    before: &mut Vec<u32>,
+    number: u32,
+    mark: u128,
+) -> Result<(), AllocError>
+    requires fits { number < u32.MAX }
+    requires within { IsWithin latest.old mark }
+    ensures marks { marks_of latest.new ≡ marks_of latest.old }
+    ensures latest { OnOk result ((m : ℕ) → next_at latest.new m ≡ (if nat_eq mark m then number + 1 else next_at latest.old m)) }
+    ensures rows { OnOk result (before.new.items ≡ before.old.items ++ next_at latest.old mark ∷ []) }
+{
+    before.reserve(1)?;
+    latest.make_room(mark)?;
+    link(latest, before, number, mark);
+    Ok(())
+}
+
+// The tables that find the names, of which the first is this one, which leads nowhere yet.
+fn tables_from(
+    mut latest: Latest,
+    alloc: Global,
+    names: &NameList,
+) -> Result<(Latest, Vec<u32>), AllocError>
+    requires heads { HasHeads latest }
+    requires none { (m : ℕ) → next_at latest m ≡ 0 }
+    ensures marks { IfOk result (λ tables. marks_of tables.0 ≡ marks_of latest) }
+    ensures indexed { IfOk result (λ tables. IsIndexed (mark_in (marks_of tables.0)) names.now (length names.now) (next_at tables.0) tables.1.items) }
+{
+    let mut before = Vec::new(alloc);
+    for number in 0..names.len() {
+        let Some(name) = names.name(number) else {
+            unreachable!()
+        };
+        let mark = latest.mark_of(name, hash_of(name));
+        link_with_room(&mut latest, &mut before, number, mark)?;
+    }
+    Ok((latest, before))
+}
+
+// Tables that find the names by their prints.
+pub(crate) fn spread(alloc: Global, names: &NameList) -> Result<(Latest, Vec<u32>), AllocError>
+    ensures { IfOk result (λ tables. IsIndexed (mark_in (marks_of tables.0)) names.now (length names.now) (next_at tables.0) tables.1.items) }
+{
+    tables_from(Latest::new(alloc, true), alloc, names)
+}
+
+// Where the names are found by heads, there are more than twice as many as names. Where memory is refused nothing changes.
+pub(crate) fn grow(
+    alloc: Global,
+    latest: &mut Latest,
+    before: &mut Vec<u32>,
+    names: &NameList,
+) -> Result<(), AllocError>
+    requires { IsIndexed (mark_in (marks_of latest.old)) names.now (length names.now) (next_at latest.old) before.old.items }
+    ensures indexed { IsIndexed (mark_in (marks_of latest.new)) names.now (length names.now) (next_at latest.new) before.new.items }
+    ensures heads { OnOk result (HasHeads latest.new) }
+{
+    let places = latest.heads.len();
+    if latest.is_spread || places / 2 > names.len() as usize {
+        return Ok(());
+    }
+    let more = places.saturating_mul(2).max(FEWEST_HEADS);
+    let grown = Latest::with_heads(alloc, more)?;
+    let (grown, linked) = tables_from(grown, alloc, names)?;
+    *latest = grown;
+    *before = linked;
+    Ok(())
 }

@@ -29,6 +29,8 @@
 mod hash;
 mod index;
 mod key;
+mod latest;
 pub mod laws;
 pub mod list;
 pub mod names;
+mod print;

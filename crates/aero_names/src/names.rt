@@ -1,9 +1,9 @@
 //! A list of different names, numbered in order of first appearance.
-use crate::index::{find, grow_hints, hinted, link, make_room, set_hint};
+use crate::index::{find, found_at_head, grow, link, make_room, spread};
 use crate::key::{Key, kept_key};
+use crate::latest::Latest;
 use crate::list::NameList;
 use aero_model::name::Name;
-use indexmap::IndexMap;
 use std::alloc::{AllocError, Global};
 use std::marker::Model;
 use thiserror::Error;
@@ -17,31 +17,32 @@ pub enum NamesFault {
     Memory,
 }
 
+// How many names with its mark a new name may pass.
+const MOST_PASSED: u32 = 32;
+
 /// Different names, numbered from 0 in order of first appearance, up to a limit.
 ///
-/// A look-up takes expected constant time in the number of names, and time linear in the name. The
-/// hash function is fixed: whoever chooses the names can choose them to collide, and a
-/// look-up then takes time linear in the number of names.
+/// A look-up takes expected constant time in the number of names, and time linear in the name. Where
+/// names are chosen so that many share a place of its table, it takes logarithmic time.
 #[derive(Drop)]
 pub struct Names {
     alloc: Global,
     list: NameList,
-    latest: IndexMap<u64, u32>,
+    latest: Latest,
     before: Vec<u32>,
     keys: Vec<Key>,
-    hints: Vec<u32>,
     limit: u32,
 }
 
 impl Model for Names {
     ghost use Rattle.aero_names.specs.Listing.{Listing};
-    ghost use Rattle.aero_names.specs.Indexed.{AreFound, next_at};
+    ghost use Rattle.aero_names.specs.Indexed.{AreFound, mark_of, marks_of, next_at};
 
     ghost Value = { Listing };
 
     ghost view = { λ n. record { names = n.list; limit = n.limit } };
 
-    ghost invariant = { λ n. AreFound (record { names = n.list; limit = n.limit }) (next_at n.latest) n.before.items n.keys.items };
+    ghost invariant = { λ n. AreFound (mark_of (marks_of n.latest)) (record { names = n.list; limit = n.limit }) (next_at n.latest) n.before.items n.keys.items };
 }
 
 impl Names {
@@ -57,10 +58,9 @@ impl Names {
         Names {
             alloc,
             list: NameList::new(alloc),
-            latest: IndexMap::new(alloc),
+            latest: Latest::new(alloc, false),
             before: Vec::new(alloc),
             keys: Vec::new(alloc),
-            hints: Vec::new(alloc),
             limit,
         }
     }
@@ -96,15 +96,15 @@ impl Names {
         ensures err { OnErr result (self.new ≡ self.old) }
         ensures listing { IsListing self.new }
     {
-        let (hash, hint) = hinted(&self.hints, &self.keys, &self.list, bytes);
-        match hint {
+        let (hash, found) = found_at_head(&self.latest.heads, &self.keys, &self.list, bytes);
+        match found {
             Some(number) => Ok(number),
-            None => self.number_without_hint(bytes, hash),
+            None => self.number_along(bytes, hash),
         }
     }
 
-    // The same where there is no hint for the name, whose hash this is.
-    fn number_without_hint(&mut self, name: &[u8], hash: u64) -> Result<u32, NamesFault>
+    // The same, where the name, whose hash this is, is looked for along all with its mark.
+    fn number_along(&mut self, name: &[u8], hash: u64) -> Result<u32, NamesFault>
         requires { hash ≡ hash_in name.now }
         ensures number { IfOk result (λ number. number ≡ number_of self.new.names name.now) }
         ensures place { IfOk result (λ number. slice_get self.new.names number ≡ Some name.now) }
@@ -114,24 +114,23 @@ impl Names {
         ensures err { OnErr result (self.new ≡ self.old) }
         ensures listing { IsListing self.new }
     {
-        match find(
+        let mark = self.latest.mark_of(name, hash);
+        let (found, passed) = find(
             &self.latest,
             &self.before,
             &self.keys,
             &self.list,
             name,
-            hash,
-        ) {
-            Some(number) => {
-                set_hint(&mut self.hints, hash, number);
-                Ok(number)
-            }
-            None => self.number_new(name, hash),
+            mark,
+        );
+        match found {
+            Some(number) => Ok(number),
+            None => self.number_new(name, hash, passed),
         }
     }
 
-    // The next number, for a name that is new.
-    fn number_new(&mut self, name: &[u8], hash: u64) -> Result<u32, NamesFault>
+    // The next number, for a name that is new, and passed so many with its mark.
+    fn number_new(&mut self, name: &[u8], hash: u64, passed: u32) -> Result<u32, NamesFault>
         requires new { is_listed self.old name.now ≡ false }
         requires hashed { hash ≡ hash_in name.now }
         ensures number { IfOk result (λ number. number ≡ length self.old.names) }
@@ -145,8 +144,27 @@ impl Names {
             return Err(NamesFault::Full);
         }
         match self.add(name, hash) {
-            Ok(()) => Ok(number),
+            Ok(()) => {
+                if passed > MOST_PASSED {
+                    self.spread();
+                }
+                Ok(number)
+            }
             Err(_) => Err(NamesFault::Memory),
+        }
+    }
+
+    // The names are found by their prints from now on, where memory isn't refused.
+    fn spread(&mut self)
+        ensures same { self.new ≡ self.old }
+        ensures listing { IsListing self.new }
+    {
+        if self.latest.is_spread {
+            return;
+        }
+        if let Ok((latest, before)) = spread(self.alloc, &self.list) {
+            self.latest = latest;
+            self.before = before;
         }
     }
 
@@ -160,12 +178,17 @@ impl Names {
         ensures listing { IsListing self.new }
     {
         let number = self.list.len();
-        make_room(&mut self.latest, &mut self.before, &mut self.keys)?;
+        grow(
+            self.alloc,
+            &mut self.latest,
+            &mut self.before,
+            &self.list,
+        )?;
+        let mark = self.latest.mark_of(name, hash);
+        make_room(&mut self.latest, &mut self.before, &mut self.keys, mark)?;
         self.list.push(name)?;
         self.keys.push_reserved(kept_key(name));
-        link(&mut self.latest, &mut self.before, number, hash);
-        grow_hints(self.alloc, &mut self.hints, number);
-        set_hint(&mut self.hints, hash, number);
+        link(&mut self.latest, &mut self.before, number, mark);
         Ok(())
     }
 

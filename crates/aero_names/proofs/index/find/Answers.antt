@@ -4,11 +4,11 @@ use Rattle.aero_names.proofs.Searches.{left_at_first, left_later, none_listed}
 use Rattle.aero_names.proofs.index.find.Goals as goal
 
 pub loop-next-init : goal.loop-next-init
-loop-next-init c = left_at_first _ _ _ _ _ _ c.requires.indexed c.requires.hashed c.latest_with-next.ensures
+loop-next-init c = left_at_first _ _ _ _ _ _ _ c.requires.indexed c.requires.marked c.next-next.ensures
 
 pub loop-next-preserved : goal.loop-next-preserved
 loop-next-preserved c =
-    left_later _ _ _ _ _ _ _ c.requires.indexed c.loop-next.invariant (omega (arith, c.loop-next-test.true))
+    left_later _ _ _ _ _ _ _ _ c.requires.indexed c.loop-next.invariant (omega (arith, c.loop-next-test.true))
     (λ at. both_ways _ c.if-is_named.false (c.is_named.ensures.1 at)) refl
 
 pub returns-clause-missed : goal.returns-clause-missed

@@ -1,6 +1,5 @@
-use Rattle.std.proofs.Common.{rules, ◌≡◌, ◌+◌, ◌<◌, ◌==◌, ℕ, false, [], ◌∷◌, ◌++◌, length, sym, ◌∙◌, ap, subst, if◌then◌else◌}
-use Rattle.aero_names.specs.Hash.{hash_of}
-use Rattle.aero_names.specs.Indexed.{name_in, next_at}
+use Rattle.std.proofs.Common.{rules, ◌≡◌, ◌+◌, ◌<◌, ◌==◌, ℕ, List, Bool, false, [], ◌∷◌, ◌++◌, length, sym, ◌∙◌, ap, subst, if◌then◌else◌}
+use Rattle.aero_names.specs.Indexed.{name_in, next_at, marks_of, mark_of, AreFound}
 use Rattle.aero_names.specs.Listing.{Listing, is_listed}
 use Rattle.aero_names.proofs.Keys.{keys_pushed}
 use Rattle.aero_names.proofs.Links.{linked, indexed_same}
@@ -10,18 +9,21 @@ use Rattle.aero_names.proofs.names.Names.add.Goals as goal
 pub invariant_of-self-2 : goal.invariant_of-self-2
 invariant_of-self-2 c =
     let l : Listing = record { names = c.self.inside.list; limit = c.self.inside.limit } in
-    let roomy = indexed_same c.self.inside.list (length c.self.inside.list) (next_at c.self.inside.latest) (next_at c.make_room.new.latest) c.self.inside.before.items c.make_room.new.before.items
-    c.make_room.ensures.same c.make_room.ensures.rows c.self.invariant.indexed in
-    let pushed = indexed_pushed c.self.inside.list c.push.new.self c.args.name.now (next_at c.make_room.new.latest) c.make_room.new.before.items c.in_ok-push.ensures.ok roomy in
-    let hash_is : c.args.hash ≡ hash_of (name_in c.push.new.self (length c.self.inside.list)) =
-    c.requires.hashed ∙ sym (ap hash_of (last_name c.self.inside.list c.push.new.self c.args.name.now c.in_ok-push.ensures.ok)) in
-    let updates : (h : ℕ) → next_at c.link.new.latest h ≡ (if c.args.hash == h then length c.self.inside.list + 1 else next_at c.make_room.new.latest h) =
-    λ h. c.link.ensures.latest h ∙ ap (λ n. if c.args.hash == h then n + 1 else next_at c.make_room.new.latest h) c.len-number.ensures in
+    let of : List ℕ → ℕ = mark_of (marks_of c.grow.new.latest) in
+    let roomy = indexed_same of c.self.inside.list (length c.self.inside.list) (next_at c.grow.new.latest) (next_at c.make_room.new.latest) c.grow.new.before.items c.make_room.new.before.items
+    c.make_room.ensures.same c.make_room.ensures.rows c.grow.ensures.indexed in
+    let pushed = indexed_pushed of c.self.inside.list c.push.new.self c.args.name.now (next_at c.make_room.new.latest) c.make_room.new.before.items c.in_ok-push.ensures.ok roomy in
+    let mark_is : c.mark_of-mark.result ≡ of (name_in c.push.new.self (length c.self.inside.list)) =
+    c.mark_of-mark.ensures.mark ∙ sym (ap of (last_name c.self.inside.list c.push.new.self c.args.name.now c.in_ok-push.ensures.ok)) in
+    let updates : (m : ℕ) → next_at c.link.new.latest m ≡ (if c.mark_of-mark.result == m then length c.self.inside.list + 1 else next_at c.make_room.new.latest m) =
+    λ m. c.link.ensures.latest m ∙ ap (λ n. if c.mark_of-mark.result == m then n + 1 else next_at c.make_room.new.latest m) c.len-number.ensures in
     let keyed = keys_pushed c.self.inside.list c.push.new.self c.self.inside.keys.items c.push_reserved.new.self.items c.args.name.now c.kept_key.result c.self.invariant.keyed (search rules) c.kept_key.ensures c.in_ok-push.ensures.ok
     (c.push_reserved.ensures.items ∙ ap (λ ks. ks ++ c.kept_key.result ∷ []) c.make_room.ensures.keys) in
-    found_pushed l c.args.name.now c.push.new.self (next_at c.self.inside.latest) (next_at c.link.new.latest) c.self.inside.before.items c.link.new.before.items c.self.inside.keys.items c.push_reserved.new.self.items c.self.invariant
+    subst (λ (b : Bool × ℕ). AreFound (mark_of b) (record l { names = c.push.new.self }) (next_at c.link.new.latest) c.link.new.before.items c.push_reserved.new.self.items)
+    (sym (c.link.ensures.marks ∙ c.make_room.ensures.marks))
+    (found_pushed (mark_of (marks_of c.self.inside.latest)) of l c.args.name.now c.push.new.self (next_at c.self.inside.latest) (next_at c.link.new.latest) c.self.inside.before.items c.link.new.before.items c.self.inside.keys.items c.push_reserved.new.self.items c.self.invariant
     (subst (λ (k : Listing). is_listed k c.args.name.now ≡ false) (sym c.self.view_is) c.requires.new)
     (subst (λ (k : Listing). length k.names < k.limit) (sym c.self.view_is) c.requires.room)
     c.in_ok-push.ensures.ok
-    (linked c.push.new.self (next_at c.make_room.new.latest) (next_at c.link.new.latest) c.make_room.new.before.items c.link.new.before.items (length c.self.inside.list) c.args.hash pushed hash_is updates c.link.ensures.rows)
-    keyed
+    (linked of c.push.new.self (next_at c.make_room.new.latest) (next_at c.link.new.latest) c.make_room.new.before.items c.link.new.before.items (length c.self.inside.list) c.mark_of-mark.result pushed mark_is updates c.link.ensures.rows)
+    keyed)
