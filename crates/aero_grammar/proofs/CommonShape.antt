@@ -1,13 +1,16 @@
 -- Lines of the common shape.
-use Rattle.std.proofs.Common.{◌≡◌, ◌≤◌, ◌<◌, ◌+◌, ◌-◌, ◌==◌, ◌||◌, ◌&&◌, ℕ, zero, suc, min, Bool, true, false, cond, not, List, [], ◌∷◌, length, take, drop, get_or, Option, refl, sym, ap, ◌∙◌, arith}
-use Rattle.std.specs.List.{position_or_len, list_any, list_all, before_first, after_first}
+use Rattle.std.proofs.Common.{◌≡◌, ◌≤◌, ◌<◌, ◌+◌, ◌-◌, ◌==◌, ◌||◌, ◌&&◌, ℕ, zero, suc, min, Bool, true, false, cond, not, List, [], ◌∷◌, length, take, drop, get_or, Option, Some, refl, sym, ap, ◌∙◌, arith}
+use Rattle.std.specs.List.{position_or_len, prefix_len, suffix_len, list_any, list_all, before_first, after_first}
 use Rattle.std.specs.Prelude.{slice_index}
-use Rattle.std.proofs.lemmas.Bool.{ne_eqb, eqb-true, le-ltb, or_parts}
-use Rattle.std.proofs.lemmas.List.{take-take, drop-take, length-take}
+use Rattle.std.proofs.lemmas.Bool.{and_right, ne_eqb, eqb-true, le-ltb, or_parts}
+use Rattle.std.proofs.lemmas.List.{take-take, drop-take, length-take, length-drop, take_all}
+use Rattle.std.proofs.lemmas.List.Sums.{prefix_len-drop_no, suffix_len-take_no}
 use Rattle.aero_model.specs.declared.event.Op.{Op}
+use Rattle.aero_model.specs.Exempt.{label_of}
 use Rattle.aero_model.specs.Lines.{is_too_long}
+use Rattle.aero_model.specs.Named.{stands_alone}
 use Rattle.aero_model.specs.Names.{is_bad_byte}
-use Rattle.aero_grammar.specs.Meaning.{Means, meaning, is_bar, is_blank, is_long_name, trimmed}
+use Rattle.aero_grammar.specs.Meaning.{Means, meaning, is_bar, is_blank, is_parenthesis, is_long_name, label_in, operation_of, target_bytes, target_of, trimmed}
 use Rattle.aero_grammar.specs.Short.{IsShort}
 
 -- the first place among fewer elements
@@ -38,10 +41,6 @@ field_between text end bar more below at within is =
 blank_step : (x : ℕ) (b any all : Bool) → x == 124 ≡ b → (b || any) ≡ true → (any ≡ true → all ≡ false) → (is_blank x && all) ≡ false
 blank_step x true any all is some rest = let bar = eqb-true x 124 is in rw bar refl
 blank_step x false any all is some rest = and_right (is_blank x) all (rest some)
-  where
-    and_right : (a c : Bool) → c ≡ false → (a && c) ≡ false
-    and_right true c h = h
-    and_right false c h = refl
 
 pub barred_not_blank : (xs : List ℕ) → list_any is_bar xs ≡ true → list_all is_blank xs ≡ false
 barred_not_blank [] some = cc
@@ -74,3 +73,52 @@ short_meaning line thread field op target few good barred thread_is bare some sh
     let named : (length thread == 0) ≡ false = ne_eqb (length thread) 0 (λ e. omega (arith, e, some)) in
     let short_name : is_long_name thread ≡ false = le-ltb 255 (length thread) (omega (arith, short)) in
     rw (stripped, fits, good, not_blank, barred, thread_at, field_at, named, is.word, is.closed, is.present, short_name, is.short, is.told) refl
+
+-- where neither the first byte nor the last is a blank, none stands round the bytes
+pub nothing_trimmed : (xs : List ℕ) → 0 < length xs → is_blank (get_or xs 0 0) ≡ false → is_blank (get_or xs (length xs - 1) 0) ≡ false → trimmed xs ≡ xs
+nothing_trimmed xs some first last =
+    let whole : take (length xs) xs ≡ xs = take_all (length xs) xs (omega arith) in
+    let front : prefix_len is_blank xs ≡ 0 = prefix_len-drop_no is_blank xs 0 0 some first in
+    let back : suffix_len is_blank xs ≡ 0 = ap (suffix_len is_blank) (sym whole) ∙ suffix_len-take_no is_blank xs (length xs) 0 some (omega arith) last in
+    ap (λ k. take (length (drop k xs) - suffix_len is_blank (drop k xs)) (drop k xs)) front
+    ∙ ap (λ n. take n xs) (omega (arith, back)) ∙ whole
+
+-- a field with an operation's word, a `(` behind it, at least a byte, and a `)` at the end
+module _ (field : List ℕ) (op : Op) (word : ℕ) (at : position_or_len is_parenthesis field ≡ word) (few : length field < 32) (room : word + 2 ≤ length field - 1) where
+  abbrev behind : List ℕ
+  behind = drop (word + 1) field
+
+  abbrev pub target : List ℕ
+  target = take (length field - 1 - (word + 1)) behind
+
+  is : target_bytes field ≡ target
+  is =
+      ap (λ k. take (length (drop (k + 1) field) - 1) (drop (k + 1) field)) at
+      ∙ ap (λ n. take n behind) (omega (arith, length-drop (word + 1) field))
+
+  size : length target ≡ length field - 1 - (word + 1)
+  size = omega (arith, length-drop (word + 1) field, length-take (length field - 1 - (word + 1)) behind)
+
+  some : (length (target_bytes field) == 0) ≡ false
+  some = ap (λ t. length t == 0) is ∙ ne_eqb (length target) 0 (λ e. omega (arith, e, size, room))
+
+  short : is_long_name (target_bytes field) ≡ false
+  short = ap is_long_name is ∙ le-ltb 255 (length target) (omega (arith, few, size))
+
+  abbrev pub kept : Option (List ℕ)
+  kept = cond (stands_alone op) (label_of op (Some target)) (Some target)
+
+  told : target_of op field ≡ kept
+  told =
+      let label : label_in (target_bytes field) ≡ Some (target_bytes field) = rw (some, short) refl in
+      ap (λ l. cond (stands_alone op) (label_of op l) (Some (target_bytes field))) label ∙ ap (λ t. cond (stands_alone op) (label_of op (Some t)) (Some t)) is
+
+  pub targeted_is_short : operation_of (take word field) ≡ Some op → is_blank (get_or field 0 0) ≡ false → get_or field (length field - 1) 0 ≡ 41 → IsShort field op kept
+  targeted_is_short named first last = record {
+    bare = nothing_trimmed field (omega (arith, room)) first (ap is_blank last);
+    word = ap (λ k. operation_of (take k field)) at ∙ named;
+    closed = and_right (list_any is_parenthesis field) (not (get_or field (length field - 1) 0 == 41)) (ap (λ b. not (b == 41)) last);
+    present = and_right (not (stands_alone op)) (length (target_bytes field) == 0) some;
+    short = and_right (not (stands_alone op)) (is_long_name (target_bytes field)) short;
+    told = told;
+  }

@@ -10,3 +10,4 @@ pub mod Places
 pub mod Readings
 pub mod TablesGrown
 pub mod Vectors
+pub mod FirstWord

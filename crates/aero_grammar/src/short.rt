@@ -1,15 +1,16 @@
 //! Lines of the common shape, read with few tests that a processor can't guess: each of their places
 //! is found in 32 bytes at once.
-ghost use Rattle.std.specs.Prelude.{◌≡◌, ◌<◌, ◌≤◌, ◌+◌, ◌==◌, ◌∷◌, length, take, drop, map, true, false, slice_index, Some, None, IfSome, IsTrue, option_copied, if◌then◌else◌};
+ghost use Rattle.std.specs.Prelude.{◌≡◌, ◌<◌, ◌≤◌, ◌+◌, ◌==◌, ◌∷◌, length, take, drop, map, true, false, Some, IfSome, IsTrue, option_copied, if◌then◌else◌};
 ghost use Rattle.std.specs.List.{list_any, position_or_len, before_first, after_first};
-ghost use Rattle.std.specs.Int.{w64, trailing_zeros};
+ghost use Rattle.std.specs.Int.{w64, to_le_bytes, trailing_zeros};
 ghost use Rattle.std.specs.Simd.Lanes.{mask_l};
 ghost use Rattle.aero_model.specs.Lines.{lines_of};
 ghost use Rattle.aero_model.specs.Names.{is_bad_byte};
+ghost use Rattle.aero_model.specs.Exempt.{label_of};
 ghost use Rattle.aero_model.specs.Named.{stands_alone};
-ghost use Rattle.aero_grammar.specs.Meaning.{Means, meaning, is_unfit, is_bar, is_blank as is_blank_byte, is_parenthesis, trimmed, operation_of};
+ghost use Rattle.aero_grammar.specs.Meaning.{Means, meaning, is_unfit, is_bar, trimmed};
 ghost use Rattle.aero_grammar.specs.Words.{named_of};
-ghost use Rattle.aero_grammar.specs.Short.{IsShort};
+ghost use Rattle.aero_grammar.specs.Short.{IsShort, IsSign, word_of};
 
 use crate::bytes::is_blank;
 use crate::words::Words;
@@ -30,7 +31,7 @@ pub struct ShortLine<'a> {
 }
 
 // The first line of a text in which no byte is bad but those that end lines. It is told only where it has
-// an event, fewer than 32 bytes, and no blanks round its fields, and is no fork, join or labelled begin.
+// an event, fewer than 32 bytes, and no blanks round its fields.
 #[inline(always)]
 pub fn short_line(text: &[u8]) -> Option<ShortLine<'_>>
     requires { list_any is_unfit text.now ≡ false }
@@ -62,17 +63,18 @@ fn short_words(text: &[u8], end: usize) -> Option<Words<'_>>
     requires good { list_any is_bad_byte (take end text.now) ≡ false }
     ensures { IfSome result (λ w. meaning (take end text.now) ≡ Means (named_of w)) }
 {
-    let (thread, field) = short_fields(text, end)?;
+    let (thread, field, word) = short_fields(text, end)?;
     if !is_trimmed(thread) {
         return None;
     }
-    let (op, target) = short_operation(field)?;
+    let (op, target) = short_operation(field, word)?;
     Some(Words { thread, op, target })
 }
 
-// What stands before the first `|` of that line, and what stands between it and the next, or the end.
+// What stands before the first `|` of that line, what stands between it and the next, or the end, and the
+// eight bytes behind the first `|` as one number.
 #[inline(always)]
-fn short_fields(text: &[u8], end: usize) -> Option<(&[u8], &[u8])>
+fn short_fields(text: &[u8], end: usize) -> Option<(&[u8], &[u8], u64)>
     requires wide { 64 ≤ length text.now }
     requires near { end < 32 }
     ensures barred { IfSome result (λ f. list_any is_bar (take end text.now) ≡ true) }
@@ -80,6 +82,7 @@ fn short_fields(text: &[u8], end: usize) -> Option<(&[u8], &[u8])>
     ensures short { IfSome result (λ f. length f.0.now < 32) }
     ensures field { IfSome result (λ f. f.1.now ≡ before_first is_bar (after_first is_bar (take end text.now))) }
     ensures within { IfSome result (λ f. length f.1.now < 32) }
+    ensures word { IfSome result (λ f. take (length f.1.now) (to_le_bytes w64 f.2) ≡ take 8 f.1.now) }
 {
     let bar = place_in(b'|', text, 0, end);
     if bar == end {
@@ -87,7 +90,18 @@ fn short_fields(text: &[u8], end: usize) -> Option<(&[u8], &[u8])>
     }
     let behind = bar + 1;
     let more = place_in(b'|', text, behind, end - behind);
-    Some((&text[..bar], &text[behind..behind + more]))
+    let word = word_at(text, behind)?;
+    Some((&text[..bar], &text[behind..behind + more], word))
+}
+
+// The eight bytes from this place on, as one number.
+#[inline(always)]
+fn word_at(text: &[u8], at: usize) -> Option<u64>
+    requires { at + 32 ≤ length text.now }
+    ensures { IfSome result (λ word. to_le_bytes w64 word ≡ take 8 (drop at text.now)) }
+{
+    let bytes = text[at..].first_chunk::<8>()?;
+    Some(u64::from_le_bytes(*bytes))
 }
 
 // The place of the first such byte among so many from this place on, or their number where there is none.
@@ -137,59 +151,152 @@ fn is_trimmed(bytes: &[u8]) -> bool
     }
 }
 
-// What the field of an operation says, where it is a begin or an end alone, or the word of another one
-// with a target behind it in parentheses.
+// What the field of an operation says, where it is a begin or an end alone, or the word of any with at
+// least a byte behind it in parentheses. The field's first bytes are given as one number.
 #[inline(always)]
-fn short_operation(field: &[u8]) -> Option<(Op, Option<&[u8]>)>
-    requires { length field.now < 32 }
+fn short_operation(field: &[u8], word: u64) -> Option<(Op, Option<&[u8]>)>
+    requires few { length field.now < 32 }
+    requires word { take (length field.now) (to_le_bytes w64 word) ≡ take 8 field.now }
     ensures { IfSome result (λ r. IsShort field.now r.0 (option_copied r.1)) }
 {
-    match targeted(field) {
-        Some((op, target)) => Some((op, Some(target))),
-        None => Some((alone(field)?, None)),
-    }
-}
-
-// The operation and its target, where the field has one of at least a byte.
-#[inline(always)]
-fn targeted(field: &[u8]) -> Option<(Op, &[u8])>
-    requires { length field.now < 32 }
-    ensures { IfSome result (λ r. IsShort field.now r.0 (Some r.1.now)) }
-{
-    let (op, word) = worded(field)?;
-    let last = field.len() - 1;
-    if last < word + 2 || field[last] != b')' {
+    let sign = sign_of(word);
+    let Sign { op, width, .. } = sign;
+    if field.len() < width || !is_worded(sign, word) {
         return None;
     }
-    Some((op, &field[word + 1..last]))
+    if field.len() == width {
+        return Some((alone(op)?, None));
+    }
+    Some((op, enclosed(field, op, width)?))
 }
 
-// The operation and the length of its word, where a `(` follows that.
+// An operation with its word: how long that is, and its bytes as one number, which are the bits of the
+// mask.
+#[derive(Clone, Copy)]
+struct Sign {
+    op: Op,
+    width: usize,
+    mask: u64,
+    number: u64,
+}
+
+const READ: Sign = Sign {
+    op: Op::Read,
+    width: 1,
+    mask: 255,
+    number: 114,
+};
+
+const WRITE: Sign = Sign {
+    op: Op::Write,
+    width: 1,
+    mask: 255,
+    number: 119,
+};
+
+const ACQUIRE: Sign = Sign {
+    op: Op::Acquire,
+    width: 3,
+    mask: 16_777_215,
+    number: 7_431_009,
+};
+
+const RELEASE: Sign = Sign {
+    op: Op::Release,
+    width: 3,
+    mask: 16_777_215,
+    number: 7_103_858,
+};
+
+const FORK: Sign = Sign {
+    op: Op::Fork,
+    width: 4,
+    mask: 4_294_967_295,
+    number: 1_802_661_734,
+};
+
+const JOIN: Sign = Sign {
+    op: Op::Join,
+    width: 4,
+    mask: 4_294_967_295,
+    number: 1_852_403_562,
+};
+
+const BEGIN: Sign = Sign {
+    op: Op::Begin,
+    width: 5,
+    mask: 1_099_511_627_775,
+    number: 474_214_786_402,
+};
+
+const END: Sign = Sign {
+    op: Op::End,
+    width: 3,
+    mask: 16_777_215,
+    number: 6_581_861,
+};
+
+// For a number made of two bytes, the one operation whose field may begin with them.
+static SIGNS: [Sign; 32] = [
+    READ, READ, READ, READ, ACQUIRE, READ, READ, BEGIN, READ, READ, READ, READ, READ, READ, READ,
+    READ, READ, READ, READ, END, READ, FORK, READ, RELEASE, READ, JOIN, READ, READ, READ, READ,
+    READ, WRITE,
+];
+
+// The operation that a field is likely to have by its first two bytes. It is to be tested.
 #[inline(always)]
-fn worded(field: &[u8]) -> Option<(Op, usize)>
-    ensures within { IfSome result (λ r. r.1 < length field.now) }
-    ensures place { IfSome result (λ r. position_or_len is_parenthesis field.now ≡ r.1) }
-    ensures word { IfSome result (λ r. operation_of (take r.1 field.now) ≡ Some r.0) }
-    ensures targeted { IfSome result (λ r. stands_alone r.0 ≡ false) }
-    ensures bare { IfSome result (λ r. is_blank_byte (slice_index field.now 0) ≡ false) }
+fn sign_of(word: u64) -> Sign
+    ensures { IsSign result }
 {
-    match field {
-        [b'r', b'(', ..] => Some((Op::Read, 1)),
-        [b'w', b'(', ..] => Some((Op::Write, 1)),
-        [b'a', b'c', b'q', b'(', ..] => Some((Op::Acquire, 3)),
-        [b'r', b'e', b'l', b'(', ..] => Some((Op::Release, 3)),
-        _ => None,
+    let place = (word.wrapping_add(word >> 8) & 31) as usize;
+    SIGNS[place]
+}
+
+// Whether the first bytes are the operation's word.
+#[inline(always)]
+fn is_worded(sign: Sign, word: u64) -> bool
+    requires { IsSign sign }
+    ensures { IsTrue result → take (length (word_of sign.op)) (to_le_bytes w64 word) ≡ word_of sign.op }
+{
+    word & sign.mask == sign.number
+}
+
+// A begin or an end.
+#[inline(always)]
+fn alone(op: Op) -> Option<Op>
+    ensures { IfSome result (λ r. (r ≡ op) × (stands_alone op ≡ true)) }
+{
+    if matches!(op, Op::Begin | Op::End) {
+        Some(op)
+    } else {
+        None
     }
 }
 
-// A begin or an end alone.
+// The target or label of the operation, whose word stands in front, where it has one of at least a byte
+// in parentheses.
 #[inline(always)]
-fn alone(field: &[u8]) -> Option<Op>
-    ensures { IfSome result (λ op. IsShort field.now op None) }
+fn enclosed(field: &[u8], op: Op, width: usize) -> Option<Option<&[u8]>>
+    requires few { length field.now < 32 }
+    requires word { take (length (word_of op)) field.now ≡ word_of op }
+    requires width { width ≡ length (word_of op) }
+    requires longer { width < length field.now }
+    ensures { IfSome result (λ r. IsShort field.now op (option_copied r)) }
 {
-    match field {
-        b"begin" => Some(Op::Begin),
-        b"end" => Some(Op::End),
-        _ => None,
+    let last = field.len() - 1;
+    if last < width + 2 || field[width] != b'(' || field[last] != b')' {
+        return None;
+    }
+    Some(target_in(op, &field[width + 1..last]))
+}
+
+// What the operation has of what stands in its parentheses.
+#[inline(always)]
+fn target_in(op: Op, inside: &[u8]) -> Option<&[u8]>
+    ensures { option_copied result ≡ (if stands_alone op then label_of op (Some inside.now) else Some inside.now) }
+{
+    match op {
+        Op::End => None,
+        _ => Some(inside),
     }
 }

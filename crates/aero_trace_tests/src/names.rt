@@ -139,6 +139,65 @@ fn many_names_keep_their_numbers(rt: HostRuntime) {
     assert!(rt; do_many_keep_their_numbers(rt.alloc(), 1000));
 }
 
+const FACTOR: u64 = 17_378_887_893_183_147_461;
+
+// A step of the hash of names.
+fn mixed(hash: u64, word: u64) -> u64 {
+    (hash.rotate_left(5) ^ word).wrapping_mul(FACTOR)
+}
+
+// The word behind which the hash of the bytes so far is 0.
+fn completing(hash: u64) -> u64 {
+    hash.rotate_left(5)
+}
+
+// The name with this number among those of 16 bytes that have one hash.
+fn name_of_two_words(number: u32) -> [u8; 16] {
+    let first = 7_000_000_000 + number as u64;
+    let last = completing(mixed(16, first));
+    (first as u128 | (last as u128) << 64).to_le_bytes()
+}
+
+// The same of 32 bytes, which have no key.
+fn name_of_four_words(number: u32) -> [u8; 32] {
+    let first = 7_000_000_000 + number as u64;
+    let last = completing(mixed(mixed(mixed(32, first), first), first));
+    let mut name = [0; 32];
+    name[..8].copy_from_slice(&first.to_le_bytes());
+    name[8..16].copy_from_slice(&first.to_le_bytes());
+    name[16..24].copy_from_slice(&first.to_le_bytes());
+    name[24..].copy_from_slice(&last.to_le_bytes());
+    name
+}
+
+// Whether so many names of one hash, of both kinds in turn, have their places as numbers.
+fn are_numbered_at_one_place(names: &mut Names, count: u32) -> bool {
+    let mut fits = true;
+    for number in 0..count {
+        fits &= names.number_of_bytes(&name_of_two_words(number)) == Ok(2 * number);
+        fits &= names.number_of_bytes(&name_of_four_words(number)) == Ok(2 * number + 1);
+    }
+    fits
+}
+
+// The same for the first time and again, and then with other names behind them. As many are listed.
+fn do_names_of_one_hash_keep_their_numbers(alloc: Global, count: u32) -> bool {
+    let mut names = Names::new(alloc, 2 * count + 1);
+    are_numbered_at_one_place(&mut names, count)
+        && are_numbered_at_one_place(&mut names, count)
+        && names.number_of_bytes(b"x") == Ok(2 * count)
+        && names.number_of_bytes(b"y") == Err(NamesFault::Full)
+        && are_numbered_at_one_place(&mut names, count)
+        && names.into_list().len() == 2 * count + 1
+}
+
+// Up to a few of them are found along their chain, and more of them by their bytes.
+#[test]
+fn names_of_one_hash_keep_their_numbers(rt: HostRuntime) {
+    assert!(rt; do_names_of_one_hash_keep_their_numbers(rt.alloc(), 10));
+    assert!(rt; do_names_of_one_hash_keep_their_numbers(rt.alloc(), 400));
+}
+
 // The names of a text, which stand between its spaces. `None` where memory is refused.
 fn listed(alloc: Global, text: &str) -> Option<NameList> {
     let mut list = NameList::new(alloc);
