@@ -1,5 +1,5 @@
 -- The marks of the events that are kept, and what leads to them.
-use Rattle.std.proofs.Common.{◌≡◌, ◌≢◌, ◌⊎◌, inl, inr, ⊎_elim, ℕ, zero, suc, ◌<◌, List, [], ◌∷◌, ◌++◌, length, Option, Some, None, refl, sym, ap, ap₂, ◌∙◌, subst, arith}
+use Rattle.std.proofs.Common.{◌≡◌, ◌≢◌, ◌⊎◌, inl, inr, ⊎_elim, ℕ, zero, suc, ◌<◌, List, [], ◌∷◌, ◌++◌, length, Option, Some, None, refl, sym, ap, ap₂, ◌∙◌, subst, le_refl, arith}
 use Rattle.std.specs.Prelude.{◌==◌, ◌&&◌, ◌||◌, not, Bool, true, false, if◌then◌else◌, slice_get}
 use Rattle.std.proofs.lemmas.Bool.{cases_eq, cases_lt, both_ways, and_parts, eqb-true, eq-eqb, ne_eqb, lt-ltb, le-ltb, le-leb, lt-leb, cond-true, cond-false}
 use Rattle.std.proofs.lemmas.Option.{same_Some}
@@ -16,12 +16,12 @@ use Rattle.aero_access.proofs.LongerTraces.{last_event_same}
 use Rattle.aero_access.proofs.Taken.{among_left, among_right, among_first, among_parts}
 use Rattle.aero_leads.specs.declared.last.Last.{Last}
 use Rattle.aero_leads.specs.Leads.{Rows, is_led, IsUnled}
-use Rattle.aero_leads.specs.Marks.{Mark, mark, IsPassed, IfOther, nobodys, its_own, other, AreReads}
+use Rattle.aero_leads.specs.Marks.{Mark, mark, IsPassed, IfOther, nobodys, its_own, other, IsReadAt, AreReads}
 use Rattle.aero_leads.specs.Steps.{led_by}
 use Rattle.aero_leads.specs.Kept.{last, is_below, leads_to, leads_to_any}
 use Rattle.aero_leads.specs.States.{State, IsLastAt, IsLastOf, AreReadsSince, IsStateOf}
 use Rattle.aero_leads.proofs.FirstPlaces.{reaches_led}
-use Rattle.aero_leads.proofs.StateSteps.{agree, first}
+use Rattle.aero_leads.proofs.StateSteps.{agree, first, read_on}
 
 -- the mark of an event of another thread than t
 abbrev pub mark_at : ℕ → ℕ → ℕ → List Mark
@@ -144,6 +144,7 @@ module _ (old : State) (before : List Numbered) (e : Numbered) (stands : IsState
         let r = among_marks t ls m a in
         let i = h.each r.0 r.1 in
         let place : i.0 ≡ m.place = omega (arith, i.1, r.3) in
-        (r.4, same_last (LastRead x m.thread) ∙ ap (λ u. last_event before n (LastRead x u)) r.2 ∙ i.2 ∙ ap Some place);
+        let l = r.0 in
+        (r.4, subst (λ u. IsReadAt more n x u m.place) (sym r.2) (subst (IsReadAt more n x l.thread) place (read_on old before e stands n (le_refl n) x l.thread i.0 i.2)));
     all = λ u q ne at after. ⊎_elim (λ a. inl (marks_among t u q ls ne a)) (λ k. inr (passed x u q at k)) (h.all u q (sym (same_last (LastRead x u)) ∙ at) (λ p k. after p (same_last (LastWrite x) ∙ k)));
   }

@@ -16,4 +16,4 @@ pub mod ThreadSteps
 pub mod Ends
 pub mod Seeing
 pub mod Lowering
-pub mod Variables
+pub mod Compacting

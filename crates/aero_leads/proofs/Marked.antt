@@ -17,7 +17,7 @@ use Rattle.aero_access.proofs.LastEvents.{read_is, write_is, to_thread, IsLast, 
 use Rattle.aero_access.proofs.Sources.{Source, own, read, write, write_after_read, acquire, join, source_conflicts, Covered, covered, latest, reach_latest, reach_later}
 use Rattle.aero_access.proofs.Taken.{among_left, among_right, among_first, among_parts}
 use Rattle.aero_leads.specs.Leads.{IsPlaceOf}
-use Rattle.aero_leads.specs.Marks.{Mark, mark, IsPassed, IfOther, nobodys, its_own, other, AreReads, TakesMarks}
+use Rattle.aero_leads.specs.Marks.{Mark, mark, IsPassed, IfOther, nobodys, its_own, other, IsReadAt, AreReads, TakesMarks}
 use Rattle.aero_leads.specs.Marks as takes
 
 -- the mark's place is of its thread, which is another than the event's, and conflicts with the event
@@ -178,8 +178,14 @@ module _ (trace : List Numbered) (ok : IsWellFormed trace) (n : ℕ) (e : Number
     read_each : (m : Mark) → Among m rs → IsTaken trace n e m
     read_each m a =
         let r = reads.each m a in
-        let g = by_reader m.thread m.place r.1 in
-        record { event = g.0; event_at = g.2; thread = g.3; apart = r.0; conflict = source_conflicts trace ok n e at (LastRead x m.thread) m.place (write_after_read x m.thread h) r.1 }
+        let g : IsReadAt trace n x m.thread m.place = r.1 in
+        record {
+          event = g.event;
+          event_at = g.event_at;
+          thread = g.thread;
+          apart = r.0;
+          conflict = record { earlier = g.below; first = g.event; first_at = g.event_at; second = e; second_at = at; conflict = read_write x g.reads h };
+        }
 
     left : (q : ℕ) → Way ms q → Way (ms ++ rs) q
     left q (inl w) = inl w

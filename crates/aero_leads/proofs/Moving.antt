@@ -26,7 +26,7 @@ use Rattle.aero_leads.specs.Leads.{Rows, is_led, IsUnled, AreFirst, IsPlaceOf, I
 use Rattle.aero_leads.specs.Marks.{Mark, mark, TakesMarks}
 use Rattle.aero_leads.specs.Marks as takes
 use Rattle.aero_leads.specs.Steps.{led_by, gains, lesser, IsNamed, IsNamedAtEnd, IsClosedAtEnd, taken_rows, begin_rows, fork_rows, end_rows}
-use Rattle.aero_leads.specs.Kept.{last, is_below, leads_to_any, TakesAll, TakesRow, IsBack, IsLeastBack, reads_but}
+use Rattle.aero_leads.specs.Kept.{last, is_below, leads_to_any, TakesAll, TakesRow, IsBack, IsLeastBack}
 use Rattle.aero_leads.specs.States.{State, IsLastOf, AreReadsSince, IsStateOf, acting, Moves}
 use Rattle.aero_leads.specs.Standing.{AreSame, HaveSameBlocks, EndsState}
 use Rattle.aero_leads.proofs.ByKind.{first_as, taken_own, taken_other, first_taken, first_begun, first_forked}
@@ -35,7 +35,7 @@ use Rattle.aero_leads.proofs.Marked.{stood}
 use Rattle.aero_leads.proofs.Told.{rows_tell, rows_tell_at_end}
 use Rattle.aero_leads.proofs.Takings.{takes_nothing}
 use Rattle.aero_leads.proofs.Lasts.{mark_at, marks_of, led_marks, if_other, are_reads}
-use Rattle.aero_leads.proofs.StateSteps.{IsAfter, AreNoted, depth_more, stands_after}
+use Rattle.aero_leads.proofs.StateSteps.{IsAfter, AreReadsAfter, depth_more, stands_after}
 use Rattle.aero_leads.proofs.StateSteps as steps
 
 -- rows that are right have no place that isn't there yet
@@ -130,7 +130,7 @@ unled_if false r s q a b = b
 -- blocks stay but that thread t has acted
 pub after_reads : (old new : State) (e : Numbered)
     → ((x : ℕ) → new.write x ≡ (if is_write_of x e.what then last e.thread (suc old.now) else old.write x))
-    → ((x : ℕ) → (new.reads x ≡ (if is_write_of x e.what then [] else if is_read_of x e.what then reads_but e.thread (old.reads x) ++ last e.thread (suc old.now) ∷ [] else old.reads x)) ⊎ ((is_write_of x e.what ≡ false) × (is_read_of x e.what ≡ true) × AreNoted old.rows e.thread old.now (old.reads x) (new.reads x)))
+    → ((x : ℕ) → AreReadsAfter old e x (new.reads x))
     → ((l : ℕ) → new.release l ≡ (if is_release_of l e.what then last e.thread (suc old.now) else old.release l))
     → new.now ≡ old.now → HaveSameBlocks old new → IsAfter old (acting new e.thread) e false false
 after_reads old new e write reads release now same = record {
@@ -147,12 +147,13 @@ after_reads old new e write reads release now same = record {
     pass true y z = refl
     pass false y z = refl
 
-pub after_quiet : (old new : State) (e : Numbered)
+-- after an event that is no read
+pub after_quiet : (old new : State) (e : Numbered) → ((x : ℕ) → is_read_of x e.what ≡ false)
     → ((x : ℕ) → new.write x ≡ (if is_write_of x e.what then last e.thread (suc old.now) else old.write x))
-    → ((x : ℕ) → new.reads x ≡ (if is_write_of x e.what then [] else if is_read_of x e.what then reads_but e.thread (old.reads x) ++ last e.thread (suc old.now) ∷ [] else old.reads x))
+    → ((x : ℕ) → new.reads x ≡ (if is_write_of x e.what then [] else old.reads x))
     → ((l : ℕ) → new.release l ≡ (if is_release_of l e.what then last e.thread (suc old.now) else old.release l))
     → new.now ≡ old.now → HaveSameBlocks old new → IsAfter old (acting new e.thread) e false false
-after_quiet old new e write reads release now same = after_reads old new e write (λ x. inl (reads x)) release now same
+after_quiet old new e no_read write reads release now same = after_reads old new e write (λ x. inl (no_read x, reads x)) release now same
 
 -- what an event that ends and begins no block takes
 pub record IsTaken (old : State) (h : List Numbered) (e : Numbered) (ls : List Last) : Type 0 where
@@ -418,7 +419,7 @@ pub after_begin : (old new : State) (t : ℕ) → ((x : ℕ) → new.write x ≡
     → ((u : ℕ) → new.acted u ≡ old.acted u) → ((u : ℕ) → new.begins u ≡ (if t == u then old.begins u + 1 else old.begins u)) → ((u : ℕ) → new.in_block u ≡ (if t == u then true else old.in_block u)) → IsAfter old (acting new t) (event t (Begin None)) true false
 after_begin old new t write reads release now acted begins in_block = record {
   write = write;
-  reads = λ x. inl (reads x);
+  reads = λ x. inl (refl, reads x);
   release = release;
   now = ap suc now;
   acted = λ u. ap (λ b. if t == u then true else b) (acted u);
@@ -461,10 +462,10 @@ idle_moves old t what h stands ok quiet =
     no_fork _ (idle.idle_join v acted) u = refl
 
     after : (what : What) → IsIdle h t what → IsAfter old (acting old t) (event t what) false false
-    after _ idle.exempt = after_quiet old old (event t Exempt) (λ x. refl) (λ x. refl) (λ l. refl) refl same
-    after _ (idle.inner_begin inside) = after_quiet old old (event t (Begin None)) (λ x. refl) (λ x. refl) (λ l. refl) refl same
-    after _ (idle.inner_end inside) = after_quiet old old (event t End) (λ x. refl) (λ x. refl) (λ l. refl) refl same
-    after _ (idle.idle_join v acted) = after_quiet old old (event t (Join v)) (λ x. refl) (λ x. refl) (λ l. refl) refl same
+    after _ idle.exempt = after_quiet old old (event t Exempt) (λ x. refl) (λ x. refl) (λ x. refl) (λ l. refl) refl same
+    after _ (idle.inner_begin inside) = after_quiet old old (event t (Begin None)) (λ x. refl) (λ x. refl) (λ x. refl) (λ l. refl) refl same
+    after _ (idle.inner_end inside) = after_quiet old old (event t End) (λ x. refl) (λ x. refl) (λ x. refl) (λ l. refl) refl same
+    after _ (idle.idle_join v acted) = after_quiet old old (event t (Join v)) (λ x. refl) (λ x. refl) (λ x. refl) (λ l. refl) refl same
 
 -- an outermost end
 module _ (old : State) (h : List Numbered) (t : ℕ) (stands : IsStateOf old h) (ok : IsWellFormed (h ++ event t End ∷ [])) (closing : closes (h ++ event t End ∷ []) t (length h) ≡ true) where
@@ -505,7 +506,7 @@ module _ (old : State) (h : List Numbered) (t : ℕ) (stands : IsStateOf old h) 
       after : IsAfter old (acting new t) ending false true
       after = record {
         write = ends.write;
-        reads = λ x. inl (ends.reads x);
+        reads = λ x. inl (refl, ends.reads x);
         release = ends.release;
         now = ap suc ends.now;
         acted = λ u. ap (λ b. if t == u then true else b) (ends.acted u);

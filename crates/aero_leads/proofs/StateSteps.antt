@@ -1,7 +1,7 @@
 -- What is kept of a trace, after one more event.
-use Rattle.std.proofs.Common.{◌≡◌, ◌≢◌, ◌⊎◌, inl, inr, ⊎_elim, ℕ, zero, suc, ◌+◌, ◌<◌, List, [], ◌∷◌, ◌++◌, length, Option, None, Some, refl, sym, ap, ap₂, ◌∙◌, subst, le_refl, arith, length-append}
-use Rattle.std.specs.Prelude.{◌==◌, ◌&&◌, ◌||◌, not, nat_lt, Bool, true, false, if◌then◌else◌}
-use Rattle.std.proofs.lemmas.Bool.{cases_Bool, cases_eq, both_ways, eqb-true, eq-eqb, ne_eqb, lt-ltb, le-ltb, lt-leb, ltb-false, cond-true, cond-false, and_left, and_right, and_from}
+use Rattle.std.proofs.Common.{◌≡◌, ◌≢◌, ◌⊎◌, inl, inr, ⊎_elim, ℕ, zero, suc, ◌+◌, ◌<◌, ◌≤◌, List, [], ◌∷◌, ◌++◌, length, Option, None, Some, refl, sym, ap, ap₂, ◌∙◌, subst, le_refl, arith, length-append}
+use Rattle.std.specs.Prelude.{◌==◌, ◌&&◌, ◌||◌, nat_lt, Bool, true, false, if◌then◌else◌}
+use Rattle.std.proofs.lemmas.Bool.{cases_Bool, cases_eq, eq-eqb, ne_eqb, lt-ltb, le-ltb, lt-leb, ltb-false, cond-true, cond-false, and_left, and_right, and_from}
 use Rattle.std.proofs.lemmas.Option.{same_Some}
 use Rattle.std.proofs.lemmas.List.Folds.{list_any-append}
 use Rattle.aero_model.specs.declared.numbered.Numbered.{Numbered}
@@ -15,55 +15,37 @@ use Rattle.aero_access.specs.declared.slot.Slot.{Slot}
 use Rattle.aero_access.specs.declared.slot.Slot.TheVariants.{LastWrite, LastRead, LastRelease}
 use Rattle.aero_access.specs.Slots.{of_slot, is_read_of, is_write_of, last_event}
 use Rattle.aero_access.specs.States.{thread_of}
-use Rattle.aero_access.specs.Takes.{Among, here, there}
-use Rattle.aero_access.proofs.LastEvents.{is_last, last_new, last_kept}
+use Rattle.aero_access.specs.Takes.{Among}
+use Rattle.aero_access.proofs.LastEvents.{read_is, is_last, last_covers, last_new, last_kept}
 use Rattle.aero_access.proofs.LongerTraces.{slice_get-push, last_event_same}
-use Rattle.aero_access.proofs.Taken.{among_left, among_right, among_first, among_parts}
 use Rattle.aero_leads.specs.declared.last.Last.{Last}
 use Rattle.aero_leads.specs.Leads.{Rows, is_led, IsUnled, AreFirst}
-use Rattle.aero_leads.specs.Kept.{last, is_below, reads_but}
+use Rattle.aero_leads.specs.Marks.{IsReadAt}
+use Rattle.aero_leads.specs.Kept.{last, is_below, IsCovered}
 use Rattle.aero_leads.specs.States.{State, IsLastAt, IsLastOf, AreReadsSince, IsStateOf}
 use Rattle.aero_leads.proofs.FirstPlaces.{rows_same}
 
--- the reads of a variable after one more by thread t: those by other threads, but some to which nothing leads
+-- the reads of a variable after one more by thread t: that one, and some that cover those by other threads, but some to which nothing leads
 pub record AreNoted (rows : Rows) (t n : ℕ) (old new : List Last) : Type 0 where
-  pub kept : List Last
-  pub is : new ≡ kept ++ last t (suc n) ∷ []
-  pub each : (l : Last) → Among l kept → Among l old × (l.thread ≢ t)
-  pub all : (l : Last) → Among l old → l.thread ≢ t → Among l kept ⊎ ((w : ℕ) → is_below (rows l.thread w) l.count ≡ false)
+  pub latest : Among (last t (suc n)) new
+  pub each : (l : Last) → Among l new → Among l old ⊎ (l ≡ last t (suc n))
+  pub all : (l : Last) → Among l old → l.thread ≢ t → IsCovered new l ⊎ ((w : ℕ) → is_below (rows l.thread w) l.count ≡ false)
+
+-- the reads of variable x after event e
+abbrev pub AreReadsAfter : State → Numbered → ℕ → List Last → Type 0
+AreReadsAfter old e x new =
+    ((is_read_of x e.what ≡ false) × (new ≡ (if is_write_of x e.what then [] else old.reads x)))
+    ⊎ ((is_write_of x e.what ≡ false) × (is_read_of x e.what ≡ true) × AreNoted old.rows e.thread old.now (old.reads x) new)
 
 -- after event e, which opens a block or ends one or neither
 pub record IsAfter (old new : State) (e : Numbered) (up down : Bool) : Type 0 where
   pub write : (x : ℕ) → new.write x ≡ (if is_write_of x e.what then last e.thread (suc old.now) else old.write x)
-  pub reads : (x : ℕ) → (new.reads x ≡ (if is_write_of x e.what then [] else if is_read_of x e.what then reads_but e.thread (old.reads x) ++ last e.thread (suc old.now) ∷ [] else old.reads x)) ⊎ ((is_write_of x e.what ≡ false) × (is_read_of x e.what ≡ true) × AreNoted old.rows e.thread old.now (old.reads x) (new.reads x))
+  pub reads : (x : ℕ) → AreReadsAfter old e x (new.reads x)
   pub release : (l : ℕ) → new.release l ≡ (if is_release_of l e.what then last e.thread (suc old.now) else old.release l)
   pub now : new.now ≡ suc old.now
   pub acted : (t : ℕ) → new.acted t ≡ (if e.thread == t then true else old.acted t)
   pub begins : (t : ℕ) → new.begins t ≡ (if (e.thread == t) && up then old.begins t + 1 else old.begins t)
   pub in_block : (t : ℕ) → new.in_block t ≡ (if (e.thread == t) && up then true else if (e.thread == t) && down then false else old.in_block t)
-
--- what is left of a list without a thread's
-pub among_but : (t : ℕ) (l : Last) (ls : List Last) → Among l (reads_but t ls) → Among l ls × (l.thread ≢ t)
-among_but t l [] a = elim a [ ]
-among_but t l (k ∷ ks) a = go (among_but t l ks) (k.thread == t) refl a
-  where
-    go : (Among l (reads_but t ks) → Among l ks × (l.thread ≢ t)) → (b : Bool) → k.thread == t ≡ b → Among l (if not b then k ∷ reads_but t ks else reads_but t ks) → Among l (k ∷ ks) × (l.thread ≢ t)
-    go on true e a = let r = on a in (there r.0, r.1)
-    go on false e a =
-        ⊎_elim
-        (λ same. (subst (λ j. Among l (j ∷ ks)) same here, λ h. both_ways (k.thread == t) e (eq-eqb k.thread t (ap (λ (j : Last). j.thread) (sym same) ∙ h))))
-        (λ more. let r = on more in (there r.0, r.1))
-        (among_first l k (reads_but t ks) a)
-
-pub but_among : (t : ℕ) (l : Last) (ls : List Last) → Among l ls → l.thread ≢ t → Among l (reads_but t ls)
-but_among t l [] a ne = elim a [ ]
-but_among t l (k ∷ ks) a ne = go (λ m. but_among t l ks m ne) (k.thread == t) refl (among_first l k ks a)
-  where
-    go : (Among l ks → Among l (reads_but t ks)) → (b : Bool) → k.thread == t ≡ b → (l ≡ k) ⊎ Among l ks → Among l (if not b then k ∷ reads_but t ks else reads_but t ks)
-    go on true e (inl same) = absurd (ne (ap (λ (j : Last). j.thread) same ∙ eqb-true k.thread t e))
-    go on true e (inr m) = on m
-    go on false e (inl same) = subst (λ j. Among l (j ∷ reads_but t ks)) same here
-    go on false e (inr m) = there (on m)
 
 unled : (r : Option ℕ) (q : ℕ) → is_below r (suc q) ≡ false → is_led r q ≡ false
 unled None q h = refl
@@ -111,12 +93,14 @@ module _ (old : State) (before : List Numbered) (e : Numbered) (stands : IsState
           subst (IsLastOf more s) (sym now) (new_last s b, ap thread_of (slice_get-push before e))
       go (inr b) = subst (IsLastOf more s) (sym (is ∙ cond-false (of_slot s e) _ _ b)) (carried s l.thread l.count b h)
 
+  -- a read before the event
+  pub read_on : (m : ℕ) → n ≤ m → (x u p : ℕ) → IsReadAt before n x u p → IsReadAt more m x u p
+  read_on m le x u p i = record { below = omega (arith, i.below, le); event = i.event; event_at = sym (agree.same p i.below) ∙ i.event_at; thread = i.thread; reads = i.reads }
+
   -- the reads of a variable, where nothing comes to lead to what nothing led to
   module _ (rows : Rows) (still : (u q : ℕ) → q < n → IsUnled old.rows u q → IsUnled rows u q) where
-    reads_pushed : (x : ℕ) (new : List Last)
-        → (new ≡ (if is_write_of x e.what then [] else if is_read_of x e.what then reads_but e.thread (old.reads x) ++ last e.thread (suc old.now) ∷ [] else old.reads x)) ⊎ ((is_write_of x e.what ≡ false) × (is_read_of x e.what ≡ true) × AreNoted old.rows e.thread old.now (old.reads x) new)
-        → AreReadsSince more rows x new
-    reads_pushed x new either = ⊎_elim (λ is. go is (cases_Bool (is_write_of x e.what)) (cases_Bool (is_read_of x e.what))) (λ by. read by.0 by.1 by.2) either
+    reads_pushed : (x : ℕ) (new : List Last) → AreReadsAfter old e x new → AreReadsSince more rows x new
+    reads_pushed x new either = ⊎_elim (λ by. go by.0 by.1 (cases_Bool (is_write_of x e.what))) (λ by. read by.0 by.1 (subst (λ m. AreNoted old.rows e.thread m (old.reads x) new) stands.now by.2)) either
       where
         was : AreReadsSince before old.rows x (old.reads x)
         was = stands.reads x
@@ -126,6 +110,9 @@ module _ (old : State) (before : List Numbered) (e : Numbered) (stands : IsState
 
         no_read : (u : ℕ) → is_read_of x e.what ≡ false → of_slot (LastRead x u) e ≡ false
         no_read u b = and_right (e.thread == u) (is_read_of x e.what) b
+
+        still_read : (l : Last) → Among l (old.reads x) → (p : ℕ) × (l.count ≡ suc p) × IsReadAt more (length more) x l.thread p
+        still_read l a = let i = was.each l a in (i.0, i.1, read_on (length more) (omega (arith, length_more)) x l.thread i.0 i.2)
 
         -- a last read before the event is a kept one, or nothing leads to it
         before_all : (u q : ℕ) → last_event before n (LastRead x u) ≡ Some q → ((p : ℕ) → last_event before n (LastWrite x) ≡ Some p → p < q) → Among (last u (suc q)) (old.reads x) ⊎ IsUnled rows u q
@@ -140,48 +127,55 @@ module _ (old : State) (before : List Numbered) (e : Numbered) (stands : IsState
               absurd (omega (arith, less, i.below, length_more));
         }
 
-        read : is_write_of x e.what ≡ false → is_read_of x e.what ≡ true → AreNoted old.rows e.thread old.now (old.reads x) new → AreReadsSince more rows x new
-        read quiet b noted = subst (AreReadsSince more rows x) (sym (noted.is ∙ ap (λ m. noted.kept ++ last e.thread (suc m) ∷ []) stands.now)) (record {
+        -- a read that is kept and is no earlier than a last one is that one
+        covering : (u q : ℕ) → e.thread ≢ u → last_event before n (LastRead x u) ≡ Some q → AreNoted old.rows e.thread n (old.reads x) new → IsCovered new (last u (suc q)) → Among (last u (suc q)) new
+        covering u q ne at noted c = by (noted.each c.0 c.1)
+          where
+            by : Among c.0 (old.reads x) ⊎ (c.0 ≡ last e.thread (suc n)) → Among (last u (suc q)) new
+            by (inr same) = absurd (ne (sym (ap (λ (l : Last). l.thread) same) ∙ c.2))
+            by (inl a) =
+                let k = c.0 in
+                let r = was.each k a in
+                let i : IsReadAt before n x k.thread r.0 = r.2 in
+                let v = last_covers (of_slot (LastRead x u)) before n r.0 i.event i.event_at (and_from _ _ (eq-eqb i.event.thread u (i.thread ∙ c.2)) (ap (is_read_of x) i.reads ∙ eq-eqb x x refl)) i.below in
+                let place : q ≡ v.0 = same_Some q v.0 (sym at ∙ v.1) in
+                let count : k.count ≡ suc q = omega (arith, c.3, r.1, v.2, place) in
+                subst (λ (l : Last). Among l new) (ap₂ last c.2 count) c.1
+
+        read : is_write_of x e.what ≡ false → is_read_of x e.what ≡ true → AreNoted old.rows e.thread n (old.reads x) new → AreReadsSince more rows x new
+        read quiet b noted = record {
           each = λ l a. ⊎_elim
-              (λ m. let r = noted.each l m in let i = was.each l r.0 in (i.0, i.1, kept_last (LastRead x l.thread) (other_read l.thread (λ h. r.1 (sym h))) ∙ i.2))
-              (λ m. ⊎_elim
-              (λ same. (n, ap (λ (j : Last). j.count) same, ap (λ (j : Last). last_event more (length more) (LastRead x j.thread)) same ∙ new_last (LastRead x e.thread) (and_from _ _ (eq-eqb e.thread e.thread refl) b)))
-              (λ m. elim m [ ])
-              (among_first l (last e.thread (suc n)) [] m))
-              (among_parts l noted.kept (last e.thread (suc n) ∷ []) a);
+              (λ m. still_read l m)
+              (λ same. (n, ap (λ (j : Last). j.count) same, subst (λ (j : Last). IsReadAt more (length more) x j.thread n) (sym same) read_now))
+              (noted.each l a);
           all = λ u q at after. ⊎_elim
               (λ same.
               let place : n ≡ q = same_Some n q (sym (new_last (LastRead x u) (and_from _ _ (eq-eqb e.thread u same) b)) ∙ at) in
-              inl (among_right (last u (suc q)) noted.kept (last e.thread (suc n) ∷ [])
-              (subst (λ (l : Last). Among (last u (suc q)) (l ∷ [])) (ap₂ (λ (v m : ℕ). last v (suc m)) (sym same) (sym place)) here)))
+              inl (subst (λ (l : Last). Among l new) (ap₂ (λ (v m : ℕ). last v (suc m)) same place) noted.latest))
               (λ ne.
               let at_before : last_event before n (LastRead x u) ≡ Some q = sym (kept_last (LastRead x u) (other_read u ne)) ∙ at in
               ⊎_elim
               (λ a. ⊎_elim
-              (λ k. inl (among_left (last u (suc q)) noted.kept (last e.thread (suc n) ∷ []) k))
+              (λ c. inl (covering u q ne at_before noted c))
               (λ none. inr (still u q (is_last (of_slot (LastRead x u)) before n q at_before).below (λ w. unled (old.rows u w) q (none w))))
               (noted.all (last u (suc q)) a (λ h. ne (sym h))))
               (λ k. inr k)
               (before_all u q at_before (λ p h. after p (kept_last (LastWrite x) quiet ∙ h))))
               (cases_eq e.thread u);
-        })
+        }
+          where
+            read_now : IsReadAt more (length more) x e.thread n
+            read_now = record { below = omega (arith, length_more); event = e; event_at = slice_get-push before e; thread = refl; reads = read_is x e.what b }
 
         neither : is_write_of x e.what ≡ false → is_read_of x e.what ≡ false → AreReadsSince more rows x (old.reads x)
         neither quiet b = record {
-          each = λ l a. let i = was.each l a in (i.0, i.1, kept_last (LastRead x l.thread) (no_read l.thread b) ∙ i.2);
+          each = still_read;
           all = λ u q at after. before_all u q (sym (kept_last (LastRead x u) (no_read u b)) ∙ at) (λ p h. after p (kept_last (LastWrite x) quiet ∙ h));
         }
 
-        go : new ≡ (if is_write_of x e.what then [] else if is_read_of x e.what then reads_but e.thread (old.reads x) ++ last e.thread (suc old.now) ∷ [] else old.reads x)
-            → (is_write_of x e.what ≡ true) ⊎ (is_write_of x e.what ≡ false) → (is_read_of x e.what ≡ true) ⊎ (is_read_of x e.what ≡ false) → AreReadsSince more rows x new
-        go is (inl b) _ = subst (AreReadsSince more rows x) (sym (is ∙ cond-true (is_write_of x e.what) _ _ b)) (written b)
-        go is (inr a) (inl b) = read a b (record {
-          kept = reads_but e.thread (old.reads x);
-          is = is ∙ cond-false (is_write_of x e.what) _ _ a ∙ cond-true (is_read_of x e.what) _ _ b;
-          each = λ l m. among_but e.thread l (old.reads x) m;
-          all = λ l m ne. inl (but_among e.thread l (old.reads x) m ne);
-        })
-        go is (inr a) (inr b) = subst (AreReadsSince more rows x) (sym (is ∙ cond-false (is_write_of x e.what) _ _ a ∙ cond-false (is_read_of x e.what) _ _ b)) (neither a b)
+        go : is_read_of x e.what ≡ false → new ≡ (if is_write_of x e.what then [] else old.reads x) → (is_write_of x e.what ≡ true) ⊎ (is_write_of x e.what ≡ false) → AreReadsSince more rows x new
+        go b is (inl a) = subst (AreReadsSince more rows x) (sym (is ∙ cond-true (is_write_of x e.what) _ _ a)) (written a)
+        go b is (inr a) = subst (AreReadsSince more rows x) (sym (is ∙ cond-false (is_write_of x e.what) _ _ a)) (neither a b)
 
   -- the threads' blocks
   module _ (new : State) (up down : Bool) (opening : opens more e.thread n ≡ up) (closing : closes more e.thread n ≡ down) (after : IsAfter old new e up down) where

@@ -1,5 +1,6 @@
 -- What contracts see of what the engine keeps.
-use Rattle.std.specs.Prelude.{◌≡◌, ◌≢◌, ℕ, ◌+◌, ◌≤◌, nat_lt, not, ◌==◌, ◌&&◌, ◌||◌, Bool, true, false, if◌then◌else◌, List, [], ◌∷◌, ◌++◌, filter, Option, Some, None, is_some, slice_get}
+use Rattle.std.specs.Prelude.{◌≡◌, ◌≢◌, ℕ, ◌+◌, ◌*◌, ◌^◌, ◌≤◌, nat_lt, not, ◌==◌, ◌&&◌, ◌||◌, Bool, true, false, if◌then◌else◌, List, [], ◌∷◌, ◌++◌, filter, Option, Some, None, is_some, slice_get}
+use Rattle.aero_access.specs.Takes.{Among}
 use Rattle.aero_leads.specs.declared.row.Lead.{Lead}
 use Rattle.aero_leads.specs.declared.last.Last.{Last}
 use Rattle.aero_leads.specs.declared.thread.Thread.{Thread}
@@ -132,3 +133,21 @@ IsLeastBack rows t (Some u) = IsBack rows t u × ((v : ℕ) → IsBack rows t v 
 -- the reads without those by thread t
 abbrev pub reads_but : ℕ → List Last → List Last
 reads_but t ls = filter (λ (l : Last). not (l.thread == t)) ls
+
+-- the reads have one by the same thread that is no earlier
+abbrev pub IsCovered : List Last → Last → Type 0
+IsCovered ls l = (k : Last) × Among k ls × (k.thread ≡ l.thread) × (l.count ≤ k.count)
+
+-- some of the reads are left, and cover all of them
+pub record AreCompacted (old new : List Last) : Type 0 where
+  pub each : (l : Last) → Among l new → Among l old
+  pub all : (l : Last) → Among l old → IsCovered new l
+
+-- some of the reads are left, and cover all of them that aren't by thread t
+pub record AreKept (t : ℕ) (old new : List Last) : Type 0 where
+  pub each : (l : Last) → Among l new → Among l old
+  pub all : (l : Last) → Among l old → l.thread ≢ t → IsCovered new l
+
+-- the place of a read in the order by threads, and by counts where these are the same
+abbrev pub rank : Last → ℕ
+rank l = l.thread * 2 ^ 32 + l.count

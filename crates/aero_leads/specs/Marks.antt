@@ -27,9 +27,17 @@ module _ (trace : List Numbered) (n : ℕ) where
   abbrev pub IsPassed : ℕ → Type 0
   IsPassed q = (w : ℕ) → 0 < depth trace w n → ¬ LeadsTo trace n (Block w (blocks trace w n)) q
 
-  -- last reads of the variable by threads other than t, and all of them that come after its last write and to which an open block leads
+  -- the event at place p is a read of variable x by thread u
+  pub record IsReadAt (x u p : ℕ) : Type 0 where
+    pub below : p < n
+    pub event : Numbered
+    pub event_at : slice_get trace p ≡ Some event
+    pub thread : event.thread ≡ u
+    pub reads : event.what ≡ Read x
+
+  -- reads of the variable by threads other than t, and all last ones that come after its last write and to which an open block leads
   pub record AreReads (t x : ℕ) (ms : List Mark) : Type 0 where
-    pub each : (m : Mark) → Among m ms → (m.thread ≢ t) × (last_event trace n (LastRead x m.thread) ≡ Some m.place)
+    pub each : (m : Mark) → Among m ms → (m.thread ≢ t) × IsReadAt x m.thread m.place
     pub all : (u q : ℕ) → u ≢ t → last_event trace n (LastRead x u) ≡ Some q → ((p : ℕ) → last_event trace n (LastWrite x) ≡ Some p → p < q) → Among (mark u q) ms ⊎ IsPassed q
 
   -- what event e at place n takes of other threads
@@ -38,7 +46,8 @@ module _ (trace : List Numbered) (n : ℕ) where
     plain : takes_only_own e.what ≡ true → TakesMarks e []
     -- a read: the last write
     read : (x : ℕ) (ms : List Mark) → e.what ≡ Read x → IfOther e.thread (LastWrite x) ms → TakesMarks e ms
-    -- a write: the last write and the last reads; those before the last write, and those to which no open block leads, may be left out
+    -- a write: the last write and the last reads; those before the last write, and those to which no open block leads, may be left out,
+    -- and earlier reads may be among them
     write : (x : ℕ) (ms rs : List Mark) → e.what ≡ Write x → IfOther e.thread (LastWrite x) ms → AreReads e.thread x rs → TakesMarks e (ms ++ rs)
     -- an acquire: the last release
     acquire : (l : ℕ) (ms : List Mark) → e.what ≡ Acquire l → IfOther e.thread (LastRelease l) ms → TakesMarks e ms

@@ -12,6 +12,7 @@ use Rattle.aero_access.specs.States.{actor_at}
 use Rattle.aero_access.specs.Judgement.{IsTold}
 use Rattle.aero_leads.specs.declared.last.Last.{Last}
 use Rattle.aero_leads.specs.Leads.{Rows, IsUnled, AreFirst}
+use Rattle.aero_leads.specs.Marks.{IsReadAt}
 use Rattle.aero_leads.specs.Kept.{last}
 
 -- What is kept of a trace
@@ -38,9 +39,9 @@ module _ (trace : List Numbered) where
   abbrev pub IsLastOf : Slot → Last → Type 0
   IsLastOf s l = IsLastAt s l.thread l.count
 
-  -- last reads of the variable, and all of them that come after its last write and to which an open block may lead
+  -- reads of the variable, and all last ones that come after its last write and to which an open block may lead
   pub record AreReadsSince (rows : Rows) (x : ℕ) (ls : List Last) : Type 0 where
-    pub each : (l : Last) → Among l ls → (p : ℕ) × (l.count ≡ suc p) × (last_event trace (length trace) (LastRead x l.thread) ≡ Some p)
+    pub each : (l : Last) → Among l ls → (p : ℕ) × (l.count ≡ suc p) × IsReadAt trace (length trace) x l.thread p
     pub all : (u q : ℕ) → last_event trace (length trace) (LastRead x u) ≡ Some q → ((p : ℕ) → last_event trace (length trace) (LastWrite x) ≡ Some p → p < q) → Among (last u (suc q)) ls ⊎ IsUnled rows u q
 
 -- the state agrees with the trace, and there is no telling cycle

@@ -1,17 +1,22 @@
 //! What is kept of variables and locks.
-ghost use Rattle.std.specs.Prelude.{◌≡◌, ◌==◌, ◌<◌, ◌++◌, ◌∷◌, [], ℕ, not, filter, Some, OnOk, vec_len, slice_get, if◌then◌else◌};
-ghost use Rattle.aero_leads.specs.Kept.{last, last_or_none, if_any, variable_write, latest_read_in, other_reads_in, variable_reads, reads_but};
+ghost use Rattle.std.specs.Prelude.{◌≡◌, ◌≢◌, ◌==◌, ◌<◌, ◌++◌, ◌∷◌, [], ℕ, OnOk, vec_len, slice_get, if◌then◌else◌};
+ghost use Rattle.aero_leads.specs.Kept.{last, last_or_none, variable_write, latest_read_in, other_reads_in, variable_reads, reads_but, rank, AreCompacted, AreKept};
 
 use crate::last::Last;
 use std::alloc::{AllocError, Global};
 
+/// So many reads of other threads are gone over at each read.
+const FEW: usize = 8;
+
 /// The last write, the latest read since, and of each other thread its last read since, if an open block may lead to it.
-/// Most variables are read by one thread between writes, and need no list.
+/// Among more than a few of these are earlier reads as well, up to as many as stood when these were left out last: so a
+/// read needn't go over all of them. Most variables are read by one thread between writes, and need no list.
 #[derive(Drop)]
 pub struct Variable {
     pub write: Last,
     pub read: Last,
     pub others: Vec<Last>,
+    pub stood: usize,
 }
 
 /// The last write of variable `x`.
@@ -34,7 +39,7 @@ pub(crate) fn latest_read(variables: &[Variable], x: u32) -> Last
     }
 }
 
-/// The last reads of variable `x` since by other threads to which an open block may lead.
+/// The reads of variable `x` since by other threads that are kept.
 pub(crate) fn other_reads(variables: &[Variable], x: u32) -> &[Last]
     ensures { result.now ≡ other_reads_in (slice_get variables.now x) }
 {
@@ -68,6 +73,7 @@ pub(crate) fn note_write(
     variable.write = event;
     variable.read = Last::none();
     variable.others.clear();
+    variable.stood = 0;
     Ok(())
 }
 
@@ -79,9 +85,10 @@ pub(crate) fn note_read(
     event: Last,
     is_kept: bool,
 ) -> Result<(), AllocError>
-    requires { 0 < event.count }
     ensures writes { OnOk result ((y : ℕ) → variable_write (slice_get variables.new.items y) ≡ variable_write (slice_get variables.old.items y)) }
-    ensures reads { OnOk result ((y : ℕ) → variable_reads (slice_get variables.new.items y) ≡ (if y == x then (reads_but event.thread (other_reads_in (slice_get variables.old.items y)) ++ (if is_kept then latest_read_in (slice_get variables.old.items y) ∷ [] else [])) ++ event ∷ [] else variable_reads (slice_get variables.old.items y))) }
+    ensures latest { OnOk result (latest_read_in (slice_get variables.new.items x) ≡ event) }
+    ensures others { OnOk result (AreKept event.thread (other_reads_in (slice_get variables.old.items x) ++ (if is_kept then latest_read_in (slice_get variables.old.items x) ∷ [] else [])) (other_reads_in (slice_get variables.new.items x))) }
+    ensures same { OnOk result ((y : ℕ) → y ≢ x → variable_reads (slice_get variables.new.items y) ≡ variable_reads (slice_get variables.old.items y)) }
 {
     reach(variables, x)?;
     put_read(&mut variables[x as usize], event, is_kept)?;
@@ -99,17 +106,49 @@ pub(crate) fn note_release(releases: &mut Vec<Last>, l: u32, event: Last) -> Res
 
 // The event is the latest read, in the place of an earlier one by its thread.
 fn put_read(variable: &mut Variable, event: Last, is_kept: bool) -> Result<(), AllocError>
-    requires { 0 < event.count }
     ensures write { variable.new.write ≡ variable.old.write }
-    ensures reads { OnOk result (variable_reads (Some variable.new) ≡ (reads_but event.thread (other_reads_in (Some variable.old)) ++ (if is_kept then latest_read_in (Some variable.old) ∷ [] else [])) ++ event ∷ []) }
+    ensures latest { OnOk result (variable.new.read ≡ event) }
+    ensures others { OnOk result (AreKept event.thread (variable.old.others.items ++ (if is_kept then variable.old.read ∷ [] else [])) variable.new.others.items) }
 {
-    drop_reader(&mut variable.others, event.thread);
+    drop_stale(&mut variable.others, &mut variable.stood, event.thread);
     if is_kept {
         let latest = variable.read;
         variable.others.push(latest)?;
     }
     variable.read = event;
     Ok(())
+}
+
+// Few reads are left without those by thread t. More are left alone until they have doubled.
+fn drop_stale(reads: &mut Vec<Last>, stood: &mut usize, t: u32)
+    ensures { AreKept t reads.old.items reads.new.items }
+{
+    let count = reads.len();
+    if count <= FEW {
+        drop_reader(reads, t);
+        return;
+    }
+    if count / 2 < FEW.max(*stood) {
+        return;
+    }
+    compact(reads);
+    *stood = reads.len();
+}
+
+// Of each thread the last read is left alone.
+#[inline(never)]
+fn compact(reads: &mut Vec<Last>)
+    ensures { AreCompacted reads.old.items reads.new.items }
+{
+    reads.sort_unstable_by(|a, b| rank_of(b).cmp(&rank_of(a)));
+    reads.dedup_by_key(|read| read.thread);
+}
+
+// The place of a read in the order by threads, and by counts where these are the same.
+fn rank_of(read: &Last) -> u64
+    ensures { result ≡ rank read.now }
+{
+    u64::from(read.thread) * (1 << 32) + u64::from(read.count)
 }
 
 fn drop_reader(reads: &mut Vec<Last>, t: u32)
@@ -132,6 +171,7 @@ fn reach(variables: &mut Vec<Variable>, x: u32) -> Result<(), AllocError>
             write: Last::none(),
             read: Last::none(),
             others,
+            stood: 0,
         })?;
     }
     Ok(())

@@ -15,4 +15,4 @@ returns-clause-moves c =
     moves_taking old _ e (c.last_release-release.result ∷ [])
     (λ h stands ok. subst (λ l. IsTaken old h e (l ∷ [])) (sym release) (taken_acquire old c.args.t c.args.l h stands)) c.in_ok-closes.closes
     (λ u. refl) (c.in_ok-closes.ensures.closing ∙ or_false _) c.in_ok-closes.ensures.takes
-    (after_quiet old _ e (λ x. refl) (λ x. refl) (λ l. refl) refl (record { in_block = c.take.ensures.same.in_block; begins = c.take.ensures.same.begins; acted = c.take.ensures.same.acted }))
+    (after_quiet old _ e (λ x. refl) (λ x. refl) (λ x. refl) (λ l. refl) refl (record { in_block = c.take.ensures.same.in_block; begins = c.take.ensures.same.begins; acted = c.take.ensures.same.acted }))

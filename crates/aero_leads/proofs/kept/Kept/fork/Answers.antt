@@ -8,4 +8,4 @@ use Rattle.aero_leads.proofs.kept.Kept.fork.Goals as goal
 pub returns-clause-moves : goal.returns-clause-moves
 returns-clause-moves c =
     moves_fork (state_in c.args.self.now) _ c.args.t c.args.u c.in_ok-gain.ensures.gains
-    (after_quiet (state_in c.args.self.now) _ (event c.args.t (Fork c.args.u)) (λ x. refl) (λ x. refl) (λ l. refl) refl (record { in_block = c.gain.ensures.same.in_block; begins = c.gain.ensures.same.begins; acted = c.gain.ensures.same.acted }))
+    (after_quiet (state_in c.args.self.now) _ (event c.args.t (Fork c.args.u)) (λ x. refl) (λ x. refl) (λ x. refl) (λ l. refl) refl (record { in_block = c.gain.ensures.same.in_block; begins = c.gain.ensures.same.begins; acted = c.gain.ensures.same.acted }))

@@ -12,4 +12,4 @@ returns-clause-moves c =
     let e = event c.args.t (Join c.args.u) in
     moves_taking old _ e (last c.args.u old.now ∷ []) (λ h stands ok. taken_join old c.args.t c.args.u c.requires.other c.requires.acted h stands) c.in_ok-closes.closes
     (λ u. refl) (c.in_ok-closes.ensures.closing ∙ or_false _) c.in_ok-closes.ensures.takes
-    (after_quiet old _ e (λ x. refl) (λ x. refl) (λ l. refl) refl (record { in_block = c.take.ensures.same.in_block; begins = c.take.ensures.same.begins; acted = c.take.ensures.same.acted }))
+    (after_quiet old _ e (λ x. refl) (λ x. refl) (λ x. refl) (λ l. refl) refl (record { in_block = c.take.ensures.same.in_block; begins = c.take.ensures.same.begins; acted = c.take.ensures.same.acted }))

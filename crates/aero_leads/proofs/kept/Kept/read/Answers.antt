@@ -1,9 +1,9 @@
-use Rattle.std.proofs.Common.{◌≡◌, ◌≢◌, ◌<◌, ◌∷◌, [], ◌++◌, ap, sym, ◌∙◌, refl, subst, if◌then◌else◌}
-use Rattle.std.specs.Prelude.{false, slice_get, ◌||◌, ◌==◌}
+use Rattle.std.proofs.Common.{◌≡◌, ◌<◌, ◌∷◌, [], ◌++◌, ap, sym, ◌∙◌, refl, subst, if◌then◌else◌}
+use Rattle.std.specs.Prelude.{false, slice_get, ◌||◌}
 use Rattle.aero_model.specs.declared.numbered.What.TheVariants.{Read}
 use Rattle.aero_access.specs.StateWords.{event}
 use Rattle.aero_leads.specs.declared.last.Last.{Last}
-use Rattle.aero_leads.specs.Kept.{variable_write, latest_read_in, other_reads_in, is_below, reads_but}
+use Rattle.aero_leads.specs.Kept.{variable_write, latest_read_in, other_reads_in, is_below, AreKept}
 use Rattle.aero_leads.specs.Standing.{state_in}
 use Rattle.aero_leads.proofs.Moving.{IsTaken, taken_read, moves_closing, moves_passing, after_reads}
 use Rattle.aero_leads.proofs.Readings.{read_noted}
@@ -28,10 +28,11 @@ returns-clause-moves c =
     (ap (λ b. b || false) (sym c.in_ok-take.ensures.closing ∙ c.if-branch.false))
     (c.in_ok-take.ensures.takes c.if-branch.false)
     (after_reads old _ (event c.args.t (Read c.args.x)) c.in_ok-note_read.ensures.writes
-    (read_noted old c.args.t c.args.x (λ y. other_reads_in (slice_get c.args.self.now.variables.items y)) (λ y. latest_read_in (slice_get c.args.self.now.variables.items y)) c.may_be_led-is_kept.result
-    (λ y. refl)
-    (λ h. subst (λ (l : Last). (l.thread ≢ c.args.t) × (0 < l.count)) latest (c.may_be_led-is_kept.ensures.other h, c.may_be_led-is_kept.ensures.there h))
+    (read_noted old c.args.t c.args.x (other_reads_in (slice_get c.args.self.now.variables.items c.args.x)) (latest_read_in (slice_get c.args.self.now.variables.items c.args.x)) c.may_be_led-is_kept.result
+    refl
+    (λ h. subst (λ (l : Last). 0 < l.count) latest (c.may_be_led-is_kept.ensures.there h))
     (λ h ne w. ap (λ (l : Last). is_below (old.rows l.thread w) l.count) (sym latest) ∙ c.may_be_led-is_kept.ensures.unled h (λ k. ne (ap (λ (l : Last). l.thread) (sym latest) ∙ k)) w)
-    _ c.event-event.result c.event-event.ensures
-    (λ y. c.in_ok-note_read.ensures.reads y ∙ ap (λ u. if y == c.args.x then (reads_but u (other_reads_in (slice_get c.args.self.now.variables.items y)) ++ (if c.may_be_led-is_kept.result then latest_read_in (slice_get c.args.self.now.variables.items y) ∷ [] else [])) ++ c.event-event.result ∷ [] else old.reads y) (ap (λ (l : Last). l.thread) c.event-event.ensures)))
+    _ _ _ (c.in_ok-note_read.ensures.latest ∙ c.event-event.ensures) refl
+    (subst (λ u. AreKept u (other_reads_in (slice_get c.args.self.now.variables.items c.args.x) ++ (if c.may_be_led-is_kept.result then latest_read_in (slice_get c.args.self.now.variables.items c.args.x) ∷ [] else [])) (other_reads_in (slice_get c.note_read.new.variables.items c.args.x))) (ap (λ (l : Last). l.thread) c.event-event.ensures) c.in_ok-note_read.ensures.others)
+    c.in_ok-note_read.ensures.same)
     (λ l. refl) refl (record { in_block = c.take.ensures.same.in_block; begins = c.take.ensures.same.begins; acted = c.take.ensures.same.acted }))

@@ -53,7 +53,7 @@ returns-clause-moves c =
     (takes_then old.rows (rows_in c.take.new.table.threads.items) (rows_in c.take_reads.new.table.threads.items) old.now c.args.t (l ∷ []) (old.reads c.args.x) (l ∷ old.reads c.args.x) taken
     (subst (TakesAll (rows_in c.take.new.table.threads.items) (rows_in c.take_reads.new.table.threads.items) old.now c.args.t) reads more)
     (λ w. ap (λ b. b || leads_to_any old.rows c.args.t w (old.reads c.args.x)) (or_false (leads_to old.rows c.args.t w l))))
-    (after_quiet old _ e
+    (after_quiet old _ e (λ y. refl)
     (λ y. c.in_ok-note_write.ensures.writes y ∙ ap (λ m. if y == c.args.x then m else old.write y) c.event-event.ensures)
     (λ y. c.in_ok-note_write.ensures.reads y)
     (λ m. refl) refl
