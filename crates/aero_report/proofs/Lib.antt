@@ -1,3 +1,6 @@
 pub mod Appended
+pub mod Names
+pub mod Numbers
+pub mod Tokens
 pub mod Vectors
 pub mod Written

@@ -27,10 +27,14 @@
 //!   `cut_written`, `cut_short`, `cut_at_fault`.
 #![tactic(auto)]
 
+mod form;
+mod line;
+mod objects;
 mod output;
 mod summary;
 mod texts;
 
+pub use form::{Form, source_text, totals_text};
 pub use output::{Cut, put};
 pub use summary::summary_text;
 pub use texts::trace_text;

@@ -115,7 +115,7 @@ fn append_event(text: &mut Vec<u8>, event: &Event) -> Result<(), AllocError>
 {
     text.extend_from_slice(event.thread.bytes())?;
     text.extend_from_slice(b"|")?;
-    text.extend_from_slice(op_name(event.op))?;
+    text.extend_from_slice(op_name(event.op).as_bytes())?;
     append_target(text, &event.target)
 }
 
@@ -149,10 +149,20 @@ fn append_verdict(text: &mut Vec<u8>, verdict: &Verdict) -> Result<(), AllocErro
             begun,
         } => append_violation(text, *line, thread.bytes(), *begun),
         Verdict::Malformed { line, fault } => {
-            append_fault(text, *line, b": malformed: ", line_fault_name(*fault))
+            append_fault(
+                text,
+                *line,
+                b": malformed: ",
+                line_fault_name(*fault).as_bytes(),
+            )
         }
         Verdict::IllFormed { line, fault } => {
-            append_fault(text, *line, b": ill-formed: ", shape_fault_name(*fault))
+            append_fault(
+                text,
+                *line,
+                b": ill-formed: ",
+                shape_fault_name(*fault).as_bytes(),
+            )
         }
     }
 }
@@ -232,51 +242,51 @@ pub fn append_number(text: &mut Vec<u8>, number: u64) -> Result<(), AllocError>
     text.extend_from_slice(buffer.format(number).as_bytes())
 }
 
-fn op_name(op: Op) -> &'static [u8]
+pub fn op_name(op: Op) -> &'static str
     ensures { result.now ≡ op_name op }
 {
     match op {
-        Op::Read => b"r",
-        Op::Write => b"w",
-        Op::Acquire => b"acq",
-        Op::Release => b"rel",
-        Op::Fork => b"fork",
-        Op::Join => b"join",
-        Op::Begin => b"begin",
-        Op::End => b"end",
+        Op::Read => "r",
+        Op::Write => "w",
+        Op::Acquire => "acq",
+        Op::Release => "rel",
+        Op::Fork => "fork",
+        Op::Join => "join",
+        Op::Begin => "begin",
+        Op::End => "end",
     }
 }
 
-fn line_fault_name(fault: LineFault) -> &'static [u8]
+pub fn line_fault_name(fault: LineFault) -> &'static str
     ensures { result.now ≡ line_fault_name fault }
 {
     match fault {
-        LineFault::TooLong => b"TooLong",
-        LineFault::BadByte => b"BadByte",
-        LineFault::NoOperation => b"NoOperation",
-        LineFault::EmptyThread => b"EmptyThread",
-        LineFault::UnknownOperation => b"UnknownOperation",
-        LineFault::BadParenthesis => b"BadParenthesis",
-        LineFault::MissingTarget => b"MissingTarget",
-        LineFault::NameTooLong => b"NameTooLong",
-        LineFault::TooManyLines => b"TooManyLines",
-        LineFault::Memory => b"Memory",
+        LineFault::TooLong => "TooLong",
+        LineFault::BadByte => "BadByte",
+        LineFault::NoOperation => "NoOperation",
+        LineFault::EmptyThread => "EmptyThread",
+        LineFault::UnknownOperation => "UnknownOperation",
+        LineFault::BadParenthesis => "BadParenthesis",
+        LineFault::MissingTarget => "MissingTarget",
+        LineFault::NameTooLong => "NameTooLong",
+        LineFault::TooManyLines => "TooManyLines",
+        LineFault::Memory => "Memory",
     }
 }
 
-fn shape_fault_name(fault: ShapeFault) -> &'static [u8]
+pub fn shape_fault_name(fault: ShapeFault) -> &'static str
     ensures { result.now ≡ shape_fault_name fault }
 {
     match fault {
-        ShapeFault::TooManyThreads => b"TooManyThreads",
-        ShapeFault::TooManyNames => b"TooManyNames",
-        ShapeFault::ThreadJoined => b"ThreadJoined",
-        ShapeFault::LockHeldByOther => b"LockHeldByOther",
-        ShapeFault::LockNotHeld => b"LockNotHeld",
-        ShapeFault::ForkSelf => b"ForkSelf",
-        ShapeFault::ForkStarted => b"ForkStarted",
-        ShapeFault::JoinSelf => b"JoinSelf",
-        ShapeFault::EndWithoutBegin => b"EndWithoutBegin",
-        ShapeFault::Memory => b"Memory",
+        ShapeFault::TooManyThreads => "TooManyThreads",
+        ShapeFault::TooManyNames => "TooManyNames",
+        ShapeFault::ThreadJoined => "ThreadJoined",
+        ShapeFault::LockHeldByOther => "LockHeldByOther",
+        ShapeFault::LockNotHeld => "LockNotHeld",
+        ShapeFault::ForkSelf => "ForkSelf",
+        ShapeFault::ForkStarted => "ForkStarted",
+        ShapeFault::JoinSelf => "JoinSelf",
+        ShapeFault::EndWithoutBegin => "EndWithoutBegin",
+        ShapeFault::Memory => "Memory",
     }
 }

@@ -1,0 +1,15 @@
+-- The tokens of an object and of an array, by those of their parts.
+use Rattle.std.proofs.Common.{◌≡◌, List, [], ◌∷◌, ◌++◌, map, flat_map, refl, ap, ◌∙◌, append_assoc}
+use Rattle.json.specs.Token as token
+use Rattle.json.specs.Json.{Json}
+use Rattle.json.specs.Tree.{json_tokens, items_tokens, members_tokens}
+use Rattle.aero_report.specs.Json.{Member, members_of, items_of}
+use Rattle.aero_report.specs.Members.{member_tokens, all_members_tokens}
+
+pub members_tokens_of : (ms : List Member) → all_members_tokens ms ++ token.end_object ∷ [] ≡ members_tokens (members_of ms)
+members_tokens_of [] = refl
+members_tokens_of (m ∷ ms) = append_assoc (member_tokens m) (all_members_tokens ms) _ ∙ ap (λ ts. member_tokens m ++ ts) (members_tokens_of ms)
+
+pub items_tokens_of : {A : Type 0} (f : A → Json) (xs : List A) → flat_map (λ x. json_tokens (f x)) xs ++ token.end_array ∷ [] ≡ items_tokens (items_of (map f xs))
+items_tokens_of f [] = refl
+items_tokens_of f (x ∷ xs) = append_assoc (json_tokens (f x)) (flat_map (λ y. json_tokens (f y)) xs) _ ∙ ap (λ ts. json_tokens (f x) ++ ts) (items_tokens_of f xs)

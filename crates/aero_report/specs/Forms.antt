@@ -1,0 +1,26 @@
+-- The report in each of its forms.
+use Rattle.std.specs.Prelude.{ℕ, List, ◌++◌, map, flat_map}
+use Rattle.aero_model.specs.declared.verdict.Finding.{Finding}
+use Rattle.aero_model.specs.declared.verdict.Counts.{Counts}
+use Rattle.aero_report.specs.declared.form.Form.{Form}
+use Rattle.aero_report.specs.declared.form.Form.TheVariants.{Text, Json}
+use Rattle.aero_report.specs.Texts.{source_line, summary_line, counts_of}
+use Rattle.aero_report.specs.Json.{json_line, source_value, summary_value}
+
+-- what is said of a source with this name and finding
+abbrev pub source_line_in : Form → List ℕ → Finding → List ℕ
+source_line_in Text name finding = source_line name finding
+source_line_in Json name finding = json_line (source_value name finding)
+
+-- what is said of the counts
+abbrev pub summary_line_in : Form → Counts → List ℕ
+summary_line_in Text counts = summary_line counts
+summary_line_in Json counts = json_line (summary_value counts)
+
+-- the lines of sources with these names and findings, in order
+abbrev pub source_lines_in : Form → List (List ℕ × Finding) → List ℕ
+source_lines_in form sources = flat_map (λ s. source_line_in form s.0 s.1) sources
+
+-- the report on them: their lines in order, then the summary
+abbrev pub report_in : Form → List (List ℕ × Finding) → List ℕ
+report_in form sources = source_lines_in form sources ++ summary_line_in form (counts_of (map (λ s. s.1) sources))

@@ -1,0 +1,102 @@
+-- The report for machines: the data of each line as JSON, with its members in this order, and the line's text.
+use Rattle.std.specs.Prelude.{ℕ, ◌+◌, List, [], ◌∷◌, ◌++◌, if◌then◌else◌, Option, Some, None, map, codes, decimal}
+use Rattle.std.specs.Str.{is_utf8}
+use Rattle.base64.specs.Engines.{standard}
+use Rattle.base64.specs.GeneralPurpose.{encode_of}
+use Rattle.json.specs.Json.{Json, string, number, array, object, Items, no_items, item, Members, no_members, member}
+use Rattle.json.specs.Tree.{json_tokens}
+use Rattle.json.specs.Print.{print}
+use Rattle.aero_model.specs.declared.verdict.Verdict.{Verdict}
+use Rattle.aero_model.specs.declared.verdict.Verdict.TheVariants.{Serializable, Pending, Violation, Malformed, IllFormed}
+use Rattle.aero_model.specs.declared.verdict.Step.{Step}
+use Rattle.aero_model.specs.declared.verdict.CycleStep.{CycleStep}
+use Rattle.aero_model.specs.declared.verdict.Finding.{Finding}
+use Rattle.aero_model.specs.declared.verdict.Finding.TheVariants.{Judged, Ordered, Explained, Broken, TooLarge}
+use Rattle.aero_model.specs.declared.verdict.Counts.{Counts}
+use Rattle.aero_report.specs.Texts.{line_fault_name, shape_fault_name, op_name}
+
+-- a member of an object: its key and its value
+abbrev pub Member : Type 0
+Member = List ℕ × Json
+
+abbrev pub members_of : List Member → Members
+members_of [] = no_members
+members_of (m ∷ ms) = member m.0 m.1 (members_of ms)
+
+abbrev pub items_of : List Json → Items
+items_of [] = no_items
+items_of (j ∷ js) = item j (items_of js)
+
+abbrev pub object_of : List Member → Json
+object_of ms = object (members_of ms)
+
+abbrev pub count : List ℕ → ℕ → Member
+count key n = (key, number (decimal n))
+
+abbrev pub word : List ℕ → List ℕ → Member
+word key text = (key, string text)
+
+-- {"bytes":BASE64}, in the standard alphabet and padded
+abbrev pub bytes_value : List ℕ → Json
+bytes_value bytes = object_of (word (codes "bytes") (encode_of standard bytes) ∷ [])
+
+-- a string where the name's bytes are UTF-8
+abbrev pub name_value : List ℕ → Json
+name_value bytes = if is_utf8 bytes then string bytes else bytes_value bytes
+
+abbrev pub name : List ℕ → List ℕ → Member
+name key bytes = (key, name_value bytes)
+
+abbrev pub verdict_members : Verdict → List Member
+verdict_members (Serializable events blocks) = word (codes "verdict") (codes "serializable") ∷ count (codes "events") events ∷ count (codes "blocks") blocks ∷ []
+verdict_members (Pending events blocks pending) = word (codes "verdict") (codes "open") ∷ count (codes "events") events ∷ count (codes "blocks") blocks ∷ count (codes "open") pending ∷ []
+verdict_members (Violation line thread begun) = word (codes "verdict") (codes "violation") ∷ count (codes "line") line ∷ name (codes "thread") thread ∷ count (codes "begun") begun ∷ []
+verdict_members (Malformed line fault) = word (codes "verdict") (codes "malformed") ∷ count (codes "line") line ∷ word (codes "fault") (line_fault_name fault) ∷ []
+verdict_members (IllFormed line fault) = word (codes "verdict") (codes "ill-formed") ∷ count (codes "line") line ∷ word (codes "fault") (shape_fault_name fault) ∷ []
+
+-- a transaction of a serial order
+abbrev pub step_value : Step → Json
+step_value step = object_of (count (codes "line") step.line ∷ name (codes "thread") step.thread ∷ [])
+
+-- the target of an event, if it has one
+abbrev pub target_members : Option (List ℕ) → List Member
+target_members None = []
+target_members (Some target) = name (codes "target") target ∷ []
+
+-- an event of a cycle
+abbrev pub cycle_step_value : CycleStep → Json
+cycle_step_value step =
+    object_of (count (codes "line") step.line ∷ count (codes "first") step.first ∷ name (codes "thread") step.event.thread ∷ word (codes "op") (op_name step.event.op) ∷ target_members step.event.target)
+
+-- the label of the block that is named, if it has one
+abbrev pub label_members : Option (List ℕ) → List Member
+label_members None = []
+label_members (Some label) = name (codes "label") label ∷ []
+
+abbrev pub list : List ℕ → List Json → Member
+list key values = (key, array (items_of values))
+
+abbrev pub finding_members : Finding → List Member
+finding_members (Judged verdict) = verdict_members verdict
+finding_members (Ordered verdict steps) = verdict_members verdict ++ list (codes "order") (map step_value steps.items) ∷ []
+finding_members (Explained verdict cycle) = verdict_members verdict ++ (label_members cycle.label ++ list (codes "cycle") (map cycle_step_value cycle.steps.items) ∷ [])
+finding_members (Broken bytes) = word (codes "verdict") (codes "broken") ∷ count (codes "bytes") bytes ∷ []
+finding_members TooLarge = word (codes "verdict") (codes "too large") ∷ []
+
+-- the data of a source
+abbrev pub source_value : List ℕ → Finding → Json
+source_value bytes finding = object_of (name (codes "source") bytes ∷ finding_members finding)
+
+abbrev pub summary_members : Counts → List Member
+summary_members counts =
+    count (codes "traces") (counts.serializable + counts.pending + counts.violations + counts.faults)
+    ∷ count (codes "serializable") counts.serializable ∷ count (codes "open") counts.pending
+    ∷ count (codes "violations") counts.violations ∷ count (codes "faults") counts.faults ∷ []
+
+-- the data of the summary
+abbrev pub summary_value : Counts → Json
+summary_value counts = object_of (summary_members counts)
+
+-- the text of a value, with no blank, and the byte 10
+abbrev pub json_line : Json → List ℕ
+json_line value = print (json_tokens value) ++ 10 ∷ []

@@ -1,0 +1,51 @@
+//! The report in the form that is asked for.
+ghost use Rattle.std.specs.Prelude.{◌≡◌, IfOk};
+ghost use Rattle.aero_report.specs.Forms.{source_line_in, summary_line_in};
+
+use crate::objects::{source_object, summary_object};
+use crate::summary::summary_text;
+use crate::texts::trace_text;
+use aero_model::verdict::{Counts, Finding};
+use std::alloc::{AllocError, Global};
+
+/// The form of a report.
+#[derive(Clone, Copy, Debug, PartialEq, Eq)]
+pub enum Form {
+    /// Lines for people.
+    Text,
+    /// A JSON object on a line for each source, and one for the summary.
+    Json,
+}
+
+/// What is said of a source: its name as its bytes stand, and what was found of it, with a newline
+/// behind each line.
+///
+/// As JSON it is one line. A name is a string where its bytes are UTF-8, and else an object with them
+/// in Base64. Lines of a trace count from 1. Fails only where memory runs out.
+pub fn source_text(
+    alloc: Global,
+    form: Form,
+    name: &[u8],
+    finding: &Finding,
+) -> Result<Vec<u8>, AllocError>
+    ensures { IfOk result (λ text. text.items ≡ source_line_in form name.now finding.now) }
+{
+    match form {
+        Form::Text => trace_text(alloc, name, finding),
+        Form::Json => source_object(alloc, name, finding),
+    }
+}
+
+/// The last line of a report, with a newline: how many sources there are, and how many were found to
+/// be what.
+///
+/// The first number is the sum of the four counts, also where it is above 2^64 - 1. Fails only
+/// where memory runs out.
+pub fn totals_text(alloc: Global, form: Form, counts: &Counts) -> Result<Vec<u8>, AllocError>
+    ensures { IfOk result (λ text. text.items ≡ summary_line_in form counts.now) }
+{
+    match form {
+        Form::Text => summary_text(alloc, counts),
+        Form::Json => summary_object(alloc, counts),
+    }
+}
