@@ -1,0 +1,227 @@
+/* Locks and what else orders threads. An acquire is logged once the lock is had, a release before it is given back. */
+#include "log.h"
+
+#include <errno.h>
+#include <semaphore.h>
+#include <threads.h>
+#include <time.h>
+
+typedef const struct timespec *until_type;
+
+/* ---- what a thread holds */
+
+static void hold(uintptr_t lock, enum holding how) {
+    struct thread *me = &aero_me;
+    if (me->holds < MOST_HELD) me->held[me->holds++] = (struct held){lock, how};
+}
+
+/* How the thread holds the lock, which it gives back; 0 if it isn't known to hold it. */
+static enum holding let_go(uintptr_t lock) {
+    struct thread *me = &aero_me;
+    for (size_t place = me->holds; place > 0; place--) {
+        struct held *it = &me->held[place - 1];
+        if (it->lock != lock) continue;
+        enum holding how = it->how;
+        *it = me->held[--me->holds];
+        return how;
+    }
+    return 0;
+}
+
+void aero_release_all(void) {
+    struct thread *me = &aero_me;
+    while (me->holds) {
+        struct held *it = &me->held[--me->holds];
+        if (it->how == MUTEX) aero_line("rel", "", it->lock, NULL, 0);
+        else aero_line(it->how == READER ? "r" : "w", "rw.", it->lock, NULL, 0);
+    }
+}
+
+static void acquired(uintptr_t lock, enum holding how, uintptr_t code) {
+    if (!aero_enter()) return;
+    hold(lock, how);
+    aero_lock();
+    if (how == MUTEX) aero_line("acq", "", lock, NULL, code);
+    else aero_line(how == READER ? "r" : "w", "rw.", lock, NULL, code);
+    aero_unlock();
+    aero_leave();
+}
+
+/* How the thread held what it is about to give back. A lock that it isn't known to hold, as one that it had before the log
+ * began, isn't released there. */
+static enum holding releasing(uintptr_t lock, uintptr_t code) {
+    if (!aero_enter()) return 0;
+    enum holding how = let_go(lock);
+    aero_lock();
+    if (how == MUTEX) aero_line("rel", "", lock, NULL, code);
+    else if (how) aero_line(how == READER ? "r" : "w", "rw.", lock, NULL, code);
+    aero_unlock();
+    aero_leave();
+    return how;
+}
+
+/* ---- mutexes and spin locks */
+
+/* Whether the lock is had, also where its owner has ended with it. */
+static int is_had(int result) { return result == 0 || result == EOWNERDEAD; }
+
+#define ACQUIRE(name, how, arguments, ...) \
+    EXPORT int name(__VA_ARGS__) { \
+        REAL(int, name, __VA_ARGS__) \
+        int result = real arguments; \
+        if (is_had(result)) acquired((uintptr_t)lock, how, HERE); \
+        return result; \
+    }
+#define RELEASE(name, type) \
+    EXPORT int name(type *lock) { \
+        REAL(int, name, type *) \
+        releasing((uintptr_t)lock, HERE); \
+        return real(lock); \
+    }
+ACQUIRE(pthread_mutex_lock, MUTEX, (lock), pthread_mutex_t *lock)
+ACQUIRE(pthread_mutex_trylock, MUTEX, (lock), pthread_mutex_t *lock)
+ACQUIRE(pthread_mutex_timedlock, MUTEX, (lock, until), pthread_mutex_t *lock, until_type until)
+ACQUIRE(pthread_mutex_clocklock, MUTEX, (lock, clock, until), pthread_mutex_t *lock, clockid_t clock, until_type until)
+RELEASE(pthread_mutex_unlock, pthread_mutex_t)
+ACQUIRE(pthread_spin_lock, MUTEX, (lock), pthread_spinlock_t *lock)
+ACQUIRE(pthread_spin_trylock, MUTEX, (lock), pthread_spinlock_t *lock)
+RELEASE(pthread_spin_unlock, pthread_spinlock_t)
+ACQUIRE(mtx_lock, MUTEX, (lock), mtx_t *lock)
+ACQUIRE(mtx_trylock, MUTEX, (lock), mtx_t *lock)
+ACQUIRE(mtx_timedlock, MUTEX, (lock, until), mtx_t *lock, until_type until)
+RELEASE(mtx_unlock, mtx_t)
+
+/* ---- read-write locks */
+
+ACQUIRE(pthread_rwlock_rdlock, READER, (lock), pthread_rwlock_t *lock)
+ACQUIRE(pthread_rwlock_tryrdlock, READER, (lock), pthread_rwlock_t *lock)
+ACQUIRE(pthread_rwlock_timedrdlock, READER, (lock, until), pthread_rwlock_t *lock, until_type until)
+ACQUIRE(pthread_rwlock_clockrdlock, READER, (lock, clock, until), pthread_rwlock_t *lock, clockid_t clock, until_type until)
+ACQUIRE(pthread_rwlock_wrlock, WRITER, (lock), pthread_rwlock_t *lock)
+ACQUIRE(pthread_rwlock_trywrlock, WRITER, (lock), pthread_rwlock_t *lock)
+ACQUIRE(pthread_rwlock_timedwrlock, WRITER, (lock, until), pthread_rwlock_t *lock, until_type until)
+ACQUIRE(pthread_rwlock_clockwrlock, WRITER, (lock, clock, until), pthread_rwlock_t *lock, clockid_t clock, until_type until)
+RELEASE(pthread_rwlock_unlock, pthread_rwlock_t)
+
+/* ---- condition variables */
+
+/* The lock is had again however the wait ends, also where the thread is cancelled in it. */
+struct wait {
+    uintptr_t lock, code;
+    enum holding how;
+};
+static void has_again(void *given) {
+    struct wait *wait = given;
+    if (wait->how) acquired(wait->lock, wait->how, wait->code);
+}
+
+#define WAIT(name, version, arguments, ...) \
+    EXPORT int name(__VA_ARGS__) { \
+        REAL_VERSION(int, name, version, __VA_ARGS__) \
+        struct wait wait = {(uintptr_t)lock, HERE, 0}; \
+        int result; \
+        wait.how = releasing(wait.lock, wait.code); \
+        pthread_cleanup_push(has_again, &wait) \
+        result = real arguments; \
+        pthread_cleanup_pop(1); \
+        return result; \
+    }
+#ifdef __x86_64__
+#define CONDITIONS "GLIBC_2.3.2"
+#else
+#define CONDITIONS NULL
+#endif
+WAIT(pthread_cond_wait, CONDITIONS, (condition, lock), pthread_cond_t *condition, pthread_mutex_t *lock)
+WAIT(pthread_cond_timedwait, CONDITIONS, (condition, lock, until), pthread_cond_t *condition, pthread_mutex_t *lock, until_type until)
+WAIT(pthread_cond_clockwait, NULL, (condition, lock, clock, until), pthread_cond_t *condition, pthread_mutex_t *lock, clockid_t clock, until_type until)
+WAIT(cnd_wait, NULL, (condition, lock), cnd_t *condition, mtx_t *lock)
+WAIT(cnd_timedwait, NULL, (condition, lock, until), cnd_t *condition, mtx_t *lock, until_type until)
+
+/* ---- semaphores, barriers, what runs once */
+
+EXPORT int sem_post(sem_t *semaphore) {
+    REAL(int, sem_post, sem_t *)
+    aero_event("w", "sem.", (uintptr_t)semaphore, HERE);
+    return real(semaphore);
+}
+#define SEMAPHORE(name, arguments, ...) \
+    EXPORT int name(__VA_ARGS__) { \
+        REAL(int, name, __VA_ARGS__) \
+        int result = real arguments; \
+        if (!result) aero_event("w", "sem.", (uintptr_t)semaphore, HERE); \
+        return result; \
+    }
+SEMAPHORE(sem_wait, (semaphore), sem_t *semaphore)
+SEMAPHORE(sem_trywait, (semaphore), sem_t *semaphore)
+SEMAPHORE(sem_timedwait, (semaphore, until), sem_t *semaphore, until_type until)
+SEMAPHORE(sem_clockwait, (semaphore, clock, until), sem_t *semaphore, clockid_t clock, until_type until)
+
+EXPORT int pthread_barrier_wait(pthread_barrier_t *barrier) {
+    REAL(int, pthread_barrier_wait, pthread_barrier_t *)
+    aero_event("w", "bar.", (uintptr_t)barrier, HERE);
+    int result = real(barrier);
+    aero_event("r", "bar.", (uintptr_t)barrier, HERE);
+    return result;
+}
+
+/* What runs once is logged where it ends, before others are let through. */
+struct once {
+    void (*routine)(void);
+    uintptr_t once, code;
+    int ran;
+};
+static __thread struct once *running;
+static void run_once(void) {
+    struct once *mine = running;
+    mine->routine();
+    mine->ran = 1;
+    aero_event("w", "once.", mine->once, mine->code);
+}
+#define ONCE(name, result_type, type) \
+    static result_type name##_logged(type *once, struct once *mine) { \
+        REAL(result_type, name, type *, void (*)(void)) \
+        running = mine; \
+        return real(once, run_once); \
+    }
+ONCE(pthread_once, int, pthread_once_t)
+ONCE(call_once, void, once_flag)
+static void after_once(const struct once *mine, struct once *before) {
+    running = before;
+    if (!mine->ran) aero_event("r", "once.", mine->once, mine->code);
+}
+EXPORT int pthread_once(pthread_once_t *once, void (*routine)(void)) {
+    struct once mine = {routine, (uintptr_t)once, HERE, 0}, *before = running;
+    int result = pthread_once_logged(once, &mine);
+    after_once(&mine, before);
+    return result;
+}
+EXPORT void call_once(once_flag *once, void (*routine)(void)) {
+    struct once mine = {routine, (uintptr_t)once, HERE, 0}, *before = running;
+    call_once_logged(once, &mine);
+    after_once(&mine, before);
+}
+
+/* ---- what programs that know of -fsanitize=thread tell it by themselves */
+
+EXPORT void __tsan_acquire(void *at) { aero_event("r", "sync.", (uintptr_t)at, HERE); }
+EXPORT void __tsan_release(void *at) { aero_event("w", "sync.", (uintptr_t)at, HERE); }
+
+/* A mutex of the program's own, which may have readers. */
+enum { READ_LOCK = 1 << 3, TRY_FAILED = 1 << 5 };
+EXPORT void __tsan_mutex_create(void *at, unsigned flags) { (void)at, (void)flags; }
+EXPORT void __tsan_mutex_destroy(void *at, unsigned flags) { (void)at, (void)flags; }
+EXPORT void __tsan_mutex_pre_lock(void *at, unsigned flags) { (void)at, (void)flags; }
+EXPORT void __tsan_mutex_post_lock(void *at, unsigned flags, int times) {
+    (void)times;
+    if (!(flags & TRY_FAILED)) acquired((uintptr_t)at, flags & READ_LOCK ? READER : WRITER, HERE);
+}
+EXPORT int __tsan_mutex_pre_unlock(void *at, unsigned flags) {
+    (void)flags;
+    releasing((uintptr_t)at, HERE);
+    return 0;
+}
+EXPORT void __tsan_mutex_post_unlock(void *at, unsigned flags) { (void)at, (void)flags; }
+EXPORT void __tsan_mutex_pre_signal(void *at, unsigned flags) { (void)at, (void)flags; }
+EXPORT void __tsan_mutex_post_signal(void *at, unsigned flags) { (void)at, (void)flags; }
+EXPORT void __tsan_mutex_pre_divert(void *at, unsigned flags) { (void)at, (void)flags; }
+EXPORT void __tsan_mutex_post_divert(void *at, unsigned flags) { (void)at, (void)flags; }

@@ -1,0 +1,206 @@
+/* Memory: plain accesses, ranges, and what is allocated again. */
+#include "log.h"
+
+#include <errno.h>
+#include <malloc.h>
+#include <stdlib.h>
+#include <sys/mman.h>
+
+/* Programs are linked so that a plain memcpy leads to __wrap_memcpy. */
+extern void *__real_memmove(void *, const void *, size_t), *__real_memset(void *, int, size_t);
+
+/* ---- what is allocated again */
+
+/* How often memory was allocated: for units of 16 bytes and for pages, whose sum counts. A leaf has 2^27 bytes of addresses. */
+#define LEAF_BITS 27
+#define UNIT_BITS 4
+#define PAGE_BITS 12
+struct leaf {
+    uint32_t units[1 << (LEAF_BITS - UNIT_BITS)];
+    uint32_t pages[1 << (LEAF_BITS - PAGE_BITS)];
+};
+static _Atomic(struct leaf *) leaves[1 << (47 - LEAF_BITS)];
+static int with_fresh;
+
+void aero_memory_start(int fresh) { with_fresh = fresh; }
+
+static struct leaf *leaf_of(uintptr_t address, int make) {
+    if (address >> 47) return NULL;
+    _Atomic(struct leaf *) *slot = &leaves[address >> LEAF_BITS];
+    struct leaf *leaf = atomic_load_explicit(slot, memory_order_acquire);
+    if (leaf || !make) return leaf;
+    struct leaf *made = aero_pages(sizeof *made);
+    if (!made || atomic_compare_exchange_strong(slot, &leaf, made)) return made;
+    aero_free_pages(made, sizeof *made);
+    return leaf;
+}
+
+static uint32_t *unit_of(struct leaf *leaf, uintptr_t address) {
+    return &leaf->units[address >> UNIT_BITS & ((1 << (LEAF_BITS - UNIT_BITS)) - 1)];
+}
+static uint32_t *page_of(struct leaf *leaf, uintptr_t address) {
+    return &leaf->pages[address >> PAGE_BITS & ((1 << (LEAF_BITS - PAGE_BITS)) - 1)];
+}
+
+uint32_t aero_generation(uintptr_t address) {
+    struct leaf *leaf = leaf_of(address, 0);
+    return leaf ? *unit_of(leaf, address) + *page_of(leaf, address) : 0;
+}
+
+void aero_renew(uintptr_t from, uintptr_t to) {
+    const uintptr_t unit = 1 << UNIT_BITS, page = 1 << PAGE_BITS;
+    if (!with_fresh || atomic_load_explicit(&aero_state, memory_order_relaxed) != ON) return;
+    for (from &= -unit; from < to;) {
+        struct leaf *leaf = leaf_of(from, 1);
+        int whole = !(from & (page - 1)) && to - from >= page;
+        if (!leaf) return;
+        ++*(whole ? page_of(leaf, from) : unit_of(leaf, from));
+        from += whole ? page : unit;
+    }
+}
+
+extern void *__libc_malloc(size_t), *__libc_calloc(size_t, size_t), *__libc_realloc(void *, size_t), *__libc_memalign(size_t, size_t);
+
+static void *renewed(void *at) {
+    if (at && UNLIKELY(atomic_load_explicit(&aero_state, memory_order_relaxed) == ON))
+        aero_renew((uintptr_t)at, (uintptr_t)at + malloc_usable_size(at));
+    return at;
+}
+EXPORT void *malloc(size_t bytes) { return renewed(__libc_malloc(bytes)); }
+EXPORT void *calloc(size_t count, size_t bytes) { return renewed(__libc_calloc(count, bytes)); }
+EXPORT void *memalign(size_t alignment, size_t bytes) { return renewed(__libc_memalign(alignment, bytes)); }
+EXPORT void *aligned_alloc(size_t alignment, size_t bytes) { return renewed(__libc_memalign(alignment, bytes)); }
+EXPORT int posix_memalign(void **to, size_t alignment, size_t bytes) {
+    if (!alignment || alignment % sizeof(void *) || alignment & (alignment - 1)) return EINVAL;
+    void *at = renewed(__libc_memalign(alignment, bytes));
+    if (!at) return ENOMEM;
+    *to = at;
+    return 0;
+}
+
+EXPORT void *mmap(void *wanted, size_t bytes, int protection, int flags, int file, off_t offset) {
+    REAL(void *, mmap, void *, size_t, int, int, int, off_t)
+    void *at = real(wanted, bytes, protection, flags, file, offset);
+    if (at != MAP_FAILED) aero_renew((uintptr_t)at, (uintptr_t)at + bytes);
+    return at;
+}
+EXPORT void *mmap64(void *wanted, size_t bytes, int protection, int flags, int file, off64_t offset) {
+    return mmap(wanted, bytes, protection, flags, file, offset);
+}
+
+/* ---- accesses */
+
+void aero_span(const char *operation, uintptr_t address, size_t bytes, uintptr_t code) {
+    uintptr_t end = address + bytes;
+    for (address = aero_variable_start(address); address < end; address = aero_variable_end(address))
+        aero_line(operation, "", address, NULL, code);
+}
+
+static void access_at(const char *operation, uintptr_t address, size_t bytes, uintptr_t code, uintptr_t frame) {
+    if (!aero_enter()) return;
+    if (UNLIKELY(aero_me.jumped)) aero_left(frame);
+    aero_lock();
+    aero_span(operation, address, bytes, code);
+    aero_unlock();
+    aero_leave();
+}
+
+/* In steps, so that nobody waits long. */
+static void range_at(const char *operation, uintptr_t address, size_t bytes, uintptr_t code) {
+    const size_t step = 4096;
+    if (!bytes || !aero_enter()) return;
+    for (uintptr_t end = address + bytes; address < end;) {
+        uintptr_t stop = end - address > step ? (address & -step) + step : end;
+        aero_lock();
+        aero_span(operation, address, stop - address, code);
+        aero_unlock();
+        address = stop;
+    }
+    aero_leave();
+}
+
+#define ACCESS(name, operation, bytes) \
+    EXPORT void name(void *at) { access_at(operation, (uintptr_t)at, bytes, HERE, FRAME); }
+#define ACCESS_FROM(name, operation, bytes) \
+    EXPORT void name(void *at, void *code) { access_at(operation, (uintptr_t)at, bytes, (uintptr_t)code, FRAME); }
+#define ACCESSES(kind, bytes) \
+    ACCESS(__tsan_##kind##read##bytes, "r", bytes) \
+    ACCESS(__tsan_##kind##write##bytes, "w", bytes) \
+    ACCESS(__tsan_##kind##read_write##bytes, "w", bytes) \
+    ACCESS_FROM(__tsan_##kind##read##bytes##_pc, "r", bytes) \
+    ACCESS_FROM(__tsan_##kind##write##bytes##_pc, "w", bytes)
+#define ALL_ACCESSES(bytes) \
+    ACCESSES(, bytes) ACCESSES(volatile_, bytes) ACCESSES(unaligned_, bytes) ACCESSES(unaligned_volatile_, bytes)
+ALL_ACCESSES(1)
+ALL_ACCESSES(2)
+ALL_ACCESSES(4)
+ALL_ACCESSES(8)
+ALL_ACCESSES(16)
+
+EXPORT void __tsan_read_range(void *at, size_t bytes) { range_at("r", (uintptr_t)at, bytes, HERE); }
+EXPORT void __tsan_write_range(void *at, size_t bytes) { range_at("w", (uintptr_t)at, bytes, HERE); }
+EXPORT void __tsan_read_range_pc(void *at, size_t bytes, void *code) { range_at("r", (uintptr_t)at, bytes, (uintptr_t)code); }
+EXPORT void __tsan_write_range_pc(void *at, size_t bytes, void *code) { range_at("w", (uintptr_t)at, bytes, (uintptr_t)code); }
+EXPORT void __tsan_vptr_read(void **at) { access_at("r", (uintptr_t)at, sizeof *at, HERE, FRAME); }
+/* A constructor and a destructor often write what already stands there, which nobody can tell from no write. */
+EXPORT void __tsan_vptr_update(void **at, void *value) {
+    if (*at != value) access_at("w", (uintptr_t)at, sizeof *at, HERE, FRAME);
+}
+
+/* ---- copies */
+
+static void *copied(void *to, const void *from, size_t bytes, uintptr_t code) {
+    range_at("r", (uintptr_t)from, bytes, code);
+    range_at("w", (uintptr_t)to, bytes, code);
+    return __real_memmove(to, from, bytes);
+}
+static void *filled(void *to, int value, size_t bytes, uintptr_t code) {
+    range_at("w", (uintptr_t)to, bytes, code);
+    return __real_memset(to, value, bytes);
+}
+/* What __memcpy_chk and the like check, that the target has room, is left to them. */
+#define COPY(name) \
+    EXPORT void *__wrap_##name(void *to, const void *from, size_t bytes) { return copied(to, from, bytes, HERE); } \
+    EXPORT void *__tsan_##name(void *to, const void *from, size_t bytes) { return copied(to, from, bytes, HERE); } \
+    extern void *__real___##name##_chk(void *, const void *, size_t, size_t); \
+    EXPORT void *__wrap___##name##_chk(void *to, const void *from, size_t bytes, size_t room) { \
+        if (bytes > room) return __real___##name##_chk(to, from, bytes, room); \
+        return copied(to, from, bytes, HERE); \
+    }
+COPY(memcpy)
+COPY(memmove)
+extern void *__real___memset_chk(void *, int, size_t, size_t);
+EXPORT void *__wrap_memset(void *to, int value, size_t bytes) { return filled(to, value, bytes, HERE); }
+EXPORT void *__tsan_memset(void *to, int value, size_t bytes) { return filled(to, value, bytes, HERE); }
+EXPORT void *__wrap___memset_chk(void *to, int value, size_t bytes, size_t room) {
+    return bytes > room ? __real___memset_chk(to, value, bytes, room) : filled(to, value, bytes, HERE);
+}
+
+/* What stays in place keeps its names, and what it grows by is new. What moves is copied, before the old place is given back. */
+EXPORT void *realloc(void *old, size_t bytes) {
+    if (!old || LIKELY(atomic_load_explicit(&aero_state, memory_order_relaxed) != ON)) return renewed(__libc_realloc(old, bytes));
+    size_t room = malloc_usable_size(old), same = room < bytes ? room : bytes;
+    if (!bytes) return __libc_realloc(old, bytes);
+    void *at = bytes <= room ? __libc_realloc(old, bytes) : NULL;
+    if (at == old) return at;
+    if (!at) {
+        range_at("r", (uintptr_t)old, same, HERE);
+        at = __libc_realloc(old, bytes);
+    }
+    if (!at) return NULL;
+    if (at == old) aero_renew((uintptr_t)at + room, (uintptr_t)at + malloc_usable_size(at));
+    else range_at("w", (uintptr_t)renewed(at), same, HERE);
+    return at;
+}
+EXPORT void *reallocarray(void *old, size_t count, size_t bytes) {
+    size_t all;
+    if (__builtin_mul_overflow(count, bytes, &all)) {
+        errno = ENOMEM;
+        return NULL;
+    }
+    return realloc(old, all);
+}
+
+EXPORT void __tsan_ignore_thread_begin(void) {}
+EXPORT void __tsan_ignore_thread_end(void) {}
+EXPORT void __tsan_flush_memory(void) {}

@@ -1,0 +1,184 @@
+/* Threads: their numbers, their starts, and what is logged at their ends. */
+#include "log.h"
+
+#include <errno.h>
+#include <semaphore.h>
+#include <stdio.h>
+#include <threads.h>
+#include <time.h>
+
+static pthread_key_t at_end;             /* its destructor runs however a thread ends */
+
+/* The numbers of the threads that may still be joined. */
+struct joinable {
+    pthread_t id;
+    int number;                          /* 0: the place is free */
+};
+static struct joinable *joinable;
+static size_t joinable_count, joinable_room;
+static atomic_flag joinable_lock = ATOMIC_FLAG_INIT;
+
+static void lock_joinable(void) {
+    while (atomic_flag_test_and_set_explicit(&joinable_lock, memory_order_acquire)) thrd_yield();
+}
+static void unlock_joinable(void) { atomic_flag_clear_explicit(&joinable_lock, memory_order_release); }
+
+/* The place of the thread, or else a free one, which is the last if there is none but that. */
+static size_t place_of(pthread_t id, int or_free) {
+    size_t free_place = joinable_count;
+    for (size_t place = 0; place < joinable_count; place++)
+        if (!joinable[place].number) free_place = place;
+        else if (pthread_equal(joinable[place].id, id)) return place;
+    return or_free ? free_place : joinable_count;
+}
+
+/* The system uses the id of a thread again that was joined, or detached and has ended: then the new number counts. */
+static void note(pthread_t id, int number) {
+    lock_joinable();
+    size_t place = place_of(id, 1);
+    if (place == joinable_room) {
+        size_t room = joinable_room ? 2 * joinable_room : 4096 / sizeof *joinable;
+        struct joinable *more = aero_pages(room * sizeof *more);
+        for (size_t one = 0; more && one < joinable_count; one++) more[one] = joinable[one];
+        if (more) {
+            aero_free_pages(joinable, joinable_room * sizeof *more);
+            joinable = more;
+            joinable_room = room;
+        }
+    }
+    if (place < joinable_room) {
+        joinable[place] = (struct joinable){id, number};
+        if (place == joinable_count) joinable_count++;
+    }
+    unlock_joinable();
+}
+
+/* The number of the thread, which is no longer noted; 0 of one that isn't known. */
+static int take(pthread_t id) {
+    int number = 0;
+    lock_joinable();
+    size_t place = place_of(id, 0);
+    if (place < joinable_count) {
+        number = joinable[place].number;
+        joinable[place].number = 0;
+    }
+    unlock_joinable();
+    return number;
+}
+
+static void thread_line(const char *operation, int number, uintptr_t code) {
+    char name[16];
+    if (!aero_enter()) return;
+    snprintf(name, sizeof name, "T%d", number);
+    aero_lock();
+    aero_line(operation, "", 0, name, code);
+    aero_unlock();
+    aero_leave();
+}
+
+void aero_end_thread(void) {
+    if (!aero_enter()) return;
+    aero_lock();
+    aero_end_blocks();
+    aero_release_all();
+    aero_unlock();
+    aero_leave();
+}
+static void ends(void *unused) {
+    (void)unused;
+    aero_end_thread();
+    aero_free_pages(aero_me.frames, aero_me.room * sizeof *aero_me.frames);
+    aero_me.frames = NULL;
+    aero_me.room = 0;
+}
+void aero_threads_start(void) { pthread_key_create(&at_end, ends); }
+
+/* ---- starts */
+
+/* What a new thread is told by who starts it. */
+struct seed {
+    void *(*run)(void *);
+    int (*run_c11)(void *);
+    void *with;
+    int number;
+    sem_t noted;
+};
+
+/* The stack and what lies there are new variables. */
+static void renew_stack(void) {
+    pthread_attr_t attributes;
+    void *low;
+    size_t size;
+    if (pthread_getattr_np(pthread_self(), &attributes)) return;
+    if (!pthread_attr_getstack(&attributes, &low, &size)) aero_renew((uintptr_t)low, (uintptr_t)low + size);
+    pthread_attr_destroy(&attributes);
+}
+
+static struct seed grow(void *given) {
+    REAL(int, sem_post, sem_t *)
+    struct seed seed = *(struct seed *)given;
+    aero_me.busy = 1;
+    aero_number(seed.number);
+    renew_stack();
+    note(pthread_self(), seed.number);
+    pthread_setspecific(at_end, &aero_me);
+    aero_me.busy = 0;
+    real(&((struct seed *)given)->noted);
+    return seed;
+}
+static void *run(void *given) {
+    struct seed seed = grow(given);
+    return seed.run(seed.with);
+}
+static int run_c11(void *given) {
+    struct seed seed = grow(given);
+    return seed.run_c11(seed.with);
+}
+
+/* The fork is logged before the thread is there, and its number is noted before anybody can join it. */
+static void before_start(struct seed *seed, uintptr_t code) {
+    seed->number = aero_next_number();
+    sem_init(&seed->noted, 0, 0);
+    thread_line("fork", seed->number, code);
+}
+static void after_start(struct seed *seed) {
+    REAL(int, sem_wait, sem_t *)
+    while (real(&seed->noted) && errno == EINTR) {}
+}
+
+EXPORT int pthread_create(pthread_t *id, const pthread_attr_t *attributes, void *(*start)(void *), void *with) {
+    REAL(int, pthread_create, pthread_t *, const pthread_attr_t *, void *(*)(void *), void *)
+    aero_start();
+    if (atomic_load(&aero_state) != ON) return real(id, attributes, start, with);
+    struct seed seed = {.run = start, .with = with};
+    before_start(&seed, HERE);
+    int refused = real(id, attributes, run, &seed);
+    if (!refused) after_start(&seed);
+    return refused;
+}
+EXPORT int thrd_create(thrd_t *id, thrd_start_t start, void *with) {
+    REAL(int, thrd_create, thrd_t *, thrd_start_t, void *)
+    aero_start();
+    if (atomic_load(&aero_state) != ON) return real(id, start, with);
+    struct seed seed = {.run_c11 = start, .with = with};
+    before_start(&seed, HERE);
+    int result = real(id, run_c11, &seed);
+    if (result == thrd_success) after_start(&seed);
+    return result;
+}
+
+/* ---- joins */
+
+/* The number is taken before the wait, since the system may use the id again at once behind it. */
+#define JOIN(name, id_type, extra, ...) \
+    EXPORT int name(id_type id, __VA_ARGS__) { \
+        REAL(int, name, id_type, __VA_ARGS__) \
+        int number = take(id), refused = real extra; \
+        if (number && refused) note(id, number); \
+        if (number && !refused) thread_line("join", number, HERE); \
+        return refused; \
+    }
+JOIN(pthread_join, pthread_t, (id, result), void **result)
+JOIN(pthread_tryjoin_np, pthread_t, (id, result), void **result)
+JOIN(pthread_timedjoin_np, pthread_t, (id, result, until), void **result, const struct timespec *until)
+JOIN(thrd_join, thrd_t, (id, result), int *result)
