@@ -52,7 +52,7 @@ static int has_room(struct thread *me) {
     struct frame *frames = aero_pages(room * sizeof *frames);
     if (!frames) {
         aero_lock();
-        aero_stop("out of memory: the rest isn't logged");
+        aero_stop("out of memory");
         aero_unlock();
         return 0;
     }

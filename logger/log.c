@@ -127,9 +127,11 @@ static void cut(size_t done) {
 }
 
 void aero_stop(const char *why) {
+    char text[256];
     used = 0;
     atomic_store(&aero_state, OFF);
-    say(why);
+    snprintf(text, sizeof text, "%.200s: the rest isn't logged", why);
+    say(text);
 }
 
 /* Writes the buffer out as far as it goes, and says whether all of it went. */
@@ -166,7 +168,7 @@ static void flush(void) {
         if (sigismember(&pending, SIGPIPE)) sigdelset(&ours, SIGPIPE);
         if (sigismember(&pending, SIGXFSZ)) sigdelset(&ours, SIGXFSZ);
         while (sigtimedwait(&ours, NULL, &none) > 0) {}
-        aero_stop(why == EPIPE ? "its reader has ended: the rest isn't logged" : strerror(why));
+        aero_stop(why == EPIPE ? "its reader has ended" : strerror(why));
     }
     pthread_sigmask(SIG_SETMASK, &before, NULL);
 }
@@ -194,7 +196,7 @@ void aero_line(const char *operation, const char *kind, uintptr_t address, const
     size_t now = (size_t)(to - buffer);
     if (UNLIKELY(limit && written + now > limit)) {
         flush();
-        if (atomic_load(&aero_state) == ON) aero_stop("AERODROME_LIMIT is reached: the rest isn't logged");
+        if (atomic_load(&aero_state) == ON) aero_stop("AERODROME_LIMIT is reached");
         return;
     }
     used = now;
@@ -334,6 +336,13 @@ static void wait_for_command(void) {
     }
 }
 
+/* What the program has said stands before what the command says. */
+static void say_what_is_left(void) {
+    if (command_ends < 0 || ftrylockfile(stdout)) return;
+    fflush(stdout);
+    funlockfile(stdout);
+}
+
 /* A child that shares the program's memory, by vfork(), ends without ending the log. */
 void aero_finish(void) {
     if (log_file < 0 || getpid() != owner) return;
@@ -348,7 +357,10 @@ void aero_finish(void) {
     close(file);
     wait_for_command();
 }
-__attribute__((destructor(101))) static void late(void) { aero_finish(); }
+__attribute__((destructor(101))) static void late(void) {
+    say_what_is_left();
+    aero_finish();
+}
 
 /* Ends that call no destructor. */
 EXPORT void _exit(int status) {
