@@ -142,9 +142,9 @@ EXPORT void __tsan_write_range(void *at, size_t bytes) { range_at("w", (uintptr_
 EXPORT void __tsan_read_range_pc(void *at, size_t bytes, void *code) { range_at("r", (uintptr_t)at, bytes, (uintptr_t)code); }
 EXPORT void __tsan_write_range_pc(void *at, size_t bytes, void *code) { range_at("w", (uintptr_t)at, bytes, (uintptr_t)code); }
 EXPORT void __tsan_vptr_read(void **at) { access_at("r", (uintptr_t)at, sizeof *at, HERE, FRAME); }
-/* A constructor and a destructor often write what already stands there, which nobody can tell from no write. */
 EXPORT void __tsan_vptr_update(void **at, void *value) {
-    if (*at != value) access_at("w", (uintptr_t)at, sizeof *at, HERE, FRAME);
+    (void)value;
+    access_at("w", (uintptr_t)at, sizeof *at, HERE, FRAME);
 }
 
 /* ---- copies */

@@ -1,11 +1,12 @@
 /* Threads: their numbers, their starts, and what is logged at their ends. */
 #include "log.h"
 
-#include <errno.h>
-#include <semaphore.h>
 #include <stdio.h>
+#include <stdlib.h>
 #include <threads.h>
 #include <time.h>
+
+extern void *__libc_malloc(size_t);
 
 static pthread_key_t at_end;             /* its destructor runs however a thread ends */
 
@@ -32,25 +33,25 @@ static size_t place_of(pthread_t id, int or_free) {
     return or_free ? free_place : joinable_count;
 }
 
+/* Makes room for one more, and says whether there is some. */
+static int has_room(void) {
+    if (joinable_count < joinable_room) return 1;
+    size_t room = joinable_room ? 2 * joinable_room : 4096 / sizeof *joinable;
+    struct joinable *more = aero_pages(room * sizeof *more);
+    if (!more) return 0;
+    for (size_t one = 0; one < joinable_count; one++) more[one] = joinable[one];
+    aero_free_pages(joinable, joinable_room * sizeof *more);
+    joinable = more;
+    joinable_room = room;
+    return 1;
+}
+
 /* The system uses the id of a thread again that was joined, or detached and has ended: then the new number counts. */
 static void note(pthread_t id, int number) {
-    lock_joinable();
     size_t place = place_of(id, 1);
-    if (place == joinable_room) {
-        size_t room = joinable_room ? 2 * joinable_room : 4096 / sizeof *joinable;
-        struct joinable *more = aero_pages(room * sizeof *more);
-        for (size_t one = 0; more && one < joinable_count; one++) more[one] = joinable[one];
-        if (more) {
-            aero_free_pages(joinable, joinable_room * sizeof *more);
-            joinable = more;
-            joinable_room = room;
-        }
-    }
-    if (place < joinable_room) {
-        joinable[place] = (struct joinable){id, number};
-        if (place == joinable_count) joinable_count++;
-    }
-    unlock_joinable();
+    if (place == joinable_count && !has_room()) return;
+    joinable[place] = (struct joinable){id, number};
+    if (place == joinable_count) joinable_count++;
 }
 
 /* The number of the thread, which is no longer noted; 0 of one that isn't known. */
@@ -64,6 +65,12 @@ static int take(pthread_t id) {
     }
     unlock_joinable();
     return number;
+}
+
+static void note_again(pthread_t id, int number) {
+    lock_joinable();
+    note(id, number);
+    unlock_joinable();
 }
 
 static void thread_line(const char *operation, int number, uintptr_t code) {
@@ -95,14 +102,35 @@ void aero_threads_start(void) { pthread_key_create(&at_end, ends); }
 
 /* ---- starts */
 
-/* What a new thread is told by who starts it. */
+/* What a new thread is told by who starts it. Both note its number, whoever is first, since both may let others join it; and the
+ * later one frees this. */
 struct seed {
     void *(*run)(void *);
     int (*run_c11)(void *);
     void *with;
-    int number;
-    sem_t noted;
+    int number, noted;
+    atomic_int users;
 };
+
+static struct seed *new_seed(struct seed is, uintptr_t code) {
+    struct seed *seed = __libc_malloc(sizeof *seed);
+    if (!seed) return NULL;
+    *seed = is;
+    seed->number = aero_next_number();
+    atomic_init(&seed->users, 2);
+    thread_line("fork", seed->number, code);
+    return seed;
+}
+static void let_go(struct seed *seed) {
+    if (atomic_fetch_sub(&seed->users, 1) == 1) free(seed);
+}
+static void note_once(struct seed *seed, pthread_t id) {
+    lock_joinable();
+    if (!seed->noted) note(id, seed->number);
+    seed->noted = 1;
+    unlock_joinable();
+    let_go(seed);
+}
 
 /* The stack and what lies there are new variables. */
 static void renew_stack(void) {
@@ -115,15 +143,13 @@ static void renew_stack(void) {
 }
 
 static struct seed grow(void *given) {
-    REAL(int, sem_post, sem_t *)
     struct seed seed = *(struct seed *)given;
     aero_me.busy = 1;
     aero_number(seed.number);
     renew_stack();
-    note(pthread_self(), seed.number);
+    note_once(given, pthread_self());
     pthread_setspecific(at_end, &aero_me);
     aero_me.busy = 0;
-    real(&((struct seed *)given)->noted);
     return seed;
 }
 static void *run(void *given) {
@@ -135,37 +161,23 @@ static int run_c11(void *given) {
     return seed.run_c11(seed.with);
 }
 
-/* The fork is logged before the thread is there, and its number is noted before anybody can join it. */
-static void before_start(struct seed *seed, uintptr_t code) {
-    seed->number = aero_next_number();
-    sem_init(&seed->noted, 0, 0);
-    thread_line("fork", seed->number, code);
-}
-static void after_start(struct seed *seed) {
-    REAL(int, sem_wait, sem_t *)
-    while (real(&seed->noted) && errno == EINTR) {}
-}
-
-EXPORT int pthread_create(pthread_t *id, const pthread_attr_t *attributes, void *(*start)(void *), void *with) {
-    REAL(int, pthread_create, pthread_t *, const pthread_attr_t *, void *(*)(void *), void *)
-    aero_start();
-    if (atomic_load(&aero_state) != ON) return real(id, attributes, start, with);
-    struct seed seed = {.run = start, .with = with};
-    before_start(&seed, HERE);
-    int refused = real(id, attributes, run, &seed);
-    if (!refused) after_start(&seed);
-    return refused;
-}
-EXPORT int thrd_create(thrd_t *id, thrd_start_t start, void *with) {
-    REAL(int, thrd_create, thrd_t *, thrd_start_t, void *)
-    aero_start();
-    if (atomic_load(&aero_state) != ON) return real(id, start, with);
-    struct seed seed = {.run_c11 = start, .with = with};
-    before_start(&seed, HERE);
-    int result = real(id, run_c11, &seed);
-    if (result == thrd_success) after_start(&seed);
-    return result;
-}
+/* The fork is logged before the thread is there. */
+#define CREATE(name, attributes_given, field, runs, ...) \
+    EXPORT int name(__VA_ARGS__) { \
+        REAL(int, name, __VA_ARGS__) \
+        aero_start(); \
+        struct seed *seed = NULL; \
+        if (atomic_load(&aero_state) == ON) seed = new_seed((struct seed){.field = start, .with = with}, HERE); \
+        if (!seed) return real(id attributes_given, start, with); \
+        int refused = real(id attributes_given, runs, seed); \
+        if (refused) free(seed); \
+        else note_once(seed, *id); \
+        return refused; \
+    }
+#define ATTRIBUTES , attributes
+CREATE(pthread_create, ATTRIBUTES, run, run, pthread_t *id, const pthread_attr_t *attributes,
+       void *(*start)(void *), void *with)
+CREATE(thrd_create, , run_c11, run_c11, thrd_t *id, thrd_start_t start, void *with)
 
 /* ---- joins */
 
@@ -174,7 +186,7 @@ EXPORT int thrd_create(thrd_t *id, thrd_start_t start, void *with) {
     EXPORT int name(id_type id, __VA_ARGS__) { \
         REAL(int, name, id_type, __VA_ARGS__) \
         int number = take(id), refused = real extra; \
-        if (number && refused) note(id, number); \
+        if (number && refused) note_again(id, number); \
         if (number && !refused) thread_line("join", number, HERE); \
         return refused; \
     }

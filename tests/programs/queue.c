@@ -1,14 +1,15 @@
 /* A queue of one place, with a condition variable for those that put in and one for those that take out.
  *
- *   queue many   two threads put numbers in, and two take them out
- *   queue one    one thread waits for the one number that another puts in; that it waits is certain, as it holds the lock before the
- *                other one, which hears of that by a pipe */
+ *   queue many [EACH]   two threads put EACH numbers in (200), and two take them out
+ *   queue one           one thread waits for the one number that another puts in; that it waits is certain, as it holds the lock before the
+ *                       other one, which hears of that by a pipe */
 #include <pthread.h>
 #include <stdio.h>
+#include <stdlib.h>
 #include <string.h>
 #include <unistd.h>
 
-enum { EACH = 200 };
+static long each = 200;
 static pthread_mutex_t lock = PTHREAD_MUTEX_INITIALIZER;
 static pthread_cond_t has_room = PTHREAD_COND_INITIALIZER, has_one = PTHREAD_COND_INITIALIZER;
 static long place, sum;
@@ -33,11 +34,11 @@ static void take(void) {
 }
 
 static void *puts_in(void *unused) {
-    for (long number = 1; number <= EACH; number++) put(number);
+    for (long number = 1; number <= each; number++) put(number);
     return unused;
 }
 static void *takes_out(void *unused) {
-    for (int times = 0; times < EACH; times++) take();
+    for (long times = 0; times < each; times++) take();
     return unused;
 }
 
@@ -63,6 +64,7 @@ int main(int words, char **word) {
     void *(*runs[])(void *) = {puts_in, takes_out, puts_in, takes_out, puts_one, takes_one};
     pthread_t threads[6];
     int many = words > 1 && !strcmp(word[1], "many"), from = many ? 0 : 4, to = many ? 4 : 6;
+    if (words > 2) each = atol(word[2]);
     if (pipe(holds)) return 2;
     for (int one = from; one < to; one++) pthread_create(&threads[one], NULL, runs[one], NULL);
     for (int one = from; one < to; one++) pthread_join(threads[one], NULL);

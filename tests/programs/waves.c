@@ -1,10 +1,11 @@
-/* Waves of threads, one after the other: the system uses their ids and stacks again. Each adds to a counter, and the last two of a
+/* waves [WAVES]: waves of threads (100), one after the other: the system uses their ids and stacks again. Each adds to a counter, and the last two of a
  * wave are detached. It says how often it adds, and whether ids were used again. */
 #include <pthread.h>
 #include <semaphore.h>
 #include <stdio.h>
+#include <stdlib.h>
 
-enum { WAVES = 100, WAVE = 4 };
+enum { WAVE = 4 };
 static pthread_mutex_t lock = PTHREAD_MUTEX_INITIALIZER;
 static sem_t over;
 static long count;
@@ -36,9 +37,10 @@ static void wave(int times) {
     for (int one = WAVE / 2; one < WAVE; one++) sem_wait(&over);
 }
 
-int main(void) {
+int main(int words, char **word) {
+    int waves = words > 1 ? atoi(word[1]) : 100;
     sem_init(&over, 0, 0);
-    for (int times = 0; times < WAVES; times++) wave(times);
+    for (int times = 0; times < waves; times++) wave(times);
     printf("%ld, ids %s\n", count, again ? "used again" : "all new");
     return 0;
 }
