@@ -10,7 +10,9 @@ use Rattle.std.proofs.lemmas.Option.{slice_get_within}
 use Rattle.aero_model.specs.declared.verdict.Ending.{Ending}
 use Rattle.aero_model.specs.declared.verdict.Finding.{Finding}
 use Rattle.aero_model.specs.CallCounts.{Seen}
-use Rattle.aero_report.specs.Texts.{source_line, source_lines, summary_line, counts_of, counted, no_counts}
+use Rattle.aero_report.specs.Texts.{counts_of, counted, no_counts}
+use Rattle.aero_report.specs.declared.form.Form.{Form}
+use Rattle.aero_report.specs.Forms.{source_line_in, source_lines_in, summary_line_in}
 use Rattle.aero_batch.specs.declared.outcome.Cause.{Cause}
 use Rattle.aero_batch.specs.declared.outcome.Cause.TheVariants.{Memory, Write}
 use Rattle.aero_batch.specs.declared.progress.Progress.{Progress}
@@ -48,11 +50,11 @@ get_push (c ∷ xs) x (suc s) y at = elim (get_push xs x s y at) [ inl is ↦ in
 
 -- what is told of one more source
 
-lines_more : (founds : List Found) (f : Found) → lines_of_all (founds ++ f ∷ []) ≡ lines_of_all founds ++ source_line f.name f.finding
-lines_more founds f =
-    ap source_lines (map-append told founds (f ∷ []))
-    ∙ (flat_map-append (λ s. source_line s.0 s.1) (map told founds) (told f ∷ [])
-    ∙ ap (λ bs. lines_of_all founds ++ bs) (append-nil (source_line f.name f.finding)))
+lines_more : (form : Form) (founds : List Found) (f : Found) → lines_of_all form (founds ++ f ∷ []) ≡ lines_of_all form founds ++ source_line_in form f.name f.finding
+lines_more form founds f =
+    ap (source_lines_in form) (map-append told founds (f ∷ []))
+    ∙ (flat_map-append (λ s. source_line_in form s.0 s.1) (map told founds) (told f ∷ [])
+    ∙ ap (λ bs. lines_of_all form founds ++ bs) (append-nil (source_line_in form f.name f.finding)))
 
 counts_more : (founds : List Found) (f : Found) → counts_of_all (founds ++ f ∷ []) ≡ counted (counts_of_all founds) f.finding
 counts_more founds f =
@@ -125,11 +127,11 @@ name_then (c ∷ old) (x ∷ now) (suc s) b names was named =
     name_then old now s b rest was named
 
 -- one more source is told
-pub told_stands : (terms : Terms) (old now : List Sighted) (before mid after : Seen) (p : Progress) (a b : Told) (bytes : ℕ) (ending : Ending) (finding : Finding) (name : List ℕ) →
+pub told_stands : (terms : Terms) (form : Form) (old now : List Sighted) (before mid after : Seen) (p : Progress) (a b : Told) (bytes : ℕ) (ending : Ending) (finding : Finding) (name : List ℕ) →
     vec_len a.endings < p.checked → slice_get p.tracks.items (vec_len a.endings) ≡ Some (tracks.Found bytes ending finding) →
     ((x : Sighted) → slice_get now (vec_len a.endings) ≡ Some x → x.name ≡ name) →
-    Took mid after (source_line name finding) → IsOneMore a b bytes ending finding → Stands terms old now before mid p a → Stands terms old now before after p b
-told_stands terms old now before mid after p a b bytes ending finding name below at named took more st =
+    Took mid after (source_line_in form name finding) → IsOneMore a b bytes ending finding → Stands terms form old now before mid p a → Stands terms form old now before after p b
+told_stands terms form old now before mid after p a b bytes ending finding name below at named took more st =
     let t = st.are_told in
     let place = vec_len a.endings in
     let same_place : place ≡ length st.founds = a.endings.ok.0 ∙ (ap length t.endings ∙ length-map st.founds ending_of) in
@@ -147,7 +149,7 @@ told_stands terms old now before mid after p a b bytes ending finding name below
           | inr is ↦ subst (λ x. Tells terms old s (st.tale s) x) (sym is.1) (subst (λ n. Tells terms old n (st.tale n) f) (same_place ∙ sym is.0) tells)
         ];
         few = omega (arith, length_push st.founds f, below, same_place);
-        took = subst (λ text. Took before after text) (sym (lines_more st.founds f)) (took_more before mid after (lines_of_all st.founds) (source_line name finding) t.took took);
+        took = subst (λ text. Took before after text) (sym (lines_more form st.founds f)) (took_more before mid after (lines_of_all form st.founds) (source_line_in form name finding) t.took took);
         endings = more.endings ∙ (ap₂ (λ es n. es ++ (n, ending) ∷ []) t.endings is.1 ∙ sym (map-append ending_of st.founds (f ∷ [])));
         counts = more.counts ∙ (ap (λ c. counted c finding) t.counts ∙ sym (counts_more st.founds f));
         total_is = omega (arith, more.counted_one, t.total_is, length_push st.founds f);
@@ -159,10 +161,10 @@ told_stands terms old now before mid after p a b bytes ending finding name below
 
 -- the run stops: what stands, and why
 
-stopped : (terms : Terms) (old now now' : List Sighted) (before mid after : Seen) (p : Progress) (a : Told) (st : Stands terms old now before mid p a) (cause : Option Cause) →
+stopped : (terms : Terms) (form : Form) (old now now' : List Sighted) (before mid after : Seen) (p : Progress) (a : Told) (st : Stands terms form old now before mid p a) (cause : Option Cause) →
     ((s : ℕ) → s < p.read → slice_get now' s ≡ slice_get now s) → map (λ x. x.name) now' ≡ map (λ x. x.name) now →
-    IsWritten terms old now' st.founds before after cause → WasRun terms old now' before after a.endings.items a.counts cause
-stopped terms old now now' before mid after p a st cause same names written = record {
+    IsWritten terms form old now' st.founds before after cause → WasRun terms form old now' before after a.endings.items a.counts cause
+stopped terms form old now now' before mid after p a st cause same names written = record {
   founds = st.founds;
   found = λ place f at.
       let few : length st.founds ≤ p.read = omega (arith, st.are_told.few, st.counted.checked) in
@@ -175,29 +177,29 @@ stopped terms old now now' before mid after p a st cause same names written = re
   written = written;
 }
 
-pub memory_stops : (terms : Terms) (old now now' : List Sighted) (before mid after : Seen) (p : Progress) (a : Told) → Stands terms old now before mid p a →
+pub memory_stops : (terms : Terms) (form : Form) (old now now' : List Sighted) (before mid after : Seen) (p : Progress) (a : Told) → Stands terms form old now before mid p a →
     ((s : ℕ) → s < p.read → slice_get now' s ≡ slice_get now s) → map (λ x. x.name) now' ≡ map (λ x. x.name) now → Took mid after [] →
-    WasRun terms old now' before after a.endings.items a.counts (Some Memory)
-memory_stops terms old now now' before mid after p a st same names took =
-    stopped terms old now now' before mid after p a st (Some Memory) same names (took_nothing before mid after (lines_of_all st.founds) st.are_told.took took)
+    WasRun terms form old now' before after a.endings.items a.counts (Some Memory)
+memory_stops terms form old now now' before mid after p a st same names took =
+    stopped terms form old now now' before mid after p a st (Some Memory) same names (took_nothing before mid after (lines_of_all form st.founds) st.are_told.took took)
 
-cut_off : (terms : Terms) (old now : List Sighted) (before mid after : Seen) (founds : List Found) (text : List ℕ) → IsNextText terms old now founds text → Took before mid (lines_of_all founds) → WasCut mid after text →
-    WasCutOff terms old now founds before after
-cut_off terms old now before mid after founds text next took cut = record {
+cut_off : (terms : Terms) (form : Form) (old now : List Sighted) (before mid after : Seen) (founds : List Found) (text : List ℕ) → IsNextText terms form old now founds text → Took before mid (lines_of_all form founds) → WasCut mid after text →
+    WasCutOff terms form old now founds before after
+cut_off terms form old now before mid after founds text next took cut = record {
   text = text;
   next = next;
   written = cut.written;
   part = cut.part;
-  went = Appends-trans before.bytes mid.bytes after.bytes (lines_of_all founds) (take cut.written text) took.went cut.went;
+  went = Appends-trans before.bytes mid.bytes after.bytes (lines_of_all form founds) (take cut.written text) took.went cut.went;
   faults = cut.faults ∙ ap (λ n. n + 1) took.faults;
 }
 
 -- a write of the next source's line failed
-pub line_stops : (terms : Terms) (old now : List Sighted) (before mid after : Seen) (p : Progress) (a : Told) (bytes : ℕ) (ending : Ending) (finding : Finding) (name : List ℕ) →
+pub line_stops : (terms : Terms) (form : Form) (old now : List Sighted) (before mid after : Seen) (p : Progress) (a : Told) (bytes : ℕ) (ending : Ending) (finding : Finding) (name : List ℕ) →
     vec_len a.endings < p.checked → slice_get p.tracks.items (vec_len a.endings) ≡ Some (tracks.Found bytes ending finding) →
-    ((x : Sighted) → slice_get now (vec_len a.endings) ≡ Some x → x.name ≡ name) → WasCut mid after (source_line name finding) → Stands terms old now before mid p a →
-    WasRun terms old now before after a.endings.items a.counts (Some Write)
-line_stops terms old now before mid after p a bytes ending finding name below at named cut st =
+    ((x : Sighted) → slice_get now (vec_len a.endings) ≡ Some x → x.name ≡ name) → WasCut mid after (source_line_in form name finding) → Stands terms form old now before mid p a →
+    WasRun terms form old now before after a.endings.items a.counts (Some Write)
+line_stops terms form old now before mid after p a bytes ending finding name below at named cut st =
     let t = st.are_told in
     let place = vec_len a.endings in
     let same_place : place ≡ length st.founds = a.endings.ok.0 ∙ (ap length t.endings ∙ length-map st.founds ending_of) in
@@ -218,39 +220,39 @@ line_stops terms old now before mid after p a bytes ending finding name below at
         finding = tells.finding;
       };
     } in
-    stopped terms old now now before mid after p a st (Some Write) (λ s less. refl) refl
-    (cut_off terms old now before mid after st.founds (source_line name finding) (inl (f, subst (λ n. IsFoundAt terms old now n f) same_place is, refl)) t.took cut)
+    stopped terms form old now now before mid after p a st (Some Write) (λ s less. refl) refl
+    (cut_off terms form old now before mid after st.founds (source_line_in form name finding) (inl (f, subst (λ n. IsFoundAt terms old now n f) same_place is, refl)) t.took cut)
 
 findings_told : (founds : List Found) → map (λ s. s.1) (map told founds) ≡ map (λ f. f.finding) founds
 findings_told [] = refl
 findings_told (f ∷ founds) = ap (λ fs. f.finding ∷ fs) (findings_told founds)
 
 -- all sources are told, and the summary is written, or not
-pub summary_stops : (terms : Terms) (old now : List Sighted) (before mid after : Seen) (p : Progress) (a : Told) → vec_len a.endings ≡ length old → Stands terms old now before mid p a →
-    (r : Result Unit Cause) → TellsText (summary_line a.counts) mid after r → (cause : Option Cause) → cause ≡ cause_of r → WasRun terms old now before after a.endings.items a.counts cause
-summary_stops terms old now before mid after p a all st r tells cause is = go r tells cause is
+pub summary_stops : (terms : Terms) (form : Form) (old now : List Sighted) (before mid after : Seen) (p : Progress) (a : Told) → vec_len a.endings ≡ length old → Stands terms form old now before mid p a →
+    (r : Result Unit Cause) → TellsText (summary_line_in form a.counts) mid after r → (cause : Option Cause) → cause ≡ cause_of r → WasRun terms form old now before after a.endings.items a.counts cause
+summary_stops terms form old now before mid after p a all st r tells cause is = go r tells cause is
   where
     told_all : length st.founds ≡ length old
     told_all = sym (a.endings.ok.0 ∙ (ap length st.are_told.endings ∙ length-map st.founds ending_of)) ∙ all
 
-    go : (r : Result Unit Cause) → TellsText (summary_line a.counts) mid after r → (cause : Option Cause) → cause ≡ cause_of r → WasRun terms old now before after a.endings.items a.counts cause
-    go (Ok u) tells cause is = subst (λ c. WasRun terms old now before after a.endings.items a.counts c) (sym is)
-        (stopped terms old now now before mid after p a st None (λ s less. refl) refl (
+    go : (r : Result Unit Cause) → TellsText (summary_line_in form a.counts) mid after r → (cause : Option Cause) → cause ≡ cause_of r → WasRun terms form old now before after a.endings.items a.counts cause
+    go (Ok u) tells cause is = subst (λ c. WasRun terms form old now before after a.endings.items a.counts c) (sym is)
+        (stopped terms form old now now before mid after p a st None (λ s less. refl) refl (
           told_all,
-          subst (λ c. Took before after (lines_of_all st.founds ++ summary_line c)) (st.are_told.counts ∙ sym (ap counts_of (findings_told st.founds)))
-              (took_more before mid after (lines_of_all st.founds) (summary_line a.counts) st.are_told.took tells),
+          subst (λ c. Took before after (lines_of_all form st.founds ++ summary_line_in form c)) (st.are_told.counts ∙ sym (ap counts_of (findings_told st.founds)))
+              (took_more before mid after (lines_of_all form st.founds) (summary_line_in form a.counts) st.are_told.took tells),
         ))
-    go (Err Memory) tells cause is = subst (λ c. WasRun terms old now before after a.endings.items a.counts c) (sym is)
-        (memory_stops terms old now now before mid after p a st (λ s less. refl) refl tells)
-    go (Err Write) tells cause is = subst (λ c. WasRun terms old now before after a.endings.items a.counts c) (sym is)
-        (stopped terms old now now before mid after p a st (Some Write) (λ s less. refl) refl
-        (cut_off terms old now before mid after st.founds (summary_line (counts_of_all st.founds)) (inr (told_all, refl)) st.are_told.took
-        (subst (λ c. WasCut mid after (summary_line c)) st.are_told.counts tells)))
+    go (Err Memory) tells cause is = subst (λ c. WasRun terms form old now before after a.endings.items a.counts c) (sym is)
+        (memory_stops terms form old now now before mid after p a st (λ s less. refl) refl tells)
+    go (Err Write) tells cause is = subst (λ c. WasRun terms form old now before after a.endings.items a.counts c) (sym is)
+        (stopped terms form old now now before mid after p a st (Some Write) (λ s less. refl) refl
+        (cut_off terms form old now before mid after st.founds (summary_line_in form (counts_of_all st.founds)) (inr (told_all, refl)) st.are_told.took
+        (subst (λ c. WasCut mid after (summary_line_in form c)) st.are_told.counts tells)))
 
 -- what is told stays true where another source's story goes on
-still_told : (terms : Terms) (old : List Sighted) (before mid : Seen) (p q : Progress) (a : Told) (tale new : ℕ → Story) (founds : List Found) → p.checked ≤ p.read → p.checked ≤ q.checked →
-    ((s : ℕ) → s < p.read → new s ≡ tale s) → AreTold terms old before mid p a tale founds → AreTold terms old before mid q a new founds
-still_told terms old before mid p q a tale new founds below more same t = record {
+still_told : (terms : Terms) (form : Form) (old : List Sighted) (before mid : Seen) (p q : Progress) (a : Told) (tale new : ℕ → Story) (founds : List Found) → p.checked ≤ p.read → p.checked ≤ q.checked →
+    ((s : ℕ) → s < p.read → new s ≡ tale s) → AreTold terms form old before mid p a tale founds → AreTold terms form old before mid q a new founds
+still_told terms form old before mid p q a tale new founds below more same t = record {
   tells = λ s f at.
       let within = slice_get_within founds s f at in
       subst (λ (x : Story). Tells terms old s x f) (sym (same s (omega (arith, within, t.few, below)))) (t.tells s f at);
@@ -268,40 +270,40 @@ slice_get_some (x ∷ xs) zero less = (x, refl)
 slice_get_some (x ∷ xs) (suc i) less = slice_get_some xs i (omega (arith, less))
 
 -- One step keeps what holds.
-pub step_stands : (terms : Terms) (old now after : List Sighted) (before mid : Seen) (p q : Progress) (a : Told) → Steps terms now after p q → map (λ x. x.name) after ≡ map (λ x. x.name) now →
-    Stands terms old now before mid p a → Stands terms old after before mid q a
-step_stands terms old now after before mid p q a (inl is) names st = record {
+pub step_stands : (terms : Terms) (form : Form) (old now after : List Sighted) (before mid : Seen) (p q : Progress) (a : Told) → Steps terms now after p q → map (λ x. x.name) after ≡ map (λ x. x.name) now →
+    Stands terms form old now before mid p a → Stands terms form old after before mid q a
+step_stands terms form old now after before mid p q a (inl is) names st = record {
   tale = st.tale;
   founds = st.founds;
   holds = subst (λ l. Holds terms old l q st.tale) (sym is.0) (settling_holds terms old now is.1 p q st.tale is.2 st.holds);
-  are_told = still_told terms old before mid p q a st.tale st.tale st.founds st.counted.checked (omega (arith, is.2.checked)) (λ s less. refl) st.are_told;
+  are_told = still_told terms form old before mid p q a st.tale st.tale st.founds st.counted.checked (omega (arith, is.2.checked)) (λ s less. refl) st.are_told;
   counted = settling_counted terms (length old) is.1 p q is.2 st.counted;
   names = names ∙ st.names;
 }
-step_stands terms old now after before mid p q a (inr (inl is)) names st = record {
+step_stands terms form old now after before mid p q a (inr (inl is)) names st = record {
   tale = st.tale;
   founds = st.founds;
   holds = subst (λ l. Holds terms old l q st.tale) (sym is.0) (checking_holds terms old now p q st.tale is.3 st.holds);
-  are_told = still_told terms old before mid p q a st.tale st.tale st.founds st.counted.checked (omega (arith, is.3.checked)) (λ s less. refl) st.are_told;
+  are_told = still_told terms form old before mid p q a st.tale st.tale st.founds st.counted.checked (omega (arith, is.3.checked)) (λ s less. refl) st.are_told;
   counted = checking_counted terms (length old) p q is.1 is.2 is.3 st.counted;
   names = names ∙ st.names;
 }
-step_stands terms old now after before mid p q a (inr (inr is)) names st = go is.reads
+step_stands terms form old now after before mid p q a (inr (inr is)) names st = go is.reads
   where
     same_length : length now ≡ length old
     same_length = sym (length-map now (λ x. x.name)) ∙ (ap length st.names ∙ length-map old (λ x. x.name))
 
-    same_tale : Holds terms old after q st.tale → Counted terms (length old) q → p.checked ≤ q.checked → Stands terms old after before mid q a
+    same_tale : Holds terms old after q st.tale → Counted terms (length old) q → p.checked ≤ q.checked → Stands terms form old after before mid q a
     same_tale holds counted more = record {
       tale = st.tale;
       founds = st.founds;
       holds = holds;
-      are_told = still_told terms old before mid p q a st.tale st.tale st.founds st.counted.checked more (λ s less. refl) st.are_told;
+      are_told = still_told terms form old before mid p q a st.tale st.tale st.founds st.counted.checked more (λ s less. refl) st.are_told;
       counted = counted;
       names = names ∙ st.names;
     }
 
-    go : ReadsOn terms is.before_read is.after_read p q → Stands terms old after before mid q a
+    go : ReadsOn terms is.before_read is.after_read p q → Stands terms form old after before mid q a
     go (inl (reading, inl takes)) =
         same_tale (taking_holds terms old now after p q st.tale is.before_read is.after_read is.from reading takes st.holds)
         (taking_counted terms (length old) p q is.before_read is.after_read takes st.counted) (omega (arith, ap (λ (m : Progress). m.checked) takes.new_is))
@@ -314,7 +316,7 @@ step_stands terms old now after before mid p q a (inr (inr is)) names st = go is
           tale = new.0;
           founds = st.founds;
           holds = new.1;
-          are_told = still_told terms old before mid p q a st.tale new.0 st.founds st.counted.checked (omega (arith, ap (λ (m : Progress). m.checked) passes.new_is)) new.2 st.are_told;
+          are_told = still_told terms form old before mid p q a st.tale new.0 st.founds st.counted.checked (omega (arith, ap (λ (m : Progress). m.checked) passes.new_is)) new.2 st.are_told;
           counted = passing_counted terms (length old) p q passes st.counted;
           names = names ∙ st.names;
         }
@@ -324,7 +326,7 @@ step_stands terms old now after before mid p q a (inr (inr is)) names st = go is
           tale = new.0;
           founds = st.founds;
           holds = new.1;
-          are_told = still_told terms old before mid p q a st.tale new.0 st.founds st.counted.checked (omega (arith, cuts.checked)) new.2 st.are_told;
+          are_told = still_told terms form old before mid p q a st.tale new.0 st.founds st.counted.checked (omega (arith, cuts.checked)) new.2 st.are_told;
           counted = cutting_counted terms (length old) p q is.may cuts st.counted;
           names = names ∙ st.names;
         }
@@ -336,23 +338,23 @@ step_stands terms old now after before mid p q a (inr (inr is)) names st = go is
           tale = new.0;
           founds = st.founds;
           holds = new.1;
-          are_told = still_told terms old before mid p q a st.tale new.0 st.founds st.counted.checked (omega (arith, passes.ends.checked)) new.2 st.are_told;
+          are_told = still_told terms form old before mid p q a st.tale new.0 st.founds st.counted.checked (omega (arith, passes.ends.checked)) new.2 st.are_told;
           counted = ending_counted terms (length old) p q passes.ending within is.may passes.ends st.counted;
           names = names ∙ st.names;
         }
 
 -- Telling the next source
 
-module _ (terms : Terms) (now : List Sighted) (mid after : Seen) (p : Progress) (a b : Told) (name : List ℕ) (below : vec_len a.endings < p.checked)
+module _ (terms : Terms) (form : Form) (now : List Sighted) (mid after : Seen) (p : Progress) (a b : Told) (name : List ℕ) (below : vec_len a.endings < p.checked)
     (named : (x : Sighted) → slice_get now (vec_len a.endings) ≡ Some x → x.name ≡ name) where
   abbrev KeepsStanding : Result Bool Cause → Type 0
-  KeepsStanding r = IfOk r (λ is_told. is_told ≡ true → (old : List Sighted) (before : Seen) → Stands terms old now before mid p a → Stands terms old now before after p b)
+  KeepsStanding r = IfOk r (λ is_told. is_told ≡ true → (old : List Sighted) (before : Seen) → Stands terms form old now before mid p a → Stands terms form old now before after p b)
 
   abbrev Untouched : Result Bool Cause → Type 0
   Untouched r = IfOk r (λ is_told. is_told ≡ false → (after ≡ mid) × (b ≡ a))
 
   abbrev Stops : Result Bool Cause → Type 0
-  Stops r = IfErr r (λ cause. (old : List Sighted) (before : Seen) → Stands terms old now before mid p a → WasRun terms old now before after b.endings.items b.counts (Some cause))
+  Stops r = IfErr r (λ cause. (old : List Sighted) (before : Seen) → Stands terms form old now before mid p a → WasRun terms form old now before after b.endings.items b.counts (Some cause))
 
   abbrev Tellings : Result Bool Cause → Type 0
   Tellings r = KeepsStanding r × Untouched r × Stops r
@@ -361,24 +363,24 @@ module _ (terms : Terms) (now : List Sighted) (mid after : Seen) (p : Progress) 
   not_told same = ((λ e old before st. cc (e)), (λ e. same), tt)
 
   found_told : (bytes : ℕ) (ending : Ending) (finding : Finding) (r : Result Bool Cause) → slice_get p.tracks.items (vec_len a.endings) ≡ Some (tracks.Found bytes ending finding) →
-      TellsNext name (tracks.Found bytes ending finding) mid after a b r → Tellings r
+      TellsNext form name (tracks.Found bytes ending finding) mid after a b r → Tellings r
   found_told bytes ending finding (Ok true) at tells =
-      ((λ e old before st. told_stands terms old now before mid after p a b bytes ending finding name below at named tells.0 tells.1 st), (λ e. cc (e)), tt)
+      ((λ e old before st. told_stands terms form old now before mid after p a b bytes ending finding name below at named tells.0 tells.1 st), (λ e. cc (e)), tt)
   found_told bytes ending finding (Ok false) at tells = absurd tells
   found_told bytes ending finding (Err Memory) at tells = (
     tt,
     tt,
-    λ old before st. subst (λ (t : Told). WasRun terms old now before after t.endings.items t.counts (Some Memory)) (sym tells.1)
-        (memory_stops terms old now now before mid after p a st (λ s less. refl) refl tells.0),
+    λ old before st. subst (λ (t : Told). WasRun terms form old now before after t.endings.items t.counts (Some Memory)) (sym tells.1)
+        (memory_stops terms form old now now before mid after p a st (λ s less. refl) refl tells.0),
   )
   found_told bytes ending finding (Err Write) at tells = (
     tt,
     tt,
-    λ old before st. subst (λ (t : Told). WasRun terms old now before after t.endings.items t.counts (Some Write)) (sym tells.1)
-        (line_stops terms old now before mid after p a bytes ending finding name below at named tells.0 st),
+    λ old before st. subst (λ (t : Told). WasRun terms form old now before after t.endings.items t.counts (Some Write)) (sym tells.1)
+        (line_stops terms form old now before mid after p a bytes ending finding name below at named tells.0 st),
   )
 
-  pub telling : (track : Track) (r : Result Bool Cause) → slice_get p.tracks.items (vec_len a.endings) ≡ Some track → TellsNext name track mid after a b r → Tellings r
+  pub telling : (track : Track) (r : Result Bool Cause) → slice_get p.tracks.items (vec_len a.endings) ≡ Some track → TellsNext form name track mid after a b r → Tellings r
   telling (tracks.Found bytes ending finding) r at tells = found_told bytes ending finding r at tells
   telling (tracks.Arriving readings) (Ok false) at tells = not_told tells
   telling (tracks.Arriving readings) (Ok true) at tells = absurd tells
@@ -391,8 +393,8 @@ module _ (terms : Terms) (now : List Sighted) (mid after : Seen) (p : Progress) 
   telling (tracks.Checking bytes) (Err cause) at tells = absurd tells
 
 -- the numbers of what stands
-pub standing_numbers : (terms : Terms) (old now : List Sighted) (before mid : Seen) (p : Progress) (a : Told) → Stands terms old now before mid p a → HasNumbers terms (length old) p a
-standing_numbers terms old now before mid p a st =
+pub standing_numbers : (terms : Terms) (form : Form) (old now : List Sighted) (before mid : Seen) (p : Progress) (a : Told) → Stands terms form old now before mid p a → HasNumbers terms (length old) p a
+standing_numbers terms form old now before mid p a st =
     let same : vec_len a.endings ≡ length st.founds = a.endings.ok.0 ∙ (ap length st.are_told.endings ∙ length-map st.founds ending_of) in
     record {
       counted = st.counted;
@@ -407,8 +409,8 @@ get_replicate (suc n) zero x y at = sym (the_some x y at)
 get_replicate (suc n) (suc s) x y at = get_replicate n s x y at
 
 -- before the first step
-pub begun_stands : (terms : Terms) (old : List Sighted) (before : Seen) (p : Progress) (a : Told) → IsBegun terms (length old) p a → Stands terms old old before before p a
-begun_stands terms old before p a is =
+pub begun_stands : (terms : Terms) (form : Form) (old : List Sighted) (before : Seen) (p : Progress) (a : Told) → IsBegun terms (length old) p a → Stands terms form old old before before p a
+begun_stands terms form old before p a is =
     let start = is.start in
     let count : p.intake.count ≡ 0 = ap (λ (i : Taking). i.count) start.intake in
     let held : length p.intake.held ≡ 0 = ap (λ (i : Taking). length i.held) start.intake in
@@ -460,8 +462,8 @@ begun_stands terms old before p a is =
     }
 
 -- memory was refused before the first step
-pub refused_at_once : (terms : Terms) (old : List Sighted) (before : Seen) → WasRun terms old old before before [] no_counts (Some Memory)
-refused_at_once terms old before = record {
+pub refused_at_once : (terms : Terms) (form : Form) (old : List Sighted) (before : Seen) → WasRun terms form old old before before [] no_counts (Some Memory)
+refused_at_once terms form old before = record {
   founds = [];
   found = λ place f at. cc (at);
   names = refl;
@@ -471,15 +473,15 @@ refused_at_once terms old before = record {
 }
 
 -- at the end: all sources are told, and the summary is written, or not
-pub summary_done : (terms : Terms) (old now : List Sighted) (before mid after : Seen) (p : Progress) (a : Told) → vec_len a.endings ≡ length now → Stands terms old now before mid p a →
-    (r : Result Unit Cause) → TellsText (summary_line a.counts) mid after r →
-    OnOk r (WasRun terms old now before after a.endings.items a.counts None) × IfErr r (λ cause. WasRun terms old now before after a.endings.items a.counts (Some cause))
-summary_done terms old now before mid after p a all st r tells = go r (summary_stops terms old now before mid after p a told_all st r tells)
+pub summary_done : (terms : Terms) (form : Form) (old now : List Sighted) (before mid after : Seen) (p : Progress) (a : Told) → vec_len a.endings ≡ length now → Stands terms form old now before mid p a →
+    (r : Result Unit Cause) → TellsText (summary_line_in form a.counts) mid after r →
+    OnOk r (WasRun terms form old now before after a.endings.items a.counts None) × IfErr r (λ cause. WasRun terms form old now before after a.endings.items a.counts (Some cause))
+summary_done terms form old now before mid after p a all st r tells = go r (summary_stops terms form old now before mid after p a told_all st r tells)
   where
     told_all : vec_len a.endings ≡ length old
     told_all = all ∙ (sym (length-map now (λ x. x.name)) ∙ (ap length st.names ∙ length-map old (λ x. x.name)))
 
-    go : (r : Result Unit Cause) → ((cause : Option Cause) → cause ≡ cause_of r → WasRun terms old now before after a.endings.items a.counts cause) →
-        OnOk r (WasRun terms old now before after a.endings.items a.counts None) × IfErr r (λ cause. WasRun terms old now before after a.endings.items a.counts (Some cause))
+    go : (r : Result Unit Cause) → ((cause : Option Cause) → cause ≡ cause_of r → WasRun terms form old now before after a.endings.items a.counts cause) →
+        OnOk r (WasRun terms form old now before after a.endings.items a.counts None) × IfErr r (λ cause. WasRun terms form old now before after a.endings.items a.counts (Some cause))
     go (Ok u) all = (all None refl, tt)
     go (Err cause) all = (tt, all (Some cause) refl)

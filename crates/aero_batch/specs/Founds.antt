@@ -5,7 +5,8 @@ use Rattle.aero_model.specs.declared.verdict.Counts.{Counts}
 use Rattle.aero_model.specs.declared.verdict.Ending.{Ending}
 use Rattle.aero_model.specs.declared.verdict.Finding.{Finding}
 use Rattle.aero_model.specs.CallCounts.{Seen, seen_by}
-use Rattle.aero_report.specs.Texts.{source_line, source_lines, summary_line, counts_of, report}
+use Rattle.aero_report.specs.declared.form.Form.{Form}
+use Rattle.aero_report.specs.Forms.{source_line_in, source_lines_in, summary_line_in, counts_of, report_in}
 use Rattle.aero_batch.specs.declared.outcome.Cause.{Cause}
 use Rattle.aero_batch.specs.declared.outcome.Cause.TheVariants.{Memory, Write}
 use Rattle.aero_intake.specs.declared.source.Source.{Source}
@@ -54,8 +55,8 @@ told found = (found.name, found.finding)
 abbrev pub ending_of : Found → ℕ × Ending
 ending_of found = (length found.bytes, found.ending)
 
-abbrev pub lines_of_all : List Found → List ℕ
-lines_of_all founds = source_lines (map told founds)
+abbrev pub lines_of_all : Form → List Found → List ℕ
+lines_of_all form founds = source_lines_in form (map told founds)
 
 abbrev pub counts_of_all : List Found → Counts
 counts_of_all founds = counts_of (map (λ f. f.finding) founds)
@@ -66,31 +67,31 @@ pub record Took (before after : Seen) (text : List ℕ) : Type 0 where
   pub faults : after.faults ≡ before.faults
 
 -- the text that comes after those of the founds: that of the next source, or the summary where there is none
-abbrev pub IsNextText : Terms → List Sighted → List Sighted → List Found → List ℕ → Type 0
-IsNextText terms old new founds text =
-    ((found : Found) × IsFoundAt terms old new (length founds) found × (text ≡ source_line found.name found.finding))
-    ⊎ ((length founds ≡ length old) × (text ≡ summary_line (counts_of_all founds)))
+abbrev pub IsNextText : Terms → Form → List Sighted → List Sighted → List Found → List ℕ → Type 0
+IsNextText terms form old new founds text =
+    ((found : Found) × IsFoundAt terms old new (length founds) found × (text ≡ source_line_in form found.name found.finding))
+    ⊎ ((length founds ≡ length old) × (text ≡ summary_line_in form (counts_of_all founds)))
 
 -- what the writer took is these lines and then a part of the next text, at which a write failed
-pub record WasCutOff (terms : Terms) (old new : List Sighted) (founds : List Found) (before after : Seen) : Type 0 where
+pub record WasCutOff (terms : Terms) (form : Form) (old new : List Sighted) (founds : List Found) (before after : Seen) : Type 0 where
   pub text : List ℕ
-  pub next : IsNextText terms old new founds text
+  pub next : IsNextText terms form old new founds text
   pub written : ℕ
   pub part : written < length text
-  pub went : Appends before.bytes after.bytes (lines_of_all founds ++ take written text)
+  pub went : Appends before.bytes after.bytes (lines_of_all form founds ++ take written text)
   pub faults : after.faults ≡ before.faults + 1
 
 -- What was written. Without a refusal it is the report on all sources. Where memory was refused it is the lines of the founds alone, and where a write failed a part of the next text follows them.
-abbrev pub IsWritten : Terms → List Sighted → List Sighted → List Found → Seen → Seen → Option Cause → Type 0
-IsWritten terms old new founds before after None = (length founds ≡ length old) × Took before after (report (map told founds))
-IsWritten terms old new founds before after (Some Memory) = Took before after (lines_of_all founds)
-IsWritten terms old new founds before after (Some Write) = WasCutOff terms old new founds before after
+abbrev pub IsWritten : Terms → Form → List Sighted → List Sighted → List Found → Seen → Seen → Option Cause → Type 0
+IsWritten terms form old new founds before after None = (length founds ≡ length old) × Took before after (report_in form (map told founds))
+IsWritten terms form old new founds before after (Some Memory) = Took before after (lines_of_all form founds)
+IsWritten terms form old new founds before after (Some Write) = WasCutOff terms form old new founds before after
 
 -- A run over these sources. It tells how many bytes came of each of the first ones, how they ended, and how many were found to be what, and wrote of these what is said of them.
-pub record WasRun (terms : Terms) (old new : List Sighted) (before after : Seen) (endings : List (ℕ × Ending)) (counts : Counts) (cause : Option Cause) : Type 0 where
+pub record WasRun (terms : Terms) (form : Form) (old new : List Sighted) (before after : Seen) (endings : List (ℕ × Ending)) (counts : Counts) (cause : Option Cause) : Type 0 where
   pub founds : List Found
   pub found : AreOfTheFirst terms old new founds
   pub names : map (λ s. s.name) new ≡ map (λ s. s.name) old
   pub ended : endings ≡ map ending_of founds
   pub counted : counts ≡ counts_of_all founds
-  pub written : IsWritten terms old new founds before after cause
+  pub written : IsWritten terms form old new founds before after cause

@@ -4,6 +4,7 @@ use Rattle.std.specs.List.{concat}
 use Rattle.aero_model.specs.declared.verdict.Ending.{Ending}
 use Rattle.aero_model.specs.CallCounts.{Seen}
 use Rattle.aero_report.specs.Texts.{no_counts}
+use Rattle.aero_report.specs.declared.form.Form.{Form}
 use Rattle.aero_batch.specs.declared.progress.Progress.{Progress}
 use Rattle.aero_batch.specs.declared.told.Told.{Told}
 use Rattle.aero_batch.specs.Founds.{Sighted, Found, Took, ending_of, counts_of_all, lines_of_all}
@@ -75,21 +76,21 @@ pub record Tells (terms : Terms) (old : List Sighted) (s : ℕ) (story : Story) 
   pub finding : ∥ IsFinding found.bytes found.ending terms found.finding ∥₁
 
 -- The first sources were told, as many as there are founds, and nothing else was written.
-pub record AreTold (terms : Terms) (old : List Sighted) (before after : Seen) (p : Progress) (told : Told) (tale : ℕ → Story) (founds : List Found) : Type 0 where
+pub record AreTold (terms : Terms) (form : Form) (old : List Sighted) (before after : Seen) (p : Progress) (told : Told) (tale : ℕ → Story) (founds : List Found) : Type 0 where
   pub tells : (s : ℕ) (found : Found) → slice_get founds s ≡ Some found → Tells terms old s (tale s) found
   pub few : length founds ≤ p.checked
-  pub took : Took before after (lines_of_all founds)
+  pub took : Took before after (lines_of_all form founds)
   pub endings : told.endings.items ≡ map ending_of founds
   pub counts : told.counts ≡ counts_of_all founds
   pub total_is : total told.counts ≡ length founds
   pub room : vec_capacity told.endings ≡ length old
 
 -- between two steps
-pub record Stands (terms : Terms) (old now : List Sighted) (before after : Seen) (p : Progress) (told : Told) : Type 0 where
+pub record Stands (terms : Terms) (form : Form) (old now : List Sighted) (before after : Seen) (p : Progress) (told : Told) : Type 0 where
   pub tale : ℕ → Story
   pub founds : List Found
   pub holds : Holds terms old now p tale
-  pub are_told : AreTold terms old before after p told tale founds
+  pub are_told : AreTold terms form old before after p told tale founds
   pub counted : Counted terms (length old) p
   pub names : map (λ s. s.name) now ≡ map (λ s. s.name) old
 

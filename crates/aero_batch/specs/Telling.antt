@@ -5,7 +5,9 @@ use Rattle.aero_model.specs.declared.verdict.Counts.{Counts}
 use Rattle.aero_model.specs.declared.verdict.Ending.{Ending}
 use Rattle.aero_model.specs.declared.verdict.Finding.{Finding}
 use Rattle.aero_model.specs.CallCounts.{Seen}
-use Rattle.aero_report.specs.Texts.{source_line, counted}
+use Rattle.aero_report.specs.Texts.{counted}
+use Rattle.aero_report.specs.declared.form.Form.{Form}
+use Rattle.aero_report.specs.Forms.{source_line_in}
 use Rattle.aero_batch.specs.declared.outcome.Cause.{Cause}
 use Rattle.aero_batch.specs.declared.outcome.Cause.TheVariants.{Memory, Write}
 use Rattle.aero_batch.specs.declared.told.Told.{Told}
@@ -42,13 +44,13 @@ pub record IsOneMore (old new : Told) (bytes : ℕ) (ending : Ending) (finding :
   pub counted_one : total new.counts ≡ total old.counts + 1
 
 -- The source is told where it is found what is to be said of it, and else nothing happens.
-abbrev pub TellsNext : List ℕ → Track → Seen → Seen → Told → Told → Result Bool Cause → Type 0
-TellsNext name (Found bytes ending finding) before after old new (Ok true) = Took before after (source_line name finding) × IsOneMore old new bytes ending finding
-TellsNext name (Found bytes ending finding) before after old new (Err Memory) = Took before after [] × (new ≡ old)
-TellsNext name (Found bytes ending finding) before after old new (Err Write) = WasCut before after (source_line name finding) × (new ≡ old)
-TellsNext name (Found bytes ending finding) before after old new (Ok false) = ⊥
-TellsNext name track before after old new (Ok false) = (after ≡ before) × (new ≡ old)
-TellsNext name track before after old new _ = ⊥
+abbrev pub TellsNext : Form → List ℕ → Track → Seen → Seen → Told → Told → Result Bool Cause → Type 0
+TellsNext form name (Found bytes ending finding) before after old new (Ok true) = Took before after (source_line_in form name finding) × IsOneMore old new bytes ending finding
+TellsNext form name (Found bytes ending finding) before after old new (Err Memory) = Took before after [] × (new ≡ old)
+TellsNext form name (Found bytes ending finding) before after old new (Err Write) = WasCut before after (source_line_in form name finding) × (new ≡ old)
+TellsNext form name (Found bytes ending finding) before after old new (Ok false) = ⊥
+TellsNext form name track before after old new (Ok false) = (after ≡ before) × (new ≡ old)
+TellsNext form name track before after old new _ = ⊥
 
 -- why a run stopped, if it did
 abbrev pub cause_of : Result Unit Cause → Option Cause

@@ -12,7 +12,7 @@ use crate::inquiry::Inquiry;
 use crate::outcome::{Cause, Outcome};
 use crate::progress::Progress;
 use crate::step::step;
-use crate::told::{Told, nothing_counted, tell_next, tell_summary};
+use crate::told::{Style, Told, nothing_counted, tell_next, tell_summary};
 use aero_gather::gather::Tally;
 use aero_intake::plan::Plan;
 use aero_intake::source::Source;
@@ -41,7 +41,7 @@ pub fn run<R: Read, W: Write, G: Gate + Drop + 'static, T: Threads + Wait + Copy
     gate: Arc<G>,
 ) -> Outcome
     requires { length sources.old ≤ 65536 }
-    ensures ran { WasRun (terms_of plan.now) (map (sighted R.remaining) sources.old) (map (sighted R.remaining) sources.new)
+    ensures ran { WasRun (terms_of plan.now) plan.now.form (map (sighted R.remaining) sources.old) (map (sighted R.remaining) sources.new)
         (seen_by W.contents writer.old) (seen_by W.contents writer.new) result.endings.items result.counts result.cause }
     ensures all_settled { result.cause ≡ None → result.tally.asked ≡ result.tally.kept + result.tally.done_here }
     ensures tallied { result.tally.kept + result.tally.done_here ≤ result.tally.asked }
@@ -66,7 +66,7 @@ pub fn run_over<R: Read, W: Write, H: Helpers, T: Wait>(
     helpers: &mut H,
 ) -> Outcome
     requires { length sources.old ≤ 65536 }
-    ensures ran { WasRun (terms_of plan.now) (map (sighted R.remaining) sources.old) (map (sighted R.remaining) sources.new)
+    ensures ran { WasRun (terms_of plan.now) plan.now.form (map (sighted R.remaining) sources.old) (map (sighted R.remaining) sources.new)
         (seen_by W.contents writer.old) (seen_by W.contents writer.new) result.endings.items result.counts result.cause }
     ensures all_settled { result.cause ≡ None → result.tally.asked ≡ result.tally.kept + result.tally.done_here }
     ensures tallied { result.tally.kept + result.tally.done_here ≤ result.tally.asked }
@@ -158,15 +158,15 @@ fn run_on<R: Read, W: Write, H: Helpers, T: Wait>(
     told: &mut Told,
 ) -> Result<(), Cause>
     requires { IsBegun (terms_of around.now.plan.now) (length sources.old) progress.old told.old }
-    ensures done { OnOk result (WasRun (terms_of around.now.plan.now) (map (sighted R.remaining) sources.old) (map (sighted R.remaining) sources.new)
+    ensures done { OnOk result (WasRun (terms_of around.now.plan.now) around.now.plan.now.form (map (sighted R.remaining) sources.old) (map (sighted R.remaining) sources.new)
         (seen_by W.contents writer.old) (seen_by W.contents writer.new) told.new.endings.items told.new.counts None) }
-    ensures stopped { IfErr result (λ cause. WasRun (terms_of around.now.plan.now) (map (sighted R.remaining) sources.old) (map (sighted R.remaining) sources.new)
+    ensures stopped { IfErr result (λ cause. WasRun (terms_of around.now.plan.now) around.now.plan.now.form (map (sighted R.remaining) sources.old) (map (sighted R.remaining) sources.new)
         (seen_by W.contents writer.old) (seen_by W.contents writer.new) told.new.endings.items told.new.counts (Some cause)) }
     ensures settled { OnOk result (open_count progress.new.inquiry ≡ 0) }
 {
     'steps: for _ in around.rt.forever() {
         if advance(around, sources, writer, helpers, progress, told)? {
-            return tell_summary(around.alloc, &told.counts, writer);
+            return tell_summary(style_of(around.alloc, around.plan), &told.counts, writer);
         }
     }
     unreachable!()
@@ -183,10 +183,10 @@ fn advance<R: Read, W: Write, H: Helpers, T: Wait>(
     told: &mut Told,
 ) -> Result<bool, Cause>
     requires { HasNumbers (terms_of around.now.plan.now) (length sources.old) progress.old told.old }
-    ensures stands { OnOk result ((old : List Sighted) (before : Seen) → Stands (terms_of around.now.plan.now) old (map (sighted R.remaining) sources.old) before (seen_by W.contents writer.old) progress.old told.old
-        → Stands (terms_of around.now.plan.now) old (map (sighted R.remaining) sources.new) before (seen_by W.contents writer.new) progress.new told.new) }
-    ensures stopped { IfErr result (λ cause. (old : List Sighted) (before : Seen) → Stands (terms_of around.now.plan.now) old (map (sighted R.remaining) sources.old) before (seen_by W.contents writer.old) progress.old told.old
-        → WasRun (terms_of around.now.plan.now) old (map (sighted R.remaining) sources.new) before (seen_by W.contents writer.new) told.new.endings.items told.new.counts (Some cause)) }
+    ensures stands { OnOk result ((old : List Sighted) (before : Seen) → Stands (terms_of around.now.plan.now) around.now.plan.now.form old (map (sighted R.remaining) sources.old) before (seen_by W.contents writer.old) progress.old told.old
+        → Stands (terms_of around.now.plan.now) around.now.plan.now.form old (map (sighted R.remaining) sources.new) before (seen_by W.contents writer.new) progress.new told.new) }
+    ensures stopped { IfErr result (λ cause. (old : List Sighted) (before : Seen) → Stands (terms_of around.now.plan.now) around.now.plan.now.form old (map (sighted R.remaining) sources.old) before (seen_by W.contents writer.old) progress.old told.old
+        → WasRun (terms_of around.now.plan.now) around.now.plan.now.form old (map (sighted R.remaining) sources.new) before (seen_by W.contents writer.new) told.new.endings.items told.new.counts (Some cause)) }
     ensures all_told { IfOk result (λ is_done. is_done ≡ true → vec_len told.new.endings ≡ length sources.new) }
     ensures all_settled { IfOk result (λ is_done. is_done ≡ true → open_count progress.new.inquiry ≡ 0) }
 {
@@ -200,6 +200,16 @@ fn advance<R: Read, W: Write, H: Helpers, T: Wait>(
     match step(rt, alloc, plan, sources, helpers, progress) {
         Ok(()) => Ok(false),
         Err(refused) => Err(cause_of(refused)),
+    }
+}
+
+// How the texts of a run by this plan are made.
+fn style_of(alloc: Global, plan: &Plan) -> Style
+    ensures { result.form ≡ plan.now.form }
+{
+    Style {
+        alloc,
+        form: plan.form,
     }
 }
 
@@ -220,16 +230,16 @@ fn tell_ready<R: Read, W: Write>(
     told: &mut Told,
 ) -> Result<bool, Cause>
     requires { HasNumbers (terms_of plan.now) (length sources.now) progress.now told.old }
-    ensures stands { IfOk result (λ is_told. is_told ≡ true → (old : List Sighted) (before : Seen) → Stands (terms_of plan.now) old (map (sighted R.remaining) sources.now) before (seen_by W.contents writer.old) progress.now told.old
-        → Stands (terms_of plan.now) old (map (sighted R.remaining) sources.now) before (seen_by W.contents writer.new) progress.now told.new) }
+    ensures stands { IfOk result (λ is_told. is_told ≡ true → (old : List Sighted) (before : Seen) → Stands (terms_of plan.now) plan.now.form old (map (sighted R.remaining) sources.now) before (seen_by W.contents writer.old) progress.now told.old
+        → Stands (terms_of plan.now) plan.now.form old (map (sighted R.remaining) sources.now) before (seen_by W.contents writer.new) progress.now told.new) }
     ensures unchanged { IfOk result (λ is_told. is_told ≡ false → (seen_by W.contents writer.new ≡ seen_by W.contents writer.old) × (told.new ≡ told.old)) }
-    ensures stopped { IfErr result (λ cause. (old : List Sighted) (before : Seen) → Stands (terms_of plan.now) old (map (sighted R.remaining) sources.now) before (seen_by W.contents writer.old) progress.now told.old
-        → WasRun (terms_of plan.now) old (map (sighted R.remaining) sources.now) before (seen_by W.contents writer.new) told.new.endings.items told.new.counts (Some cause)) }
+    ensures stopped { IfErr result (λ cause. (old : List Sighted) (before : Seen) → Stands (terms_of plan.now) plan.now.form old (map (sighted R.remaining) sources.now) before (seen_by W.contents writer.old) progress.now told.old
+        → WasRun (terms_of plan.now) plan.now.form old (map (sighted R.remaining) sources.now) before (seen_by W.contents writer.new) told.new.endings.items told.new.counts (Some cause)) }
 {
     let place = told.endings.len();
     if place >= progress.checked {
         return Ok(false);
     }
     let name = sources[place].name.as_slice();
-    tell_next(alloc, name, &progress.tracks[place], writer, told)
+    tell_next(style_of(alloc, plan), name, &progress.tracks[place], writer, told)
 }

@@ -1,14 +1,15 @@
 //! What was told so far of the sources, and telling it.
 ghost use Rattle.std.specs.Prelude.{◌≡◌, ◌<◌, ◌≤◌, ◌+◌, ◌++◌, ◌∷◌, [], vec_len, vec_capacity, Ok, Err, IfOk, IfErr, OnOk};
 ghost use Rattle.aero_model.specs.CallCounts.{seen_by};
-ghost use Rattle.aero_report.specs.Texts.{no_counts, counted, verdict_counted, summary_line};
+ghost use Rattle.aero_report.specs.Forms.{summary_line_in};
+ghost use Rattle.aero_report.specs.Texts.{no_counts, counted, verdict_counted};
 ghost use Rattle.aero_batch.specs.Telling.{TellsNext, TellsText, HasRoom, total};
 
 use crate::outcome::Cause;
 use aero_intake::track::Track;
 use aero_model::counting::Counting;
 use aero_model::verdict::{Counts, Ending, Finding, Verdict};
-use aero_report::{put, summary_text, trace_text};
+use aero_report::{Form, put, source_text, totals_text};
 use std::alloc::{AllocError, Global};
 use std::io::Write;
 
@@ -45,17 +46,24 @@ pub fn nothing_counted() -> Counts
     }
 }
 
+/// How texts are made: in which memory, and in which form.
+#[derive(Clone, Copy)]
+pub struct Style {
+    pub alloc: Global,
+    pub form: Form,
+}
+
 /// Writes the text of the next source, where it is found what is to be said of it, and notes its
 /// ending. The answer says whether it is. A refusal changes nothing that was told.
 pub fn tell_next<W: Write>(
-    alloc: Global,
+    style: Style,
     name: &[u8],
     track: &Track,
     writer: &mut Counting<W>,
     told: &mut Told,
 ) -> Result<bool, Cause>
     requires room { HasRoom told.old }
-    ensures { TellsNext name.now track.now (seen_by W.contents writer.old) (seen_by W.contents writer.new) told.old told.new result }
+    ensures { TellsNext style.form name.now track.now (seen_by W.contents writer.old) (seen_by W.contents writer.new) told.old told.new result }
 {
     let Track::Found {
         bytes,
@@ -65,7 +73,7 @@ pub fn tell_next<W: Write>(
     else {
         return Ok(false);
     };
-    let text = trace_text(alloc, name, finding).map_err(|_| Cause::Memory)?;
+    let text = source_text(style.alloc, style.form, name, finding).map_err(|_| Cause::Memory)?;
     tell(writer, &text)?;
     told.endings.push_reserved((*bytes, *ending));
     told.counts = with_finding(&told.counts, finding);
@@ -74,13 +82,13 @@ pub fn tell_next<W: Write>(
 
 /// Writes the summary.
 pub fn tell_summary<W: Write>(
-    alloc: Global,
+    style: Style,
     counts: &Counts,
     writer: &mut Counting<W>,
 ) -> Result<(), Cause>
-    ensures { TellsText (summary_line counts.now) (seen_by W.contents writer.old) (seen_by W.contents writer.new) result }
+    ensures { TellsText (summary_line_in style.form counts.now) (seen_by W.contents writer.old) (seen_by W.contents writer.new) result }
 {
-    let text = summary_text(alloc, counts).map_err(|_| Cause::Memory)?;
+    let text = totals_text(style.alloc, style.form, counts).map_err(|_| Cause::Memory)?;
     tell(writer, &text)
 }
 

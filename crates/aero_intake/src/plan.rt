@@ -1,11 +1,13 @@
 //! How a run is made.
 ghost use Rattle.std.specs.Prelude.{◌≡◌, ◌<◌, ◌≤◌, ◌^◌, ◌↔◌, IsSome, IfSome, IfOk, true, false, if◌then◌else◌};
 ghost use Rattle.aero_intake.specs.Plans.{IsPlan};
+ghost use Rattle.aero_report.specs.declared.form.Form.TheVariants.{Text};
 ghost use Rattle.aero_verdict.specs.Finding.{asking};
 
 use crate::terms::Terms;
 use aero_model::except::SharedExcept;
 use aero_model::limits::Limits;
+use aero_report::Form;
 use std::alloc::AllocError;
 
 /// How many events of a source are kept at most until it is judged. Once more have come its blocks are judged as they
@@ -34,7 +36,7 @@ impl Keeping {
 /// How many workers are to be started, 1 to 16, how many bytes one read asks for at most, 1 to
 /// 1,048,576, the limits of each source, the labels of the blocks that are no transactions, whether
 /// the serial order of a serializable trace is asked for, whether the events of a telling cycle are asked for that
-/// shows a violation, and how much is kept of a source where neither is.
+/// shows a violation, how much is kept of a source where it may be let go, and the form of the report.
 #[derive(Drop)]
 pub struct Plan {
     pub workers: u32,
@@ -44,6 +46,7 @@ pub struct Plan {
     pub order: bool,
     pub explain: bool,
     pub keeping: Keeping,
+    pub form: Form,
     ghost some_workers: { 0 < workers },
     ghost most_workers: { workers ≤ 16 },
     ghost some_piece: { 0 < piece },
@@ -62,7 +65,7 @@ const KEEPING: Keeping = Keeping {
 impl Plan {
     /// This plan, or `None` where a number is 0, there are more than 16 workers, or a piece is of
     /// more than 1,048,576 bytes. Of a source 1,048,576 events are kept at most, and 65,536 of the last one. No
-    /// violation is to be explained.
+    /// violation is to be explained, and the report is for people.
     pub fn new(
         workers: u32,
         piece: u32,
@@ -79,6 +82,7 @@ impl Plan {
         ensures explain { IfSome result (λ plan. plan.explain ≡ false) }
         ensures events { IfSome result (λ plan. plan.keeping.events ≡ 2 ^ 20) }
         ensures last_events { IfSome result (λ plan. plan.keeping.last_events ≡ 2 ^ 16) }
+        ensures form { IfSome result (λ plan. plan.form ≡ Text) }
     {
         if workers == 0 || workers > MOST_WORKERS {
             return None;
@@ -94,6 +98,7 @@ impl Plan {
             order,
             explain: false,
             keeping: KEEPING,
+            form: Form::Text,
         })
     }
 
@@ -106,6 +111,7 @@ impl Plan {
         ensures order { result.order ≡ self.order }
         ensures explain { result.explain ≡ self.explain }
         ensures keeping { result.keeping ≡ keeping }
+        ensures form { result.form ≡ self.form }
     {
         let mut plan = self;
         plan.keeping = keeping;
@@ -121,9 +127,26 @@ impl Plan {
         ensures order { result.order ≡ self.order }
         ensures explain { result.explain ≡ true }
         ensures keeping { result.keeping ≡ self.keeping }
+        ensures form { result.form ≡ self.form }
     {
         let mut plan = self;
         plan.explain = true;
+        plan
+    }
+
+    /// The same plan, by which the report has this form.
+    pub fn with_form(self, form: Form) -> Plan
+        ensures workers { result.workers ≡ self.workers }
+        ensures piece { result.piece ≡ self.piece }
+        ensures limits { result.limits ≡ self.limits }
+        ensures except { result.except ≡ self.except }
+        ensures order { result.order ≡ self.order }
+        ensures explain { result.explain ≡ self.explain }
+        ensures keeping { result.keeping ≡ self.keeping }
+        ensures form { result.form ≡ form }
+    {
+        let mut plan = self;
+        plan.form = form;
         plan
     }
 

@@ -6,6 +6,7 @@ use Rattle.aero_model.specs.declared.verdict.Ending.{Ending}
 use Rattle.aero_model.specs.CallCounts.{Seen}
 use Rattle.aero_verdict.specs.Finding.{asking}
 use Rattle.aero_batch.specs.declared.outcome.Cause.{Cause}
+use Rattle.aero_report.specs.declared.form.Form.{Form}
 use Rattle.aero_batch.specs.Founds.{Sighted, Took, WasRun}
 use Rattle.aero_program.specs.declared.command.Config.{Config}
 use Rattle.aero_program.specs.declared.command.Refused.TheVariants as refused
@@ -69,8 +70,8 @@ Ends noted (Ok wanted) told told_after status =
 Ends noted (Err why) told told_after status =
     (IsTold told told_after (notes noted ++ line_of why) × (status ≡ failure_status why)) ⊎ Fails why told told_after status
 
--- The files, or standard input, which has these bytes, where there are none, were judged under the greatest limits, or those of long sources, blocks with these labels as no transactions, and their serial orders were asked for, or not, and violations to be explained, or not: the report went out on standard output, as every run's does, and a flush and the ends of the run decide.
-pub record WasJudged (labels : List (List ℕ)) (order explain long : Bool) (files : List (List ℕ)) (given : Option (List ℕ)) (shown shown_after : Shown) (told told_after : Seen) (status : ℕ) : Type 0 where
+-- The files, or standard input, which has these bytes, where there are none, were judged under the greatest limits, or those of long sources, blocks with these labels as no transactions, and their serial orders were asked for, or not, and violations to be explained, or not: the report in this form went out on standard output, as every run's does, and a flush and the ends of the run decide.
+pub record WasJudged (labels : List (List ℕ)) (order explain long : Bool) (form : Form) (files : List (List ℕ)) (given : Option (List ℕ)) (shown shown_after : Shown) (told told_after : Seen) (status : ℕ) : Type 0 where
   pub limits : Limits
   pub limits_are : AreLimitsFor long limits
   pub sources : List Sighted
@@ -78,7 +79,7 @@ pub record WasJudged (labels : List (List ℕ)) (order explain long : Bool) (fil
   pub endings : List (ℕ × Ending)
   pub counts : Counts
   pub cause : Option Cause
-  pub ran : WasRun (asking limits labels order explain) (source_sightings files given) sources shown.writer between.writer endings counts cause
+  pub ran : WasRun (asking limits labels order explain) form (source_sightings files given) sources shown.writer between.writer endings counts cause
   pub same : between.unflushed ≡ shown.unflushed
   pub has_failed : Bool
   pub flushed : WasFlushed between shown_after has_failed
@@ -88,11 +89,11 @@ pub record WasJudged (labels : List (List ℕ)) (order explain long : Bool) (fil
   pub ends : Ends noted (end_of_run cause counts has_failed) told told_after status
 
 -- or memory was refused before that
-abbrev pub Judges : List (List ℕ) → (order explain long : Bool) → List (List ℕ) → Option (List ℕ) → Shown → Shown → Seen → Seen → ℕ → Type 0
-Judges labels order explain long files given shown shown_after told told_after status =
-    WasJudged labels order explain long files given shown shown_after told told_after status ⊎ ((shown_after ≡ shown) × Fails failure.Memory told told_after status)
+abbrev pub Judges : List (List ℕ) → (order explain long : Bool) → Form → List (List ℕ) → Option (List ℕ) → Shown → Shown → Seen → Seen → ℕ → Type 0
+Judges labels order explain long form files given shown shown_after told told_after status =
+    WasJudged labels order explain long form files given shown shown_after told told_after status ⊎ ((shown_after ≡ shown) × Fails failure.Memory told told_after status)
 
 -- `given` is what standard input has, where it is known
 abbrev pub AnswersTo : Result Config Stop → Option (List ℕ) → Shown → Shown → Seen → Seen → ℕ → Type 0
-AnswersTo (Ok config) given shown shown_after told told_after status = Judges config.except.items config.order config.explain config.long (map string_bytes config.files.items) given shown shown_after told told_after status
+AnswersTo (Ok config) given shown shown_after told told_after status = Judges config.except.items config.order config.explain config.long config.form (map string_bytes config.files.items) given shown shown_after told told_after status
 AnswersTo (Err why) given shown shown_after told told_after status = Stops why shown shown_after told told_after status

@@ -76,7 +76,7 @@ fn judge<
     output: &mut Output<O>,
     errors: &mut Counting<E>,
 ) -> u8
-    ensures { Judges config.except.items config.order config.explain config.long (map string_bytes config.files.items) (S.remaining stdin) (shown_by O.contents output.old) (shown_by O.contents output.new)
+    ensures { Judges config.except.items config.order config.explain config.long config.form (map string_bytes config.files.items) (S.remaining stdin) (shown_by O.contents output.old) (shown_by O.contents output.new)
         (seen_by E.contents errors.old) (seen_by E.contents errors.new) result }
 {
     let Ok(gate) = Arc::new(alloc, NoGate) else {

@@ -7,6 +7,7 @@ use aero_batch::plan::Plan;
 use aero_model::except::{Except, SharedExcept};
 use aero_model::limits::Limits;
 use aero_model::name::Name;
+pub use aero_report::Form;
 use std::alloc::{AllocError, Global};
 
 /// How many milliseconds lie between one line on progress and the next.
@@ -18,7 +19,7 @@ const LONG_RUN: u64 = 2_000;
 /// What a command line asks for: 1 to 16 workers, reads of 1 to 1,048,576 bytes, at most 65,536
 /// files, and at most 64 labels of blocks that are no transactions, both in the order of the words,
 /// whether the serial order is asked for, whether violations are to be explained, whether long sources
-/// are to be judged, and when the line on progress is shown. No files at all means standard input. The
+/// are to be judged, the form of the report, and when the line on progress is shown. No files at all means standard input. The
 /// serial orders of long sources aren't to be had: each source is kept for its order.
 #[derive(Drop)]
 pub struct Config {
@@ -29,6 +30,7 @@ pub struct Config {
     pub order: bool,
     pub explain: bool,
     pub long: bool,
+    pub form: Form,
     /// No report, note or status depends on it.
     pub progress: Progress,
     ghost some_workers: { 0 < workers },
@@ -75,6 +77,7 @@ impl Config {
         ensures except { IfOk result (λ made. made.0.except ≡ self.except.items) }
         ensures order { IfOk result (λ made. made.0.order ≡ self.order) }
         ensures explain { IfOk result (λ made. made.0.explain ≡ self.explain) }
+        ensures form { IfOk result (λ made. made.0.form ≡ self.form) }
         ensures files { IfOk result (λ made. made.1 ≡ self.files) }
     {
         let except = Except::new(self.except).unwrap();
@@ -86,7 +89,7 @@ impl Config {
         } else {
             plan
         };
-        Ok((plan, self.files))
+        Ok((plan.with_form(self.form), self.files))
     }
 }
 

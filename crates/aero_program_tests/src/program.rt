@@ -258,6 +258,7 @@ fn config_of(alloc: Global, file: Option<&str>, order: bool) -> Result<Config, F
         order,
         explain: false,
         long: false,
+        form: Form::Text,
         progress: Progress::Auto,
     })
 }

@@ -1,11 +1,14 @@
 -- The program's command line, and what its words ask for.
-use Rattle.std.specs.Prelude.{◌≡◌, ◌∷◌, ℕ, Bool, false, true, List, [], Option, Some, None, codes, map, pos, string_bytes, unwrap_or, ◌^◌}
+use Rattle.std.specs.Prelude.{◌≡◌, ◌∷◌, ℕ, Bool, false, true, List, [], Option, Some, None, codes, if◌then◌else◌, map, option_and_then, pos, slice_get, string_bytes, unwrap_or, ◌^◌}
 use Rattle.std.specs.Str.{bytes_eq}
 use Rattle.std.specs.Str.Parse.{digits_value, without_leading_plus}
 use Rattle.clap.specs.Lexer.{usize_max}
 use Rattle.clap.specs.Words.{App, Row, Rule, Text, all_of, matches_of, new_app, new_rule, one_of, with_rule}
 use Rattle.clap.specs.declared.builder.action.ArgAction.TheVariants.{Append, Set, SetTrue}
 use Rattle.clap.specs.declared.builder.value_parser.ValueParser.TheVariants as vp
+use Rattle.aero_report.specs.declared.form.Form.{Form}
+use Rattle.aero_report.specs.declared.form.Form.TheVariants.{Json}
+use Rattle.aero_report.specs.declared.form.Form.TheVariants as forms
 use Rattle.aero_program.specs.declared.command.Config.{Config}
 use Rattle.aero_program.specs.declared.command.Progress.{Progress}
 use Rattle.aero_program.specs.declared.command.Progress.TheVariants.{Auto, Always, Never}
@@ -23,6 +26,10 @@ number_rule name most default = record (new_rule name) {
 -- the labels, each by an option of its own
 abbrev pub label_rule : Rule
 label_rule = record (new_rule (codes "except")) { long = Some (codes "except"); action = Some Append; value_names = 1 }
+
+-- the form of the report
+abbrev pub format_rule : Rule
+format_rule = record (new_rule (codes "format")) { long = Some (codes "format"); action = Some Set; value_names = 1; defaults = codes "text" ∷ [] }
 
 -- a flag of this name
 abbrev pub flag_rule : Text → Rule
@@ -43,10 +50,10 @@ no_rules = record (new_app (codes "aerodrome")) {
 }
 
 abbrev pub program : App
-program = with_rule (with_rule (with_rule (with_rule (with_rule (with_rule (with_rule (with_rule (with_rule no_rules
+program = with_rule (with_rule (with_rule (with_rule (with_rule (with_rule (with_rule (with_rule (with_rule (with_rule no_rules
     (number_rule (codes "workers") 16 (codes "4")))
     (number_rule (codes "piece") (2 ^ 20) (codes "65536")))
-    label_rule) (flag_rule (codes "order"))) (flag_rule (codes "explain"))) (flag_rule (codes "long"))) (flag_rule (codes "progress"))) (flag_rule (codes "quiet"))) files_rule
+    label_rule) (flag_rule (codes "order"))) (flag_rule (codes "explain"))) (flag_rule (codes "long"))) format_rule) (flag_rule (codes "progress"))) (flag_rule (codes "quiet"))) files_rule
 
 -- what each option has of these words, its default included
 abbrev pub rows_given : List Text → List Row
@@ -71,6 +78,14 @@ progress_told false false = Auto
 abbrev pub texts_told : Option (List Text) → List Text
 texts_told texts = unwrap_or texts []
 
+-- the form of this name
+abbrev pub form_of : Text → Option Form
+form_of text = if bytes_eq text (codes "json") then Some Json else if bytes_eq text (codes "text") then Some forms.Text else None
+
+-- that which the first text names
+abbrev pub form_told : List Text → Option Form
+form_told texts = option_and_then form_of (slice_get texts 0)
+
 -- the configuration is what the options have
 pub record AsksFor (config : Config) (rows : List Row) : Type 0 where
   pub workers : config.workers ≡ number_told 4 (one_of (codes "workers") rows)
@@ -79,5 +94,6 @@ pub record AsksFor (config : Config) (rows : List Row) : Type 0 where
   pub order : config.order ≡ is_told (one_of (codes "order") rows)
   pub explain : config.explain ≡ is_told (one_of (codes "explain") rows)
   pub long : config.long ≡ is_told (one_of (codes "long") rows)
+  pub form : form_told (texts_told (all_of (codes "format") rows)) ≡ Some config.form
   pub progress : config.progress ≡ progress_told (is_told (one_of (codes "quiet") rows)) (is_told (one_of (codes "progress") rows))
   pub files : map string_bytes config.files.items ≡ texts_told (all_of (codes "files") rows)

@@ -76,6 +76,14 @@ which all of a trace is kept in memory";
 pub const LONG_WITH_ORDER: &str =
     "the argument '--long' cannot be used with '--order', which keeps all of a trace";
 
+pub const FORMAT: &str = "The form of the report: text or json";
+
+pub const LONG_FORMAT: &str = "The form of the report: `text`, or `json` for machines: an object on a
+line for each trace, in order, and one on all of them. A name is a
+string, or {\"bytes\":BASE64} where it isn't UTF-8";
+
+pub const NO_FORM: &str = "invalid value for '--format <FORM>': it takes text or json";
+
 pub const PROGRESS: &str = "Standard error has a line on progress, whatever it is";
 
 pub const LONG_PROGRESS: &str =

@@ -1,15 +1,15 @@
 //! The words of the command line, and what they ask for.
-ghost use Rattle.std.specs.Prelude.{◌≡◌, ◌<◌, ◌≤◌, ◌++◌, ◌∷◌, ◌&&◌, [], IfOk, OnOk, codes, false, map, pos, string_bytes, vec_len};
-ghost use Rattle.clap.specs.Words.{app_of, found_of, one_of, rows_of, rule_of};
+ghost use Rattle.std.specs.Prelude.{◌≡◌, ◌<◌, ◌≤◌, ◌++◌, ◌∷◌, ◌&&◌, [], IfOk, OnOk, Some, codes, false, map, pos, string_bytes, vec_len};
+ghost use Rattle.clap.specs.Words.{all_of, app_of, found_of, one_of, rows_of, rule_of};
 ghost use Rattle.clap.specs.declared.builder.value_parser.ValueParser.TheVariants as vp;
 ghost use Rattle.aero_words.specs.Labels.{IsTold};
-ghost use Rattle.aero_words.specs.Line.{AsksFor, files_rule, flag_rule, is_told, label_rule, no_rules, number_rule, number_told, program, progress_told, rows_given};
+ghost use Rattle.aero_words.specs.Line.{AsksFor, files_rule, flag_rule, form_of, form_told, format_rule, is_told, label_rule, no_rules, number_rule, number_told, program, progress_told, rows_given, texts_told};
 ghost use Rattle.aero_words.specs.Words.{IsRead, ReadsFlag, ReadsWithin};
 
 use crate::help;
 use aero_model::except::MOST_LABELS;
 use aero_model::name::{Name, NameFault};
-pub use aero_program::command::{Config, Progress, Refused};
+pub use aero_program::command::{Config, Form, Progress, Refused};
 use clap::builder::ValueParser;
 use clap::error::ErrorKind;
 use clap::{Arg, ArgAction, ArgMatches, Command, Error, value_parser};
@@ -56,6 +56,7 @@ fn command_line<'a>(alloc: Global) -> Result<Command<'a>, AllocError>
         .arg(flag(alloc, "order", help::ORDER, help::LONG_ORDER))?
         .arg(flag(alloc, "explain", help::EXPLAIN, help::LONG_EXPLAIN))?
         .arg(flag(alloc, "long", help::LONG, help::LONG_LONG))?
+        .arg(format_option(alloc))?
         .arg(flag(alloc, "progress", help::PROGRESS, help::LONG_PROGRESS))?
         .arg(flag(alloc, "quiet", help::QUIET, help::LONG_QUIET))?
         .arg(file_words(alloc))
@@ -103,6 +104,20 @@ fn label_option<'a>(alloc: Global) -> Arg<'a>
         .value_name("LABEL")
         .action(ArgAction::Append)
         .help(help::EXCEPT)
+}
+
+// The option with the form of the report.
+fn format_option<'a>(alloc: Global) -> Arg<'a>
+    ensures rule { rule_of result ≡ format_rule }
+    ensures local { result.global ≡ false }
+{
+    Arg::new(alloc, "format")
+        .long("format")
+        .value_name("FORM")
+        .action(ArgAction::Set)
+        .default_value("text")
+        .help(help::FORMAT)
+        .long_help(help::LONG_FORMAT)
 }
 
 // A flag, with a short help and a long one.
@@ -159,6 +174,7 @@ fn settle(alloc: Global, matches: &ArgMatches<'_>) -> Result<Config, Refused>
     ensures { IfOk result (λ config. AsksFor config (rows_of (found_of matches.now))) }
 {
     let (order, long) = order_and_long_in(alloc, matches)?;
+    let form = form_in(alloc, matches)?;
     let workers = number_in(matches, "workers", MOST_WORKERS, DEFAULT_WORKERS);
     let piece = number_in(matches, "piece", MOST_PIECE, DEFAULT_PIECE);
     let given = matches.get_strs("files").unwrap_or(&[]);
@@ -176,6 +192,7 @@ fn settle(alloc: Global, matches: &ArgMatches<'_>) -> Result<Config, Refused>
         order,
         explain: flag_in(matches, "explain"),
         long,
+        form,
         progress: progress_in(matches),
     })
 }
@@ -269,6 +286,43 @@ fn order_and_long_in(alloc: Global, matches: &ArgMatches<'_>) -> Result<(bool, b
 fn both_given(alloc: Global) -> Result<Error, AllocError> {
     let mut line = command_line(alloc)?;
     line.error(ErrorKind::ArgumentConflict, help::LONG_WITH_ORDER)
+}
+
+// The form of the report. A word that names none is refused.
+fn form_in(alloc: Global, matches: &ArgMatches<'_>) -> Result<Form, Refused>
+    ensures { IfOk result (λ form. form_told (texts_told (all_of (codes "format") (rows_of (found_of matches.now)))) ≡ Some form) }
+{
+    let texts = matches.get_strs("format").unwrap_or(&[]);
+    if let Some(form) = first_form(texts) {
+        return Ok(form);
+    }
+    let error = no_form(alloc)?;
+    Err(refusal_of(alloc, &error))
+}
+
+// The form that the first of the texts names, if it names one.
+fn first_form(texts: &[&str]) -> Option<Form>
+    ensures { result ≡ form_told (map (λ text. text.now) texts.now) }
+{
+    match texts.first() {
+        Some(text) => form_of(text),
+        None => None,
+    }
+}
+
+fn form_of(text: &str) -> Option<Form>
+    ensures { result ≡ form_of text.now }
+{
+    if text == "json" {
+        return Some(Form::Json);
+    }
+    if text == "text" { Some(Form::Text) } else { None }
+}
+
+// That what `--format` has names no form.
+fn no_form(alloc: Global) -> Result<Error, AllocError> {
+    let mut line = command_line(alloc)?;
+    line.error(ErrorKind::InvalidValue, help::NO_FORM)
 }
 
 // When the line on progress is shown.

@@ -10,7 +10,7 @@ use Rattle.aero_intake.specs.PlanTerms.{terms_of}
 pub steps-init : goal.steps-init
 steps-init g c =
     let old = map (sighted g.R.Read.remaining) c.args.sources.now in
-    begun_stands (terms_of c.args.around.now.plan.now) old (seen_by g.W.Write.contents c.args.writer.now) c.args.progress.now c.args.told.now
+    begun_stands (terms_of c.args.around.now.plan.now) c.args.around.now.plan.now.form old (seen_by g.W.Write.contents c.args.writer.now) c.args.progress.now c.args.told.now
     (subst (λ n. IsBegun (terms_of c.args.around.now.plan.now) n c.args.progress.now c.args.told.now) (sym (length-map c.args.sources.now (sighted g.R.Read.remaining))) c.requires)
 
 pub returns-then-branch-clause-done : goal.returns-then-branch-clause-done
@@ -23,7 +23,7 @@ returns-then-branch-clause-done g c =
     let after = seen_by g.W.Write.contents c.tell_summary.new.writer in
     let st = c.in_ok-advance.ensures.stands old before c.steps.invariant in
     let all = c.in_ok-advance.ensures.all_told c.if-branch.true ∙ sym (length-map c.advance.new.sources (sighted g.R.Read.remaining)) in
-    (summary_done terms old now before mid after c.advance.new.progress c.advance.new.told all st c.tell_summary.result c.tell_summary.ensures).0
+    (summary_done terms form old now before mid after c.advance.new.progress c.advance.new.told all st c.tell_summary.result c.tell_summary.ensures).0
 
 pub returns-then-branch-clause-stopped : goal.returns-then-branch-clause-stopped
 returns-then-branch-clause-stopped g c =
@@ -35,4 +35,4 @@ returns-then-branch-clause-stopped g c =
     let after = seen_by g.W.Write.contents c.tell_summary.new.writer in
     let st = c.in_ok-advance.ensures.stands old before c.steps.invariant in
     let all = c.in_ok-advance.ensures.all_told c.if-branch.true ∙ sym (length-map c.advance.new.sources (sighted g.R.Read.remaining)) in
-    (summary_done terms old now before mid after c.advance.new.progress c.advance.new.told all st c.tell_summary.result c.tell_summary.ensures).1
+    (summary_done terms form old now before mid after c.advance.new.progress c.advance.new.told all st c.tell_summary.result c.tell_summary.ensures).1

@@ -21,7 +21,7 @@ returns g c =
     subst (λ w. source_sightings (map string_bytes c.in-Ok-into_plan.words.items) given ≡ source_sightings (map string_bytes w.items) given) c.in-Ok-into_plan.ensures.files refl in
     let files_are : source_sightings (map string_bytes c.deref.result.now) given ≡ source_sightings (map string_bytes c.args.config.files.items) given =
     ap (λ l. source_sightings (map string_bytes l) given) c.deref.ensures.value ∙ words_are in
-    inl (judged (λ input. bytes_left (standing_of g.S.Read.remaining input)) c.args.config.except.items c.args.config.order c.args.config.explain c.args.config.long (map string_bytes c.args.config.files.items) (g.S.Read.remaining c.args.stdin)
+    inl (judged (λ input. bytes_left (standing_of g.S.Read.remaining input)) c.args.config.except.items c.args.config.order c.args.config.explain c.args.config.long c.args.config.form (map string_bytes c.args.config.files.items) (g.S.Read.remaining c.args.stdin)
     c.in-Ok-into_plan.plan.limits c.in-Ok-sources_of.sources.items c.deref_mut.result.now c.run-outcome.new.sources _
     (shown_by g.O.Write.contents c.args.output.now)
     (record { writer = seen_by (λ w. g.O.Write.contents (tried_by w)) c.run-outcome.new.writer; unflushed = c.args.output.now.unflushed.number })
@@ -30,7 +30,7 @@ returns g c =
     (λ i. asking c.in-Ok-into_plan.plan.limits (c.in-Ok-into_plan.ensures.except i) (c.in-Ok-into_plan.ensures.order i) (c.in-Ok-into_plan.ensures.explain i)) c.in-Ok-into_plan.ensures.limits
     (◌∙◌ {b = source_sightings (map string_bytes c.deref.result.now) (g.S.Read.remaining c.args.stdin)} c.in-Ok-sources_of.ensures.sighted files_are)
     c.deref_mut.ensures.value (with_items_is c.in-Ok-sources_of.sources c.run-outcome.new.sources kept)
-    c.run-outcome.ensures.ran refl
+    (subst (λ (f : Form). WasRun (terms_of c.in-Ok-into_plan.plan) f _ _ _ _ _ _ _) c.in-Ok-into_plan.ensures.form c.run-outcome.ensures.ran) refl
     (record { bytes = c.flush-flushed.ensures.bytes; faults = c.flush-flushed.ensures.faults; unflushed = c.flush-flushed.ensures.unflushed })
     c.status_after-end.ensures (c.finish.ensures (noted_of_all _ (if c.args.config.long then [] else c.run-outcome.result.endings.items))
     (noted_as (λ text. text.items) _ c.noted.result.now (if c.args.config.long then [] else c.run-outcome.result.endings.items)

@@ -12,6 +12,7 @@ returns c = record {
   order = c.in_ok-order.ensures.order;
   explain = c.flag_in.ensures;
   long = c.in_ok-order.ensures.long;
+  form = c.in_ok-form.ensures;
   progress = c.progress_in.ensures;
   files = c.in_ok-files.ensures
       ∙ texts_read (found_of c.args.matches.now) (codes "files") c.get_strs.result c.unwrap_or-given.result _ c.get_strs.ensures c.unwrap_or-given.ensures refl;
