@@ -7,7 +7,7 @@ use aero_model::counting::Counting;
 use aero_model::verdict::Counts;
 use aero_program::answer::answer;
 use aero_program::arguments::{Unread, words_of};
-use aero_program::command::{Config, Progress, Refused, Stop};
+use aero_program::command::{Config, Form, Progress, Refused, Stop};
 use aero_program::failure::Failure;
 use aero_program::files::{FilesOf, Opener};
 use aero_program::input::Input;

@@ -1,5 +1,5 @@
 use aero_model::name::Name;
-use aero_program::command::{Config, Progress, Refused};
+use aero_program::command::{Config, Form, Progress, Refused};
 use aero_words::words::settle_words;
 use std::alloc::{AllocError, Global};
 
@@ -64,6 +64,32 @@ fn the_words_that_are_taken(rt: HostRuntime) {
     assert_eq!(rt; first_mistaken(rt.alloc(), &TAKEN), None);
 }
 
+// Words, and the form of the report that they ask for.
+type Formed = (Words, Form);
+
+// The first row that doesn't hold.
+fn first_misformed(alloc: Global, rows: &[Formed]) -> Option<usize> {
+    for i in 0..rows.len() {
+        match settled(alloc, rows[i].0) {
+            Ok(config) if config.form == rows[i].1 => {}
+            _ => return Some(i),
+        }
+    }
+    None
+}
+
+static FORMED: [Formed; 4] = [
+    (&[], Form::Text),
+    (&["--format", "text", "a"], Form::Text),
+    (&["a", "--format", "json"], Form::Json),
+    (&["--format=json", "--order"], Form::Json),
+];
+
+#[test]
+fn the_form_of_the_report(rt: HostRuntime) {
+    assert_eq!(rt; first_misformed(rt.alloc(), &FORMED), None);
+}
+
 // Words that are no command line of the program, and what the text on them says behind `error: `.
 type Wrong = (Words, &'static str);
 
@@ -92,7 +118,7 @@ fn first_not_refused(alloc: Global, rows: &[Wrong]) -> Option<usize> {
     None
 }
 
-static REFUSED: [Wrong; 25] = [
+static REFUSED: [Wrong; 28] = [
     (
         &["--workers", "0"],
         "invalid value '0' for '--workers <N>': 0 is not in 1..=16\n",
@@ -167,6 +193,18 @@ static REFUSED: [Wrong; 25] = [
         "the argument '--long' cannot be used with '--order', which keeps all of a trace\n",
     ),
     (
+        &["--format"],
+        "a value is required for '--format <FORM>' but none was supplied\n",
+    ),
+    (
+        &["--format", "JSON"],
+        "invalid value for '--format <FORM>': it takes text or json\n",
+    ),
+    (
+        &["--format", "json", "--format", "json"],
+        "the argument '--format <FORM>' cannot be used multiple times\n",
+    ),
+    (
         &["--progress", "--progress"],
         "the argument '--progress' cannot be used multiple times\n",
     ),
@@ -191,7 +229,7 @@ fn the_words_that_are_refused(rt: HostRuntime) {
     assert_eq!(rt; first_not_refused(rt.alloc(), &REFUSED), None);
 }
 
-static PHRASES: [&str; 33] = [
+static PHRASES: [&str; 34] = [
     "atomic block",
     "RAPID",
     "STD",
@@ -207,6 +245,7 @@ static PHRASES: [&str; 33] = [
     "64 labels",
     "--order",
     "--long",
+    "--format <FORM>",
     "--progress",
     "--quiet",
     "Each time the one whose first event is earliest",
