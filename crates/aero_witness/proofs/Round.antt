@@ -9,7 +9,7 @@ use Rattle.aero_model.specs.Graph.{Conflict, IsVisit, IsForward, BeginsCycle}
 use Rattle.aero_witness.specs.declared.reached.Reached.{Reached}
 use Rattle.aero_witness.specs.declared.reached.Round.TheVariants.{Home, Next}
 use Rattle.aero_witness.specs.Parts.{AreFirstsTo}
-use Rattle.aero_witness.specs.Reached.{reached_at, has_level, is_noted, visit, IsNew, IsSwept, IsSweep, IsBefore, AreAtMost}
+use Rattle.aero_witness.specs.Reached.{reached_at, has_level, AreHome, is_noted, visit, IsNew, IsSwept, IsSweep, IsBefore, AreAtMost}
 use Rattle.aero_witness.specs.Levels.{ByVisit, AreLevels}
 use Rattle.aero_witness.specs.Search.{unreached, IsAt, IsRound}
 use Rattle.aero_witness.proofs.Starting.{fewer_left}
@@ -23,6 +23,12 @@ module _ (trace : List Numbered) (begin first : ℕ) (firsts : List ℕ) (firsts
 
   begin_within : begin < length trace
   begin_within = let l = slice_get_within firsts begin first first_at in let each = firsts_are.each in omega arith
+
+  pub are_home : AreHome firsts first old
+  are_home k at =
+      let l = slice_get_within firsts k first at in
+      let each = firsts_are.each in
+      levels.start k (omega arith) (same_transaction trace firsts firsts_are k begin (omega arith) begin_within (at ∙ sym first_at))
 
   module _ (n least : ℕ) (new : List (Option Reached)) (s : IsSwept trace firsts first d old n least new) where
     -- a place that is newly reached

@@ -1,20 +1,29 @@
 -- What comes of the conflicts of noted events with the events so far.
-use Rattle.std.proofs.Common.{◌≡◌, ℕ, ◌+◌, ◌<◌, ◌≤◌, min, Bool, true, List, length, Option, Some, None, inl, inr, refl, sym, ◌∙◌, ap, subst, arith}
+use Rattle.std.proofs.Common.{◌≡◌, ℕ, ◌+◌, ◌<◌, ◌≤◌, nat_lt, min, Bool, true, false, if◌then◌else◌, List, length, Option, Some, None, inl, inr, refl, sym, ◌∙◌, ap, subst, arith}
 use Rattle.std.specs.Prelude.{slice_get, IsSome}
-use Rattle.std.proofs.lemmas.Bool.{cases_eq, cases_lt, ne_eqb, false≢true}
+use Rattle.std.proofs.lemmas.Bool.{cases_eq, cases_lt, ne_eqb, ltb-true, false≢true}
 use Rattle.std.proofs.lemmas.Option.{slice_get_within}
 use Rattle.aero_model.specs.declared.numbered.Numbered.{Numbered}
 use Rattle.aero_model.specs.Blocks.{HasEnded}
 use Rattle.aero_model.specs.Graph.{Conflict, IsVisit, IsForward}
 use Rattle.aero_witness.specs.declared.reached.Reached.{Reached}
 use Rattle.aero_witness.specs.Marks.{Key, of_key, source_of, IsNoted, AreNoted}
-use Rattle.aero_witness.specs.Reached.{reached_at, has_level, is_noted, visit, IsSource, IsClosed, IsEntered, IsNew, IsSwept, IsBefore}
+use Rattle.aero_witness.specs.Reached.{reached_at, level_of, has_level, is_noted, visit, AreHome, IsSource, IsClosed, IsEntered, IsNew, IsSwept, IsBefore}
 use Rattle.aero_witness.proofs.Noted.{source_sound, source_complete}
 use Rattle.aero_witness.proofs.Walked.{some_is, some_from, some_or_none, not_both}
 
 pub source_is : (trace : List Numbered) (noted : ℕ → Bool) (n : ℕ) (b : Numbered) → slice_get trace n ≡ Some b → (marks : Key → Option ℕ) → AreNoted trace noted n marks → (o : Option ℕ) → o ≡ source_of marks b → IsSource trace noted n o
 source_is trace noted n b at marks h None e = source_complete trace noted n b at marks h (sym e)
 source_is trace noted n b at marks h (Some i) e = source_sound trace noted n b at marks h i (sym e)
+
+-- a source that was asked for
+pub asked : (b : Bool) (o : Option ℕ) (i : ℕ) → Some i ≡ (if b then None else o) → Some i ≡ o
+asked true o i e = absurd (cc)
+asked false o i e = e
+
+level_some : (o : Option Reached) → 0 < level_of o → IsSome o
+level_some None l = absurd (omega arith)
+level_some (Some r) l = refl
 
 -- a place to which a walk may go on where it may leave at one to which it may
 pub forward_on : (trace : List Numbered) (i j k : ℕ) → IsVisit trace (length trace) (visit i j) → IsForward trace (length trace) (visit i j) → IsVisit trace (length trace) (visit j k) → IsForward trace (length trace) (visit j k) → IsVisit trace (length trace) (visit i k) × IsForward trace (length trace) (visit i k)
@@ -72,6 +81,34 @@ module _ (trace : List Numbered) (firsts : List ℕ) (first level : ℕ) (old : 
             | inr other ↦ s.homeless pos j (omega arith) at h
           ];
         }
+
+    -- from the event at this place, which is reached with visits before, all is reached already
+    settled : AreHome firsts first old → 0 < level_of (reached_at cur place) → IsSwept trace firsts first level old (place + 1) least cur
+    settled home some =
+        record {
+          each = s.each;
+          kept = s.kept;
+          only = s.only;
+          covered = λ j k l h v f. elim (cases_eq j place) [
+            | inl same ↦ s.closed j k v f (subst (λ i. IsSome (reached_at cur i)) (sym same) (level_some (reached_at cur place) some))
+            | inr other ↦ s.covered j k (omega arith) h v f
+          ];
+          closed = s.closed;
+          grown = s.grown;
+          homeless = λ pos j l at h. elim (cases_eq j place) [
+            | inl same ↦
+                let q = home j at in
+                let here : level_of (reached_at cur place) ≡ q.0.level = ap (λ i. level_of (reached_at cur i)) (sym same) ∙ ap level_of (s.kept j q.0 q.1) in
+                let zero = q.2 in
+                omega (arith, here, zero, some)
+            | inr other ↦ s.homeless pos j (omega arith) at h
+          ];
+        }
+
+    -- nothing is told of it, in either way
+    pub silent : AreHome firsts first old → (b : Bool) (o : Option ℕ) → nat_lt 0 (level_of (reached_at cur place)) ≡ b → (None ≡ o → IsSource trace noted place None) → None ≡ (if b then None else o) → IsSwept trace firsts first level old (place + 1) least cur
+    silent home true o b none e = settled home (ltb-true 0 (level_of (reached_at cur place)) b)
+    silent home false o b none e = passed (none e)
 
     -- something does, from which places are reached
     module _ (from least' : ℕ) (how : Reached) (new : List (Option Reached)) (how_is : how ≡ record { level = level + 1; enters = place; from = from }) (source : IsSource trace noted place (Some from)) (away : 0 < level → slice_get firsts place ≡ Some first → ⊥) (e : IsEntered trace how least' cur new) where

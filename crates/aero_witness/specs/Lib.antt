@@ -1,6 +1,6 @@
 -- To be believed: Telling (telling cycles, and the shortest), Parts (transactions by their first places) and Trail
 -- (what is recorded of a trace).
--- For proofs alone: Deciding, Following, MarkWords, Marks, Quest, Reached, Levels and Search.
+-- For proofs alone: Deciding, Following, MarkWords, Marks, Quest, Reached, Levels, Search and Homecoming.
 pub mod Deciding
 pub mod Parts
 pub mod Telling
@@ -11,4 +11,5 @@ pub mod Quest
 pub mod Reached
 pub mod Levels
 pub mod Search
+pub mod Homecoming
 pub mod Trail

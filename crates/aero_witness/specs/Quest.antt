@@ -1,5 +1,5 @@
 -- What a search goes by: of each place the next one of its transaction.
-use Rattle.std.specs.Prelude.{◌≡◌, ◌≢◌, ℕ, ◌<◌, ◌≤◌, List, length, slice_get, slice_index_or}
+use Rattle.std.specs.Prelude.{◌≡◌, ◌≢◌, ℕ, ◌<◌, ◌≤◌, List, length, slice_get, slice_index_or, Some}
 use Rattle.aero_model.specs.declared.numbered.Numbered.{Numbered}
 use Rattle.aero_witness.specs.declared.quest.Quest.{Quest}
 use Rattle.aero_witness.specs.Parts.{AreOf}
@@ -16,7 +16,8 @@ pub record AreNext (firsts : List ℕ) (p : ℕ) (next : List ℕ) : Type 0 wher
   pub each : length next ≡ length firsts
   pub at : (i : ℕ) → p ≤ i → i < length firsts → IsNextOf firsts i (slice_index_or next i 0)
 
--- the transactions are those of the trace, and the next places theirs
+-- the transactions are those of the trace, the next places theirs, and the first place that of the event at place `begin`
 pub record IsQuest (trace : List Numbered) (quest : Quest) : Type 0 where
   pub of : AreOf trace quest.transactions
   pub next : AreNext quest.transactions.firsts.items 0 quest.next.items
+  pub first : slice_get quest.transactions.firsts.items quest.begin ≡ Some quest.first

@@ -33,6 +33,10 @@ pub record AreStarts (firsts : List ℕ) (first n : ℕ) (reached : List (Option
   pub each : length reached ≡ n
   pub at : (k : ℕ) → k < n → reached_at reached k ≡ start_at (slice_index_or firsts k 0) first
 
+-- those of the transaction with this first place are reached with no visit before
+abbrev pub AreHome : List ℕ → ℕ → List (Option Reached) → Type 0
+AreHome firsts first reached = (k : ℕ) → slice_get firsts k ≡ Some first → (r : Reached) × (reached_at reached k ≡ Some r) × (r.level ≡ 0)
+
 -- a noted event with which the one at place j conflicts as a later one, if there is one
 abbrev pub IsSource : List Numbered → (ℕ → Bool) → ℕ → Option ℕ → Type 0
 IsSource trace noted j None = (i : ℕ) → noted i ≡ true → Conflict trace i j → ⊥

@@ -1,5 +1,5 @@
 //! What a search goes by.
-ghost use Rattle.std.specs.Prelude.{◌≡◌, ◌<◌, ◌^◌, ◌==◌, ℕ, if◌then◌else◌, length, slice_get, slice_index, Some, IfOk, All};
+ghost use Rattle.std.specs.Prelude.{◌≡◌, ◌<◌, ◌^◌, ◌==◌, ℕ, if◌then◌else◌, length, slice_index, IfOk, All};
 ghost use Rattle.aero_witness.specs.Quest.{AreNext, IsQuest};
 
 use crate::telling::first_at;
@@ -7,12 +7,13 @@ use crate::transactions::{Transactions, transactions_of};
 use aero_model::numbered::Numbered;
 use std::alloc::{AllocError, Global};
 
-// The transactions of the events, of each place the next one of its transaction, and the first place of the transaction
-// from which telling cycles are looked for. After a transaction's last place comes the number of events.
+// The transactions of the events, and of each place the next one of its transaction: after the last the number of events.
+// Telling cycles are looked for from the transaction of the event at `begin`, whose first place is `first`.
 #[derive(Drop)]
 pub(crate) struct Quest {
     pub transactions: Transactions,
     pub next: Vec<u32>,
+    pub begin: u32,
     pub first: u32,
 }
 
@@ -20,7 +21,7 @@ pub(crate) struct Quest {
 pub(crate) fn quest_of(alloc: Global, events: &[Numbered], begin: u32) -> Result<Quest, AllocError>
     requires few { length events.now < 2 ^ 32 }
     requires within { begin < length events.now }
-    ensures { IfOk result (λ quest. IsQuest events.now quest × (slice_get quest.transactions.firsts.items begin ≡ Some quest.first)) }
+    ensures { IfOk result (λ quest. IsQuest events.now quest × (quest.begin ≡ begin)) }
 {
     let transactions = transactions_of(alloc, events)?;
     let next = next_of(alloc, &transactions.firsts)?;
@@ -28,6 +29,7 @@ pub(crate) fn quest_of(alloc: Global, events: &[Numbered], begin: u32) -> Result
     Ok(Quest {
         transactions,
         next,
+        begin,
         first,
     })
 }

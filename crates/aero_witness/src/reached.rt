@@ -1,8 +1,9 @@
 //! Places that are reached, level by level.
-ghost use Rattle.std.specs.Prelude.{◌≡◌, ◌<◌, ◌≤◌, ◌+◌, ◌^◌, ◌==◌, ℕ, if◌then◌else◌, length, Some, None, IfOk, IsSome, MatchBool, ◌⊎◌, ◌↔◌, IsTrue, slice_get};
+ghost use Rattle.std.specs.Prelude.{◌≡◌, ◌<◌, ◌≤◌, ◌+◌, ◌^◌, ◌==◌, ℕ, nat_lt, if◌then◌else◌, length, Some, None, IfOk, IsSome, MatchBool, ◌⊎◌, ◌↔◌, IsTrue, slice_get};
+ghost use Rattle.aero_witness.specs.Marks.{mark_of, source_of};
 ghost use Rattle.aero_witness.specs.Parts.{AreOf};
 ghost use Rattle.aero_witness.specs.Quest.{AreNext, IsQuest};
-ghost use Rattle.aero_witness.specs.Reached.{is_noted, reached_at, start_at, AreStarts, IsClosedFrom, IsClosed, IsWalked, IsFrom, IsEntered, IsBefore, AreAtMost, IsSweep};
+ghost use Rattle.aero_witness.specs.Reached.{is_noted, reached_at, level_of, start_at, AreStarts, AreHome, IsClosedFrom, IsClosed, IsWalked, IsFrom, IsEntered, IsBefore, AreAtMost, IsSweep};
 
 use crate::marks::Marks;
 use crate::quest::Quest;
@@ -164,6 +165,7 @@ pub(crate) fn sweep(
     requires few { length events.now < 2 ^ 32 }
     requires quest { IsQuest events.now quest.now }
     requires each { length reached.old.items ≡ length events.now }
+    requires home { AreHome quest.now.transactions.firsts.items quest.now.first reached.old.items }
     requires closed { IsClosed events.now reached.old.items }
     requires least { level.least ≤ length events.now }
     requires before { IsBefore level.number level.least reached.old.items }
@@ -175,7 +177,7 @@ pub(crate) fn sweep(
     let mut least = events.len() as u32;
     for place in level.least..events.len() as u32 {
         let event = &events[place as usize];
-        if let Some(from) = marks.source(event) {
+        if let Some(from) = source_at(&marks, event, reached_of(reached, place)) {
             if is_home(quest, level.number, place) {
                 return Ok(Round::Home(place, from));
             }
@@ -186,6 +188,27 @@ pub(crate) fn sweep(
         }
     }
     Ok(Round::Next(least))
+}
+
+// The earliest of the noted events that conflict with the one at a place, which comes next and is reached so. None is
+// asked for where visits come before: what that leads to is reached.
+fn source_at(marks: &Marks, event: &Numbered, how: Option<Reached>) -> Option<u32>
+    ensures { result ≡ (if nat_lt 0 (level_of how) then None else source_of (mark_of marks.now) event.now) }
+{
+    if is_settled(how) {
+        None
+    } else {
+        marks.source(event)
+    }
+}
+
+fn is_settled(how: Option<Reached>) -> bool
+    ensures { result ≡ nat_lt 0 (level_of how) }
+{
+    match how {
+        Some(reached) => reached.level > 0,
+        None => false,
+    }
 }
 
 // Whether a walk that comes in at this place, with so many visits before, comes back.

@@ -1,19 +1,27 @@
 //! The telling cycles with the fewest visits.
-ghost use Rattle.std.specs.Prelude.{◌≡◌, ◌<◌, ◌+◌, ◌^◌, true, length, slice_get, Some, IfOk, MatchOption};
+ghost use Rattle.std.specs.Prelude.{◌<◌, ◌+◌, ◌^◌, length, reverse, IfOk, MatchOption};
 ghost use Rattle.aero_model.specs.Blocks.{transaction};
-ghost use Rattle.aero_model.specs.Graph.{Conflict, BeginsCycle};
-ghost use Rattle.aero_witness.specs.Levels.{AreLevels};
+ghost use Rattle.aero_model.specs.Graph.{BeginsCycle};
+ghost use Rattle.aero_witness.specs.Homecoming.{ComesHome};
+ghost use Rattle.aero_witness.specs.Parts.{AreOf};
 ghost use Rattle.aero_witness.specs.Quest.{IsQuest};
-ghost use Rattle.aero_witness.specs.Reached.{is_noted};
 ghost use Rattle.aero_witness.specs.Search.{IsAt, IsRound};
 ghost use Rattle.aero_witness.specs.Telling.{IsTellingCycle, IsShortest, IsShortestLike};
 
 use crate::quest::{Quest, quest_of};
 use crate::reached::{Level, Reached, Round, reached_of, start, sweep};
 use crate::telling::is_telling_cycle;
+use crate::transactions::Transactions;
 use crate::visit::Visit;
 use aero_model::numbered::Numbered;
 use std::alloc::{AllocError, Global};
+
+/// A telling cycle with as few visits as can be, and the transactions of the events, which the search goes by.
+#[derive(Drop)]
+pub struct Shortest {
+    pub visits: Vec<Visit>,
+    pub transactions: Transactions,
+}
 
 /// A telling cycle of all events whose first visit is in the transaction of the event at the place
 /// `begin`, where there is one. No such cycle has fewer visits. An `AllocError` where memory is refused.
@@ -27,8 +35,25 @@ pub fn shortest_cycle(
     requires begins { BeginsCycle events.now (length events.now) (transaction events.now begin) }
     ensures { IfOk result (λ visits. IsShortest events.now (transaction events.now begin) visits.items) }
 {
+    let Shortest { visits, .. } = shortest_of(alloc, events, begin)?;
+    Ok(visits)
+}
+
+/// The same with the transactions of the events. An `AllocError` where memory is refused.
+pub fn shortest_of(alloc: Global, events: &[Numbered], begin: u32) -> Result<Shortest, AllocError>
+    requires few { length events.now < 2 ^ 32 }
+    requires within { begin < length events.now }
+    requires begins { BeginsCycle events.now (length events.now) (transaction events.now begin) }
+    ensures visits { IfOk result (λ shortest. IsShortest events.now (transaction events.now begin) shortest.visits.items) }
+    ensures transactions { IfOk result (λ shortest. AreOf events.now shortest.transactions) }
+{
     let quest = quest_of(alloc, events, begin)?;
-    search(alloc, events, &quest, begin)
+    let visits = search(alloc, events, &quest)?;
+    let Quest { transactions, .. } = quest;
+    Ok(Shortest {
+        visits,
+        transactions,
+    })
 }
 
 /// The same for a telling cycle that is given: one with the fewest visits of those that begin in the
@@ -52,18 +77,11 @@ pub fn shorten(
 }
 
 // The same, by a quest from there.
-fn search(
-    alloc: Global,
-    events: &[Numbered],
-    quest: &Quest,
-    begin: u32,
-) -> Result<Vec<Visit>, AllocError>
+fn search(alloc: Global, events: &[Numbered], quest: &Quest) -> Result<Vec<Visit>, AllocError>
     requires few { length events.now < 2 ^ 32 }
     requires quest { IsQuest events.now quest.now }
-    requires first { slice_get quest.now.transactions.firsts.items begin ≡ Some quest.now.first }
-    requires within { begin < length events.now }
-    requires begins { BeginsCycle events.now (length events.now) (transaction events.now begin) }
-    ensures { IfOk result (λ visits. IsShortest events.now (transaction events.now begin) visits.items) }
+    requires begins { BeginsCycle events.now (length events.now) (transaction events.now quest.now.begin) }
+    ensures { IfOk result (λ visits. IsShortest events.now (transaction events.now quest.now.begin) visits.items) }
 {
     let mut reached = start(alloc, &quest.transactions.firsts, quest.first)?;
     let mut level = Level {
@@ -71,9 +89,15 @@ fn search(
         least: 0,
     };
     loop {
-        match next_round(alloc, events, quest, &mut reached, level, begin)? {
+        match next_round(alloc, events, quest, &mut reached, level)? {
             Round::Home(home, out) => {
-                return walk_back(alloc, events, &reached, level.number, begin, home, out);
+                let homecoming = Homecoming {
+                    begin: quest.begin,
+                    level: level.number,
+                    home,
+                    out,
+                };
+                return walk_back(alloc, events, &reached, homecoming);
             }
             Round::Next(least) => {
                 level = Level {
@@ -91,15 +115,13 @@ fn next_round(
     quest: &Quest,
     reached: &mut Vec<Option<Reached>>,
     level: Level,
-    begin: u32,
 ) -> Result<Round, AllocError>
     requires few { length events.now < 2 ^ 32 }
     requires quest { IsQuest events.now quest.now }
-    requires first { slice_get quest.now.transactions.firsts.items begin ≡ Some quest.now.first }
-    requires begins { BeginsCycle events.now (length events.now) (transaction events.now begin) }
-    requires at { IsAt events.now begin reached.old.items level.number level.least }
+    requires begins { BeginsCycle events.now (length events.now) (transaction events.now quest.now.begin) }
+    requires at { IsAt events.now quest.now.begin reached.old.items level.number level.least }
     requires room { level.number + 1 < 2 ^ 32 }
-    ensures { IfOk result (IsRound events.now begin reached.old.items level.number reached.new.items) }
+    ensures { IfOk result (IsRound events.now quest.now.begin reached.old.items level.number reached.new.items) }
 {
     let round = sweep(alloc, events, quest, reached, level)?;
     match round {
@@ -109,43 +131,51 @@ fn next_round(
     }
 }
 
-// The visits by which the place `out` is reached, and the first, which comes back at the place `home`.
+// Where a walk comes back to the transaction of the event at `begin`: at the place `home`, from the event at the place
+// `out`, which is reached with so many visits before.
+#[derive(Clone, Copy)]
+struct Homecoming {
+    begin: u32,
+    level: u32,
+    home: u32,
+    out: u32,
+}
+
+// The visits of the walk, from the first, which comes back, to the one that leaves at the place `out`.
 fn walk_back(
     alloc: Global,
     events: &[Numbered],
     reached: &[Option<Reached>],
-    level: u32,
-    begin: u32,
-    home: u32,
-    out: u32,
+    homecoming: Homecoming,
 ) -> Result<Vec<Visit>, AllocError>
-    requires levels { AreLevels events.now (transaction events.now begin) reached.now level }
-    requires some { 0 < level }
-    requires out { is_noted reached.now level out ≡ true }
-    requires home { transaction events.now home ≡ transaction events.now begin }
-    requires closes { Conflict events.now out home }
-    ensures { IfOk result (λ visits. IsShortest events.now (transaction events.now begin) visits.items) }
+    requires { ComesHome events.now reached.now homecoming }
+    ensures { IfOk result (λ visits. IsShortest events.now (transaction events.now homecoming.begin) visits.items) }
+{
+    let mut visits = visits_back(alloc, events, reached, homecoming)?;
+    visits.reverse();
+    Ok(visits)
+}
+
+// The same, from the last to the first.
+fn visits_back(
+    alloc: Global,
+    events: &[Numbered],
+    reached: &[Option<Reached>],
+    homecoming: Homecoming,
+) -> Result<Vec<Visit>, AllocError>
+    requires { ComesHome events.now reached.now homecoming }
+    ensures { IfOk result (λ visits. IsShortest events.now (transaction events.now homecoming.begin) (reverse visits.items)) }
 {
     let mut visits = Vec::new(alloc);
-    let mut leaves = out;
+    let mut leaves = homecoming.out;
     while let Some(step) = reached_of(reached, leaves) {
         if step.level == 0 {
-            visits.insert(
-                0,
-                Visit {
-                    enters: home,
-                    leaves,
-                },
-            )?;
+            let enters = homecoming.home;
+            visits.push(Visit { enters, leaves })?;
             return Ok(visits);
         }
-        visits.insert(
-            0,
-            Visit {
-                enters: step.enters,
-                leaves,
-            },
-        )?;
+        let enters = step.enters;
+        visits.push(Visit { enters, leaves })?;
         leaves = step.from;
     }
     unreachable!()
