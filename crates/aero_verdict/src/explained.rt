@@ -1,15 +1,14 @@
 //! The telling cycle that shows a violation, event by event.
-ghost use Rattle.std.specs.Prelude.{◌≡◌, ◌++◌, ◌<◌, ◌^◌, ℕ, true, List, All, Some, length, slice_get, flat_map, option_map, IfOk, OnOk, IsSome, IsTrue};
+ghost use Rattle.std.specs.Prelude.{◌≡◌, ◌++◌, ◌<◌, ◌^◌, ℕ, List, All, Some, length, slice_get, flat_map, option_map, IfOk, OnOk, IsSome, IsTrue};
 ghost use Rattle.std.specs.List.{AllZip};
 ghost use Rattle.aero_model.specs.Verdicts.{HasOwnFault};
 ghost use Rattle.aero_grammar.specs.Reading.{IsReading, whole_reading};
 ghost use Rattle.aero_verdict.specs.Actors.{named_on};
 ghost use Rattle.aero_witness.specs.Telling.{visit_of, visits_of};
-ghost use Rattle.aero_verdict.specs.Explained.{TellsExplained, has_cycle, visit_places, IsExplained};
+ghost use Rattle.aero_verdict.specs.Explained.{TellsExplained, visit_places, IsExplained};
 ghost use Rattle.aero_verdict.specs.Records.{IsRecord, IsRecordOf, CanBeShown, IsStepAt, round_of};
 ghost use Rattle.aero_verdict.specs.Verdict.{Rules, under};
 
-use crate::check::check_trace;
 use crate::event_on::event_on;
 use crate::monitor::{Monitor, feed_all};
 use crate::recorder::Recorder;
@@ -18,42 +17,18 @@ use aero_model::except::Except;
 use aero_model::limits::Limits;
 use aero_model::name::Name;
 use aero_model::verdict::{Cycle, CycleStep, Verdict};
-use aero_witness::search::shortest_cycle;
-use aero_witness::transactions::transactions_of;
+use aero_witness::search::shortest_of;
 use aero_witness::visit::Visit;
 use std::alloc::{AllocError, Global};
 
 /// The verdict on the trace that the parts hold, as `check_trace` tells it. Where it is a `Violation`, the label of
 /// the block comes with it that the verdict names, if it has one, and the events of a telling cycle that begins there,
 /// in the order in which it is gone round: from the one by which the block is left to the one by which it is entered
-/// again. None that begins there goes through fewer transactions. The events of a violating trace are gathered once more
-/// for it, in 20 bytes each.
+/// again. None that begins there goes through fewer transactions. The events are gathered for it while they are judged,
+/// in 20 bytes each, until one closes a cycle.
 ///
 /// An `AllocError` says that memory was refused.
 pub fn check_trace_explained(
-    alloc: Global,
-    parts: &[Parsed],
-    limits: &Limits,
-    except: &Except,
-) -> Result<(Verdict, Option<Cycle>), AllocError>
-    ensures told { IfOk result (λ told. TellsExplained parts.now (under limits.now except.now) told.0 told.1) }
-    ensures own_fault { IfOk result (λ told. HasOwnFault told.0) }
-{
-    let verdict = check_trace(alloc, parts, limits, except)?;
-    if !is_violation(&verdict) {
-        return Ok((verdict, None));
-    }
-    explain(alloc, parts, limits, except)
-}
-
-fn is_violation(verdict: &Verdict) -> bool
-    ensures { result ≡ has_cycle true verdict.now }
-{
-    matches!(verdict, Verdict::Violation { .. })
-}
-
-// The same, by judging the trace while its events are recorded.
-fn explain(
     alloc: Global,
     parts: &[Parsed],
     limits: &Limits,
@@ -88,10 +63,10 @@ fn cycle_of(
     ensures { (rules : Rules) (line : ℕ) (thread : List ℕ) → IsRecordOf parts.now rules recorder.now line thread begun → IfOk result (IsExplained parts.now rules line thread begun) }
 {
     let begin = place_of(&recorder.lines, begun);
-    let visits = shortest_cycle(alloc, &recorder.events, begin)?;
-    let transactions = transactions_of(alloc, &recorder.events)?;
-    let places = round_of(alloc, &visits)?;
-    let steps = steps_at(alloc, parts, &recorder.lines, &transactions.firsts, &places)?;
+    let shortest = shortest_of(alloc, &recorder.events, begin)?;
+    let places = round_of(alloc, &shortest.visits)?;
+    let firsts = &shortest.transactions.firsts;
+    let steps = steps_at(alloc, parts, &recorder.lines, firsts, &places)?;
     let label = label_on(alloc, parts, begun)?;
     Ok(Cycle { label, steps })
 }

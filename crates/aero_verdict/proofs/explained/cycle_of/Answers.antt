@@ -20,71 +20,66 @@ place_of-begin-requires-clause-there c =
     let h = begun_there c.args.parts.now rules c.args.recorder.now line thread c.args.begun r in
     (h.0, ap (λ ls. slice_get ls h.0) c.deref.ensures.value ∙ h.1)
 
-pub shortest_cycle-requires-clause-few : goal.shortest_cycle-requires-clause-few
-shortest_cycle-requires-clause-few c =
+pub shortest_of-requires-clause-few : goal.shortest_of-requires-clause-few
+shortest_of-requires-clause-few c =
     let (rules, line, thread, r) = c.requires.recorded in
     subst (λ es. length es < 2 ^ 32) (sym c.deref-2.ensures.value) (few_events c.args.parts.now rules c.args.recorder.now line thread c.args.begun r)
 
-pub shortest_cycle-requires-clause-within : goal.shortest_cycle-requires-clause-within
-shortest_cycle-requires-clause-within c =
+pub shortest_of-requires-clause-within : goal.shortest_of-requires-clause-within
+shortest_of-requires-clause-within c =
     let (rules, line, thread, r) = c.requires.recorded in
     let begin = c.place_of-begin.result in
     let at = ap (λ ls. slice_get ls begin) (sym c.deref.ensures.value) ∙ c.place_of-begin.ensures in
     subst (λ es. begin < length es) (sym c.deref-2.ensures.value) (begin_within c.args.parts.now rules c.args.recorder.now line thread c.args.begun r c.requires.readings begin at)
 
-pub shortest_cycle-requires-clause-begins : goal.shortest_cycle-requires-clause-begins
-shortest_cycle-requires-clause-begins c =
+pub shortest_of-requires-clause-begins : goal.shortest_of-requires-clause-begins
+shortest_of-requires-clause-begins c =
     let (rules, line, thread, r) = c.requires.recorded in
     let begin = c.place_of-begin.result in
     let at = ap (λ ls. slice_get ls begin) (sym c.deref.ensures.value) ∙ c.place_of-begin.ensures in
     subst (λ es. BeginsCycle es (length es) (transaction es begin)) (sym c.deref-2.ensures.value) (begins c.args.parts.now rules c.args.recorder.now line thread c.args.begun r c.requires.readings begin at)
-
-pub transactions_of-requires : goal.transactions_of-requires
-transactions_of-requires c =
-    let (rules, line, thread, r) = c.requires.recorded in
-    subst (λ es. length es < 2 ^ 32) (sym c.deref-3.ensures.value) (few_events c.args.parts.now rules c.args.recorder.now line thread c.args.begun r)
 
 pub steps_at-requires-clause-shown : goal.steps_at-requires-clause-shown
 steps_at-requires-clause-shown c =
     let (rules, line, thread, r) = c.requires.recorded in
     let parts = c.args.parts.now in
     let lines = c.args.recorder.now.lines.items in
-    let firsts = c.in_ok-transactions.transactions.firsts.items in
+    let firsts = c.in_ok-shortest.shortest.transactions.firsts.items in
     let begin = c.place_of-begin.result in
     let at = ap (λ ls. slice_get ls begin) (sym c.deref.ensures.value) ∙ c.place_of-begin.ensures in
-    let are = subst (λ es. AreFirstsTo es (length es) firsts) c.deref-3.ensures.value c.in_ok-transactions.ensures.firsts in
-    subst (λ ls. CanBeShown parts ls c.deref-6.result.now) (sym c.deref-5.ensures.value)
-    (subst (CanBeShown parts lines) (sym c.deref-6.ensures.value) (shown parts rules c.args.recorder.now line thread c.args.begun r c.requires.readings begin at firsts are))
+    let are = subst (λ es. AreFirstsTo es (length es) firsts) c.deref-2.ensures.value c.in_ok-shortest.ensures.transactions.firsts in
+    subst (λ ls. CanBeShown parts ls c.deref-5.result.now) (sym c.deref-4.ensures.value)
+    (subst (CanBeShown parts lines) (sym c.deref-5.ensures.value) (shown parts rules c.args.recorder.now line thread c.args.begun r c.requires.readings begin at firsts are))
 
 pub steps_at-requires-clause-within : goal.steps_at-requires-clause-within
 steps_at-requires-clause-within c =
     let (rules, line, thread, r) = c.requires.recorded in
     let parts = c.args.parts.now in
     let lines = c.args.recorder.now.lines.items in
-    let firsts = c.in_ok-transactions.transactions.firsts.items in
-    let visits = c.in_ok-visits.visits.items in
+    let firsts = c.in_ok-shortest.shortest.transactions.firsts.items in
+    let visits = c.in_ok-shortest.shortest.visits.items in
     let begin = c.place_of-begin.result in
     let at = ap (λ ls. slice_get ls begin) (sym c.deref.ensures.value) ∙ c.place_of-begin.ensures in
-    let are = subst (λ es. AreFirstsTo es (length es) firsts) c.deref-3.ensures.value c.in_ok-transactions.ensures.firsts in
-    let shortest = subst (λ es. IsShortest es (transaction es begin) visits) c.deref-2.ensures.value c.in_ok-visits.ensures in
-    let round : c.deref-7.result.now ≡ round_of visits = c.deref-7.ensures.value ∙ c.in_ok-places.ensures ∙ ap round_of c.deref-4.ensures.value in
-    subst (λ ls. All (λ place. place < length ls) c.deref-7.result.now) (sym c.deref-5.ensures.value)
+    let are = subst (λ es. AreFirstsTo es (length es) firsts) c.deref-2.ensures.value c.in_ok-shortest.ensures.transactions.firsts in
+    let shortest = subst (λ es. IsShortest es (transaction es begin) visits) c.deref-2.ensures.value c.in_ok-shortest.ensures.visits in
+    let round : c.deref-6.result.now ≡ round_of visits = c.deref-6.ensures.value ∙ c.in_ok-places.ensures ∙ ap round_of c.deref-3.ensures.value in
+    subst (λ ls. All (λ place. place < length ls) c.deref-6.result.now) (sym c.deref-4.ensures.value)
     (subst (All (λ place. place < length lines)) (sym round) (round_is_within parts rules c.args.recorder.now line thread c.args.begun r c.requires.readings begin at firsts are visits shortest))
 
 pub returns : goal.returns
 returns c = λ rules line thread r.
     let parts = c.args.parts.now in
     let lines = c.args.recorder.now.lines.items in
-    let firsts = c.in_ok-transactions.transactions.firsts.items in
-    let visits = c.in_ok-visits.visits.items in
+    let firsts = c.in_ok-shortest.shortest.transactions.firsts.items in
+    let visits = c.in_ok-shortest.shortest.visits.items in
     let begin = c.place_of-begin.result in
     let at = ap (λ ls. slice_get ls begin) (sym c.deref.ensures.value) ∙ c.place_of-begin.ensures in
-    let are = subst (λ es. AreFirstsTo es (length es) firsts) c.deref-3.ensures.value c.in_ok-transactions.ensures.firsts in
-    let shortest = subst (λ es. IsShortest es (transaction es begin) visits) c.deref-2.ensures.value c.in_ok-visits.ensures in
-    let round : c.deref-7.result.now ≡ round_of visits = c.deref-7.ensures.value ∙ c.in_ok-places.ensures ∙ ap round_of c.deref-4.ensures.value in
-    explained parts rules c.args.recorder.now line thread c.args.begun r c.requires.readings begin at firsts are visits shortest c.deref-7.result.now c.in_ok-steps.steps c.in_ok-label.label round
-    (subst (λ fs. AllZip (IsStepAt parts lines fs) c.deref-7.result.now c.in_ok-steps.steps.items) c.deref-6.ensures.value
-    (subst (λ ls. AllZip (IsStepAt parts ls c.deref-6.result.now) c.deref-7.result.now c.in_ok-steps.steps.items) c.deref-5.ensures.value c.in_ok-steps.ensures))
+    let are = subst (λ es. AreFirstsTo es (length es) firsts) c.deref-2.ensures.value c.in_ok-shortest.ensures.transactions.firsts in
+    let shortest = subst (λ es. IsShortest es (transaction es begin) visits) c.deref-2.ensures.value c.in_ok-shortest.ensures.visits in
+    let round : c.deref-6.result.now ≡ round_of visits = c.deref-6.ensures.value ∙ c.in_ok-places.ensures ∙ ap round_of c.deref-3.ensures.value in
+    explained parts rules c.args.recorder.now line thread c.args.begun r c.requires.readings begin at firsts are visits shortest c.deref-6.result.now c.in_ok-steps.steps c.in_ok-label.label round
+    (subst (λ fs. AllZip (IsStepAt parts lines fs) c.deref-6.result.now c.in_ok-steps.steps.items) c.deref-5.ensures.value
+    (subst (λ ls. AllZip (IsStepAt parts ls c.deref-5.result.now) c.deref-6.result.now c.in_ok-steps.steps.items) c.deref-4.ensures.value c.in_ok-steps.ensures))
     c.in_ok-label.ensures
 
 pub label_on-requires : goal.label_on-requires

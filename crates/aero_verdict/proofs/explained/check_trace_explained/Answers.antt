@@ -6,7 +6,7 @@ use Rattle.aero_verdict.specs.Monitored.{TellsFed}
 use Rattle.aero_verdict.specs.Recorded.{HasRecorded, StandsForLeads}
 use Rattle.aero_verdict.specs.Verdict.{under, IsVerdict}
 use Rattle.aero_verdict.proofs.Explaining.{told_record}
-use Rattle.aero_verdict.proofs.explained.explain.Goals as goal
+use Rattle.aero_verdict.proofs.explained.check_trace_explained.Goals as goal
 
 pub cycle_of-requires-clause-recorded : goal.cycle_of-requires-clause-recorded
 cycle_of-requires-clause-recorded c =
