@@ -1,5 +1,5 @@
 //! The telling cycle that shows a violation, event by event.
-ghost use Rattle.std.specs.Prelude.{◌≡◌, ◌++◌, ◌<◌, ◌^◌, ℕ, List, All, Some, length, slice_get, flat_map, option_map, IfOk, OnOk, IsSome, IsTrue};
+ghost use Rattle.std.specs.Prelude.{◌≡◌, ◌++◌, ◌<◌, ◌^◌, ℕ, List, All, Some, length, slice_get, flat_map, option_map, IfOk, OnOk, IsSome};
 ghost use Rattle.std.specs.List.{AllZip};
 ghost use Rattle.aero_model.specs.Verdicts.{HasOwnFault};
 ghost use Rattle.aero_grammar.specs.Reading.{IsReading, whole_reading};

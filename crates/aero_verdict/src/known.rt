@@ -1,5 +1,5 @@
 //! The numbers of a block's names in the trace, each looked up at the event that first has it.
-ghost use Rattle.std.specs.Prelude.{◌≡◌, ◌<◌, ◌==◌, ◌++◌, ◌∷◌, [], ℕ, List, length, map, bytes_eq, if◌then◌else◌, IfOk, IfErr, OnOk};
+ghost use Rattle.std.specs.Prelude.{◌≡◌, ◌<◌, ◌==◌, ◌++◌, ◌∷◌, [], length, map, bytes_eq, if◌then◌else◌, IfOk, IfErr, OnOk};
 ghost use Rattle.std.specs.List.{list_any};
 ghost use Rattle.aero_grammar.specs.Tabled.{name_at};
 ghost use Rattle.aero_verdict.specs.Known.{AreKnown};

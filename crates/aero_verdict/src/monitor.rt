@@ -48,15 +48,15 @@
 //! let is_certain = monitor.certain().is_some();
 //! let verdict = monitor.finish()?;
 //! ```
-ghost use Rattle.std.specs.Prelude.{◌≡◌, ◌+◌, ◌++◌, ◌∷◌, [], ◌<◌, ◌≤◌, ◌↔◌, ℕ, List, true, false, is_some, Some, Ok, IsTrue, IfOk, IfSome, OnErr, option_map};
+ghost use Rattle.std.specs.Prelude.{◌≡◌, ◌+◌, ◌++◌, ◌∷◌, [], ◌<◌, ◌↔◌, ℕ, List, true, false, is_some, Some, Ok, IsTrue, IfOk, IfSome, OnErr, option_map};
 ghost use Rattle.aero_grammar.specs.Reading.{Reading};
 ghost use Rattle.aero_model.specs.Verdicts.{HasOwnFault};
 ghost use Rattle.aero_verdict.specs.declared.monitor.State.TheVariants.{Undecided};
-ghost use Rattle.aero_verdict.specs.Fed.{IsCertain, IsOpen, IsVerdictOn};
+ghost use Rattle.aero_verdict.specs.Fed.{IsCertain, IsOpen};
 ghost use Rattle.aero_verdict.specs.Monitored.{FedSo, is_spent, certain_of, TellsFed};
 ghost use Rattle.aero_verdict.specs.Given.{words_of};
 ghost use Rattle.aero_verdict.specs.Parts.{IsPartExpected};
-ghost use Rattle.aero_verdict.specs.Verdict.{Rules, under, IsVerdict};
+ghost use Rattle.aero_verdict.specs.Verdict.{under, IsVerdict};
 
 use crate::check::{check_part, faultless};
 use crate::checker::Checker;

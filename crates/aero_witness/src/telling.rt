@@ -1,5 +1,5 @@
 //! Whether visits are a telling cycle.
-ghost use Rattle.std.specs.Prelude.{◌≡◌, ◌≢◌, ◌⊎◌, ◌<◌, ◌≤◌, ◌^◌, ◌↔◌, length, slice_get, option_map, Some, IfOk, MatchOption, IsTrue};
+ghost use Rattle.std.specs.Prelude.{◌≡◌, ◌≢◌, ◌<◌, ◌^◌, ◌↔◌, length, slice_get, option_map, Some, IfOk, MatchOption, IsTrue};
 ghost use Rattle.aero_model.specs.declared.numbered.Numbered.{Numbered};
 ghost use Rattle.aero_model.specs.Blocks.{transaction, HasEnded};
 ghost use Rattle.aero_model.specs.Graph.{Conflict, IsVisit, IsForward, IsTelling, last_visit};
