@@ -22,7 +22,6 @@ use Rattle.aero_intake.specs.Stories.{Story, AreEnough, BeginAlike, IsSettledWit
 use Rattle.aero_intake.specs.Tracks.{IsReady, GivesReadings}
 use Rattle.aero_batch.proofs.Apart.{block_first, check_before_blocks, check_apart}
 use Rattle.aero_intake.proofs.Tracked.{changed_there, changed_elsewhere, before_change, value_goes, nil_right, asked_other, asked_block, asked_check, found_here}
-use Rattle.aero_model.specs.declared.verdict.Finding.TheVariants as findings
 use Rattle.aero_verdict.specs.Finding.{Terms}
 
 -- the stories with another one for the source at the place
@@ -141,7 +140,7 @@ check_asked terms i tale tracks place (Arrived bytes blocks known) after reading
     subst (λ o. AreTracked terms (checked_on terms i place o) tale (changed place (λ t. after) tracks)) (sym gives.0)
     (known_after terms (all_open i) (all_open i) tale tracks place (Arrived bytes blocks known) after was
     (subst (λ x. IsTracked terms (all_open i) place (tale place) x) (sym gives.3)
-    (found_here terms (all_open i) place bytes blocks (tale place) known (findings.Judged gives.1) ready gives.2 (tracked place (Arrived bytes blocks known) was)))
+    (found_here terms (all_open i) place bytes blocks (tale place) known gives.1 ready gives.2 (tracked place (Arrived bytes blocks known) was)))
     (λ s t other is. is) tracked)
 check_asked terms i tale tracks place (Found bytes ending finding) after readings was ready gives tracked =
     subst (λ o. AreTracked terms (checked_on terms i place o) tale (changed place (λ t. after) tracks)) (sym gives.0)

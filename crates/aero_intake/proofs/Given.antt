@@ -1,8 +1,7 @@
 -- What a ready source gives: its parts, or what is found of it.
 use Rattle.std.proofs.Common.{◌≡◌, inl, inr, List, Some, None, ◌∙◌, ap, subst, refl}
 use Rattle.std.specs.Prelude.{option_map}
-use Rattle.aero_model.specs.declared.verdict.Finding.TheVariants as findings
-use Rattle.aero_model.specs.declared.verdict.Verdict.{Verdict}
+use Rattle.aero_model.specs.declared.verdict.Finding.{Finding}
 use Rattle.aero_grammar.specs.Reading.{Reading}
 use Rattle.aero_verdict.specs.Finding.{IsTraceFinding}
 use Rattle.aero_intake.specs.Held.{Known}
@@ -22,12 +21,12 @@ given_parts (Arrived bytes blocks k) mid known parts takes same = inl (ap Some s
 given_parts (Checking bytes) mid known parts takes same = absurd (let none = takes.0 in cc)
 given_parts (Found bytes ending f) mid known parts takes same = absurd (let none = takes.0 in cc)
 
-pub given_found : (old mid new : Track) (known : Known) (v : Verdict) → TakesReadings old mid (Some known) → IsTraceFinding known.parts known.terms (findings.Judged v) →
-    new ≡ with_finding mid (findings.Judged v) → GivesReadings old new None
-given_found (Arriving k) mid new known v takes is new_is = absurd (let none = takes.0 in cc)
-given_found (Arrived bytes blocks k) mid new known v takes is new_is =
+pub given_found : (old mid new : Track) (known : Known) (f : Finding) → TakesReadings old mid (Some known) → IsTraceFinding known.parts known.terms f →
+    new ≡ with_finding mid f → GivesReadings old new None
+given_found (Arriving k) mid new known f takes is new_is = absurd (let none = takes.0 in cc)
+given_found (Arrived bytes blocks k) mid new known f takes is new_is =
     let some = takes.0 in
     let same : known ≡ k = cc in
-    inr (refl, v, subst (λ (x : Known). IsTraceFinding x.parts x.terms (findings.Judged v)) same is, new_is ∙ ap (λ t. with_finding t (findings.Judged v)) takes.1)
-given_found (Checking bytes) mid new known v takes is new_is = absurd (let none = takes.0 in cc)
-given_found (Found bytes ending f) mid new known v takes is new_is = absurd (let none = takes.0 in cc)
+    inr (refl, f, subst (λ (x : Known). IsTraceFinding x.parts x.terms f) same is, new_is ∙ ap (λ t. with_finding t f) takes.1)
+given_found (Checking bytes) mid new known f takes is new_is = absurd (let none = takes.0 in cc)
+given_found (Found bytes ending g) mid new known f takes is new_is = absurd (let none = takes.0 in cc)

@@ -6,7 +6,6 @@ use Rattle.aero_intake.specs.declared.keeping.Held.TheVariants.{Kept, Live}
 use Rattle.aero_intake.specs.declared.keeping.Judged.{Judged}
 use Rattle.aero_intake.specs.declared.keeping.Judged.TheVariants.{ByParts, Already}
 use Rattle.aero_model.specs.declared.verdict.Finding.{Finding}
-use Rattle.aero_model.specs.declared.verdict.Finding.TheVariants as findings
 use Rattle.aero_verdict.specs.Finding.{Terms, IsTraceFinding}
 
 -- on what terms a source is judged, and what its first blocks say, in their order
@@ -31,12 +30,12 @@ abbrev pub parts_in : Held → List Reading
 parts_in (Kept parts events) = parts.items
 parts_in (Live live) = live.parts
 
--- A source is judged as it comes under its own rules, and only where neither its order nor the events of a cycle are asked for.
+-- A source is judged as it comes under its own rules, with its order exactly where that is asked for, and only where the events of a cycle aren't.
 abbrev pub FitsTerms : Terms → Held → Type 0
 FitsTerms terms (Kept parts events) = ⊤
-FitsTerms terms (Live live) = (live.rules ≡ terms.rules) × (terms.order ≡ false) × (terms.explain ≡ false)
+FitsTerms terms (Live live) = (live.rules ≡ terms.rules) × (live.order ≡ terms.order) × (terms.explain ≡ false)
 
--- the parts themselves, or what is found of them, where the verdict alone is told
+-- the parts themselves, or what is found of them
 abbrev pub IsJudgedFrom : List Reading → Terms → Judged → Type 0
 IsJudgedFrom parts terms (ByParts kept) = kept ≡ parts
-IsJudgedFrom parts terms (Already verdict) = IsTraceFinding parts terms (findings.Judged verdict)
+IsJudgedFrom parts terms (Already finding) = IsTraceFinding parts terms finding

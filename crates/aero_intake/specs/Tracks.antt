@@ -4,7 +4,6 @@ use Rattle.aero_model.specs.declared.limits.Limits.{Limits}
 use Rattle.aero_model.specs.declared.verdict.Ending.TheVariants as endings
 use Rattle.aero_model.specs.declared.verdict.Finding.{Finding}
 use Rattle.aero_model.specs.declared.verdict.Finding.TheVariants as findings
-use Rattle.aero_model.specs.declared.verdict.Verdict.{Verdict}
 use Rattle.aero_grammar.specs.Reading.{Reading, whole_reading, malformed_line}
 use Rattle.aero_verdict.specs.Finding.{IsTraceFinding}
 use Rattle.aero_pieces.specs.declared.answer.Value.{Value}
@@ -68,5 +67,5 @@ TakesReadings old new given = (given ≡ None) × (new ≡ old)
 abbrev pub GivesReadings : Track → Track → Option (List Reading) → Type 0
 GivesReadings (Arrived bytes blocks known) new given =
     ((given ≡ Some known.parts) × (new ≡ Checking bytes))
-    ⊎ ((given ≡ None) × (verdict : Verdict) × IsTraceFinding known.parts known.terms (findings.Judged verdict) × (new ≡ Found bytes endings.Whole (findings.Judged verdict)))
+    ⊎ ((given ≡ None) × (finding : Finding) × IsTraceFinding known.parts known.terms finding × (new ≡ Found bytes endings.Whole finding))
 GivesReadings old new given = (given ≡ None) × (new ≡ old)

@@ -1,13 +1,12 @@
 //! What is held of a source whose blocks are being read.
 ghost use Rattle.std.specs.Prelude.{◌≡◌, ◌++◌, ◌∷◌, [], length, true, false, IfOk, OnOk, IsTrue};
 ghost use Rattle.aero_intake.specs.Held.{parts_in, FitsTerms, IsDecisive, IsJudgedFrom};
-ghost use Rattle.aero_model.specs.declared.verdict.Finding.{Finding};
 ghost use Rattle.aero_verdict.specs.Finding.{Terms as Asked, IsTraceFinding};
 
 use crate::live::Live;
 use crate::terms::Terms;
 use aero_grammar::parsed::Parsed;
-use aero_model::verdict::{Finding, Verdict};
+use aero_model::verdict::Finding;
 use aero_pieces::question::Parts;
 use std::alloc::{AllocError, Global};
 use std::mem;
@@ -25,7 +24,7 @@ pub enum Held {
 #[derive(Drop)]
 pub enum Judged {
     ByParts(Parts),
-    Already(Verdict),
+    Already(Finding),
 }
 
 /// Nothing is held yet.
@@ -91,14 +90,14 @@ fn keep_or_feed(held: &mut Held, part: Parsed, terms: &Terms) -> Result<(), Allo
     }
 }
 
-// Where more events are kept than may be, they are to be judged from here on, unless the order is asked for, or a
-// violation is to be explained: then the parts are gone over again.
+// Where more events are kept than may be, they are to be judged from here on, unless a violation is to be explained:
+// then the parts are gone over again.
 fn go_live(held: &mut Held, alloc: Global, terms: &Terms, most: u64) -> Result<(), AllocError>
     requires { FitsTerms terms.now held.old }
     ensures parts { OnOk result (parts_in held.new ≡ parts_in held.old) }
     ensures fits { OnOk result (FitsTerms terms.now held.new) }
 {
-    if terms.order() || terms.explain() || !has_more(held, most) {
+    if terms.explain() || !has_more(held, most) {
         return Ok(());
     }
     let kept = mem::replace(held, nothing_held(alloc));
@@ -118,9 +117,10 @@ fn live_from(held: Held, alloc: Global, terms: &Terms) -> Result<Live, AllocErro
     requires { FitsTerms terms.now held }
     ensures parts { IfOk result (λ live. live.parts ≡ parts_in held) }
     ensures rules { IfOk result (λ live. live.rules ≡ terms.now.rules) }
+    ensures order { IfOk result (λ live. live.order ≡ terms.now.order) }
 {
     match held {
-        Held::Kept { parts, .. } => Live::new(alloc, terms.limits(), terms.except(), parts),
+        Held::Kept { parts, .. } => Live::new(alloc, terms, parts),
         Held::Live(live) => Ok(live),
     }
 }
@@ -136,12 +136,12 @@ pub fn judged_from(held: Held, terms: &Terms) -> Result<Judged, AllocError>
     }
 }
 
-// The verdict on a source that was judged as it came, where nothing besides it is asked for.
-fn found(live: Live, terms: &Terms) -> Result<Verdict, AllocError>
+// What is found of a source that was judged as it came, where nothing is to be explained.
+fn found(live: Live, terms: &Terms) -> Result<Finding, AllocError>
     requires rules { live.rules ≡ terms.now.rules }
-    requires no_order { terms.now.order ≡ false }
-    requires no_cycle { terms.now.explain ≡ false }
-    ensures { IfOk result (λ verdict. IsTraceFinding live.parts terms.now (Finding.Judged verdict)) }
+    requires order { live.order ≡ terms.now.order }
+    requires unexplained { terms.now.explain ≡ false }
+    ensures { IfOk result (IsTraceFinding live.parts terms.now) }
 {
     live.finish(terms.except())
 }

@@ -39,6 +39,7 @@
 #![tactic(auto)]
 
 pub mod intake;
+pub mod judge;
 pub mod keeping;
 pub mod laws;
 pub mod live;

@@ -1,14 +1,14 @@
 //! A source that is judged as it comes.
 ghost use Rattle.std.specs.Prelude.{◌≡◌, ◌++◌, ◌∷◌, [], length, is_some, IfOk, IfSome, OnOk};
 ghost use Rattle.aero_verdict.specs.Fed.{IsCertain};
-ghost use Rattle.aero_verdict.specs.Verdict.{under, IsVerdict};
+ghost use Rattle.aero_verdict.specs.Finding.{IsTraceFinding};
+ghost use Rattle.aero_intake.specs.Lives.{watched_by, unexplained};
 
+use crate::judge::Judge;
+use crate::terms::Terms;
 use aero_grammar::parsed::Parsed;
-use aero_leads::leads::Leads;
 use aero_model::except::Except;
-use aero_model::limits::Limits;
-use aero_model::verdict::Verdict;
-use aero_verdict::monitor::{Monitor, feed_all};
+use aero_model::verdict::Finding;
 use std::alloc::{AllocError, Global};
 use std::collections::VecDeque;
 use std::marker::Model;
@@ -17,40 +17,40 @@ use std::marker::Model;
 /// two are judged, the first ones first, and let go: so no block holds the others up for long.
 #[derive(Drop)]
 pub struct Live {
-    monitor: Box<Monitor<Leads>, Global>,
+    judge: Judge,
     // The blocks that came and aren't judged yet.
     waiting: VecDeque<Parsed>,
     count: u64,
 }
 
 impl Model for Live {
-    ghost use Rattle.aero_intake.specs.Lives.{Watched};
+    ghost use Rattle.aero_intake.specs.Lives.{Watched, watched_by};
 
     ghost Value = { Watched };
 
     ghost use Rattle.std.specs.Prelude.{◌≡◌, ◌++◌, length};
 
-    ghost view = { λ l. record { parts = l.monitor.value.parts ++ l.waiting.items; rules = l.monitor.value.rules; certain = l.monitor.value.certain } };
+    ghost view = { λ l. record {
+      parts = (watched_by l.judge).parts ++ l.waiting.items;
+      rules = (watched_by l.judge).rules;
+      order = (watched_by l.judge).order;
+      certain = (watched_by l.judge).certain;
+    } };
 
-    ghost invariant = { λ l. l.count ≡ length (l.monitor.value.parts ++ l.waiting.items) };
+    ghost invariant = { λ l. l.count ≡ length ((watched_by l.judge).parts ++ l.waiting.items) };
 }
 
 impl Live {
-    /// What was kept of a source is to be judged, under these limits. A block that begins with one of the labels of
-    /// `except` is no transaction. An `AllocError` says that memory was refused.
-    pub fn new(
-        alloc: Global,
-        limits: &Limits,
-        except: &Except,
-        kept: Vec<Parsed>,
-    ) -> Result<Live, AllocError>
+    /// What was kept of a source is to be judged on these terms, but a violation isn't explained. An `AllocError` says
+    /// that memory was refused.
+    pub fn new(alloc: Global, terms: &Terms, kept: Vec<Parsed>) -> Result<Live, AllocError>
         ensures parts { IfOk result (λ live. live.parts ≡ kept.items) }
-        ensures rules { IfOk result (λ live. live.rules ≡ under limits.now except.now) }
+        ensures rules { IfOk result (λ live. live.rules ≡ terms.now.rules) }
+        ensures order { IfOk result (λ live. live.order ≡ terms.now.order) }
     {
         let count = kept.len() as u64;
-        let monitor = Monitor::<Leads>::new(alloc, limits, except);
         Ok(Live {
-            monitor: Box::new(alloc, monitor)?,
+            judge: Judge::new(alloc, terms.limits(), terms.except(), terms.order())?,
             waiting: VecDeque::from_vec(kept),
             count,
         })
@@ -62,14 +62,15 @@ impl Live {
         requires { except.now ≡ self.old.rules.labels }
         ensures parts { OnOk result (self.new.parts ≡ self.old.parts ++ part ∷ []) }
         ensures rules { self.new.rules ≡ self.old.rules }
+        ensures order { self.new.order ≡ self.old.order }
     {
         let Some(count) = self.count.checked_add(1) else {
             return Err(AllocError);
         };
         self.waiting.push_back(part)?;
         self.count = count;
-        judge_next(&mut self.monitor, &mut self.waiting, except)?;
-        judge_next(&mut self.monitor, &mut self.waiting, except)
+        judge_next(&mut self.judge, &mut self.waiting, except)?;
+        judge_next(&mut self.judge, &mut self.waiting, except)
     }
 
     /// How many blocks have come.
@@ -84,47 +85,49 @@ impl Live {
         ensures told { result ≡ is_some self.now.certain }
         ensures certain { IfSome self.now.certain (IsCertain self.now.parts self.now.rules) }
     {
-        self.monitor.certain().is_some()
+        self.judge.is_certain()
     }
 
-    /// The verdict on what came, with the same labels as at first. An `AllocError` says that memory was refused.
-    pub fn finish(self, except: &Except) -> Result<Verdict, AllocError>
+    /// What is found of what came, with the same labels as at first. An `AllocError` says that memory was refused.
+    pub fn finish(self, except: &Except) -> Result<Finding, AllocError>
         requires { except.now ≡ self.rules.labels }
-        ensures { IfOk result (IsVerdict self.parts self.rules) }
+        ensures { IfOk result (IsTraceFinding self.parts (unexplained self.rules self.order)) }
     {
         let Live {
-            monitor,
+            judge,
             waiting,
             count: _,
         } = self;
-        let mut monitor = Box::into_inner(monitor);
-        judge_rest(&mut monitor, waiting, except);
-        monitor.finish()
+        let mut judge = judge;
+        judge_rest(&mut judge, waiting, except);
+        judge.finish()
     }
 }
 
-// Judges all that wait. Where memory is refused the monitor says so at its end.
-fn judge_rest(monitor: &mut Monitor<Leads>, waiting: VecDeque<Parsed>, except: &Except)
-    requires { except.now ≡ monitor.old.rules.labels }
-    ensures parts { monitor.new.parts ≡ monitor.old.parts ++ waiting.items }
-    ensures rules { monitor.new.rules ≡ monitor.old.rules }
+// Judges all that wait. Where memory is refused the judge says so at its end.
+fn judge_rest(judge: &mut Judge, waiting: VecDeque<Parsed>, except: &Except)
+    requires { except.now ≡ (watched_by judge.old).rules.labels }
+    ensures parts { (watched_by judge.new).parts ≡ (watched_by judge.old).parts ++ waiting.items }
+    ensures rules { (watched_by judge.new).rules ≡ (watched_by judge.old).rules }
+    ensures order { (watched_by judge.new).order ≡ (watched_by judge.old).order }
 {
     let rest = waiting.into_vec();
-    feed_all(monitor, &rest, except);
+    judge.feed_rest(&rest, except);
 }
 
 // Judges the first block that waits, if one does, and lets it go.
 fn judge_next(
-    monitor: &mut Monitor<Leads>,
+    judge: &mut Judge,
     waiting: &mut VecDeque<Parsed>,
     except: &Except,
 ) -> Result<(), AllocError>
-    requires { except.now ≡ monitor.old.rules.labels }
-    ensures parts { monitor.new.parts ++ waiting.new.items ≡ monitor.old.parts ++ waiting.old.items }
-    ensures rules { monitor.new.rules ≡ monitor.old.rules }
+    requires { except.now ≡ (watched_by judge.old).rules.labels }
+    ensures parts { (watched_by judge.new).parts ++ waiting.new.items ≡ (watched_by judge.old).parts ++ waiting.old.items }
+    ensures rules { (watched_by judge.new).rules ≡ (watched_by judge.old).rules }
+    ensures order { (watched_by judge.new).order ≡ (watched_by judge.old).order }
 {
     let Some(part) = waiting.pop_front() else {
         return Ok(());
     };
-    monitor.feed(&part, except).map(|_| ())
+    judge.feed(&part, except)
 }

@@ -234,8 +234,8 @@ pub fn take_parts(track: &mut Track) -> Result<Option<Parts>, AllocError>
     };
     match readings.into_judged()? {
         Judged::ByParts(parts) => Ok(Some(parts)),
-        Judged::Already(verdict) => {
-            take_finding(track, Finding::Judged(verdict));
+        Judged::Already(finding) => {
+            take_finding(track, finding);
             Ok(None)
         }
     }

@@ -1,0 +1,133 @@
+//! What judges the blocks of a source, with the serial order or without.
+ghost use Rattle.std.specs.Prelude.{◌≡◌, ◌++◌, ◌∷◌, [], true, false, is_some, IfOk, IfSome};
+ghost use Rattle.aero_verdict.specs.Fed.{IsCertain};
+ghost use Rattle.aero_verdict.specs.Finding.{IsTraceFinding};
+ghost use Rattle.aero_verdict.specs.Verdict.{under};
+ghost use Rattle.aero_intake.specs.Lives.{watched_by, unexplained};
+
+use aero_grammar::parsed::Parsed;
+use aero_leads::leads::Leads;
+use aero_model::except::Except;
+use aero_model::limits::Limits;
+use aero_model::verdict::Finding;
+use aero_verdict::in_order::InOrder;
+use aero_verdict::monitor::{Monitor, feed_all};
+use std::alloc::{AllocError, Global};
+
+/// What judges the blocks of a source one after another, and needs none of them again.
+#[derive(Drop)]
+pub enum Judge {
+    /// It tells the verdict alone.
+    Plain(Box<Monitor<Leads>, Global>),
+    /// It also tells the serial order, where the verdict is `Serializable`.
+    InOrder(Box<Monitor<InOrder>, Global>),
+}
+
+impl Judge {
+    /// It has judged no block, and judges under these limits. A block that begins with one of the labels of `except`
+    /// is no transaction. `order` says whether the serial order is asked for. An `AllocError` says that memory was
+    /// refused.
+    pub fn new(
+        alloc: Global,
+        limits: &Limits,
+        except: &Except,
+        order: bool,
+    ) -> Result<Judge, AllocError>
+        ensures parts { IfOk result (λ judge. (watched_by judge).parts ≡ []) }
+        ensures rules { IfOk result (λ judge. (watched_by judge).rules ≡ under limits.now except.now) }
+        ensures order { IfOk result (λ judge. (watched_by judge).order ≡ order) }
+    {
+        if order {
+            in_order(alloc, limits, except)
+        } else {
+            plain(alloc, limits, except)
+        }
+    }
+
+    /// Judges the next block, by what it says, with the same labels as at first.
+    ///
+    /// # Errors
+    ///
+    /// `AllocError` where memory was refused, and at each call from then on.
+    pub fn feed(&mut self, part: &Parsed, except: &Except) -> Result<(), AllocError>
+        requires { except.now ≡ (watched_by self.old).rules.labels }
+        ensures parts { (watched_by self.new).parts ≡ (watched_by self.old).parts ++ part.now ∷ [] }
+        ensures rules { (watched_by self.new).rules ≡ (watched_by self.old).rules }
+        ensures order { (watched_by self.new).order ≡ (watched_by self.old).order }
+    {
+        match self {
+            Judge::Plain(monitor) => monitor.feed(part, except).map(|_| ()),
+            Judge::InOrder(monitor) => monitor.feed(part, except).map(|_| ()),
+        }
+    }
+
+    /// Judges these blocks, one after the other. Where memory is refused `finish` says so.
+    pub fn feed_rest(&mut self, parts: &[Parsed], except: &Except)
+        requires { except.now ≡ (watched_by self.old).rules.labels }
+        ensures parts { (watched_by self.new).parts ≡ (watched_by self.old).parts ++ parts.now }
+        ensures rules { (watched_by self.new).rules ≡ (watched_by self.old).rules }
+        ensures order { (watched_by self.new).order ≡ (watched_by self.old).order }
+    {
+        match self {
+            Judge::Plain(monitor) => feed_all(monitor, parts, except),
+            Judge::InOrder(monitor) => feed_all(monitor, parts, except),
+        }
+    }
+
+    /// Whether the verdict is certain, whatever blocks come.
+    pub fn is_certain(&self) -> bool
+        ensures told { result ≡ is_some (watched_by self.now).certain }
+        ensures certain { IfSome (watched_by self.now).certain (IsCertain (watched_by self.now).parts (watched_by self.now).rules) }
+    {
+        match self {
+            Judge::Plain(monitor) => monitor.certain().is_some(),
+            Judge::InOrder(monitor) => monitor.certain().is_some(),
+        }
+    }
+
+    /// What is found of the blocks that it judged. An `AllocError` says that memory was refused.
+    pub fn finish(self) -> Result<Finding, AllocError>
+        ensures { IfOk result (IsTraceFinding (watched_by self).parts (unexplained (watched_by self).rules (watched_by self).order)) }
+    {
+        match self {
+            Judge::Plain(monitor) => judged(Box::into_inner(monitor)),
+            Judge::InOrder(monitor) => ordered(Box::into_inner(monitor)),
+        }
+    }
+}
+
+fn plain(alloc: Global, limits: &Limits, except: &Except) -> Result<Judge, AllocError>
+    ensures parts { IfOk result (λ judge. (watched_by judge).parts ≡ []) }
+    ensures rules { IfOk result (λ judge. (watched_by judge).rules ≡ under limits.now except.now) }
+    ensures order { IfOk result (λ judge. (watched_by judge).order ≡ false) }
+{
+    let monitor = Monitor::<Leads>::new(alloc, limits, except);
+    Ok(Judge::Plain(Box::new(alloc, monitor)?))
+}
+
+fn in_order(alloc: Global, limits: &Limits, except: &Except) -> Result<Judge, AllocError>
+    ensures parts { IfOk result (λ judge. (watched_by judge).parts ≡ []) }
+    ensures rules { IfOk result (λ judge. (watched_by judge).rules ≡ under limits.now except.now) }
+    ensures order { IfOk result (λ judge. (watched_by judge).order ≡ true) }
+{
+    let monitor = Monitor::<InOrder>::new(alloc, limits, except);
+    Ok(Judge::InOrder(Box::new(alloc, monitor)?))
+}
+
+// The verdict on what a monitor was fed.
+fn judged(monitor: Monitor<Leads>) -> Result<Finding, AllocError>
+    ensures { IfOk result (IsTraceFinding monitor.parts (unexplained monitor.rules false)) }
+{
+    monitor.finish().map(Finding::Judged)
+}
+
+// The verdict on what a monitor was fed, with the order where that goes with it.
+fn ordered(monitor: Monitor<InOrder>) -> Result<Finding, AllocError>
+    ensures { IfOk result (IsTraceFinding monitor.parts (unexplained monitor.rules true)) }
+{
+    let (verdict, steps) = monitor.finish_in_order()?;
+    match steps {
+        Some(steps) => Ok(Finding::Ordered(verdict, steps)),
+        None => Ok(Finding::Judged(verdict)),
+    }
+}
