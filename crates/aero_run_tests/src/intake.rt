@@ -31,7 +31,7 @@ impl Read for BreaksOnce<'_> {
 }
 
 // The bytes of a text that is written with `/` for each byte 10.
-fn lines_of(alloc: Global, text: &str) -> Result<Vec<u8>, AllocError> {
+pub(crate) fn lines_of(alloc: Global, text: &str) -> Result<Vec<u8>, AllocError> {
     let mut bytes = text.as_bytes().to_vec(alloc)?;
     for byte in bytes.iter_mut() {
         if *byte == b'/' {

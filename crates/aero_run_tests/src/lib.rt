@@ -13,6 +13,8 @@ mod gather;
 #[cfg(test)]
 mod intake;
 #[cfg(test)]
+mod live;
+#[cfg(test)]
 mod pieces;
 #[cfg(test)]
 mod report;

@@ -492,18 +492,19 @@ static ASKED: [((u64, u64), u64); 6] = [
     ((1_000, 3), 5),
 ];
 
-// How many questions are asked about two sources with this text.
+// How many questions are asked about two sources with this text, whose order is asked for or not.
 fn asked<T: AllocGlobal + Threads + Wait + Copy + Send + 'static>(
     rt: &T,
     who: Who,
-    text: &[u8],
+    (text, order): (&[u8], bool),
     (events, last_events): (u64, u64),
 ) -> Result<u64, Fail> {
     let kept = Keeping {
         events,
         last_events,
     };
-    let plan = plan_of(rt.alloc(), (who, 7), (100, 5), 0)?.with_keeping(kept);
+    let limits = limits_of(100, 5, 2, 1)?;
+    let plan = plan_by(rt.alloc(), who, limits, 7, ("", order))?.with_keeping(kept);
     let mut sources: Vec<Source<&[u8]>> = Vec::new(rt.alloc());
     add_source(&mut sources, rt.alloc(), "a", text)?;
     add_source(&mut sources, rt.alloc(), "b", text)?;
@@ -516,7 +517,8 @@ fn a_source_turns_live_with_one_event_more_than_is_kept(rt: HostRuntime) -> Resu
     let text = lines_of(rt.alloc(), SOUND)?;
     for (kept, wanted) in ASKED.iter() {
         for who in HELP.iter() {
-            assert_eq!(rt; asked(&rt, *who, &text, *kept)?, *wanted);
+            assert_eq!(rt; asked(&rt, *who, (&text, false), *kept)?, *wanted);
+            assert_eq!(rt; asked(&rt, *who, (&text, true), *kept)?, *wanted);
         }
     }
     Ok(())
@@ -538,8 +540,68 @@ fn has_orders<T: AllocGlobal + Threads + Wait + Copy + Send + 'static>(
     Ok(report == lines_of(rt.alloc(), ORDER_OF_TWO)?)
 }
 
+// Labels whose blocks are no transactions, a text of six events, and what is written of it with its order.
+type OrderRow = (&'static str, &'static str, &'static str);
+
+static ORDERS: [OrderRow; 4] = [
+    (
+        "",
+        "audit|begin/pay|begin/pay|w(balance)/pay|end/audit|r(balance)/audit|end",
+        "n: serializable (6 events, 2 blocks)/  2 pay/  1 audit/traces 1: serializable 1, open 0, violations 0, faults 0/",
+    ),
+    (
+        "",
+        CROSSED,
+        "n: violation at line 6: block of T1 from line 1/traces 1: serializable 0, open 0, violations 1, faults 0/",
+    ),
+    (
+        "",
+        "audit|begin/pay|begin/pay|w(balance)/pay|end/audit|r(balance)/audit|w(total)",
+        "n: no violation, 1 blocks open (6 events, 2 blocks)/traces 1: serializable 0, open 1, violations 0, faults 0/",
+    ),
+    // T1's events are transactions of their own: that on line 3 comes before T2's block.
+    (
+        "a",
+        "T1|begin(a)/T2|begin/T1|w(x)/T2|r(x)/T2|end/T1|end",
+        "n: serializable (6 events, 1 blocks)/  1 T1/  3 T1/  2 T2/  6 T1/traces 1: serializable 1, open 0, violations 0, faults 0/",
+    ),
+];
+
+// Whether this is written of a text whose order is asked for, where these help, and this many events are kept at most.
+fn has_order<T: AllocGlobal + Threads + Wait + Copy + Send + 'static>(
+    rt: &T,
+    who: Who,
+    (text, labels, report): (&[u8], &str, &[u8]),
+    most: u64,
+) -> Result<bool, Fail> {
+    let limits = Limits::greatest();
+    let plan = plan_by(rt.alloc(), who, limits, 7, (labels, true))?.with_keeping(keeping(most));
+    let written = written_of(rt, who, (text, NEVER), &plan)?;
+    Ok(written.as_slice() == report)
+}
+
+// Whether it is, whoever helps: the source turns live at its first block, at its last one, or never.
+fn has_order_by_all<T: AllocGlobal + Threads + Wait + Copy + Send + 'static>(
+    rt: &T,
+    (labels, text, report): &OrderRow,
+) -> Result<bool, Fail> {
+    let text = lines_of(rt.alloc(), text)?;
+    let report = lines_of(rt.alloc(), report)?;
+    for who in HELP.iter() {
+        for most in [0, 5, 6] {
+            if !has_order(rt, *who, (&text, labels, &report), most)? {
+                return Ok(false);
+            }
+        }
+    }
+    Ok(true)
+}
+
 #[test]
-fn a_source_is_kept_whose_order_is_asked_for(rt: HostRuntime) -> Result<(), Fail> {
+fn a_source_has_its_order_wherever_it_turns_live(rt: HostRuntime) -> Result<(), Fail> {
+    for row in ORDERS.iter() {
+        assert!(rt; has_order_by_all(&rt, row)?, "{}", row.2);
+    }
     for who in HELP.iter() {
         assert!(rt; has_orders(&rt, *who)?);
     }
