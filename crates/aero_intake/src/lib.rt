@@ -25,8 +25,9 @@
 //!   come: `finish`, `fresh`.
 //! - The terms of a plan are its limits, its labels, and whether it asks for the order, and for the events of a cycle:
 //!   `Plan::terms`; `Terms::new`, `limits`, `except`, `order`, `explain`.
-//! - A `Live` has exactly the parts that came, in order, under the limits and labels that it began with: `Live::new`,
-//!   `feed`, `parts`, `rules`; `len`. `finish` gives the verdict on exactly them.
+//! - A `Live` has exactly the parts that came, in order, on the terms that it began with: `Live::new`, `feed`, `parts`,
+//!   `rules`, `order`; `len`. `finish` gives what is found of exactly them: the verdict, and the serial order where that
+//!   is asked for and the verdict is `Serializable`. So does its `Judge`: `new`, `feed`, `feed_rest`, `finish`.
 //! - Kept or judged as they came, the parts of a source are those that its blocks gave, on the terms that it began
 //!   with: `Readings::new`, `add`, `len`.
 //! - A whole source is judged by its parts themselves, or has the finding on them, on its own terms:

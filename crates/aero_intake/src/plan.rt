@@ -36,7 +36,7 @@ impl Keeping {
 /// How many workers are to be started, 1 to 16, how many bytes one read asks for at most, 1 to
 /// 1,048,576, the limits of each source, the labels of the blocks that are no transactions, whether
 /// the serial order of a serializable trace is asked for, whether the events of a telling cycle are asked for that
-/// shows a violation, how much is kept of a source where it may be let go, and the form of the report.
+/// shows a violation, how much is kept of a source where they aren't, and the form of the report.
 #[derive(Drop)]
 pub struct Plan {
     pub workers: u32,

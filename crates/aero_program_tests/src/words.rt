@@ -186,11 +186,11 @@ static REFUSED: [Wrong; 28] = [
     ),
     (
         &["--long", "--order"],
-        "the argument '--long' cannot be used with '--order', which keeps all of a trace\n",
+        "the argument '--long' cannot be used with '--order', which keeps each transaction\n",
     ),
     (
         &["--order", "a", "--long", "--except", ""],
-        "the argument '--long' cannot be used with '--order', which keeps all of a trace\n",
+        "the argument '--long' cannot be used with '--order', which keeps each transaction\n",
     ),
     (
         &["--format"],

@@ -71,10 +71,10 @@ pub const LONG: &str = "A source may have up to 4000000000 lines, of any number 
 pub const LONG_LONG: &str = "A source may have up to 4000000000 lines, of any number of bytes: up
 to 70368744177664, which so many lines never have. Without this option
 a source of over 1073741824 bytes is too large. Not with --order, for
-which all of a trace is kept in memory";
+which each transaction is kept in memory";
 
 pub const LONG_WITH_ORDER: &str =
-    "the argument '--long' cannot be used with '--order', which keeps all of a trace";
+    "the argument '--long' cannot be used with '--order', which keeps each transaction";
 
 pub const FORMAT: &str = "The form of the report: text or json";
 
