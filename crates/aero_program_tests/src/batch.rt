@@ -11,7 +11,9 @@ mod verdicts;
 
 use crate::batch::habits::Habit;
 use crate::batch::runs::{Who, plan_by, run_by, run_planned};
-use crate::batch::streams::{BreaksOnce, CutsOnce, Either, Endless, Later, Tells};
+use crate::batch::streams::{
+    BreaksOnce, CutsOnce, Either, Endless, Later, Tells, never_flushed,
+};
 use aero_batch::outcome::{Cause, Outcome};
 use aero_intake::plan::Plan;
 use aero_intake::source::Source;
@@ -464,6 +466,44 @@ fn the_report_is_the_same_whoever_helps(rt: HostRuntime) -> Result<(), Fail> {
     for who in EVERYBODY.iter() {
         expect_three(&rt, *who)?;
         assert!(rt; has_order_of_two(&rt, &text, *who)?);
+    }
+    Ok(())
+}
+
+// How many replies in a row were of no use, and how many of two answers are kept and worked out here.
+static CHATTERED: [(u32, u64, u64); 4] =
+    [(1_022, 2, 0), (1_023, 2, 0), (1_024, 0, 2), (1_025, 0, 2)];
+
+// The 1,024th reply in a row that is of no use is the last that is awaited. Who gives one fewer before each answer answers
+// both questions, each of which begins anew; who gives as many answers both too late.
+#[test]
+fn a_question_is_given_up_after_1024_useless_replies(rt: HostRuntime) -> Result<(), Fail> {
+    for (times, kept, done_here) in CHATTERED {
+        let who = Who::Helped(Habit::Chatters(times));
+        let text = b"T1|r(x)".as_slice();
+        let outcome = expect_start(&rt, text, Limits::greatest(), 65_536, who, FITS)?;
+        assert_eq!(rt; (outcome.tally.kept, outcome.tally.done_here), (kept, done_here));
+    }
+    Ok(())
+}
+
+// Whether three sources have their report, of which nothing was flushed.
+fn is_unflushed<T: AllocGlobal + Threads + Wait + Copy + Send + 'static>(
+    rt: &T,
+    who: Who,
+) -> Result<bool, Fail> {
+    let texts = texts_of_two(rt.alloc())?;
+    let mut sources = three_sources(&texts, rt.alloc())?;
+    let mut writer = Counting::new(never_flushed(rt.alloc()));
+    run_by(*rt, who, &mut sources, &mut writer, Limits::greatest(), 7)?;
+    let written = writer.into_inner();
+    Ok(written.at.is_empty() && written.taken == lines_of(rt.alloc(), REPORT_OF_THREE)?)
+}
+
+#[test]
+fn a_run_flushes_nothing(rt: HostRuntime) -> Result<(), Fail> {
+    for who in [Who::Alone, Who::Crew(2), Who::Helped(Habit::Newest)] {
+        assert!(rt; is_unflushed(&rt, who)?);
     }
     Ok(())
 }

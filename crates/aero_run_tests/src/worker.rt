@@ -329,6 +329,65 @@ fn two_workers_are_in_the_gate_at_once(rt: HostRuntime) {
     assert_eq!(rt; do_two_meet(rt, rt.alloc(), true), Some((true, IN_TIME)));
 }
 
+// A gate that notes how many handles of a question there are at each of its calls.
+#[derive(Drop)]
+struct Handles {
+    kept: Arc<Question>,
+    before: AtomicU64,
+    after: AtomicU64,
+}
+
+impl Gate for Handles {
+    fn before(&self, _question: &Question) {
+        let count = Arc::strong_count(&self.kept) as u64;
+        self.before.store(count, Ordering::SeqCst);
+    }
+
+    fn after(&self, _answer: &Answer) {
+        let count = Arc::strong_count(&self.kept) as u64;
+        self.after.store(count, Ordering::SeqCst);
+    }
+}
+
+// Whether the job is answered by one worker.
+fn is_answered_by_one<R: Threads + Wait + Copy + Send + 'static>(
+    rt: R,
+    alloc: Global,
+    gate: Arc<Handles>,
+    only: Job,
+) -> Option<bool> {
+    let mut crew = Crew::start(rt, alloc, 1, gate).ok()?;
+    let is_posted = crew.post(&rt, only).is_ok();
+    let is_answered = matches!(crew.next_answer(&rt), Some(Reply::Done(_)));
+    crew.close(&rt);
+    Some(is_posted & is_answered)
+}
+
+// Whether a question is answered, and how many handles of it there are in the gate, before its answer and after.
+fn handles_in_the_gate<R: Threads + Wait + Copy + Send + 'static>(
+    rt: R,
+    alloc: Global,
+) -> Option<(bool, u64, u64)> {
+    let kept = block_question(alloc)?;
+    let only = job(0, &kept)?;
+    let handles = Handles {
+        kept,
+        before: AtomicU64::new(0),
+        after: AtomicU64::new(0),
+    };
+    let gate = Arc::new(alloc, handles).ok()?;
+    let shared = Arc::try_clone(&gate).ok()?;
+    let is_answered = is_answered_by_one(rt, alloc, shared, only)?;
+    let before = gate.before.load(Ordering::SeqCst);
+    Some((is_answered, before, gate.after.load(Ordering::SeqCst)))
+}
+
+// The gate has a handle, and the job. An answer has one of its own, so there is none yet where the gate is entered first.
+#[test]
+fn the_gate_is_entered_before_the_answer_and_after(rt: HostRuntime) {
+    assert_eq!(rt; handles_in_the_gate(rt, rt.alloc()), Some((true, 2, 3)));
+}
+
 // Counts its calls.
 #[derive(Drop)]
 struct Tally {

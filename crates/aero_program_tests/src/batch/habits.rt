@@ -19,6 +19,8 @@ pub(crate) enum Habit {
     Misses,
     // Gives the answer to one question that nobody asked, for ever.
     Babbles,
+    // Gives that answer so many times before each answer to a job.
+    Chatters(u32),
     // Says that there are no more replies.
     Leaves,
     // Takes no job.
@@ -32,6 +34,8 @@ pub(crate) struct Helper {
     habit: Habit,
     jobs: Vec<Job>,
     next: Vec<Reply>,
+    // How often the answer that nobody wants was given since the last one to a job.
+    chatted: u32,
     pub(crate) has_refused: bool,
     pub(crate) was_awaited: bool,
 }
@@ -42,6 +46,7 @@ pub(crate) fn helper_with(alloc: Global, habit: Habit) -> Helper {
         habit,
         jobs: Vec::new(alloc),
         next: Vec::new(alloc),
+        chatted: 0,
         has_refused: false,
         was_awaited: false,
     }
@@ -92,7 +97,11 @@ impl Helper {
                 }
             }
             Habit::Misses => return Ok(Reply::Missed(job.number)),
-            Habit::Newest | Habit::Babbles | Habit::Leaves | Habit::Refuses => {}
+            Habit::Newest
+            | Habit::Babbles
+            | Habit::Chatters(_)
+            | Habit::Leaves
+            | Habit::Refuses => {}
         }
         Ok(answer(self.alloc, job))
     }
@@ -121,8 +130,13 @@ impl Helpers for Helper {
         match self.habit {
             Habit::Leaves => return None,
             Habit::Babbles => return other_answer(self.alloc, 0, 0).ok(),
+            Habit::Chatters(times) if self.chatted < times => {
+                self.chatted += 1;
+                return other_answer(self.alloc, 0, 0).ok();
+            }
             _ => {}
         }
+        self.chatted = 0;
         if let Some(reply) = self.next.pop() {
             return Some(reply);
         }

@@ -93,6 +93,8 @@ fn is_by(outcome: &Outcome, who: Who) -> bool {
     match who {
         Who::Crew(_) => outcome.tally.done_here == 0,
         Who::Helped(Habit::Newest | Habit::Twice | Habit::Forges) => outcome.tally.done_here == 0,
+        // Its own test says how many.
+        Who::Helped(Habit::Chatters(_)) => true,
         Who::Helped(_) | Who::Alone => outcome.tally.kept == 0,
     }
 }
