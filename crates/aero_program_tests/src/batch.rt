@@ -1,19 +1,18 @@
 // The rows of a run: what is written of a text, whoever helps, and where reads and writes fail. In
 // texts and reports `/` stands for the byte 10.
 mod damage;
-mod gates;
+pub(crate) mod gates;
 mod gathered;
 mod habits;
 mod live;
-mod runs;
+pub(crate) mod runs;
 mod streams;
 mod verdicts;
 
 use crate::batch::habits::Habit;
 use crate::batch::runs::{Who, plan_by, run_by, run_planned};
-use crate::batch::streams::{
-    BreaksOnce, CutsOnce, Either, Endless, Later, Tells, never_flushed,
-};
+use crate::batch::streams::{BreaksOnce, CutsOnce, Either, Endless, Later, Tells};
+use crate::program::streams::never_flushed;
 use aero_batch::outcome::{Cause, Outcome};
 use aero_intake::plan::Plan;
 use aero_intake::source::Source;
@@ -471,8 +470,12 @@ fn the_report_is_the_same_whoever_helps(rt: HostRuntime) -> Result<(), Fail> {
 }
 
 // How many replies in a row were of no use, and how many of two answers are kept and worked out here.
-static CHATTERED: [(u32, u64, u64); 4] =
-    [(1_022, 2, 0), (1_023, 2, 0), (1_024, 0, 2), (1_025, 0, 2)];
+static CHATTERED: [(u32, u64, u64); 4] = [
+    (1_022, 2, 0),
+    (1_023, 2, 0),
+    (1_024, 0, 2),
+    (1_025, 0, 2),
+];
 
 // The 1,024th reply in a row that is of no use is the last that is awaited. Who gives one fewer before each answer answers
 // both questions, each of which begins anew; who gives as many answers both too late.
@@ -482,7 +485,10 @@ fn a_question_is_given_up_after_1024_useless_replies(rt: HostRuntime) -> Result<
         let who = Who::Helped(Habit::Chatters(times));
         let text = b"T1|r(x)".as_slice();
         let outcome = expect_start(&rt, text, Limits::greatest(), 65_536, who, FITS)?;
-        assert_eq!(rt; (outcome.tally.kept, outcome.tally.done_here), (kept, done_here));
+        assert_eq!(rt;
+            (outcome.tally.kept, outcome.tally.done_here),
+            (kept, done_here)
+        );
     }
     Ok(())
 }

@@ -1,6 +1,7 @@
+pub(crate) mod sources;
 pub(crate) mod streams;
 
-use crate::program::streams::{EVER, Interrupted, Narrow, Shelf, Text};
+use crate::program::streams::{EVER, Flushes, Interrupted, Narrow, Shelf, Text, never_flushed};
 use aero_batch::outcome::{Cause, Outcome};
 use aero_gather::gather::Tally;
 use aero_model::counting::Counting;
@@ -591,6 +592,56 @@ fn what_is_not_judged_is_told(rt: HostRuntime) -> Result<(), Fail> {
     for (stop, damage, wanted) in rows {
         assert!(rt; is_answered(rt, &FilesOf::new(rt), Err(stop), b"", &damage, wanted));
     }
+    Ok(())
+}
+
+// What standard output and standard error have after a call, where standard input has this text.
+fn flushes_of<R: AllocGlobal + Threads + Wait + Copy + Drop + Send + 'static>(
+    rt: R,
+    asked: Result<Config, Stop>,
+    text: &'static [u8],
+) -> (Flushes, Flushes) {
+    let files = Shelf::new(b"", 0, 0, 0);
+    let stdin = Text {
+        left: text,
+        failures: 0,
+    };
+    let mut output = Output::new(never_flushed(rt.alloc()));
+    let mut errors = Counting::new(Retrying::new(never_flushed(rt.alloc())));
+    answer(
+        rt,
+        rt.alloc(),
+        asked,
+        &files,
+        stdin,
+        &mut output,
+        &mut errors,
+    );
+    (output.into_inner(), errors.into_inner().into_inner())
+}
+
+// Whether standard output was flushed once, behind all that it has, and standard error never.
+fn is_flushed_once((output, errors): &(Flushes, Flushes)) -> bool {
+    let all = output.taken.len();
+    all > 0 && output.at.as_slice() == [all].as_slice() && errors.at.is_empty()
+}
+
+// Whether neither was, and standard error has something.
+fn is_told_unflushed((output, errors): &(Flushes, Flushes)) -> bool {
+    output.at.is_empty() && errors.at.is_empty() && !errors.taken.is_empty()
+}
+
+// Standard output is flushed once, behind the report or the help, and standard error never, also where it has notes.
+#[test]
+fn standard_output_is_flushed_once(rt: HostRuntime) -> Result<(), Fail> {
+    let alloc = rt.alloc();
+    let judged = flushes_of(rt, Ok(config_of(alloc, None, true)?), MARKED_WRITE);
+    assert!(rt; is_flushed_once(&judged) && !judged.1.taken.is_empty());
+    let helped = flushes_of(rt, Err(refused(alloc, "help\n", true)?), b"");
+    assert!(rt; is_flushed_once(&helped));
+    let told = flushes_of(rt, Err(refused(alloc, "why\n", false)?), b"");
+    let failed = flushes_of(rt, Err(Stop::Refused(Refused::BadLabel)), b"");
+    assert!(rt; is_told_unflushed(&told) && is_told_unflushed(&failed));
     Ok(())
 }
 

@@ -191,6 +191,50 @@ fn write_beside<R: Wait + Drop>(rt: R, screen: &mut Narrow, report: &mut Narrow)
     beside.flush()
 }
 
+// A writer that notes whether a line was locked at each write, and how often it was written to.
+#[derive(Drop)]
+struct Watches<'a, L> {
+    line: &'a Mutex<Line<L>>,
+    locked: u32,
+    writes: u32,
+}
+
+impl<L> Write for Watches<'_, L> {
+    fn write(&mut self, buf: &[u8]) -> io::Result<usize> {
+        self.writes += 1;
+        if self.line.try_lock().is_none() {
+            self.locked += 1;
+        }
+        Ok(buf.len())
+    }
+
+    fn flush(&mut self) -> io::Result<()> {
+        Ok(())
+    }
+}
+
+// How often something was written beside a line, and how often it was locked meanwhile and is afterwards.
+fn locked_writes<R: Wait + Drop>(rt: R, screen: &mut Narrow) -> io::Result<(u32, u32, bool)> {
+    let shared = Mutex::new(Line::new(screen));
+    let mut watches = Watches {
+        line: &shared,
+        locked: 0,
+        writes: 0,
+    };
+    let mut beside = Beside::new(rt, &mut watches, Some(&shared));
+    beside.write_all(b"report\n")?;
+    beside.write_all(b"more\n")?;
+    Ok((watches.writes, watches.locked, shared.try_lock().is_none()))
+}
+
+// No tick can show the line between what clears it and what is written then: the line is locked until that is written.
+#[test]
+fn a_line_is_locked_while_something_is_written_beside_it(rt: HostRuntime) -> Result<(), Fail> {
+    let mut screen = narrow(rt.alloc(), 3, 0);
+    assert_eq!(rt; locked_writes(rt, &mut screen)?, (2, 2, false));
+    Ok(())
+}
+
 // Counts the bytes that it takes.
 #[derive(Drop)]
 struct Tape {
@@ -257,6 +301,21 @@ fn the_line_comes_at_each_tick_and_goes(rt: HostRuntime) -> Result<(), Fail> {
     assert_eq!(rt; (all - 54) % 38, 0);
     thread::sleep(&rt, Duration::from_millis(20));
     assert_eq!(rt; taken.load(Ordering::SeqCst), all);
+    Ok(())
+}
+
+// The first wait is as long as is said, and only the later ones last a tick: one line comes soon, and no second.
+#[test]
+fn the_first_wait_is_another_than_a_tick(rt: HostRuntime) -> Result<(), Fail> {
+    let taken = Arc::new(rt.alloc(), AtomicU64::new(0))?;
+    let soon = Pace {
+        first_after: 1,
+        tick: 600_000,
+    };
+    assert_eq!(rt;
+        written_until(rt, rt.alloc(), &taken, (3, soon), 38)?,
+        38 + 54
+    );
     Ok(())
 }
 

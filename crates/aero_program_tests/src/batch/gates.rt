@@ -21,18 +21,18 @@ use std::thread::Threads;
 const TURNS: u32 = 1_000_000;
 
 // How the waits in a gate ended: all in time, or one of them in vain.
-const IN_TIME: &str = "in time";
+pub(crate) const IN_TIME: &str = "in time";
 
 const TOO_LATE: &str = "the other worker didn't come within 1,000,000 turns";
 
 // Where a gate waits for others.
 #[derive(Drop)]
-struct Meeting {
+pub(crate) struct Meeting {
     count: AtomicU64,
     is_late: AtomicBool,
 }
 
-fn nobody_yet() -> Meeting {
+pub(crate) fn nobody_yet() -> Meeting {
     Meeting {
         count: AtomicU64::new(0),
         is_late: AtomicBool::new(false),
@@ -40,12 +40,12 @@ fn nobody_yet() -> Meeting {
 }
 
 impl Meeting {
-    fn enter(&self) {
+    pub(crate) fn enter(&self) {
         self.count.fetch_add(1, Ordering::SeqCst);
     }
 
     // Waits until so many have entered.
-    fn wait_for(&self, count: u64) {
+    pub(crate) fn wait_for(&self, count: u64) {
         for _ in 0..TURNS {
             if self.count.load(Ordering::SeqCst) >= count {
                 return;
@@ -56,7 +56,7 @@ impl Meeting {
     }
 
     // Whether so many came at least, and how the waits for them ended.
-    fn was_met(&self, count: u64) -> (bool, &'static str) {
+    pub(crate) fn was_met(&self, count: u64) -> (bool, &'static str) {
         let waited = if self.is_late.load(Ordering::SeqCst) {
             TOO_LATE
         } else {
@@ -115,7 +115,7 @@ impl Gate for TwoAtOnce {
     }
 }
 
-fn plan_with(alloc: Global, workers: u32, piece: u32) -> Result<Plan, Fail> {
+pub(crate) fn plan_with(alloc: Global, workers: u32, piece: u32) -> Result<Plan, Fail> {
     let except = listed(alloc, "").ok_or("labels")?;
     match Plan::new(workers, piece, Limits::greatest(), except, false) {
         Some(plan) => Ok(plan),
@@ -123,7 +123,7 @@ fn plan_with(alloc: Global, workers: u32, piece: u32) -> Result<Plan, Fail> {
     }
 }
 
-fn ran(outcome: Option<Outcome>) -> Result<Outcome, Fail> {
+pub(crate) fn ran(outcome: Option<Outcome>) -> Result<Outcome, Fail> {
     match outcome {
         Some(outcome) => Ok(outcome),
         None => Err("the crew was not closed".into()),

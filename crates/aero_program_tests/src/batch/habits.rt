@@ -97,11 +97,8 @@ impl Helper {
                 }
             }
             Habit::Misses => return Ok(Reply::Missed(job.number)),
-            Habit::Newest
-            | Habit::Babbles
-            | Habit::Chatters(_)
-            | Habit::Leaves
-            | Habit::Refuses => {}
+            Habit::Newest | Habit::Babbles | Habit::Chatters(_) | Habit::Leaves | Habit::Refuses =>
+                {}
         }
         Ok(answer(self.alloc, job))
     }

@@ -1,5 +1,4 @@
 // Readers and writers that fail, or never end.
-use std::alloc::Global;
 use std::io::{Read, Write};
 use std::sync::atomic::{AtomicBool, Ordering};
 use std::{io, thread};
@@ -146,32 +145,6 @@ impl Write for Tells<'_> {
     }
 
     fn flush(&mut self) -> io::Result<()> {
-        Ok(())
-    }
-}
-
-// A writer that notes how many bytes it had taken at each flush.
-#[derive(Drop)]
-pub(crate) struct Flushes {
-    pub(crate) taken: Vec<u8>,
-    pub(crate) at: Vec<usize>,
-}
-
-pub(crate) fn never_flushed(alloc: Global) -> Flushes {
-    Flushes {
-        taken: Vec::new(alloc),
-        at: Vec::new(alloc),
-    }
-}
-
-impl Write for Flushes {
-    fn write(&mut self, buf: &[u8]) -> io::Result<usize> {
-        self.taken.extend_from_slice(buf)?;
-        Ok(buf.len())
-    }
-
-    fn flush(&mut self) -> io::Result<()> {
-        self.at.push(self.taken.len())?;
         Ok(())
     }
 }

@@ -1,5 +1,6 @@
 // Streams and files of which calls fail, once or for ever, or are interrupted.
 use aero_program::files::Opener;
+use std::alloc::Global;
 use std::io;
 use std::io::{ErrorKind, Read, Write};
 use std::sync::atomic::{AtomicU64, Ordering};
@@ -55,6 +56,32 @@ impl Write for Narrow {
             self.flush_failures -= 1;
             return Err(io::Error::from(ErrorKind::BrokenPipe));
         }
+        Ok(())
+    }
+}
+
+// A writer that notes how many bytes it had taken at each flush.
+#[derive(Drop)]
+pub(crate) struct Flushes {
+    pub(crate) taken: Vec<u8>,
+    pub(crate) at: Vec<usize>,
+}
+
+pub(crate) fn never_flushed(alloc: Global) -> Flushes {
+    Flushes {
+        taken: Vec::new(alloc),
+        at: Vec::new(alloc),
+    }
+}
+
+impl Write for Flushes {
+    fn write(&mut self, buf: &[u8]) -> io::Result<usize> {
+        self.taken.extend_from_slice(buf)?;
+        Ok(buf.len())
+    }
+
+    fn flush(&mut self) -> io::Result<()> {
+        self.at.push(self.taken.len())?;
         Ok(())
     }
 }
@@ -138,6 +165,27 @@ fn spend(count: &AtomicU64) -> bool {
     let left = count.load(Ordering::SeqCst);
     count.store(left.saturating_sub(1), Ordering::SeqCst);
     left > 0
+}
+
+// Plain files and others, each with one text. A plain one has a path that begins with a `p`.
+#[derive(Drop)]
+pub(crate) struct Drawer {
+    pub(crate) text: &'static [u8],
+}
+
+impl Opener for Drawer {
+    type File = Text;
+
+    fn open(&self, _path: &str) -> io::Result<Text> {
+        Ok(Text {
+            left: self.text,
+            failures: 0,
+        })
+    }
+
+    fn is_plain(&self, path: &str) -> bool {
+        path.starts_with("p")
+    }
 }
 
 impl Opener for Shelf {
