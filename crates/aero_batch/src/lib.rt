@@ -38,12 +38,11 @@
 //!   of the next text follows: `ran`.
 //! - It holds of each run that returns, whichever answers come, in whatever order, lost, repeated or forged. Any
 //!   `Helpers` may give them, of which a `Crew` is one, or nobody: `run_over`.
-//! - After 1,024 replies in a row that were of no use, the oldest question of the kind that is awaited is given up and
-//!   answered here: `is_patient`, `useless_after`, `give_up` (private).
-//! - A run says how many helpers it had: `workers`. Answers kept and values worked out here are no more than the
-//!   questions, and as many where nothing was refused: `tallied`, `all_settled`.
+//! - `run_over` says how many helpers it had, and `run` no more than were asked for: `workers`. Answers kept and values
+//!   worked out here are no more than the questions, and as many where nothing was refused: `tallied`, `all_settled`.
 //!
-//! No contract says that `run` or `run_over` returns.
+//! No contract says that `run` or `run_over` returns, nor when a question is given up, nor that nothing is flushed: tests
+//! show these two.
 #![tactic(auto)]
 
 mod checking;
