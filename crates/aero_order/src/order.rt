@@ -1,6 +1,6 @@
 //! The order of numbers along edges, each time the least that may come.
 ghost use Rattle.std.specs.Prelude.{◌≡◌, ◌≢◌, ◌+◌, ◌<◌, ◌≤◌, ◌==◌, ◌&&◌, ℕ, [], length, vec_len, slice_index, OnOk, IfOk, All};
-ghost use Rattle.std.specs.List.Sorted.{IsNonDecreasingBy};
+ghost use Rattle.std.specs.List.Sorted.{IsNonDecreasingBy, IsPermutation};
 ghost use Rattle.aero_order.specs.Held.{held};
 ghost use Rattle.aero_order.specs.Order.{IsOrder};
 ghost use Rattle.aero_order.specs.Waiting.{one_if, is_due, missing_count, numbers_of, GivesWay};
@@ -16,7 +16,8 @@ pub fn least_order(
     edges: &mut [(u32, u32)],
 ) -> Result<Vec<u32>, AllocError>
     requires { All (λ e. (e.0 < count) × (e.1 < count)) edges.old }
-    ensures { IfOk result (λ order. IsOrder count edges.old order.items) }
+    ensures order { IfOk result (λ order. IsOrder count edges.old order.items) }
+    ensures edges { IsPermutation edges.old edges.new }
 {
     edges.sort_unstable_by_key(|e| e.0);
     let mut waiting = count_waiting(alloc, count, edges)?;

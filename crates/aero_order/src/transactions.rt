@@ -1,5 +1,5 @@
 //! The transactions of a trace, event by event, and their serial order.
-ghost use Rattle.std.specs.Prelude.{◌≡◌, ◌↔◌, ◌<◌, ◌≤◌, ◌+◌, ◌^◌, List, [], ◌∷◌, ◌++◌, length, vec_len, All, OnOk, IfOk, IfSome, IsSome};
+ghost use Rattle.std.specs.Prelude.{◌≡◌, ◌↔◌, ◌<◌, ◌≤◌, ◌+◌, ◌^◌, List, [], ◌∷◌, ◌++◌, length, vec_len, All, OnOk, OnErr, IfOk, IfSome, IsSome};
 ghost use Rattle.aero_model.specs.declared.numbered.Numbered.{Numbered};
 ghost use Rattle.aero_model.specs.Cycle.{IsSerializable};
 ghost use Rattle.aero_model.specs.Serial.{IsSerialOrder};
@@ -45,12 +45,15 @@ impl Transactions {
     }
 
     /// Adds the next event as it was read on this line, which is judged as one of its thread; `inside` says
-    /// whether its thread is in a block before it. Where memory is refused, no more may be asked.
+    /// whether its thread is in a block before it.
+    ///
+    /// An `AllocError` says that memory was refused. Then the event has come, and some of its edges may be
+    /// missing, so these transactions stand for no trace any more.
     pub fn add(&mut self, line: u32, event: &Numbered, inside: bool) -> Result<(), AllocError>
         requires { events_of self.old < u32.MAX }
-        ensures counted { OnOk result (events_of self.new ≡ events_of self.old + 1) }
+        ensures counted { events_of self.new ≡ events_of self.old + 1 }
         ensures stands { OnOk result ((trace : List Numbered) (judged : Numbered) → IsJudgedAs event.now judged → inside ≡ nat_lt 0 (depth trace event.now.thread (length trace)) → StandsFor self.old trace → StandsFor self.new (trace ++ judged ∷ [])) }
-        ensures kept { OnOk result ((came : List Came) → KeepsCame self.old came → KeepsCame self.new (came ++ record { line = line; thread = event.now.thread } ∷ [])) }
+        ensures kept { (came : List Came) → KeepsCame self.old came → KeepsCame self.new (came ++ record { line = line; thread = event.now.thread } ∷ []) }
     {
         let place = self.events;
         self.events = place + 1;
@@ -87,6 +90,7 @@ fn number_of(firsts: &mut Vec<First>, known: Option<u32>, first: First) -> Resul
     requires { vec_len firsts.old ≤ first.place }
     ensures numbered { IfOk result (λ v. IsNumbered known first firsts.old.items firsts.new.items v) }
     ensures few { vec_len firsts.new ≤ first.place + 1 }
+    ensures refused { OnErr result (firsts.new.items ≡ firsts.old.items) }
 {
     match known {
         Some(number) => Ok(number),

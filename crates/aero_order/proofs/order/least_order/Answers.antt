@@ -46,7 +46,7 @@ loop-u-preserved c =
     subst (λ o. Between c.args.count edges o (with_items c.loop-u.waiting fewer).items more) (sym c.in_ok-push.ensures.items)
     (subst (λ ws. Between c.args.count edges (order ++ u ∷ []) ws more) (sym written) next)
 
-pub returns : goal.returns
-returns c =
+pub returns-clause-order : goal.returns-clause-order
+returns-clause-order c =
     order_permuted c.args.count c.args.edges.now c.sort_unstable_by_key.new.self c.loop-u.order.items c.sort_unstable_by_key.ensures.permutation
     (order_made c.args.count c.sort_unstable_by_key.new.self c.loop-u.order.items c.loop-u.waiting.items (held c.loop-u.free) c.loop-u.invariant c.in_default.ensures.none)

@@ -1,4 +1,4 @@
-use Rattle.std.proofs.Common.{◌≡◌, ◌++◌, ◌∷◌, ◌==◌, [], length, None, Some, Result, Ok, Err, if◌then◌else◌, sym, ◌∙◌, ap, subst, arith}
+use Rattle.std.proofs.Common.{◌≡◌, ◌++◌, ◌∷◌, ◌==◌, [], length, None, Some, Result, Ok, Err, if◌then◌else◌, refl, sym, ◌∙◌, ap, subst, arith}
 use Rattle.std.specs.Prelude.{nat_lt, OnOk}
 use Rattle.std.proofs.lemmas.Bool.{cond-true, cond-false}
 use Rattle.std.proofs.lemmas.List.{length_push}
@@ -49,16 +49,29 @@ returns-clause-stands c = on_ok _ _ _ _ c.note.result (λ slots reads own trace 
           (λ t. own t ∙ ap (λ u. if u == t then Some v else own_of old.marks t) (sym is.thread));
     }) c.note.ensures.slots c.note.ensures.reads c.note.ensures.own
 
--- what holds whatever the result is holds where it is Ok
-if_ok : {T E : Type 0} (r : Result T E) (P : Type 0) → P → OnOk r P
-if_ok (Ok x) P p = p
-if_ok (Err e) P p = tt
-
 pub returns-clause-kept : goal.returns-clause-kept
-returns-clause-kept c = if_ok c.note.result _ (λ came keeps.
+returns-clause-kept c = λ came keeps.
     let old = c.args.self.now in
     let e = c.args.event.now in
     record {
       events = omega (arith, keeps.events, length_push came (record { line = c.args.line; thread = e.thread }));
       firsts = of_more c.if-inside.known (record { place = old.events; line = c.args.line; thread = e.thread }) old.firsts.items c.number_of.new.firsts.items c.in_ok-number.number came c.in_ok-number.ensures.numbered keeps.events keeps.firsts;
-    })
+    }
+
+pub returns-in_err-look_back-clause-kept : goal.returns-in_err-look_back-clause-kept
+returns-in_err-look_back-clause-kept c = λ came keeps.
+    let old = c.args.self.now in
+    let e = c.args.event.now in
+    record {
+      events = omega (arith, keeps.events, length_push came (record { line = c.args.line; thread = e.thread }));
+      firsts = of_more c.if-inside.known (record { place = old.events; line = c.args.line; thread = e.thread }) old.firsts.items c.number_of.new.firsts.items c.in_ok-number.number came c.in_ok-number.ensures.numbered keeps.events keeps.firsts;
+    }
+
+pub returns-in_err-number-clause-kept : goal.returns-in_err-number-clause-kept
+returns-in_err-number-clause-kept c = λ came keeps.
+    let old = c.args.self.now in
+    let e = c.args.event.now in
+    record {
+      events = omega (arith, keeps.events, length_push came (record { line = c.args.line; thread = e.thread }));
+      firsts = of_more (Some 0) (record { place = old.events; line = c.args.line; thread = e.thread }) old.firsts.items c.number_of.new.firsts.items 0 came (refl, c.in_err-number.ensures.refused) keeps.events keeps.firsts;
+    }
