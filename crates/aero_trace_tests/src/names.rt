@@ -276,3 +276,39 @@ fn the_faults_tell_themselves(rt: HostRuntime) {
             && tells(alloc, NamesFault::Memory, "out of memory")
     );
 }
+
+// A name of 255 bytes with this number in its last three digits.
+fn long_name(number: u32) -> [u8; 255] {
+    let mut name = [b'n'; 255];
+    name[252] = digit(number / 100);
+    name[253] = digit(number / 10);
+    name[254] = digit(number);
+    name
+}
+
+fn digit(number: u32) -> u8 {
+    b'0' + (number % 10) as u8
+}
+
+// Whether a list takes so many names of 255 bytes, and has each by its number.
+fn lists_long_names(alloc: Global, count: u32) -> bool {
+    let mut list = NameList::new(alloc);
+    let mut fits = true;
+    for number in 0..count {
+        fits &= list.push(&long_name(number)).is_ok();
+    }
+    fits && list.len() == count && has_long_names(&list, count)
+}
+
+fn has_long_names(list: &NameList, count: u32) -> bool {
+    let mut fits = true;
+    for number in 0..count {
+        fits &= list.name(number) == Some(long_name(number).as_slice());
+    }
+    fits
+}
+
+#[test]
+fn a_list_takes_over_64_kib_of_names(rt: HostRuntime) {
+    assert!(rt; lists_long_names(rt.alloc(), 400));
+}
