@@ -18,6 +18,7 @@ pub mod ThreadNames
 pub mod Parts
 pub mod Feeding
 pub mod OneVerdict
+pub mod SomeVerdict
 pub mod Faultless
 pub mod OnLines
 pub mod BlockEvents

@@ -1,4 +1,4 @@
--- The laws of verdicts: that there is one, and what it says of the graph of transactions.
+-- The laws of verdicts: that there is exactly one, and what it says of the graph of transactions.
 use Rattle.std.specs.Prelude.{◌≡◌, ℕ, suc, List, ◌∷◌, length}
 use Rattle.aero_model.specs.declared.verdict.Verdict.{Verdict}
 use Rattle.aero_model.specs.declared.verdict.Verdict.TheVariants.{Serializable, Pending, Violation}
@@ -7,6 +7,10 @@ use Rattle.aero_model.specs.Cycle.{IsSerializable}
 use Rattle.aero_model.specs.Graph.{IsCycle, TwoOpen}
 use Rattle.aero_grammar.specs.Reading.{Reading}
 use Rattle.aero_verdict.specs.Verdict.{Rules, IsVerdict, IsOnLine, HasName, BeginsOnLine, checked_trace}
+
+-- all parts have a verdict under all rules
+abbrev pub SomeVerdict : Type 0
+SomeVerdict = (parts : List Reading) (rules : Rules) → (verdict : Verdict) × IsVerdict parts rules verdict
 
 -- two verdicts on the same parts under the same rules are equal
 abbrev pub OneVerdict : Type 0

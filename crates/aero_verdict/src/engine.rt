@@ -37,7 +37,8 @@ pub trait Engine: Drop {
     /// block closes a telling cycle with it, or `None` where there is no telling cycle. After a thread
     /// no event may be given.
     ///
-    /// `Spent` says that memory was refused. Then no event may be given either.
+    /// `Spent` says that memory was refused. Then the engine stands for no events that are known, so what
+    /// this call requires can't be shown again: it can only be let go.
     fn judge(
         &mut self,
         line: u32,

@@ -125,7 +125,7 @@ fn number_first(
     ensures known { OnOk result (AreKnown names.new.names block.now known.new.items) }
 {
     let Some(name) = block.name(n) else {
-        // No event has a place that its table lacks.
+        // Never reached: `Parsed` keeps that the names of its events stand in its tables.
         return Err(ShapeFault::Memory);
     };
     match number_in(names, name, full) {

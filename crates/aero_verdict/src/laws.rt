@@ -1,5 +1,10 @@
-//! The laws of verdicts: that a trace has one, and what it says of the graph of transactions.
-ghost use Rattle.aero_verdict.specs.Laws.{OneVerdict, SerializableHasNoCycle, ViolationHasCycle, PendingCyclesPassTwoOpen};
+//! The laws of verdicts: that a trace has exactly one, and what it says of the graph of transactions.
+ghost use Rattle.aero_verdict.specs.Laws.{SomeVerdict, OneVerdict, SerializableHasNoCycle, ViolationHasCycle, PendingCyclesPassTwoOpen};
+
+/// All parts have a verdict under all limits and labels, whatever they hold.
+pub fn a_trace_has_a_verdict()
+    ensures { SomeVerdict }
+{}
 
 /// Two verdicts on the same parts under the same limits are equal. So whoever judges a trace by the
 /// definitions, in whatever way, finds what `check_trace` answers.

@@ -46,8 +46,8 @@
 //! - An engine may keep something of each event that it is given, also of the one that closes a cycle: `Engine::judge`,
 //!   `kept`. `InOrder` keeps the line and the thread of each transaction's first event, `Recorder` each event with its
 //!   line; `Leads` and `Clocks` keep none.
-//! - Parts have one verdict. `Serializable` means that there is no cycle at all, a violation that there is one, and
-//!   with open blocks each cycle passes two of them: `laws`.
+//! - All parts have exactly one verdict. `Serializable` means that there is no cycle at all, a violation that there is
+//!   one, and with open blocks each cycle passes two of them: `laws`.
 #![tactic(auto)]
 
 mod actor;
