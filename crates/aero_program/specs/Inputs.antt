@@ -58,14 +58,19 @@ Leaves Ended buffer (Ok n) = (n ≡ 0) × (0 < length buffer)
 Leaves Failed buffer (Err e) = ⊤
 Leaves standing buffer result = ⊥
 
--- One read: standard input answers as its reader does. A file is opened at the first, and is read until its end is found, from where on each read gives 0 bytes, or until an open or a read fails, from where on each read fails.
-abbrev pub StepsTo : {E : Type 0} → Standing → Standing → List ℕ → Result ℕ E → Type 0
-StepsTo (Standard before) (Standard after) buffer result = AnswersAs before after buffer result
-StepsTo (Unopened path) new buffer result = Leaves new buffer result
-StepsTo Reading new buffer result = Leaves new buffer result
-StepsTo Ended Ended buffer result = result ≡ Ok 0
-StepsTo Failed Failed buffer result = IsErr result
-StepsTo old new buffer result = ⊥
+-- how the first read of a file into this buffer leaves it: it fails, or else an open has worked, after which it was a read of an open file
+abbrev pub Begins : {E : Type 0} → (can_open : Type 0) → Standing → List ℕ → Result ℕ E → Type 0
+Begins can_open Failed buffer result = IsErr result
+Begins can_open standing buffer result = can_open × Leaves standing buffer result
+
+-- One read: standard input answers as its reader does. A file is opened at the first, by an opener of which `can_open` says that an open of the path may work, and is read until its end is found, from where on each read gives 0 bytes, or until an open or a read fails, from where on each read fails.
+abbrev pub StepsTo : {E : Type 0} → (can_open : List ℕ → Type 0) → Standing → Standing → List ℕ → Result ℕ E → Type 0
+StepsTo can_open (Standard before) (Standard after) buffer result = AnswersAs before after buffer result
+StepsTo can_open (Unopened path) new buffer result = Begins (can_open path) new buffer result
+StepsTo can_open Reading new buffer result = Leaves new buffer result
+StepsTo can_open Ended Ended buffer result = result ≡ Ok 0
+StepsTo can_open Failed Failed buffer result = IsErr result
+StepsTo can_open old new buffer result = ⊥
 
 -- the sources are named as the files that the words name, in order, or `-` where they name none
 abbrev pub source_names : List (List ℕ) → List (List ℕ)

@@ -1,4 +1,6 @@
 //! The files of a run, which tell a meter what is read of them.
+ghost use Rattle.std.specs.Prelude.{ℕ, List, IfOk, ⊤};
+
 use aero_progress::gain::gain_of_failure;
 use aero_progress::meter::Meter;
 use aero_progress::metered::Metered;
@@ -8,18 +10,23 @@ use std::io::Read;
 use std::path::Path;
 use std::rt::Files;
 
-/// What a run needs of files.
+/// What a run needs of files. Its ghost member `can_open` says of which paths an open may work.
 pub trait Opener {
+    ghost can_open: { List ℕ → Type 0 };
+
     type File: Read + Drop;
 
     /// Opens the file at the path, to be read from its start.
-    fn open(&self, path: &str) -> io::Result<Self::File>;
+    fn open(&self, path: &str) -> io::Result<Self::File>
+        ensures worked { IfOk result (λ _. can_open path.now) };
 
     /// Whether there is a plain file at the path, of which no read waits.
     fn is_plain(&self, path: &str) -> bool;
 }
 
 impl<O: Opener> Opener for &O {
+    ghost can_open = { O.can_open };
+
     type File = O::File;
 
     fn open(&self, path: &str) -> io::Result<O::File> {
@@ -44,6 +51,9 @@ impl<F: Files> FilesOf<F> {
 }
 
 impl<F: Files> Opener for FilesOf<F> {
+    // Of the system's files nothing is known.
+    ghost can_open = { λ _. ⊤ };
+
     type File = F::File;
 
     fn open(&self, path: &str) -> io::Result<F::File> {
@@ -70,6 +80,8 @@ impl<'a, O: Opener> MeteredFiles<'a, O> {
 }
 
 impl<'a, O: Opener> Opener for MeteredFiles<'a, O> {
+    ghost can_open = { O.can_open };
+
     type File = Metered<'a, O::File>;
 
     fn open(&self, path: &str) -> io::Result<Metered<'a, O::File>> {

@@ -1,6 +1,6 @@
 //! Standard input or a file, as a reader that opens its file at the first read, and notes how its
 //! bytes begin and why a read failed.
-ghost use Rattle.std.specs.Prelude.{◌≡◌, ◌≢◌, IfErr};
+ghost use Rattle.std.specs.Prelude.{◌≡◌, ◌≢◌, IfErr, IfOk};
 ghost use Rattle.std.specs.IoError.{error_kind};
 ghost use Rattle.std.specs.declared.io.ErrorKind.TheVariants.{Interrupted};
 
@@ -100,7 +100,7 @@ impl<S: Read + Drop, O: Opener + Drop> Read for Input<S, O> {
     fn read(&mut self, buf: &mut [u8]) -> io::Result<usize>
         ensures bound { ReadsAtMost result buf.new }
         ensures bytes { ReadConsumes (bytes_left (standing_of S.remaining self.old)) (bytes_left (standing_of S.remaining self.new)) result buf.new }
-        ensures steps { StepsTo (standing_of S.remaining self.old) (standing_of S.remaining self.new) buf.new result }
+        ensures steps { StepsTo O.can_open (standing_of S.remaining self.old) (standing_of S.remaining self.new) buf.new result }
         ensures start { start_of self.new ≡ start_after (start_of self.old) result buf.new }
         ensures reason { reason_of self.new ≡ reason_after raw_os_error (reason_of self.old) result }
     {
@@ -123,7 +123,7 @@ impl<S: Read + Drop, O: Opener + Drop> Stage<S, O> {
     fn read(self, buf: &mut [u8]) -> (Stage<S, O>, io::Result<usize>)
         ensures bound { ReadsAtMost result.1 buf.new }
         ensures bytes { ReadConsumes (bytes_left (stage_standing S.remaining self)) (bytes_left (stage_standing S.remaining result.0)) result.1 buf.new }
-        ensures steps { StepsTo (stage_standing S.remaining self) (stage_standing S.remaining result.0) buf.new result.1 }
+        ensures steps { StepsTo O.can_open (stage_standing S.remaining self) (stage_standing S.remaining result.0) buf.new result.1 }
     {
         match self {
             Stage::Standard(mut stdin) => {
@@ -155,7 +155,8 @@ impl<S: Read + Drop, O: Opener + Drop> Stage<S, O> {
 
 // Opens a file. An open that is interrupted is tried again.
 fn open<O: Opener>(files: &O, path: &str) -> io::Result<O::File>
-    ensures { IfErr result (λ e. error_kind e ≢ Interrupted) }
+    ensures lasting { IfErr result (λ e. error_kind e ≢ Interrupted) }
+    ensures worked { IfOk result (λ _. O.can_open path.now) }
 {
     for _ in 0..u64::MAX {
         match files.open(path) {

@@ -271,15 +271,15 @@ fn written_until<R: Threads + Wait + Clock + Copy + Send + 'static>(
     ticker.stop(&rt);
     if !have_come {
         return Err(Fail::from(
-            "the line's bytes didn't come within 60,000 sleeps of a millisecond",
+            "the line's bytes didn't come within 20,000 sleeps of a millisecond",
         ));
     }
     Ok(taken.load(Ordering::SeqCst))
 }
 
-// Whether so many bytes are taken within 60,000 sleeps of a millisecond.
+// Whether so many bytes are taken within 20,000 sleeps of a millisecond.
 fn await_bytes<R: Clock>(rt: &R, taken: &AtomicU64, least: u64) -> bool {
-    for _ in 0..60_000 {
+    for _ in 0..20_000 {
         if taken.load(Ordering::SeqCst) >= least {
             return true;
         }
