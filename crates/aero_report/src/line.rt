@@ -7,7 +7,7 @@ ghost use Rattle.aero_report.specs.Json.{bytes_value, name_value};
 
 use base64::engine::general_purpose::STANDARD;
 use itoa::Buffer;
-use json::Writer;
+use json::{Token, Writer};
 use std::alloc::{AllocError, Global};
 use std::marker::Model;
 use std::str::from_utf8;
@@ -115,7 +115,7 @@ impl Line {
         ensures { OnOk result (self.new ≡ self.old ++ json_tokens (name_value name.now)) }
     {
         match from_utf8(name) {
-            Ok(text) => self.writer.string(text),
+            Ok(text) => self.writer.token(Token::String(text)),
             Err(_) => self.bytes(name),
         }
     }

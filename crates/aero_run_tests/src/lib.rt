@@ -2,8 +2,8 @@
 //! crew, and reports.
 //!
 //! A crate with tests is proved twice, with them and without, so they stand here, above all of the
-//! crates, and each is proved once. A module has the tests of the crate that it is named for. It has
-//! nothing for other crates.
+//! crates, and each is proved once. A module has the tests of the crate that it is named for, and
+//! `objects` those of the report as JSON. It has nothing for other crates.
 #![tactic(auto)]
 
 #[cfg(test)]
@@ -14,6 +14,7 @@ mod gather;
 mod intake;
 #[cfg(test)]
 mod live;
+mod objects;
 #[cfg(test)]
 mod pieces;
 #[cfg(test)]

@@ -5,7 +5,7 @@ use Rattle.aero_report.proofs.line.Line.name_alone.Goals as goal
 
 pub returns-in-Ok : goal.returns-in-Ok
 returns-in-Ok c =
-    IfOk-equal _ _ _ _ c.string.ensures.ok (ap₂ (λ old ts. old ++ ts) c.self.view_is (text_tokens c.args.name.now c.in-Ok.text.now c.in-Ok.ensures.cases))
+    IfOk-equal _ _ _ _ c.token.ensures.ok (ap₂ (λ old ts. old ++ ts) c.self.view_is (text_tokens c.args.name.now c.in-Ok.text.now c.in-Ok.ensures.cases))
 
 pub returns-in-Err : goal.returns-in-Err
 returns-in-Err c =

@@ -1,0 +1,352 @@
+// What no clause says of aero_report's JSON: texts known from elsewhere.
+use aero_model::event::{Event, Op};
+use aero_model::name::Name;
+use aero_model::verdict::{
+    Counts, Cycle, CycleStep, Finding, LineFault, ShapeFault, Step, Verdict,
+};
+use aero_report::{Form, source_text, totals_text};
+use std::alloc::Global;
+
+// The helpers below say that a row doesn't hold where memory is refused.
+
+// Whether the text is this line, with a newline.
+fn is_line(text: &[u8], line: &str) -> bool {
+    match text.split_last() {
+        Some((last, rest)) => *last == b'\n' && rest == line.as_bytes(),
+        None => false,
+    }
+}
+
+// Whether a source with this name has this line as JSON.
+fn has_object(alloc: Global, name: &[u8], finding: &Finding, line: &str) -> bool {
+    match source_text(alloc, Form::Json, name, finding) {
+        Ok(text) => is_line(text.as_slice(), line),
+        Err(_) => false,
+    }
+}
+
+// The bytes of a name, and the line on a source of that name that is too large.
+type Named = (&'static [u8], &'static str);
+
+static NAMES: [Named; 8] = [
+    (b"a.std", r#"{"source":"a.std","verdict":"too large"}"#),
+    (b"", r#"{"source":"","verdict":"too large"}"#),
+    (b"a\"b", r#"{"source":"a\"b","verdict":"too large"}"#),
+    (b"a\\b/c", r#"{"source":"a\\b/c","verdict":"too large"}"#),
+    (
+        b"a\tb\nc\x01d",
+        r#"{"source":"a\tb\nc\u0001d","verdict":"too large"}"#,
+    ),
+    (b"caf\xc3\xa9", r#"{"source":"café","verdict":"too large"}"#),
+    (
+        b"\xff\xfea",
+        r#"{"source":{"bytes":"//5h"},"verdict":"too large"}"#,
+    ),
+    (
+        b"caf\xe9",
+        r#"{"source":{"bytes":"Y2Fm6Q=="},"verdict":"too large"}"#,
+    ),
+];
+
+// The first row that doesn't hold.
+fn first_misnamed(alloc: Global, rows: &[Named]) -> Option<usize> {
+    for i in 0..rows.len() {
+        let (name, line) = rows[i];
+        if !has_object(alloc, name, &Finding::TooLarge, line) {
+            return Some(i);
+        }
+    }
+    None
+}
+
+// A name is a string where its bytes are UTF-8, and else an object with them in Base64.
+#[test]
+fn each_name_stands_so(rt: HostRuntime) {
+    assert_eq!(rt; first_misnamed(rt.alloc(), &NAMES), None);
+}
+
+fn judges_so(alloc: Global, verdict: Verdict, line: &str) -> bool {
+    has_object(alloc, b"a", &Finding::Judged(verdict), line)
+}
+
+fn has_violation_of(alloc: Global, thread: &[u8], line: &str) -> bool {
+    let Ok(thread) = Name::read(alloc, thread) else {
+        return false;
+    };
+    let verdict = Verdict::Violation {
+        line: 6,
+        thread,
+        begun: 1,
+    };
+    judges_so(alloc, verdict, line)
+}
+
+fn is_serializable_so(alloc: Global) -> bool {
+    let verdict = Verdict::Serializable {
+        events: 6,
+        blocks: 2,
+    };
+    let line = r#"{"source":"a","verdict":"serializable","events":6,"blocks":2}"#;
+    judges_so(alloc, verdict, line)
+}
+
+fn is_pending_so(alloc: Global) -> bool {
+    let verdict = Verdict::Pending {
+        events: 6,
+        blocks: 2,
+        pending: 1,
+    };
+    let line = r#"{"source":"a","verdict":"open","events":6,"blocks":2,"open":1}"#;
+    judges_so(alloc, verdict, line)
+}
+
+fn is_malformed_so(alloc: Global) -> bool {
+    let verdict = Verdict::Malformed {
+        line: 2,
+        fault: LineFault::BadParenthesis,
+    };
+    let line = r#"{"source":"a","verdict":"malformed","line":2,"fault":"BadParenthesis"}"#;
+    judges_so(alloc, verdict, line)
+}
+
+fn is_ill_formed_so(alloc: Global) -> bool {
+    let verdict = Verdict::IllFormed {
+        line: 4294967295,
+        fault: ShapeFault::LockNotHeld,
+    };
+    let line = r#"{"source":"a","verdict":"ill-formed","line":4294967295,"fault":"LockNotHeld"}"#;
+    judges_so(alloc, verdict, line)
+}
+
+const VIOLATION: &str =
+    r#"{"source":"a","verdict":"violation","line":6,"thread":"a \"b\\","begun":1}"#;
+
+const VIOLATION_OF_BYTES: &str =
+    r#"{"source":"a","verdict":"violation","line":6,"thread":{"bytes":"gA=="},"begun":1}"#;
+
+const BROKEN: &str = r#"{"source":"a","verdict":"broken","bytes":18446744073709551615}"#;
+
+#[test]
+fn each_finding_has_its_object(rt: HostRuntime) {
+    let alloc = rt.alloc();
+    let are_told = [
+        is_serializable_so(alloc),
+        is_pending_so(alloc),
+        is_malformed_so(alloc),
+        is_ill_formed_so(alloc),
+        has_violation_of(alloc, b"a \"b\\", VIOLATION),
+        has_violation_of(alloc, b"\x80", VIOLATION_OF_BYTES),
+        has_object(alloc, b"a", &Finding::Broken(u64::MAX), BROKEN),
+    ];
+    assert_eq!(rt; are_told, [true; 7]);
+}
+
+fn push_step(alloc: Global, steps: &mut Vec<Step>, line: u32, thread: &[u8]) -> bool {
+    match Name::read(alloc, thread) {
+        Ok(thread) => steps.push(Step { line, thread }).is_ok(),
+        Err(_) => false,
+    }
+}
+
+// The transactions of a serializable trace in order, each by its line and its thread, and its line.
+type Ordered = (&'static [(u32, &'static [u8])], &'static str);
+
+fn is_ordered_so(alloc: Global, row: &Ordered) -> bool {
+    let (order, line) = *row;
+    let mut steps = Vec::new(alloc);
+    let mut fits = true;
+    for i in 0..order.len() {
+        fits &= push_step(alloc, &mut steps, order[i].0, order[i].1);
+    }
+    let verdict = Verdict::Serializable {
+        events: 4,
+        blocks: 1,
+    };
+    fits && has_object(alloc, b"a", &Finding::Ordered(verdict, steps), line)
+}
+
+// The first row that doesn't hold.
+fn first_misordered(alloc: Global, rows: &[Ordered]) -> Option<usize> {
+    for i in 0..rows.len() {
+        if !is_ordered_so(alloc, &rows[i]) {
+            return Some(i);
+        }
+    }
+    None
+}
+
+static ORDERED: [Ordered; 3] = [
+    (
+        &[],
+        r#"{"source":"a","verdict":"serializable","events":4,"blocks":1,"order":[]}"#,
+    ),
+    (
+        &[(2, b"pay"), (1, b"T1")],
+        r#"{"source":"a","verdict":"serializable","events":4,"blocks":1,"order":[{"line":2,"thread":"pay"},{"line":1,"thread":"T1"}]}"#,
+    ),
+    (
+        &[(268_435_456, b"\xc3")],
+        r#"{"source":"a","verdict":"serializable","events":4,"blocks":1,"order":[{"line":268435456,"thread":{"bytes":"ww=="}}]}"#,
+    ),
+];
+
+// The transactions in order stand behind the verdict.
+#[test]
+fn each_step_has_its_object(rt: HostRuntime) {
+    assert_eq!(rt; first_misordered(rt.alloc(), &ORDERED), None);
+}
+
+fn push_release(alloc: Global, steps: &mut Vec<CycleStep>) -> bool {
+    let Ok(thread) = Name::read(alloc, b"T1") else {
+        return false;
+    };
+    let Ok(target) = Name::read(alloc, b"m") else {
+        return false;
+    };
+    let event = Event {
+        thread,
+        op: Op::Release,
+        target: Some(target),
+    };
+    let step = CycleStep {
+        line: 4,
+        first: 1,
+        event,
+    };
+    steps.push(step).is_ok()
+}
+
+fn push_end(alloc: Global, steps: &mut Vec<CycleStep>) -> bool {
+    let Ok(thread) = Name::read(alloc, b"T2") else {
+        return false;
+    };
+    let event = Event {
+        thread,
+        op: Op::End,
+        target: None,
+    };
+    let step = CycleStep {
+        line: 7,
+        first: 5,
+        event,
+    };
+    steps.push(step).is_ok()
+}
+
+fn push_both(alloc: Global, steps: &mut Vec<CycleStep>) -> bool {
+    push_release(alloc, steps) && push_end(alloc, steps)
+}
+
+// A violation with this label and these steps has this line.
+fn is_explained_so(alloc: Global, label: Option<Name>, steps: Vec<CycleStep>, line: &str) -> bool {
+    let Ok(thread) = Name::read(alloc, b"T1") else {
+        return false;
+    };
+    let verdict = Verdict::Violation {
+        line: 9,
+        thread,
+        begun: 1,
+    };
+    let finding = Finding::Explained(verdict, Cycle { label, steps });
+    has_object(alloc, b"a", &finding, line)
+}
+
+fn is_labelled_so(alloc: Global) -> bool {
+    let Ok(label) = Name::read(alloc, b"withdraw") else {
+        return false;
+    };
+    let mut steps = Vec::new(alloc);
+    let line =
+        r#"{"source":"a","verdict":"violation","line":9,"thread":"T1","begun":1,"label":"withdraw","cycle":[{"line":4,"first":1,"thread":"T1","op":"rel","target":"m"},{"line":7,"first":5,"thread":"T2","op":"end"}]}"#;
+    push_both(alloc, &mut steps) && is_explained_so(alloc, Some(label), steps, line)
+}
+
+fn is_unlabelled_so(alloc: Global) -> bool {
+    let mut steps = Vec::new(alloc);
+    let line =
+        r#"{"source":"a","verdict":"violation","line":9,"thread":"T1","begun":1,"cycle":[{"line":4,"first":1,"thread":"T1","op":"rel","target":"m"}]}"#;
+    push_release(alloc, &mut steps) && is_explained_so(alloc, None, steps, line)
+}
+
+// The label, where there is one, and the events of a cycle stand behind the violation.
+#[test]
+fn each_event_of_a_cycle_has_its_object(rt: HostRuntime) {
+    let alloc = rt.alloc();
+    assert_eq!(rt; [is_labelled_so(alloc), is_unlabelled_so(alloc)], [true; 2]);
+}
+
+// Four counts, and the object of them.
+type Counted = ([u64; 4], &'static str);
+
+fn is_summed_so(alloc: Global, row: &Counted) -> bool {
+    let ([serializable, pending, violations, faults], line) = *row;
+    let counts = Counts {
+        serializable,
+        pending,
+        violations,
+        faults,
+    };
+    match totals_text(alloc, Form::Json, &counts) {
+        Ok(text) => is_line(text.as_slice(), line),
+        Err(_) => false,
+    }
+}
+
+// The first row that doesn't hold.
+fn first_missummed(alloc: Global, rows: &[Counted]) -> Option<usize> {
+    for i in 0..rows.len() {
+        if !is_summed_so(alloc, &rows[i]) {
+            return Some(i);
+        }
+    }
+    None
+}
+
+static SUMMARIES: [Counted; 3] = [
+    (
+        [0, 0, 0, 0],
+        r#"{"traces":0,"serializable":0,"open":0,"violations":0,"faults":0}"#,
+    ),
+    (
+        [1, 0, 1, 1],
+        r#"{"traces":3,"serializable":1,"open":0,"violations":1,"faults":1}"#,
+    ),
+    (
+        [1, u64::MAX, 0, 0],
+        r#"{"traces":18446744073709551616,"serializable":1,"open":18446744073709551615,"violations":0,"faults":0}"#,
+    ),
+];
+
+#[test]
+fn the_object_of_the_summary_counts_what_was_found(rt: HostRuntime) {
+    assert_eq!(rt; first_missummed(rt.alloc(), &SUMMARIES), None);
+}
+
+// Whether the line of a source for people is that of `trace_text`.
+fn has_source_text(alloc: Global) -> bool {
+    match source_text(alloc, Form::Text, b"n", &Finding::Broken(20)) {
+        Ok(text) => text.as_slice() == b"n: broken after 20 bytes\n".as_slice(),
+        Err(_) => false,
+    }
+}
+
+// Whether the summary for people is that of `summary_text`.
+fn has_totals_text(alloc: Global) -> bool {
+    let counts = Counts {
+        serializable: 0,
+        pending: 0,
+        violations: 0,
+        faults: 1,
+    };
+    let line = "traces 1: serializable 0, open 0, violations 0, faults 1";
+    match totals_text(alloc, Form::Text, &counts) {
+        Ok(text) => is_line(text.as_slice(), line),
+        Err(_) => false,
+    }
+}
+
+#[test]
+fn the_form_for_people_has_the_lines_of_the_report(rt: HostRuntime) {
+    let alloc = rt.alloc();
+    assert!(rt; has_source_text(alloc) && has_totals_text(alloc));
+}
