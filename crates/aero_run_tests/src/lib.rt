@@ -14,6 +14,7 @@ mod gather;
 mod intake;
 #[cfg(test)]
 mod live;
+#[cfg(test)]
 mod objects;
 #[cfg(test)]
 mod pieces;
