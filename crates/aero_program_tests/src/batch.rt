@@ -19,6 +19,7 @@ use aero_intake::source::Source;
 use aero_model::counting::Counting;
 use aero_model::limits::Limits;
 use aero_model::verdict::Ending;
+use aero_report::Form;
 use std::alloc::{AllocError, Global};
 use std::io::Read;
 use std::process::Abort;
@@ -71,6 +72,14 @@ const REPORT_OF_TWO: &str =
 // What is written of the sources a and b, each with the block that comes after a later event, and their orders.
 const ORDER_OF_TWO: &str =
     "a: serializable (4 events, 1 blocks)/  2 T2/  1 T1/b: serializable (4 events, 1 blocks)/  2 T2/  1 T1/traces 2: serializable 2, open 0, violations 0, faults 0/";
+
+// What is written of the sources a and b, each with the crossed blocks, where violations are to be explained.
+const CYCLE_OF_TWO: &str =
+    "a: violation at line 6: block of T1 from line 1/  3 1 T1|w(x)/  4 2 T2|r(x)/  5 2 T2|w(y)/  6 1 T1|r(y)/b: violation at line 6: block of T1 from line 1/  3 1 T1|w(x)/  4 2 T2|r(x)/  5 2 T2|w(y)/  6 1 T1|r(y)/traces 2: serializable 0, open 0, violations 2, faults 0/";
+
+// The same without cycles, as JSON.
+const OBJECTS_OF_TWO: &str =
+    "{\"source\":\"a\",\"verdict\":\"violation\",\"line\":6,\"thread\":\"T1\",\"begun\":1}/{\"source\":\"b\",\"verdict\":\"violation\",\"line\":6,\"thread\":\"T1\",\"begun\":1}/{\"traces\":2,\"serializable\":0,\"open\":0,\"violations\":2,\"faults\":0}/";
 
 fn lines_of(alloc: Global, text: &str) -> Result<Vec<u8>, AllocError> {
     let mut bytes = text.as_bytes().to_vec(alloc)?;
@@ -461,10 +470,12 @@ fn the_report_is_the_same_whoever_helps(rt: HostRuntime) -> Result<(), Fail> {
     for habit in HABITS.iter() {
         expect_three(&rt, Who::Helped(*habit))?;
         assert!(rt; has_order_of_two(&rt, &text, Who::Helped(*habit))?);
+        assert!(rt; are_crossed_told(&rt, Who::Helped(*habit))?);
     }
     for who in EVERYBODY.iter() {
         expect_three(&rt, *who)?;
         assert!(rt; has_order_of_two(&rt, &text, *who)?);
+        assert!(rt; are_crossed_told(&rt, *who)?);
     }
     Ok(())
 }
@@ -521,11 +532,35 @@ fn has_order_of_two<T: AllocGlobal + Threads + Wait + Copy + Send + 'static>(
     who: Who,
 ) -> Result<bool, Fail> {
     let plan = plan_by(rt.alloc(), who, Limits::greatest(), 1, ("", true))?;
+    is_told_of_two(rt, (text, ORDER_OF_TWO), who, &plan)
+}
+
+// Two sources with the crossed blocks, in pieces of one byte: their cycles where they are asked for, and their objects
+// where the report is to be JSON.
+fn are_crossed_told<T: AllocGlobal + Threads + Wait + Copy + Send + 'static>(
+    rt: &T,
+    who: Who,
+) -> Result<bool, Fail> {
+    let text = lines_of(rt.alloc(), CROSSED)?;
+    let explaining = plan_by(rt.alloc(), who, Limits::greatest(), 1, ("", false))?.explaining();
+    let plain = plan_by(rt.alloc(), who, Limits::greatest(), 1, ("", false))?;
+    let has_cycles = is_told_of_two(rt, (&text, CYCLE_OF_TWO), who, &explaining)?;
+    let objects = plain.with_form(Form::Json);
+    Ok(has_cycles && is_told_of_two(rt, (&text, OBJECTS_OF_TWO), who, &objects)?)
+}
+
+// Whether this is written of two sources with this text.
+fn is_told_of_two<T: AllocGlobal + Threads + Wait + Copy + Send + 'static>(
+    rt: &T,
+    (text, wanted): (&[u8], &str),
+    who: Who,
+    plan: &Plan,
+) -> Result<bool, Fail> {
     let mut sources = Vec::new(rt.alloc());
     add_source(&mut sources, rt.alloc(), "a", text)?;
     add_source(&mut sources, rt.alloc(), "b", text)?;
-    let (report, outcome) = report_by(rt, who, &mut sources, &plan)?;
-    Ok(outcome.cause.is_none() && report == lines_of(rt.alloc(), ORDER_OF_TWO)?)
+    let (report, outcome) = report_by(rt, who, &mut sources, plan)?;
+    Ok(outcome.cause.is_none() && report == lines_of(rt.alloc(), wanted)?)
 }
 
 // What is written of two sources of which the second gives its text once the first is told: until then it gives so many
