@@ -1,5 +1,5 @@
-use Rattle.std.proofs.Common.{◌≡◌, ◌++◌, ◌∙◌, ap, subst}
-use Rattle.std.specs.Prelude.{Bool, IfOk}
+use Rattle.std.proofs.Common.{◌≡◌, ◌∙◌, ap, subst}
+use Rattle.std.specs.Prelude.{IfOk}
 use Rattle.aero_intake.specs.Lives.{Watched, watched_by, unexplained}
 use Rattle.aero_verdict.specs.Finding.{IsTraceFinding}
 use Rattle.aero_intake.proofs.live.Live.finish.Goals as goal
