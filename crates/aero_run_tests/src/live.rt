@@ -72,7 +72,12 @@ fn part_of(alloc: Global, text: &str) -> Result<Parsed, Fail> {
 }
 
 // What is found of a source with these blocks, of which the first was kept.
-fn finding_of(alloc: Global, terms: &Terms, kept: Parsed, part: Parsed) -> Result<Finding, AllocError> {
+fn finding_of(
+    alloc: Global,
+    terms: &Terms,
+    kept: Parsed,
+    part: Parsed,
+) -> Result<Finding, AllocError> {
     let mut parts = Vec::new(alloc);
     parts.push(kept)?;
     let mut live = Live::new(alloc, terms, parts)?;
