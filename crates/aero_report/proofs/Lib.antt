@@ -1,6 +1,7 @@
 pub mod Appended
 pub mod Names
 pub mod Numbers
+pub mod Readable
 pub mod Tokens
 pub mod Vectors
 pub mod Written

@@ -1,11 +1,12 @@
 -- The report in each of its forms.
-use Rattle.std.specs.Prelude.{ℕ, List, ◌++◌, map, flat_map}
+use Rattle.std.specs.Prelude.{ℕ, List, ◌++◌, map, flat_map, ⊤}
+use Rattle.json.specs.Json as value
 use Rattle.aero_model.specs.declared.verdict.Finding.{Finding}
 use Rattle.aero_model.specs.declared.verdict.Counts.{Counts}
 use Rattle.aero_report.specs.declared.form.Form.{Form}
 use Rattle.aero_report.specs.declared.form.Form.TheVariants.{Text, Json}
 use Rattle.aero_report.specs.Texts.{source_line, summary_line, counts_of}
-use Rattle.aero_report.specs.Json.{json_line, source_value, summary_value}
+use Rattle.aero_report.specs.Json.{json_line, source_value, summary_value, ReadsBack}
 
 -- what is said of a source with this name and finding
 abbrev pub source_line_in : Form → List ℕ → Finding → List ℕ
@@ -16,6 +17,11 @@ source_line_in Json name finding = json_line (source_value name finding)
 abbrev pub summary_line_in : Form → Counts → List ℕ
 summary_line_in Text counts = summary_line counts
 summary_line_in Json counts = json_line (summary_value counts)
+
+-- where it is JSON, its text without the newline is a document that means this value
+abbrev pub IsReadable : Form → value.Json → Type 0
+IsReadable Text value = ⊤
+IsReadable Json value = ReadsBack value
 
 -- the lines of sources with these names and findings, in order
 abbrev pub source_lines_in : Form → List (List ℕ × Finding) → List ℕ

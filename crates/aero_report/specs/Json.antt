@@ -1,9 +1,9 @@
 -- The report for machines: the data of each line as JSON, with its members in this order, and the line's text.
-use Rattle.std.specs.Prelude.{ℕ, ◌+◌, List, [], ◌∷◌, ◌++◌, if◌then◌else◌, Option, Some, None, map, codes, decimal}
+use Rattle.std.specs.Prelude.{◌≡◌, ℕ, ◌+◌, List, [], ◌∷◌, ◌++◌, if◌then◌else◌, Option, Some, None, map, codes, decimal}
 use Rattle.std.specs.Str.{is_utf8}
 use Rattle.base64.specs.Engines.{standard}
 use Rattle.base64.specs.GeneralPurpose.{encode_of}
-use Rattle.json.specs.Json.{Json, string, number, array, object, Items, no_items, item, Members, no_members, member}
+use Rattle.json.specs.Json.{Json, string, number, array, object, Items, no_items, item, Members, no_members, member, document}
 use Rattle.json.specs.Tree.{json_tokens}
 use Rattle.json.specs.Print.{print}
 use Rattle.aero_model.specs.declared.verdict.Verdict.{Verdict}
@@ -97,6 +97,14 @@ summary_members counts =
 abbrev pub summary_value : Counts → Json
 summary_value counts = object_of (summary_members counts)
 
--- the text of a value, with no blank, and the byte 10
+-- the text of a value, with no blank
+abbrev pub json_text : Json → List ℕ
+json_text value = print (json_tokens value)
+
+-- the line of a value: its text, and the byte 10
 abbrev pub json_line : Json → List ℕ
-json_line value = print (json_tokens value) ++ 10 ∷ []
+json_line value = json_text value ++ 10 ∷ []
+
+-- by the grammar of JSON its text is a document, and means this value
+abbrev pub ReadsBack : Json → Type 0
+ReadsBack value = document (json_text value) ≡ Some value

@@ -1,6 +1,7 @@
 //! The report in the form that is asked for.
-ghost use Rattle.std.specs.Prelude.{◌≡◌, IfOk};
-ghost use Rattle.aero_report.specs.Forms.{source_line_in, summary_line_in};
+ghost use Rattle.std.specs.Prelude.{◌≡◌, IfOk, OnOk};
+ghost use Rattle.aero_report.specs.Forms.{source_line_in, summary_line_in, IsReadable};
+ghost use Rattle.aero_report.specs.Json.{source_value, summary_value};
 
 use crate::objects::{source_object, summary_object};
 use crate::summary::summary_text;
@@ -28,7 +29,8 @@ pub fn source_text(
     name: &[u8],
     finding: &Finding,
 ) -> Result<Vec<u8>, AllocError>
-    ensures { IfOk result (λ text. text.items ≡ source_line_in form name.now finding.now) }
+    ensures text { IfOk result (λ text. text.items ≡ source_line_in form name.now finding.now) }
+    ensures readable { OnOk result (IsReadable form (source_value name.now finding.now)) }
 {
     match form {
         Form::Text => trace_text(alloc, name, finding),
@@ -42,7 +44,8 @@ pub fn source_text(
 /// The first number is the sum of the four counts, also where it is above 2^64 - 1. Fails only
 /// where memory runs out.
 pub fn totals_text(alloc: Global, form: Form, counts: &Counts) -> Result<Vec<u8>, AllocError>
-    ensures { IfOk result (λ text. text.items ≡ summary_line_in form counts.now) }
+    ensures text { IfOk result (λ text. text.items ≡ summary_line_in form counts.now) }
+    ensures readable { OnOk result (IsReadable form (summary_value counts.now)) }
 {
     match form {
         Form::Text => summary_text(alloc, counts),

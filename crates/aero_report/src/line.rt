@@ -1,6 +1,7 @@
 //! A line of JSON while it is written.
 ghost use Rattle.std.specs.Prelude.{◌≡◌, [], ◌∷◌, ◌++◌, decimal, IfOk, OnOk};
 ghost use Rattle.json.specs.Token.{begin_object, end_object, begin_array, end_array, key, string, number};
+ghost use Rattle.json.specs.Lex.{tokens};
 ghost use Rattle.json.specs.Tree.{json_tokens};
 ghost use Rattle.json.specs.Print.{print, IsNumber};
 ghost use Rattle.aero_report.specs.Json.{bytes_value, name_value};
@@ -132,7 +133,8 @@ impl Line {
 
     /// The line's text, with a newline.
     pub fn into_text(self) -> Result<Vec<u8>, AllocError>
-        ensures { IfOk result (λ text. text.items ≡ print self ++ 10 ∷ []) }
+        ensures text { IfOk result (λ text. text.items ≡ print self ++ 10 ∷ []) }
+        ensures reads_back { OnOk result (tokens (print self) ≡ self) }
     {
         let mut text = self.writer.into_inner();
         text.push(b'\n')?;

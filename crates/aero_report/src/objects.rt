@@ -1,7 +1,7 @@
 //! The report as JSON: an object for each source, and one for the summary.
 ghost use Rattle.std.specs.Prelude.{◌≡◌, [], ◌∷◌, ◌++◌, codes, map, flat_map, IfOk, OnOk};
 ghost use Rattle.json.specs.Tree.{json_tokens};
-ghost use Rattle.aero_report.specs.Json.{object_of, count, word, name, verdict_members, step_value, cycle_step_value, label_members, target_members, list, finding_members, source_value, summary_members, summary_value, json_line};
+ghost use Rattle.aero_report.specs.Json.{object_of, count, word, name, verdict_members, step_value, cycle_step_value, label_members, target_members, list, finding_members, source_value, summary_members, summary_value, json_line, ReadsBack};
 ghost use Rattle.aero_report.specs.Members.{member_tokens, all_members_tokens};
 ghost use Rattle.aero_report.specs.Texts.{op_name};
 
@@ -15,7 +15,8 @@ use std::alloc::{AllocError, Global};
 
 /// The line of a source as JSON, with a newline.
 pub fn source_object(alloc: Global, name: &[u8], finding: &Finding) -> Result<Vec<u8>, AllocError>
-    ensures { IfOk result (λ text. text.items ≡ json_line (source_value name.now finding.now)) }
+    ensures text { IfOk result (λ text. text.items ≡ json_line (source_value name.now finding.now)) }
+    ensures reads_back { OnOk result (ReadsBack (source_value name.now finding.now)) }
 {
     let mut out = Line::new(alloc);
     write_source(&mut out, name, finding)?;
@@ -24,7 +25,8 @@ pub fn source_object(alloc: Global, name: &[u8], finding: &Finding) -> Result<Ve
 
 /// The line of the summary as JSON, with a newline.
 pub fn summary_object(alloc: Global, counts: &Counts) -> Result<Vec<u8>, AllocError>
-    ensures { IfOk result (λ text. text.items ≡ json_line (summary_value counts.now)) }
+    ensures text { IfOk result (λ text. text.items ≡ json_line (summary_value counts.now)) }
+    ensures reads_back { OnOk result (ReadsBack (summary_value counts.now)) }
 {
     let mut out = Line::new(alloc);
     write_summary(&mut out, counts)?;

@@ -1,0 +1,66 @@
+-- What is written reads back: no value nests deeper than four.
+use Rattle.std.proofs.Common.{◌≡◌, ℕ, ◌≤◌, true, false, if◌then◌else◌, List, [], ◌∷◌, ◌++◌, map, Option, Some, None, option_and_then, Result, Ok, Err, OnOk, sym, ap, ◌∙◌, subst, arith, append-nil}
+use Rattle.std.specs.Str.{is_utf8}
+use Rattle.json.specs.Token.{Token}
+use Rattle.json.specs.Lex.{tokens}
+use Rattle.json.specs.Json.{Json, string, value, if_last, max_depth}
+use Rattle.json.specs.Print.{print}
+use Rattle.json.specs.Tree.{json_tokens, depth, items_depth, members_depth}
+use Rattle.json.proofs.Printed.Trees.{value-json_tokens}
+use Rattle.aero_model.specs.declared.verdict.Verdict.{Verdict}
+use Rattle.aero_model.specs.declared.verdict.Verdict.TheVariants.{Serializable, Pending, Violation, Malformed, IllFormed}
+use Rattle.aero_model.specs.declared.verdict.Step.{Step}
+use Rattle.aero_model.specs.declared.verdict.CycleStep.{CycleStep}
+use Rattle.aero_model.specs.declared.verdict.Finding.{Finding}
+use Rattle.aero_model.specs.declared.verdict.Finding.TheVariants.{Judged, Ordered, Explained, Broken, TooLarge}
+use Rattle.aero_report.specs.Json.{Member, members_of, items_of, bytes_value, name_value, verdict_members, step_value, target_members, cycle_step_value, label_members, finding_members, source_value, ReadsBack}
+
+pub reads_back : {T E : Type 0} (r : Result T E) (ts : List Token) (j : Json) → depth j ≤ max_depth → ts ≡ json_tokens j → OnOk r (tokens (print ts) ≡ ts) → OnOk r (ReadsBack j)
+reads_back (Ok x) ts j shallow is h =
+    ap (option_and_then (λ p. if_last p.0 p.1))
+    (ap (value max_depth) (subst (λ us. tokens (print us) ≡ us) is h ∙ sym (append-nil (json_tokens j))) ∙ value-json_tokens j max_depth [] shallow)
+reads_back (Err e) ts j shallow is h = tt
+
+name_depth : (bytes : List ℕ) → depth (name_value bytes) ≤ 1
+name_depth bytes = elim (is_utf8 bytes) as (λ b. depth (if b then string bytes else bytes_value bytes) ≤ 1) [ true ↦ omega arith | false ↦ omega arith ]
+
+step_depth : (s : Step) → depth (step_value s) ≤ 2
+step_depth s = omega (arith, name_depth s.thread)
+
+target_depth : (t : Option (List ℕ)) → members_depth (members_of (target_members t)) ≤ 1
+target_depth None = omega arith
+target_depth (Some t) = omega (arith, name_depth t)
+
+cycle_step_depth : (s : CycleStep) → depth (cycle_step_value s) ≤ 2
+cycle_step_depth s = omega (arith, name_depth s.event.thread, target_depth s.event.target)
+
+label_depth : (l : Option (List ℕ)) → members_depth (members_of (label_members l)) ≤ 1
+label_depth None = omega arith
+label_depth (Some l) = omega (arith, name_depth l)
+
+verdict_depth : (v : Verdict) → members_depth (members_of (verdict_members v)) ≤ 1
+verdict_depth (Serializable events blocks) = omega arith
+verdict_depth (Pending events blocks pending) = omega arith
+verdict_depth (Violation line thread begun) = omega (arith, name_depth thread)
+verdict_depth (Malformed line fault) = omega arith
+verdict_depth (IllFormed line fault) = omega arith
+
+list_depth : {A : Type 0} (f : A → Json) → ((x : A) → depth (f x) ≤ 2) → (xs : List A) → items_depth (items_of (map f xs)) ≤ 2
+list_depth f h [] = omega arith
+list_depth f h (x ∷ xs) = omega (arith, h x, list_depth f h xs)
+
+both_depth : (ms ns : List Member) → members_depth (members_of ms) ≤ 3 → members_depth (members_of ns) ≤ 3 → members_depth (members_of (ms ++ ns)) ≤ 3
+both_depth [] ns h k = k
+both_depth (m ∷ ms) ns h k = omega (arith, both_depth ms ns (omega arith) k)
+
+finding_depth : (f : Finding) → members_depth (members_of (finding_members f)) ≤ 3
+finding_depth (Judged v) = omega (arith, verdict_depth v)
+finding_depth (Ordered v steps) = both_depth (verdict_members v) _ (omega (arith, verdict_depth v)) (omega (arith, list_depth step_value step_depth steps.items))
+finding_depth (Explained v cycle) =
+    both_depth (verdict_members v) _ (omega (arith, verdict_depth v))
+    (both_depth (label_members cycle.label) _ (omega (arith, label_depth cycle.label)) (omega (arith, list_depth cycle_step_value cycle_step_depth cycle.steps.items)))
+finding_depth (Broken bytes) = omega arith
+finding_depth TooLarge = omega arith
+
+pub source_depth : (bytes : List ℕ) (f : Finding) → depth (source_value bytes f) ≤ max_depth
+source_depth bytes f = omega (arith, name_depth bytes, finding_depth f)
