@@ -10,7 +10,11 @@ use Rattle.aero_model.specs.declared.verdict.LineFault.TheVariants as line_fault
 use Rattle.aero_model.specs.declared.verdict.ShapeFault.TheVariants as shape_faults
 use Rattle.aero_model.specs.declared.verdict.Verdict.TheVariants.{Serializable, Pending, Violation, Malformed, IllFormed}
 use Rattle.aero_model.specs.declared.verdict.Finding.TheVariants.{Judged, Ordered, Explained, Broken, TooLarge}
+use Rattle.aero_report.specs.declared.form.Form.TheVariants.{Json}
+use Rattle.json.proofs.OnLiterals.{json_on_literals}
+use Rattle.std.specs.Str.{chars, is_utf8}
 use Rattle.aero_report.specs.Texts.{cycle_line, label_line, step_line, source_line, summary_line, no_counts, counts_of, report}
+use Rattle.aero_report.specs.Forms.{source_line_in, report_in}
 
 broken : source_line (codes "n") (Broken 20) ≡ codes "n: broken after 20 bytes" ++ 10 ∷ []
 unfolding digits
@@ -75,3 +79,11 @@ one_of_each_in_order steps = refl
 one_broken : report ((codes "n", Broken 20) ∷ []) ≡ codes "n: broken after 20 bytes" ++ 10 ∷ codes "traces 1: serializable 0, open 0, violations 0, faults 1" ++ 10 ∷ []
 unfolding digits
 one_broken = refl
+
+one_broken_object : report_in Json ((codes "n", Broken 20) ∷ []) ≡ codes "{\"source\":\"n\",\"verdict\":\"broken\",\"bytes\":20}" ++ 10 ∷ codes "{\"traces\":1,\"serializable\":0,\"open\":0,\"violations\":0,\"faults\":1}" ++ 10 ∷ []
+unfolding digits json_on_literals chars is_utf8
+one_broken_object = refl
+
+quotes_object : source_line_in Json (97 ∷ 34 ∷ 9 ∷ []) TooLarge ≡ codes "{\"source\":\"a\\\"\\t\",\"verdict\":\"too large\"}" ++ 10 ∷ []
+unfolding digits json_on_literals chars is_utf8
+quotes_object = refl

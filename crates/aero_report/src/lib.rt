@@ -7,10 +7,17 @@
 //! to a counting writer, and says how many bytes went out where a write failed. The lines stand byte
 //! by byte in `specs/Texts.antt`.
 //!
+//! `source_text` and `totals_text` make the same in the `Form` that is asked for. As JSON a source is an object
+//! on a line, and so is the summary. Their members stand in order in `specs/Json.antt`.
+//!
 //! ```text
 //! let finding = Finding::Judged(Verdict::Malformed { line: 2, fault: LineFault::BadParenthesis });
 //! let text = trace_text(alloc, b"trace.std", &finding)?;
 //! assert_eq!(rt; text.as_slice(), b"trace.std:2: malformed: BadParenthesis\n".as_slice());
+//!
+//! let text = source_text(alloc, Form::Json, b"trace.std", &finding)?;
+//! let line = r#"{"source":"trace.std","verdict":"malformed","line":2,"fault":"BadParenthesis"}"#;
+//! assert_eq!(rt; text.as_slice().strip_suffix(b"\n"), Some(line.as_bytes()));
 //!
 //! let mut writer = Counting::new(stdout());
 //! if let Err(cut) = put(&mut writer, text.as_slice()) {
@@ -23,6 +30,8 @@
 //! - The line of a source, with its name, its finding and the steps of its order or of its cycle, is byte by byte as
 //!   defined: `trace_text`.
 //! - So is the summary of what was counted: `summary_text`.
+//! - In each form both are as defined: `source_text`, `totals_text`. A line of JSON is a document by the grammar of the
+//!   `json` crate, and means the value that is defined: `readable`.
 //! - All bytes go out, or exactly the prefix that is told, and then a write failed: `put`, `all_written`, `no_fault`;
 //!   `cut_written`, `cut_short`, `cut_at_fault`.
 #![tactic(auto)]
