@@ -25,8 +25,8 @@
 //!   is standard input: `sources_of`, `names`, `readers`, `sighted`.
 //! - A read of standard input fails exactly where the stream does, interruptions apart, or where it is given up. It
 //!   finds the end exactly where the stream does: `Input::standard`, `read`, `steps`.
-//! - A file is opened at its first read, by any `Opener`, and after a failed open each read fails: `Input::path`,
-//!   `read`, `steps`.
+//! - A file is opened at its first read, by any `Opener`. It has bytes or an end only where an open can have worked, and
+//!   after a failed open each read fails: `Input::path`, `read`, `steps`.
 //! - An input notes its first three bytes and its first failure: `Input::read`, `start`, `reason`.
 //! - A call through `Retrying` is done exactly where one call of the stream was done, and once. It fails exactly where
 //!   one failed otherwise than by an interruption, or after 2^64 - 1 interruptions: `Retrying`: `read`, `write`,
@@ -36,6 +36,7 @@
 //! - The notes on byte order marks, failed reads and sizes: `notes_of`. The system's words: `Reason::of`, `words`.
 //! - After how many milliseconds the line on progress is shown first, if ever: `Progress::first_after`.
 //!
+//! No contract says how often a stream is flushed: tests show that standard output is, once and behind all that it has.
 //! No contract says which bytes the files of an `Opener` have. Of `FilesOf` and `MeteredFiles` none says more than the
 //! types of their files do: a `Metered` one reads as the file within.
 #![tactic(auto)]
