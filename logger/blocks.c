@@ -58,6 +58,7 @@ static int has_room(struct thread *me) {
     }
     for (size_t place = 0; place < me->depth; place++) frames[place] = me->frames[place];
     aero_free_pages(me->frames, me->room * sizeof *frames);
+    if (!me->frames) aero_end_with_thread();
     me->frames = frames;
     me->room = room;
     return 1;
@@ -111,6 +112,7 @@ void aero_end_blocks(void) {
     EXPORT void name(buffer to, int value) { \
         REAL(void, name, buffer, int) \
         aero_me.jumped = 1; \
+        if (aero_me.busy) aero_abandon(); \
         real(to, value); \
         __builtin_unreachable(); \
     }

@@ -43,7 +43,8 @@
  * to 1 MiB); the file ends with a whole line. exec flushes.
  *
  *   fork()       the child logs nothing; the parent goes on.
- *   signals      a handler's events are its thread's. Those that interrupt the logger itself aren't logged.
+ *   signals      a handler's events are its thread's. Those of one that interrupts the logger itself aren't logged, and where such
+ *                a one leaves by longjmp, nothing more is.
  *   longjmp      the functions that it leaves end at the next access, entry or exit. C++ exceptions and pthread_exit end
  *                the blocks that they leave.
  *   a thread that ends within blocks or with locks: they are ended and released there.
@@ -101,8 +102,12 @@ void aero_free_pages(void *at, size_t bytes) {
 void aero_lock(void) {
     for (int tries = 0; atomic_flag_test_and_set_explicit(&log_lock, memory_order_acquire); tries++)
         if (tries > 50) sched_yield();
+    aero_me.has_log = 1;
 }
-void aero_unlock(void) { atomic_flag_clear_explicit(&log_lock, memory_order_release); }
+void aero_unlock(void) {
+    aero_me.has_log = 0;
+    atomic_flag_clear_explicit(&log_lock, memory_order_release);
+}
 
 int aero_next_number(void) { return atomic_fetch_add(&last_number, 1) + 1; }
 void aero_number(int number) {
@@ -171,6 +176,12 @@ static void flush(void) {
         aero_stop(why == EPIPE ? "its reader has ended" : strerror(why));
     }
     pthread_sigmask(SIG_SETMASK, &before, NULL);
+}
+
+void aero_abandon(void) {
+    atomic_store(&aero_state, OFF);
+    if (aero_me.has_log) aero_unlock();
+    say("a signal handler has left the logger by longjmp: the rest isn't logged");
 }
 
 static inline char *put_target(char *to, const char *kind, uintptr_t address, const char *text) {
@@ -305,7 +316,7 @@ static pid_t owner;
 void aero_start(void) {
     static atomic_int started;
     if (atomic_exchange(&started, 1)) return;
-    const char *said = getenv("AERODROME_LOG");
+    const char *said = secure_getenv("AERODROME_LOG");
     if (!said || !*said) return;
     target = target_of(said);
     owner = getpid();

@@ -47,6 +47,7 @@ struct held {
 struct thread {
     int number;              /* from 1; 0: it has none yet */
     volatile int busy;       /* in the logger: what a signal handler does meanwhile isn't logged */
+    volatile int has_log;    /* it has the log's lock */
     int jumped;              /* longjmp was called, so functions may have been left without their hook */
     int length;
     char prefix[16];         /* "T12|" */
@@ -63,6 +64,7 @@ extern atomic_int aero_state;        /* OFF before the start, after the end, and
 extern int aero_grain;               /* bytes of a variable */
 void aero_lock(void);
 void aero_unlock(void);
+void aero_abandon(void);             /* what a signal handler does that leaves the logger itself by longjmp */
 void aero_number(int number);        /* gives the calling thread its number */
 int aero_next_number(void);
 void aero_stop(const char *why);     /* says why on standard error; the log's lock is held */
@@ -123,6 +125,7 @@ void aero_end_blocks(void);                           /* ends all of the calling
 /* threads.c */
 void aero_threads_start(void);
 void aero_end_thread(void);                           /* ends its blocks and releases its locks */
+void aero_end_with_thread(void);                      /* has that done, and its frames freed, where it ends */
 
 /* locks.c */
 void aero_release_all(void);                          /* the log's lock is held */

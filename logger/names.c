@@ -103,10 +103,10 @@ static char *behind_type(char *text) {
     return *from ? from : text;
 }
 
-/* A name of at most `most` bytes as the format has it, kept; NULL where memory is refused. A suffix of the compiler, as in
- * pay.constprop.0, goes. */
+/* A name of at most `most` bytes as the format has it, kept; NULL where memory is refused. A suffix of the compiler or of a
+ * version, as in pay.constprop.0 and environ@GLIBC, goes. */
 static const char *tidy(const char *symbol, int is_function, size_t most) {
-    size_t length = strcspn(symbol, ".");
+    size_t length = strcspn(symbol, ".@");
     char *plain = length ? strndup(symbol, length) : strdup(symbol);
     if (!plain) return NULL;
     char *readable = __cxa_demangle && !strncmp(plain, "_Z", 2) ? __cxa_demangle(plain, NULL, NULL, NULL) : NULL;

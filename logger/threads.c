@@ -54,9 +54,10 @@ static void note(pthread_t id, int number) {
     if (place == joinable_count) joinable_count++;
 }
 
-/* The number of the thread, which is no longer noted; 0 of one that isn't known. */
+/* The number of the thread, which is no longer noted; 0 of one that isn't known, and where nothing is logged. */
 static int take(pthread_t id) {
     int number = 0;
+    if (atomic_load_explicit(&aero_state, memory_order_relaxed) != ON) return 0;
     lock_joinable();
     size_t place = place_of(id, 0);
     if (place < joinable_count) {
@@ -99,6 +100,7 @@ static void ends(void *unused) {
     aero_me.room = 0;
 }
 void aero_threads_start(void) { pthread_key_create(&at_end, ends); }
+void aero_end_with_thread(void) { pthread_setspecific(at_end, &aero_me); }
 
 /* ---- starts */
 
@@ -148,7 +150,7 @@ static struct seed grow(void *given) {
     aero_number(seed.number);
     renew_stack();
     note_once(given, pthread_self());
-    pthread_setspecific(at_end, &aero_me);
+    aero_end_with_thread();
     aero_me.busy = 0;
     return seed;
 }
