@@ -112,7 +112,7 @@ void aero_end_blocks(void) {
     EXPORT void name(buffer to, int value) { \
         REAL(void, name, buffer, int) \
         aero_me.jumped = 1; \
-        if (aero_me.busy) aero_abandon(); \
+        if (aero_me.busy) aero_interrupted(); \
         real(to, value); \
         __builtin_unreachable(); \
     }

@@ -43,8 +43,8 @@
  * to 1 MiB); the file ends with a whole line. exec flushes.
  *
  *   fork()       the child logs nothing; the parent goes on.
- *   signals      a handler's events are its thread's. Those of one that interrupts the logger itself aren't logged, and where such
- *                a one leaves by longjmp, nothing more is.
+ *   signals      a handler's events are its thread's. Those of one that interrupts the logger itself aren't logged. Where such a
+ *                one leaves by longjmp, the event that was about to be logged isn't; while the log is written out, it ends.
  *   longjmp      the functions that it leaves end at the next access, entry or exit. C++ exceptions and pthread_exit end
  *                the blocks that they leave.
  *   a thread that ends within blocks or with locks: they are ended and released there.
@@ -75,7 +75,8 @@ atomic_int aero_state;
 int aero_grain = 8;
 __thread struct thread aero_me;
 
-static atomic_flag log_lock = ATOMIC_FLAG_INIT;
+static spin_lock log_lock;
+static volatile int flushing;
 static atomic_int last_number;
 static const char *target;               /* AERODROME_LOG */
 static int log_file = -1;
@@ -99,15 +100,16 @@ void aero_free_pages(void *at, size_t bytes) {
     if (at) syscall(SYS_munmap, at, bytes);
 }
 
-void aero_lock(void) {
-    for (int tries = 0; atomic_flag_test_and_set_explicit(&log_lock, memory_order_acquire); tries++)
-        if (tries > 50) sched_yield();
-    aero_me.has_log = 1;
+/* A thread without a number yet, as at fork(), is -1. */
+static int own_number(void) { return aero_me.number ? aero_me.number : -1; }
+void aero_spin(spin_lock *lock) {
+    int number = own_number(), free = 0;
+    for (int tries = 0; !atomic_compare_exchange_weak_explicit(lock, &free, number, memory_order_acquire, memory_order_relaxed); free = 0)
+        if (++tries > 50) sched_yield();
 }
-void aero_unlock(void) {
-    aero_me.has_log = 0;
-    atomic_flag_clear_explicit(&log_lock, memory_order_release);
-}
+int aero_has(spin_lock *lock) { return atomic_load(lock) == own_number(); }
+void aero_lock(void) { aero_spin(&log_lock); }
+void aero_unlock(void) { aero_let_go(&log_lock); }
 
 int aero_next_number(void) { return atomic_fetch_add(&last_number, 1) + 1; }
 void aero_number(int number) {
@@ -158,30 +160,43 @@ static int write_out(void) {
     return 1;
 }
 
-/* The log's lock is held. A signal that the write itself sends, since a pipe or a file takes no more, doesn't reach the program. */
-static void flush(void) {
-    if (!used || log_file < 0) return;
+/* Takes back the signal that a failed write has sent, as a pipe or a file takes no more, unless one was pending before. */
+static void take_back(int signal, const sigset_t *pending) {
     const struct timespec none = {0, 0};
-    sigset_t ours, before, pending;
-    sigemptyset(&ours);
-    sigaddset(&ours, SIGPIPE);
-    sigaddset(&ours, SIGXFSZ);
+    sigset_t one;
+    sigemptyset(&one);
+    sigaddset(&one, signal);
+    if (!sigismember(pending, signal)) sigtimedwait(&one, NULL, &none);
+}
+
+/* The log's lock is held. Signals wait, but for those by which somebody ends a program and those of its own faults. */
+static void flush(void) {
+    static const int through[] = {SIGINT, SIGTERM, SIGQUIT, SIGHUP, SIGSEGV, SIGBUS, SIGFPE, SIGILL, SIGTRAP, SIGABRT};
+    if (!used || log_file < 0) return;
+    sigset_t waiting, before, pending;
+    sigfillset(&waiting);
+    for (size_t one = 0; one < sizeof through / sizeof *through; one++) sigdelset(&waiting, through[one]);
     sigpending(&pending);
-    pthread_sigmask(SIG_BLOCK, &ours, &before);
+    pthread_sigmask(SIG_BLOCK, &waiting, &before);
+    flushing = 1;
     if (!write_out()) {
         int why = errno;
-        if (sigismember(&pending, SIGPIPE)) sigdelset(&ours, SIGPIPE);
-        if (sigismember(&pending, SIGXFSZ)) sigdelset(&ours, SIGXFSZ);
-        while (sigtimedwait(&ours, NULL, &none) > 0) {}
+        take_back(SIGPIPE, &pending);
+        take_back(SIGXFSZ, &pending);
         aero_stop(why == EPIPE ? "its reader has ended" : strerror(why));
     }
+    flushing = 0;
     pthread_sigmask(SIG_SETMASK, &before, NULL);
 }
 
-void aero_abandon(void) {
-    atomic_store(&aero_state, OFF);
-    if (aero_me.has_log) aero_unlock();
-    say("a signal handler has left the logger by longjmp: the rest isn't logged");
+/* The line that was begun isn't written, as what it tells of isn't done. What can't be taken up again there ends the log. */
+void aero_interrupted(void) {
+    int names = aero_has(&aero_names_lock), log = aero_has(&log_lock);
+    if ((names || (log && flushing)) && atomic_exchange(&aero_state, OFF) == ON)
+        say("a signal handler has left the logger by longjmp: the rest isn't logged");
+    if (names) aero_let_go(&aero_names_lock);
+    if (log) aero_unlock();
+    aero_me.busy = 0;
 }
 
 static inline char *put_target(char *to, const char *kind, uintptr_t address, const char *text) {

@@ -47,7 +47,6 @@ struct held {
 struct thread {
     int number;              /* from 1; 0: it has none yet */
     volatile int busy;       /* in the logger: what a signal handler does meanwhile isn't logged */
-    volatile int has_log;    /* it has the log's lock */
     int jumped;              /* longjmp was called, so functions may have been left without their hook */
     int length;
     char prefix[16];         /* "T12|" */
@@ -58,13 +57,19 @@ struct thread {
 };
 extern __thread struct thread aero_me;
 
+/* A spin lock that has the number of the thread that holds it, or 0. */
+typedef atomic_int spin_lock;
+void aero_spin(spin_lock *lock);
+static inline void aero_let_go(spin_lock *lock) { atomic_store_explicit(lock, 0, memory_order_release); }
+int aero_has(spin_lock *lock);       /* whether the calling thread holds it */
+
 /* log.c */
 enum { OFF, ON };
 extern atomic_int aero_state;        /* OFF before the start, after the end, and in a child of fork() */
 extern int aero_grain;               /* bytes of a variable */
 void aero_lock(void);
 void aero_unlock(void);
-void aero_abandon(void);             /* what a signal handler does that leaves the logger itself by longjmp */
+void aero_interrupted(void);         /* a signal handler that came into the logger leaves it by longjmp */
 void aero_number(int number);        /* gives the calling thread its number */
 int aero_next_number(void);
 void aero_stop(const char *why);     /* says why on standard error; the log's lock is held */
@@ -92,6 +97,7 @@ static inline void aero_leave(void) {
 }
 
 /* names.c */
+extern spin_lock aero_names_lock;
 struct code {
     uintptr_t at;
     _Atomic(const char *) label;     /* of the function that it lies in; NULL: not looked up yet */

@@ -4,7 +4,6 @@
 #include <elf.h>
 #include <fcntl.h>
 #include <link.h>
-#include <sched.h>
 #include <stdlib.h>
 #include <string.h>
 #include <sys/mman.h>
@@ -39,12 +38,10 @@ static int with_places;
 #define CODE_BITS 20
 #define MOST_TRIES 64
 static _Atomic(struct code *) codes[1 << CODE_BITS];
-static atomic_flag names_lock = ATOMIC_FLAG_INIT;
+spin_lock aero_names_lock;
 
-static void lock_names(void) {
-    while (atomic_flag_test_and_set_explicit(&names_lock, memory_order_acquire)) sched_yield();
-}
-static void unlock_names(void) { atomic_flag_clear_explicit(&names_lock, memory_order_release); }
+static void lock_names(void) { aero_spin(&aero_names_lock); }
+static void unlock_names(void) { aero_let_go(&aero_names_lock); }
 
 /* ---- text */
 

@@ -17,12 +17,10 @@ struct joinable {
 };
 static struct joinable *joinable;
 static size_t joinable_count, joinable_room;
-static atomic_flag joinable_lock = ATOMIC_FLAG_INIT;
+static spin_lock joinable_lock;
 
-static void lock_joinable(void) {
-    while (atomic_flag_test_and_set_explicit(&joinable_lock, memory_order_acquire)) thrd_yield();
-}
-static void unlock_joinable(void) { atomic_flag_clear_explicit(&joinable_lock, memory_order_release); }
+static void lock_joinable(void) { aero_spin(&joinable_lock); }
+static void unlock_joinable(void) { aero_let_go(&joinable_lock); }
 
 /* The place of the thread, or else a free one, which is the last if there is none but that. */
 static size_t place_of(pthread_t id, int or_free) {
