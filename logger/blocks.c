@@ -64,12 +64,29 @@ static int has_room(struct thread *me) {
     return 1;
 }
 
+/* What a frame says of its begin changes where the line is written: a signal handler may leave from anywhere by longjmp. */
+static void push(const char *label, int block, uintptr_t frame, uintptr_t code) {
+    struct thread *me = &aero_me;
+    if (!has_room(me)) return;
+    struct frame *top = &me->frames[me->depth];
+    *top = (struct frame){frame, 0};
+    me->depth++;
+    if (!block) return;
+    aero_lock();
+    aero_line("begin", "", 0, label, code);
+    top->block = 1;
+    aero_unlock();
+}
 static void pop(uintptr_t code) {
     struct thread *me = &aero_me;
-    if (!me->frames[--me->depth].block) return;
-    aero_lock();
-    aero_line("end", "", 0, NULL, code);
-    aero_unlock();
+    struct frame *top = &me->frames[me->depth - 1];
+    if (top->block) {
+        aero_lock();
+        aero_line("end", "", 0, NULL, code);
+        top->block = 0;
+        aero_unlock();
+    }
+    me->depth--;
 }
 
 /* Stacks grow down: a function's frames lie below those of who called it. */
@@ -80,19 +97,10 @@ void aero_left(uintptr_t frame) {
 
 EXPORT void __tsan_func_entry(void *caller) {
     (void)caller;
-    struct thread *me = &aero_me;
     if (!aero_enter()) return;
-    if (UNLIKELY(me->jumped)) aero_left(FRAME + 1);
+    if (UNLIKELY(aero_me.jumped)) aero_left(FRAME + 1);
     const struct code *function = aero_function(HERE);
-    if (has_room(me)) {
-        int block = function && function->block;
-        me->frames[me->depth++] = (struct frame){FRAME, block};
-        if (block) {
-            aero_lock();
-            aero_line("begin", "", 0, function->label, HERE);
-            aero_unlock();
-        }
-    }
+    push(function ? function->label : NULL, function && function->block, FRAME, HERE);
     aero_leave();
 }
 EXPORT void __tsan_func_exit(void) {
