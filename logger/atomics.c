@@ -24,7 +24,8 @@ enum { SEQUENTIAL = __ATOMIC_SEQ_CST };
         return old; \
     }
 #define COMPARE(bits, type, name, call) \
-    EXPORT int __tsan_atomic##bits##_compare_exchange_##name(volatile type *at, type *expected, type value, int order, int failed) { \
+    EXPORT int __tsan_atomic##bits##_compare_exchange_##name(volatile type *at, type *expected, type value, int order, \
+                                                             int failed) { \
         int done; \
         (void)order, (void)failed; \
         LOGGED(type, done ? "w" : "r", at, done = call(at, expected, value, 0, SEQUENTIAL, SEQUENTIAL)) \

@@ -1,7 +1,7 @@
 /* Blocks: which functions are atomic blocks, their begins and ends, and those that longjmp leaves.
  *
- * AERODROME_BLOCKS is all, none, a list of names behind one another with a comma or a newline between, or such a list behind `-`: all
- * but these. Without it it is -main. A name is that of the symbol (_ZN4Bank3payEl) or the label that stands in the log (Bank::pay). */
+ * AERODROME_BLOCKS is all, none, a list of names with a comma or a newline between two, or such a list behind `-`: all but
+ * these. Without it it is -main. A name is that of the symbol (_ZN4Bank3payEl), or the label in the log (Bank::pay). */
 #include "log.h"
 
 #include <setjmp.h>

@@ -132,8 +132,10 @@ static void has_again(void *given) {
 #define CONDITIONS NULL
 #endif
 WAIT(pthread_cond_wait, CONDITIONS, (condition, lock), pthread_cond_t *condition, pthread_mutex_t *lock)
-WAIT(pthread_cond_timedwait, CONDITIONS, (condition, lock, until), pthread_cond_t *condition, pthread_mutex_t *lock, until_type until)
-WAIT(pthread_cond_clockwait, NULL, (condition, lock, clock, until), pthread_cond_t *condition, pthread_mutex_t *lock, clockid_t clock, until_type until)
+WAIT(pthread_cond_timedwait, CONDITIONS, (condition, lock, until),
+        pthread_cond_t *condition, pthread_mutex_t *lock, until_type until)
+WAIT(pthread_cond_clockwait, NULL, (condition, lock, clock, until),
+        pthread_cond_t *condition, pthread_mutex_t *lock, clockid_t clock, until_type until)
 WAIT(cnd_wait, NULL, (condition, lock), cnd_t *condition, mtx_t *lock)
 WAIT(cnd_timedwait, NULL, (condition, lock, until), cnd_t *condition, mtx_t *lock, until_type until)
 

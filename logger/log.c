@@ -28,19 +28,19 @@
  *   pthread_create, pthread_join                       fork(T), join(T)
  *   entry and exit of a function that is a block       begin(NAME), end
  *
- * X is a global variable's name, with +N for the N-th byte in it, and @ADDRESS where several have that name; else an address. Memory
- * that is allocated again is a new variable, ADDRESS.N. Threads are T1 (main), T2, ..; no number is used again.
+ * X is a global variable's name, with +N for the N-th byte in it, and @ADDRESS where several have that name; else an address.
+ * Memory that is allocated again is a new variable, ADDRESS.N. Threads are T1 (main), T2, ..; no number is used again.
  *
- * The place in the code is `program+0x1234`, and the tool aerodrome-places puts FILE:LINE there afterwards. So nothing that asks for a
- * line slows the program down, no further process runs beside it, and only the lines that somebody reads are looked up.
+ * The place in the code is `program+0x1234`, and the tool aerodrome-places puts FILE:LINE there afterwards. So the program
+ * doesn't wait for addr2line, no such process runs beside it, and only the lines that somebody reads are looked up.
  *
  * One total order. A line is written under the log's lock. An atomic operation is carried out under it. An acquire is logged after
  * the lock is had, a release before it is given back. A plain access is made just after its line: where two of them race, the
  * log may have them the other way round; without data races it has the program's order.
  *
- * The end. At exit, _exit, quick_exit, abort and a failed assert the exiting thread's blocks are ended and the log is flushed; the command
- * behind `|` is then waited for. Blocks of other threads stay open. A process that a signal kills loses what the buffer holds (up
- * to 1 MiB); the file ends with a whole line. exec flushes.
+ * The end. At exit, _exit, quick_exit, abort and a failed assert the exiting thread's blocks are ended, and the log is written
+ * out; then the command behind `|` is waited for. Blocks of other threads stay open. A process that a signal kills loses what the
+ * buffer holds (up to 1 MiB); the file ends with a whole line. exec writes the log out.
  *
  *   fork()       the child logs nothing; the parent goes on.
  *   signals      a handler's events are its thread's. Those of one that interrupts the logger itself aren't logged. Where such a
@@ -104,7 +104,7 @@ void aero_free_pages(void *at, size_t bytes) {
 static int own_number(void) { return aero_me.number ? aero_me.number : -1; }
 void aero_spin(spin_lock *lock) {
     int number = own_number(), free = 0;
-    for (int tries = 0; !atomic_compare_exchange_weak_explicit(lock, &free, number, memory_order_acquire, memory_order_relaxed); free = 0)
+    for (int tries = 0; !atomic_compare_exchange_weak(lock, &free, number); free = 0)
         if (++tries > 50) sched_yield();
 }
 int aero_has(spin_lock *lock) { return atomic_load(lock) == own_number(); }
@@ -256,6 +256,7 @@ static int out_of_the_way(int file) {
 
 static void run_command(const char *command, int input, int ends) {
     dup2(input, STDIN_FILENO);
+    fcntl(STDIN_FILENO, F_SETFD, 0);
     fcntl(ends, F_SETFD, 0);
     unsetenv("AERODROME_LOG");
     execl("/bin/sh", "sh", "-c", command, (char *)NULL);

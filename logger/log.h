@@ -5,6 +5,7 @@
 #ifndef _GNU_SOURCE
 #define _GNU_SOURCE
 #endif
+#include <errno.h>
 #include <pthread.h>
 #include <stdatomic.h>
 #include <stddef.h>
@@ -47,6 +48,7 @@ struct held {
 struct thread {
     int number;              /* from 1; 0: it has none yet */
     volatile int busy;       /* in the logger: what a signal handler does meanwhile isn't logged */
+    int error;               /* errno as the program had it */
     int jumped;              /* longjmp was called, so functions may have been left without their hook */
     int length;
     char prefix[16];         /* "T12|" */
@@ -88,10 +90,12 @@ static inline int aero_enter(void) {
     if (LIKELY(atomic_load_explicit(&aero_state, memory_order_relaxed) != ON) || UNLIKELY(aero_me.busy)) return 0;
     aero_me.busy = 1;
     atomic_signal_fence(memory_order_seq_cst);
+    aero_me.error = errno;
     if (UNLIKELY(!aero_me.number)) aero_number(aero_next_number());
     return 1;
 }
 static inline void aero_leave(void) {
+    errno = aero_me.error;
     atomic_signal_fence(memory_order_seq_cst);
     aero_me.busy = 0;
 }

@@ -59,7 +59,8 @@ void aero_renew(uintptr_t from, uintptr_t to) {
     }
 }
 
-extern void *__libc_malloc(size_t), *__libc_calloc(size_t, size_t), *__libc_realloc(void *, size_t), *__libc_memalign(size_t, size_t);
+extern void *__libc_malloc(size_t), *__libc_calloc(size_t, size_t);
+extern void *__libc_realloc(void *, size_t), *__libc_memalign(size_t, size_t);
 
 static void *renewed(void *at) {
     if (at && UNLIKELY(atomic_load_explicit(&aero_state, memory_order_relaxed) == ON))

@@ -1,6 +1,6 @@
-/* A block allocates memory, writes it and hands it to another thread, which gives it back, allocates memory at the same address, since
- * the allocator gives a thread what it gave back last, writes that and hands it over; then the block does as much. Where all
- * that is one variable, the other thread's write comes between two of the block. Pipes hand over, which no log has. */
+/* A block allocates memory, writes it and hands it to another thread, which gives it back, allocates memory at the same address,
+ * since the allocator gives a thread what it gave back last, writes that and hands it over; then the block does as much. Where
+ * all that is one variable, the other thread's write comes between two of the block. Pipes hand over, which no log has. */
 #include <pthread.h>
 #include <stdio.h>
 #include <stdlib.h>

@@ -1,5 +1,8 @@
-/* Threads add by atomic operations: `atomics together` by one each, `atomics apart` by a load and a store, with the other thread's add
- * between, which each run has, as they wait for each other by pipes. */
+/* Two threads add by atomic operations.
+ *
+ *   atomics together   by one operation each
+ *   atomics apart      the first one by a load and a store, with the other one's add between, in each run: they wait for each
+ *                      other by pipes, which no log has */
 #include <pthread.h>
 #include <stdatomic.h>
 #include <stdio.h>

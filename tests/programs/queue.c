@@ -1,8 +1,8 @@
 /* A queue of one place, with a condition variable for those that put in and one for those that take out.
  *
  *   queue many [EACH]   two threads put EACH numbers in (200), and two take them out
- *   queue one           one thread waits for the one number that another puts in; that it waits is certain, as it holds the lock before the
- *                       other one, which hears of that by a pipe */
+ *   queue one           one thread waits for the one number that another puts in. It waits in each run, as it holds the lock
+ *                       first, of which the other one hears by a pipe */
 #include <pthread.h>
 #include <stdio.h>
 #include <stdlib.h>

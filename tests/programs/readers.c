@@ -1,5 +1,5 @@
-/* Two threads hold a read-write lock to read at the same time, which they make sure of by pipes, which no log has. Then each holds it
- * to write. */
+/* Two threads hold a read-write lock to read at the same time, of which they make sure by pipes, which no log has. Then each holds
+ * it to write. */
 #include <pthread.h>
 #include <stdio.h>
 #include <sys/socket.h>

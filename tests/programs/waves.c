@@ -1,5 +1,5 @@
-/* waves [WAVES]: waves of threads (100), one after the other: the system uses their ids and stacks again. Each adds to a counter, and the last two of a
- * wave are detached. It says how often it adds, and whether ids were used again. */
+/* waves [WAVES]: waves of threads (100), one after the other, so that the system uses their ids and stacks again. Each adds to a
+ * counter, and the last two of a wave are detached. It says how often was added, and whether ids were used again. */
 #include <pthread.h>
 #include <semaphore.h>
 #include <stdio.h>
