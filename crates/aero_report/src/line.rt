@@ -15,7 +15,7 @@ use std::str::from_utf8;
 
 /// What a line has so far. Commas and colons are placed; that objects and arrays end is the caller's care.
 ///
-/// Each call fails only where memory runs out.
+/// Each call fails only where memory runs out, and then the line may lack what was to be written: it is of no more use.
 #[derive(Drop)]
 pub struct Line {
     alloc: Global,
