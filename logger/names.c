@@ -100,6 +100,12 @@ static char *behind_type(char *text) {
     return *from ? from : text;
 }
 
+static const char *keep_text(const char *text, size_t length) {
+    char *kept = keep(length + 1);
+    for (size_t place = 0; kept && place < length; place++) kept[place] = fitting(text[place]);
+    return kept;
+}
+
 /* A name of at most `most` bytes as the format has it, kept; NULL where memory is refused. A suffix of the compiler or of a
  * version, as in pay.constprop.0 and environ@GLIBC, goes. */
 static const char *tidy(const char *symbol, int is_function, size_t most) {
@@ -112,10 +118,7 @@ static const char *tidy(const char *symbol, int is_function, size_t most) {
         cut_parameters(from);
         from = behind_type(from);
     }
-    length = strnlen(from, most);
-    char *kept = keep(length + 1);
-    for (size_t place = 0; kept && place < length; place++)
-        kept[place] = fitting(from[place]);
+    const char *kept = keep_text(from, strnlen(from, most));
     free(readable);
     free(plain);
     return kept;
@@ -271,15 +274,20 @@ void aero_names_start(int places) {
 
 /* ---- code */
 
+/* program+0x1234, or 0x1234 for code of no known object. */
+static char *put_place(char *to, uintptr_t at) {
+    const struct object *object = object_at(at);
+    if (object) to = aero_put_text(to, object->name);
+    to = aero_put_text(to, object ? "+0x" : "0x");
+    return aero_put_hex(to, at - (object ? object->bias : 0));
+}
+
 static struct code *new_code(uintptr_t at) {
     char place[128], *end = place;
-    const struct object *object = with_places ? object_at(at) : NULL;
     if (with_places) {
         *end++ = '|';
-        end = aero_put_text(end, object ? object->name : "");
-        end = aero_put_text(end, object ? "+0x" : "0x");
         /* (the call that the code at the address returns from) */
-        end = aero_put_hex(end, at - 1 - (object ? object->bias : 0));
+        end = put_place(end, at - 1);
     }
     size_t length = (size_t)(end - place);
     struct code *code = keep(sizeof *code + length);
@@ -312,10 +320,10 @@ const struct code *aero_function(uintptr_t at) {
     lock_names();
     const struct object *object = object_at(at);
     const struct symbol *symbol = object ? symbol_at(&object->functions, at) : NULL;
-    char other[24];
-    *aero_put_hex(aero_put_text(other, "0x"), at) = 0;
-    const char *name = symbol ? symbol->name : other;
-    const char *label = tidy(name, 1, MOST_NAME);
+    char nameless[128];
+    *put_place(nameless, at) = 0;
+    const char *label = symbol ? tidy(symbol->name, 1, MOST_NAME) : keep_text(nameless, strlen(nameless));
+    const char *name = symbol ? symbol->name : nameless;
     if (label) atomic_store(&code->block, aero_is_block(label, name));
     if (label) atomic_store_explicit(&code->label, label, memory_order_release);
     unlock_names();
