@@ -19,7 +19,7 @@
 //! - The answer is true exactly where the visits are a telling cycle of all events, by the definition by which verdicts
 //!   are judged: `is_telling_cycle`.
 //! - Where a telling cycle begins in a transaction, one is given that begins there, and none that does has fewer visits:
-//!   `shortest_cycle`.
+//!   `shortest_cycle`, and with the transactions of the events `shortest_of`.
 //! - The same for the transaction of the first of some visits. `None` exactly where these are no telling cycle:
 //!   `shorten`.
 //! - The transactions of the events, each told by the place of its first event; how deep each thread is at the end, and
