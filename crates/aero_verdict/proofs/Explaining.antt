@@ -1,5 +1,5 @@
 -- What a record of a violating trace tells of its cycles.
-use Rattle.std.proofs.Common.{◌≡◌, ℕ, zero, suc, ◌<◌, ◌≤◌, ◌^◌, ◌==◌, List, [], ◌∷◌, ◌++◌, length, take, Option, Some, None, option_map, inl, inr, refl, sym, ◌∙◌, ap, subst, arith}
+use Rattle.std.proofs.Common.{◌≡◌, ℕ, zero, suc, ◌<◌, ◌≤◌, ◌^◌, ◌==◌, true, false, Bool, List, [], ◌∷◌, ◌++◌, length, take, Option, Some, None, option_map, inl, inr, refl, sym, ◌∙◌, ap, subst, arith}
 use Rattle.std.specs.Prelude.{slice_get, flat_map, All, IsSome, Vec}
 use Rattle.std.specs.Global.{Global}
 use Rattle.std.specs.List.{AllZip}
@@ -14,7 +14,7 @@ use Rattle.aero_model.specs.Graph as graph
 use Rattle.aero_model.specs.Graph.{IsVisit, GoesOn, IsTelling, BeginsCycle}
 use Rattle.aero_model.specs.Cycle.{IsClosing}
 use Rattle.aero_model.specs.declared.verdict.Verdict.{Verdict}
-use Rattle.aero_model.specs.declared.verdict.Verdict.TheVariants.{Violation}
+use Rattle.aero_model.specs.declared.verdict.Verdict.TheVariants.{Serializable, Pending, Violation, Malformed, IllFormed}
 use Rattle.aero_model.specs.Named.{Named}
 use Rattle.aero_model.proofs.Depths.{opening_at}
 use Rattle.aero_model.proofs.Stability.{Agree, agree_back, transaction_same}
@@ -30,7 +30,7 @@ use Rattle.aero_witness.proofs.Trail.{transaction_recorded, telling_back, tellin
 use Rattle.aero_verdict.specs.declared.checker.Checker.{Checker}
 use Rattle.aero_verdict.specs.declared.recorder.Recorder.{Recorder}
 use Rattle.aero_verdict.specs.Actors.{named_on}
-use Rattle.aero_verdict.specs.Explained.{visit_places, round_places, IsCycleStep, IsExplained}
+use Rattle.aero_verdict.specs.Explained.{has_cycle, visit_places, round_places, IsCycleStep, IsExplained}
 use Rattle.aero_verdict.specs.Given.{Given, words_of}
 use Rattle.aero_verdict.specs.Kept.{AreGiven}
 use Rattle.aero_verdict.specs.Parts.{KeepsAt}
@@ -292,3 +292,11 @@ told_record parts fed rules told checker recorder verdict line thread begun same
     (subst (λ p. TellsFed (words_of StandsForLeads HasRecorded) rules p checker verdict) same_parts
     (subst (λ r. TellsFed (words_of StandsForLeads HasRecorded) r fed checker verdict) same_rules tells)) in
     record_of parts rules recorder line thread begun all most here.on.is_verdict (subst (λ e. KeepsAt HasRecorded rules parts e (Violation line thread begun)) (sym same_engine) here.keeps_at)
+
+-- a cycle goes with violations alone
+pub no_cycle : (verdict : Verdict) → ((line : ℕ) (thread : List ℕ) (begun : ℕ) → verdict ≡ Violation line thread begun → ⊥) → has_cycle true verdict ≡ false
+no_cycle (Serializable events blocks) is = refl
+no_cycle (Pending events blocks pending) is = refl
+no_cycle (Violation line thread begun) is = absurd (is line thread begun refl)
+no_cycle (Malformed line fault) is = refl
+no_cycle (IllFormed line fault) is = refl
