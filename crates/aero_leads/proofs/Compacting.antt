@@ -98,9 +98,12 @@ sorted_later {g = g} {f = f} xs up calls =
 
 falls_of : (xs : List Last) → IsSortedBy later xs → Falls xs
 falls_of [] up = tt
-falls_of (x ∷ xs) up = (first, falls_of xs (λ k d z l.
-    let next : suc k + 1 ≡ suc (k + 1) = omega arith in
-    subst (λ i. later (get_or (x ∷ xs) i d) (get_or xs k d) ≡ false) next (up (suc k) d (omega arith) (omega (arith, l)))))
+falls_of (x ∷ xs) up = (
+  first,
+  falls_of xs (λ k d z l.
+      let next : suc k + 1 ≡ suc (k + 1) = omega arith in
+      subst (λ i. later (get_or (x ∷ xs) i d) (get_or xs k d) ≡ false) next (up (suc k) d (omega arith) (omega (arith, l)))),
+)
   where
     first : Leads x xs
     first y a same =

@@ -14,7 +14,7 @@
 //!   the event leads to the thread from now on.
 //! - A begin is the first place of its block, and a fork gives all that leads to the thread.
 //! - A read that no open block leads to is forgotten where its variable is read again: what comes to lead to its thread
-//!   leads to later events of it alone.
+//!   leads to later events of it alone. A thread's earlier reads may stay, since what leads to them leads to the write.
 //! - At an end, what leads to the block leads to all that the block led to, each from where the block
 //!   did, and the block leaves all rows. No variable and no lock is looked at.
 //!

@@ -5,12 +5,12 @@ ghost use Rattle.aero_leads.specs.Kept.{last, last_or_none, variable_write, late
 use crate::last::Last;
 use std::alloc::{AllocError, Global};
 
-/// So many reads of other threads are gone over at each read.
+/// A list of up to so many reads is gone over at each read.
 const FEW: usize = 8;
 
 /// The last write, the latest read since, and of each other thread its last read since, if an open block may lead to it.
-/// Among more than a few of these are earlier reads as well, up to as many as stood when these were left out last: so a
-/// read needn't go over all of them. Most variables are read by one thread between writes, and need no list.
+/// A list of more than a few has earlier reads as well, and `stood` is how long it was when it was last without them: so
+/// a read needn't go over the list. Most variables are read by one thread between writes, and need none.
 #[derive(Drop)]
 pub struct Variable {
     pub write: Last,
@@ -78,7 +78,8 @@ pub(crate) fn note_write(
 }
 
 /// Variable `x` is read by this event, the last read by its thread. The latest read before it stands with the others
-/// from now on, or is forgotten, which is right where it is by the same thread or no open block leads to it.
+/// from now on, or is forgotten, which is right where it is by the same thread or no open block leads to it. Of the
+/// others some may be left out: those by the same thread, and those of which a later one by their thread stays.
 pub(crate) fn note_read(
     variables: &mut Vec<Variable>,
     x: u32,
@@ -119,7 +120,7 @@ fn put_read(variable: &mut Variable, event: Last, is_kept: bool) -> Result<(), A
     Ok(())
 }
 
-// Few reads are left without those by thread t. More are left alone until they have doubled.
+// Of few reads those by thread t are left out. More stay until they have doubled.
 fn drop_stale(reads: &mut Vec<Last>, stood: &mut usize, t: u32)
     ensures { AreKept t reads.old.items reads.new.items }
 {
@@ -135,7 +136,7 @@ fn drop_stale(reads: &mut Vec<Last>, stood: &mut usize, t: u32)
     *stood = reads.len();
 }
 
-// Of each thread the last read is left alone.
+// Of each thread only the last read stays.
 #[inline(never)]
 fn compact(reads: &mut Vec<Last>)
     ensures { AreCompacted reads.old.items reads.new.items }

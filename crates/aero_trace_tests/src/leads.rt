@@ -174,6 +174,70 @@ fn the_last_event_closes_a_cycle_or_none(rt: HostRuntime) {
     assert_eq!(rt; first_wrong(rt.alloc(), &ROWS), None);
 }
 
+// How many threads read variable 0 in turns, ten times each.
+const READERS: u32 = 40;
+
+const READS: u32 = 400;
+
+// The even ones of them read in open blocks. One more thread opens a block and writes variable 1. A reader reads that
+// once there are so many reads of variable 0. When the thread then writes variable 0, this is answered.
+type InTurns = (u32, u32, Option<u32>);
+
+fn begin_evenly(leads: &mut Leads) -> Result<(), Spent> {
+    for t in 0..=READERS {
+        if t % 2 == 0 {
+            make(leads, t, Event::Begin)?;
+        }
+    }
+    Ok(())
+}
+
+fn read_in_turns(leads: &mut Leads, from: u32, to: u32) -> Result<(), Spent> {
+    for i in from..to {
+        make(leads, i % READERS, Event::Read(0))?;
+    }
+    Ok(())
+}
+
+fn write_after_turns(leads: &mut Leads, reader: u32, before: u32) -> Result<Option<u32>, Spent> {
+    begin_evenly(leads)?;
+    make(leads, READERS, Event::Write(1))?;
+    read_in_turns(leads, 0, before)?;
+    make(leads, reader, Event::Read(1))?;
+    read_in_turns(leads, before, READS)?;
+    make(leads, READERS, Event::Write(0))
+}
+
+// The first row that doesn't hold.
+fn first_untold(alloc: Global, rows: &[InTurns]) -> Option<usize> {
+    for i in 0..rows.len() {
+        let (reader, before, told) = rows[i];
+        let mut leads = Leads::new(alloc);
+        if write_after_turns(&mut leads, reader, before) != Ok(told) {
+            return Some(i);
+        }
+    }
+    None
+}
+
+// Thread t makes the reads t, t + 40, .. t + 360. The block leads to those after its read of variable 1 alone, and no
+// other thread's: so there is a cycle where the last of them comes after it.
+const IN_TURNS: [InTurns; 8] = [
+    (7, 0, Some(READERS)),
+    (7, 200, Some(READERS)),
+    (7, 367, Some(READERS)),
+    (7, 368, None),
+    (8, 368, Some(READERS)),
+    (8, 369, None),
+    (39, 399, Some(READERS)),
+    (39, 400, None),
+];
+
+#[test]
+fn of_many_reads_the_last_of_each_thread_counts(rt: HostRuntime) {
+    assert_eq!(rt; first_untold(rt.alloc(), &IN_TURNS), None);
+}
+
 // What the tests say of a thread: whether it is in a block, whether it has made an event, and how many
 // outermost begins it has made.
 type Said = (bool, bool, u32);

@@ -10,6 +10,6 @@ pub returns-clause-others : goal.returns-clause-others
 returns-clause-others c =
     put_kept c.args.event.thread c.args.variable.now.others.items c.drop_stale.new.reads.items c.if-is_kept.variable.others.items (if c.args.is_kept then c.args.variable.now.read ∷ [] else []) c.drop_stale.ensures
     (elim c.if-is_kept.branch [
-      then-is_kept+in_ok-push w ↦ ap (λ (v : Variable). v.others.items) w.variable-is ∙ w.in_ok-push.ensures.items ∙ ap (λ ls. c.drop_stale.new.reads.items ++ ls) (sym (cond-true c.args.is_kept _ _ w.if-is_kept.true))
-    | else-is_kept w ↦ ap (λ (v : Variable). v.others.items) w.variable-is ∙ sym (append-nil c.drop_stale.new.reads.items) ∙ ap (λ ls. c.drop_stale.new.reads.items ++ ls) (sym (cond-false c.args.is_kept _ _ w.if-is_kept.false))
+      | then-is_kept+in_ok-push w ↦ ap (λ (v : Variable). v.others.items) w.variable-is ∙ w.in_ok-push.ensures.items ∙ ap (λ ls. c.drop_stale.new.reads.items ++ ls) (sym (cond-true c.args.is_kept _ _ w.if-is_kept.true))
+      | else-is_kept w ↦ ap (λ (v : Variable). v.others.items) w.variable-is ∙ sym (append-nil c.drop_stale.new.reads.items) ∙ ap (λ ls. c.drop_stale.new.reads.items ++ ls) (sym (cond-false c.args.is_kept _ _ w.if-is_kept.false))
     ])
