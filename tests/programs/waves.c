@@ -9,8 +9,6 @@ enum { WAVE = 4 };
 static pthread_mutex_t lock = PTHREAD_MUTEX_INITIALIZER;
 static sem_t over;
 static long count;
-static pthread_t first[2];
-static int again;
 
 static void add(long *by) {
     pthread_mutex_lock(&lock);
@@ -25,13 +23,19 @@ static void *work(void *detached) {
     return NULL;
 }
 
-static void wave(int times) {
+/* A thread that starts where another was joined before has its stack, and so its id. */
+static int ids_are_used_again(void) {
+    pthread_t one, other;
+    pthread_create(&one, NULL, work, NULL);
+    pthread_join(one, NULL);
+    pthread_create(&other, NULL, work, NULL);
+    pthread_join(other, NULL);
+    return pthread_equal(one, other);
+}
+
+static void wave(void) {
     pthread_t threads[WAVE];
     for (long one = 0; one < WAVE; one++) pthread_create(&threads[one], NULL, work, one >= WAVE / 2 ? &over : NULL);
-    for (int one = 0; one < 2; one++) {
-        if (!times) first[one] = threads[one];
-        else again |= pthread_equal(first[one], threads[one]);
-    }
     for (int one = WAVE / 2; one < WAVE; one++) pthread_detach(threads[one]);
     for (int one = 0; one < WAVE / 2; one++) pthread_join(threads[one], NULL);
     for (int one = WAVE / 2; one < WAVE; one++) sem_wait(&over);
@@ -39,8 +43,9 @@ static void wave(int times) {
 
 int main(int words, char **word) {
     int waves = words > 1 ? atoi(word[1]) : 100;
+    int again = ids_are_used_again();
     sem_init(&over, 0, 0);
-    for (int times = 0; times < waves; times++) wave(times);
+    for (int times = 0; times < waves; times++) wave();
     printf("%ld, ids %s\n", count, again ? "used again" : "all new");
     return 0;
 }
