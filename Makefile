@@ -27,7 +27,8 @@ test:
 install: bin/aerodrome
 	install -D -m 755 bin/aerodrome $(DESTDIR)$(PREFIX)/bin/aerodrome
 	install -D -m 644 docs/aerodrome.1 $(DESTDIR)$(PREFIX)/share/man/man1/aerodrome.1
-	@if command -v gcc > /dev/null; then logger/build $(DESTDIR)$(PREFIX); else echo "no gcc here: the logger isn't installed"; fi
+	@if command -v $${CC:-gcc} > /dev/null; then logger/build $(DESTDIR)$(PREFIX); \
+	else echo "no $${CC:-gcc} here: the logger isn't installed"; fi
 
 clean:
 	rm -rf bin lib out crates/*/out
