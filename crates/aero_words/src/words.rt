@@ -1,8 +1,9 @@
 //! The words of the command line, and what they ask for.
-ghost use Rattle.std.specs.Prelude.{◌≡◌, ◌<◌, ◌≤◌, ◌++◌, ◌∷◌, ◌&&◌, [], IfOk, OnOk, Some, codes, false, map, pos, string_bytes, vec_len};
+ghost use Rattle.std.specs.Prelude.{◌≡◌, ◌<◌, ◌≤◌, ◌++◌, ◌∷◌, ◌&&◌, [], IfErr, IfOk, OnOk, Some, codes, false, length, map, pos, string_bytes, true, vec_len};
 ghost use Rattle.clap.specs.Words.{all_of, app_of, found_of, one_of, rows_of, rule_of};
 ghost use Rattle.clap.specs.declared.builder.value_parser.ValueParser.TheVariants as vp;
-ghost use Rattle.aero_words.specs.Labels.{IsTold};
+ghost use Rattle.std.specs.List.{list_any};
+ghost use Rattle.aero_words.specs.Labels.{AreRefused, IsTold, is_no_label};
 ghost use Rattle.aero_words.specs.Line.{AsksFor, files_rule, flag_rule, form_of, form_told, format_rule, is_told, label_rule, no_rules, number_rule, number_told, program, progress_told, rows_given, texts_told};
 ghost use Rattle.aero_words.specs.Words.{IsRead, ReadsFlag, ReadsWithin};
 
@@ -182,7 +183,7 @@ fn settle(alloc: Global, matches: &ArgMatches<'_>) -> Result<Config, Refused>
         return Err(Refused::TooManyFiles);
     }
     let labels = matches.get_strs("except").unwrap_or(&[]);
-    let except = few_labels(labels_of(alloc, labels)?)?;
+    let except = labels_of(alloc, labels)?;
     let files = owned(alloc, given)?;
     Ok(Config {
         workers,
@@ -197,9 +198,53 @@ fn settle(alloc: Global, matches: &ArgMatches<'_>) -> Result<Config, Refused>
     })
 }
 
-// The labels that the texts are, in their order. The first that is none is refused.
-fn labels_of(alloc: Global, texts: &[&str]) -> Result<Vec<Name>, Refused>
-    ensures { IfOk result (λ labels. labels.items ≡ map (λ text. text.now) texts.now) }
+// The labels that the texts are, in their order. That one is none is told first, then that there are
+// too many, and only then that memory is refused.
+fn labels_of(alloc: Global, labels: &[&str]) -> Result<Vec<Name>, Refused>
+    ensures same { IfOk result (λ all. all.items ≡ map (λ text. text.now) labels.now) }
+    ensures few { IfOk result (λ all. vec_len all ≤ 64) }
+    ensures refused { IfErr result (AreRefused (map (λ text. text.now) labels.now)) }
+{
+    if has_bad_label(alloc, labels) {
+        return Err(Refused::BadLabel);
+    }
+    if are_too_many(labels) {
+        return Err(Refused::TooManyLabels);
+    }
+    match names_of(alloc, labels) {
+        Ok(all) => Ok(all),
+        Err(_) => Err(Refused::Memory),
+    }
+}
+
+// Whether a command line may not give so many labels.
+fn are_too_many(labels: &[&str]) -> bool
+    ensures many { result ≡ true → 64 < length labels.now }
+    ensures few { result ≡ false → length labels.now ≤ 64 }
+{
+    labels.len() > MOST_LABELS
+}
+
+// Whether one of the texts is no label, also where memory is refused.
+fn has_bad_label(alloc: Global, texts: &[&str]) -> bool
+    ensures { result ≡ list_any (λ text. is_no_label text.now) texts.now }
+{
+    texts.iter().any(|text| is_bad_label(alloc, text))
+}
+
+fn is_bad_label(alloc: Global, text: &str) -> bool
+    ensures { result ≡ is_no_label text.now }
+{
+    match Name::read(alloc, text.as_bytes()) {
+        Ok(_) | Err(NameFault::Memory) => false,
+        Err(_) => true,
+    }
+}
+
+// The labels that the texts are, in their order, unless memory is refused or one is none.
+fn names_of(alloc: Global, texts: &[&str]) -> Result<Vec<Name>, Refused>
+    ensures same { IfOk result (λ all. all.items ≡ map (λ text. text.now) texts.now) }
+    ensures len { IfOk result (λ all. vec_len all ≡ length texts.now) }
 {
     let mut labels = Vec::new(alloc);
     for text in texts {
@@ -229,17 +274,6 @@ pub fn label_of(alloc: Global, text: &str) -> Result<Name, Refused>
         Err(NameFault::Memory) => Err(Refused::Memory),
         Err(_) => Err(Refused::BadLabel),
     }
-}
-
-// The labels, unless there are too many.
-fn few_labels(labels: Vec<Name>) -> Result<Vec<Name>, Refused>
-    ensures same { IfOk result (λ few. few ≡ labels) }
-    ensures few { IfOk result (λ few. vec_len few ≤ 64) }
-{
-    if labels.len() > MOST_LABELS {
-        return Err(Refused::TooManyLabels);
-    }
-    Ok(labels)
 }
 
 // The number of an option, from 1 to `most`.

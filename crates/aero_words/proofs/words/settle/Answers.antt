@@ -7,8 +7,8 @@ pub returns : goal.returns
 returns c = record {
   workers = c.number_in-workers.ensures.told;
   piece = c.number_in-piece.ensures.told;
-  except = rw c.in_ok-except.ensures.same (c.in_ok-labels_of.ensures
-      ∙ texts_read (found_of c.args.matches.now) (codes "except") c.get_strs-2.result c.unwrap_or-labels.result _ c.get_strs-2.ensures c.unwrap_or-labels.ensures refl);
+  except = c.in_ok-except.ensures.same
+      ∙ texts_read (found_of c.args.matches.now) (codes "except") c.get_strs-2.result c.unwrap_or-labels.result _ c.get_strs-2.ensures c.unwrap_or-labels.ensures refl;
   order = c.in_ok-order.ensures.order;
   explain = c.flag_in.ensures;
   long = c.in_ok-order.ensures.long;

@@ -1,5 +1,5 @@
 use Rattle.std.proofs.Common.{◌≡◌, map, take}
-use Rattle.aero_words.proofs.words.labels_of.Given as goal
+use Rattle.aero_words.proofs.words.names_of.Given as goal
 
 -- the labels so far
 abbrev pub invariant-loop-text : goal.invariant-loop-text
