@@ -480,19 +480,13 @@ fn the_report_is_the_same_whoever_helps(rt: HostRuntime) -> Result<(), Fail> {
     Ok(())
 }
 
-// How many replies in a row were of no use, and how many of two answers are kept and worked out here.
-static CHATTERED: [(u32, u64, u64); 4] = [
-    (1_022, 2, 0),
-    (1_023, 2, 0),
-    (1_024, 0, 2),
-    (1_025, 0, 2),
-];
-
 // The 1,024th reply in a row that is of no use is the last that is awaited. Who gives one fewer before each answer answers
 // both questions, each of which begins anew; who gives as many answers both too late.
 #[test]
 fn a_question_is_given_up_after_1024_useless_replies(rt: HostRuntime) -> Result<(), Fail> {
-    for (times, kept, done_here) in CHATTERED {
+    // How many replies in a row are of no use, and how many of two answers are kept and worked out here.
+    let rows = [(1_022, 2, 0), (1_023, 2, 0), (1_024, 0, 2), (1_025, 0, 2)];
+    for (times, kept, done_here) in rows {
         let who = Who::Helped(Habit::Chatters(times));
         let text = b"T1|r(x)".as_slice();
         let outcome = expect_start(&rt, text, Limits::greatest(), 65_536, who, FITS)?;

@@ -191,19 +191,25 @@ fn write_beside<R: Wait + Drop>(rt: R, screen: &mut Narrow, report: &mut Narrow)
     beside.flush()
 }
 
-// A writer that notes whether a line was locked at each write, and how often it was written to.
+// How often something was written, and how often the line was locked meanwhile.
 #[derive(Drop)]
-struct Watches<'a, L> {
-    line: &'a Mutex<Line<L>>,
-    locked: u32,
-    writes: u32,
+struct Writes {
+    all: AtomicU64,
+    locked: AtomicU64,
 }
 
-impl<L> Write for Watches<'_, L> {
+// A writer that notes whether the line is locked.
+#[derive(Drop)]
+struct Watches<'a> {
+    line: &'a Mutex<Line<Narrow>>,
+    writes: &'a Writes,
+}
+
+impl Write for Watches<'_> {
     fn write(&mut self, buf: &[u8]) -> io::Result<usize> {
-        self.writes += 1;
+        self.writes.all.fetch_add(1, Ordering::SeqCst);
         if self.line.try_lock().is_none() {
-            self.locked += 1;
+            self.writes.locked.fetch_add(1, Ordering::SeqCst);
         }
         Ok(buf.len())
     }
@@ -213,25 +219,28 @@ impl<L> Write for Watches<'_, L> {
     }
 }
 
-// How often something was written beside a line, and how often it was locked meanwhile and is afterwards.
-fn locked_writes<R: Wait + Drop>(rt: R, screen: &mut Narrow) -> io::Result<(u32, u32, bool)> {
-    let shared = Mutex::new(Line::new(screen));
-    let mut watches = Watches {
-        line: &shared,
-        locked: 0,
-        writes: 0,
-    };
-    let mut beside = Beside::new(rt, &mut watches, Some(&shared));
+fn write_twice<R: Wait + Drop>(
+    rt: R,
+    line: &Mutex<Line<Narrow>>,
+    writes: &Writes,
+) -> io::Result<()> {
+    let mut beside = Beside::new(rt, Watches { line, writes }, Some(line));
     beside.write_all(b"report\n")?;
-    beside.write_all(b"more\n")?;
-    Ok((watches.writes, watches.locked, shared.try_lock().is_none()))
+    beside.write_all(b"more\n")
 }
 
-// No tick can show the line between what clears it and what is written then: the line is locked until that is written.
+// No tick can show the line between what clears it and what is written then: it is locked until that is written.
 #[test]
 fn a_line_is_locked_while_something_is_written_beside_it(rt: HostRuntime) -> Result<(), Fail> {
-    let mut screen = narrow(rt.alloc(), 3, 0);
-    assert_eq!(rt; locked_writes(rt, &mut screen)?, (2, 2, false));
+    let line = Mutex::new(Line::new(narrow(rt.alloc(), 3, 0)));
+    let writes = Writes {
+        all: AtomicU64::new(0),
+        locked: AtomicU64::new(0),
+    };
+    write_twice(rt, &line, &writes)?;
+    assert_eq!(rt; writes.all.load(Ordering::SeqCst), 2);
+    assert_eq!(rt; writes.locked.load(Ordering::SeqCst), 2);
+    assert!(rt; line.try_lock().is_some());
     Ok(())
 }
 

@@ -349,18 +349,18 @@ impl Gate for Handles {
     }
 }
 
-// Whether the job is answered by one worker.
+// Whether the job of this question is answered by one worker.
 fn is_answered_by_one<R: Threads + Wait + Copy + Send + 'static>(
     rt: R,
     alloc: Global,
     gate: Arc<Handles>,
     only: Job,
+    block: &Question,
 ) -> Option<bool> {
     let mut crew = Crew::start(rt, alloc, 1, gate).ok()?;
-    let is_posted = crew.post(&rt, only).is_ok();
-    let is_answered = matches!(crew.next_answer(&rt), Some(Reply::Done(_)));
+    let is_answered = crew.post(&rt, only).is_ok() & is_done(crew.next_answer(&rt), block);
     crew.close(&rt);
-    Some(is_posted & is_answered)
+    Some(is_answered)
 }
 
 // Whether a question is answered, and how many handles of it there are in the gate, before its answer and after.
@@ -377,7 +377,7 @@ fn handles_in_the_gate<R: Threads + Wait + Copy + Send + 'static>(
     };
     let gate = Arc::new(alloc, handles).ok()?;
     let shared = Arc::try_clone(&gate).ok()?;
-    let is_answered = is_answered_by_one(rt, alloc, shared, only)?;
+    let is_answered = is_answered_by_one(rt, alloc, shared, only, &gate.kept)?;
     let before = gate.before.load(Ordering::SeqCst);
     Some((is_answered, before, gate.after.load(Ordering::SeqCst)))
 }

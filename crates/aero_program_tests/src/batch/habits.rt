@@ -128,7 +128,7 @@ impl Helpers for Helper {
             Habit::Leaves => return None,
             Habit::Babbles => return other_answer(self.alloc, 0, 0).ok(),
             Habit::Chatters(times) if self.chatted < times => {
-                self.chatted += 1;
+                self.chatted = self.chatted.saturating_add(1);
                 return other_answer(self.alloc, 0, 0).ok();
             }
             _ => {}
