@@ -15,10 +15,11 @@
 //! # What is proved
 //!
 //! - Of the numbers below a count, each time the least is next to which no edge leads from one that isn't there yet:
-//!   `least_order`.
+//!   `least_order`, `order`. The edges stay the same ones, in another order: `edges`.
 //! - After the events of a well-formed trace there is an order exactly where its graph has no cycle. It has the first
 //!   events of the transactions, in the serial order: `Transactions::order`, `exact` and `serial`; `new`, `add`. Each comes
-//!   with the line and the thread with which it was added: `kept` of `add` and `order`.
+//!   with the line and the thread with which it was added, and an event counts also where memory is refused: `kept` of
+//!   `add` and `order`, `counted`.
 //! - Near events conflict, and in a well-formed trace chains of them lead wherever a conflict does. The order along
 //!   near edges is the serial order. It has every transaction exactly where it is as long as there are transactions:
 //!   `laws`.

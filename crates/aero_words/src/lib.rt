@@ -19,7 +19,8 @@
 //!   are read. So it is with each number, the labels, the files, `--order`, `--explain`, `--long`, and when the line on
 //!   progress is shown: `settle_words`.
 //! - A label is the text that is given for it, or is refused where that is none. Want of memory is answered only for
-//!   one of more than 16 bytes: `label_of`.
+//!   one of more than 16 bytes: `label_of`. Of several, that one is none is told first, then that they are too many, and
+//!   want of memory last: `labels_of` (private), `refused`.
 #![tactic(auto)]
 
 mod help;
