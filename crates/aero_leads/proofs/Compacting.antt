@@ -40,6 +40,9 @@ but_among t l (k ∷ ks) a ne = go (λ m. but_among t l ks m ne) (k.thread == t)
 pub but_kept : (t : ℕ) (ls : List Last) → AreKept t ls (reads_but t ls)
 but_kept t ls = record { each = λ l a. among_but t l ls a; all = λ l a ne. (l, but_among t l ls a ne, refl, le_refl l.count) }
 
+pub compact_kept : (t : ℕ) (old mid new : List Last) → AreCompacted old mid → new ≡ mid → AreKept t old new
+compact_kept t old mid new h is = subst (AreKept t old) (sym is) (record { each = h.each; all = λ l a ne. h.all l a })
+
 -- more reads behind both
 kept_append : (t : ℕ) (old new more : List Last) → AreKept t old new → AreKept t (old ++ more) (new ++ more)
 kept_append t old new more h = record {

@@ -6,17 +6,16 @@ use crate::last::Last;
 use std::alloc::{AllocError, Global};
 
 /// A list of up to so many reads is gone over at each read.
-const FEW: usize = 8;
+const FEW: usize = 32;
 
 /// The last write, the latest read since, and of each other thread its last read since, if an open block may lead to it.
-/// A list of more than a few has earlier reads as well, and `stood` is how long it was when it was last without them: so
-/// a read needn't go over the list. Most variables are read by one thread between writes, and need none.
+/// A list of more than a few has earlier reads as well, until its room is full: so a read needn't go over the list. Most
+/// variables are read by one thread between writes, and need none.
 #[derive(Drop)]
 pub struct Variable {
     pub write: Last,
     pub read: Last,
     pub others: Vec<Last>,
-    pub stood: usize,
 }
 
 /// The last write of variable `x`.
@@ -73,7 +72,6 @@ pub(crate) fn note_write(
     variable.write = event;
     variable.read = Last::none();
     variable.others.clear();
-    variable.stood = 0;
     Ok(())
 }
 
@@ -111,7 +109,7 @@ fn put_read(variable: &mut Variable, event: Last, is_kept: bool) -> Result<(), A
     ensures latest { OnOk result (variable.new.read ≡ event) }
     ensures others { OnOk result (AreKept event.thread (variable.old.others.items ++ (if is_kept then variable.old.read ∷ [] else [])) variable.new.others.items) }
 {
-    drop_stale(&mut variable.others, &mut variable.stood, event.thread);
+    drop_stale(&mut variable.others, event.thread);
     if is_kept {
         let latest = variable.read;
         variable.others.push(latest)?;
@@ -120,8 +118,9 @@ fn put_read(variable: &mut Variable, event: Last, is_kept: bool) -> Result<(), A
     Ok(())
 }
 
-// Of few reads those by thread t are left out. More stay until they have doubled.
-fn drop_stale(reads: &mut Vec<Last>, stood: &mut usize, t: u32)
+// Of few reads those by thread t are left out. More stay until their room is full, and then there is room for as many
+// again as are left. Where memory for it is refused, this is done again at the next read.
+fn drop_stale(reads: &mut Vec<Last>, t: u32)
     ensures { AreKept t reads.old.items reads.new.items }
 {
     let count = reads.len();
@@ -129,11 +128,12 @@ fn drop_stale(reads: &mut Vec<Last>, stood: &mut usize, t: u32)
         drop_reader(reads, t);
         return;
     }
-    if count / 2 < FEW.max(*stood) {
+    if count < reads.capacity() {
         return;
     }
     compact(reads);
-    *stood = reads.len();
+    let left = reads.len();
+    let _ = reads.reserve(left);
 }
 
 // Of each thread only the last read stays.
@@ -172,7 +172,6 @@ fn reach(variables: &mut Vec<Variable>, x: u32) -> Result<(), AllocError>
             write: Last::none(),
             read: Last::none(),
             others,
-            stood: 0,
         })?;
     }
     Ok(())

@@ -175,9 +175,9 @@ fn the_last_event_closes_a_cycle_or_none(rt: HostRuntime) {
 }
 
 // How many threads read variable 0 in turns, ten times each.
-const READERS: u32 = 40;
+const READERS: u32 = 100;
 
-const READS: u32 = 400;
+const READS: u32 = 1_000;
 
 // The even ones of them read in open blocks. One more thread opens a block and writes variable 1. A reader reads that
 // once there are so many reads of variable 0. When the thread then writes variable 0, this is answered.
@@ -220,17 +220,17 @@ fn first_untold(alloc: Global, rows: &[InTurns]) -> Option<usize> {
     None
 }
 
-// Thread t makes the reads t, t + 40, .. t + 360. The block leads to those after its read of variable 1 alone, and no
+// Thread t makes the reads t, t + 100, .. t + 900. The block leads to those after its read of variable 1 alone, and no
 // other thread's: so there is a cycle where the last of them comes after it.
 const IN_TURNS: [InTurns; 8] = [
     (7, 0, Some(READERS)),
-    (7, 200, Some(READERS)),
-    (7, 367, Some(READERS)),
-    (7, 368, None),
-    (8, 368, Some(READERS)),
-    (8, 369, None),
-    (39, 399, Some(READERS)),
-    (39, 400, None),
+    (7, 500, Some(READERS)),
+    (7, 907, Some(READERS)),
+    (7, 908, None),
+    (8, 908, Some(READERS)),
+    (8, 909, None),
+    (99, 999, Some(READERS)),
+    (99, 1_000, None),
 ];
 
 #[test]
