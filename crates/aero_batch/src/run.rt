@@ -241,5 +241,11 @@ fn tell_ready<R: Read, W: Write>(
         return Ok(false);
     }
     let name = sources[place].name.as_slice();
-    tell_next(style_of(alloc, plan), name, &progress.tracks[place], writer, told)
+    tell_next(
+        style_of(alloc, plan),
+        name,
+        &progress.tracks[place],
+        writer,
+        told,
+    )
 }

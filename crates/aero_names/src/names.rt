@@ -178,12 +178,7 @@ impl Names {
         ensures listing { IsListing self.new }
     {
         let number = self.list.len();
-        grow(
-            self.alloc,
-            &mut self.latest,
-            &mut self.before,
-            &self.list,
-        )?;
+        grow(self.alloc, &mut self.latest, &mut self.before, &self.list)?;
         let mark = self.latest.mark_of(name, hash);
         make_room(&mut self.latest, &mut self.before, &mut self.keys, mark)?;
         self.list.push(name)?;

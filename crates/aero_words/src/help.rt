@@ -78,7 +78,8 @@ pub const LONG_WITH_ORDER: &str =
 
 pub const FORMAT: &str = "The form of the report: text or json";
 
-pub const LONG_FORMAT: &str = "The form of the report: `text`, or `json` for machines: an object on a
+pub const LONG_FORMAT: &str =
+    "The form of the report: `text`, or `json` for machines: an object on a
 line for each trace, in order, and one on all of them. A name is a
 string, or {\"bytes\":BASE64} where it isn't UTF-8";
 

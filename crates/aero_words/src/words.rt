@@ -350,7 +350,11 @@ fn form_of(text: &str) -> Option<Form>
     if text == "json" {
         return Some(Form::Json);
     }
-    if text == "text" { Some(Form::Text) } else { None }
+    if text == "text" {
+        Some(Form::Text)
+    } else {
+        None
+    }
 }
 
 // That what `--format` has names no form.
