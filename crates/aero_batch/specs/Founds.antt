@@ -6,7 +6,8 @@ use Rattle.aero_model.specs.declared.verdict.Ending.{Ending}
 use Rattle.aero_model.specs.declared.verdict.Finding.{Finding}
 use Rattle.aero_model.specs.CallCounts.{Seen, seen_by}
 use Rattle.aero_report.specs.declared.form.Form.{Form}
-use Rattle.aero_report.specs.Forms.{source_line_in, source_lines_in, summary_line_in, counts_of, report_in}
+use Rattle.aero_report.specs.Forms.{source_line_in, source_lines_in, summary_line_in, report_in}
+use Rattle.aero_report.specs.Texts.{counts_of}
 use Rattle.aero_batch.specs.declared.outcome.Cause.{Cause}
 use Rattle.aero_batch.specs.declared.outcome.Cause.TheVariants.{Memory, Write}
 use Rattle.aero_intake.specs.declared.source.Source.{Source}

@@ -14,6 +14,7 @@ use Rattle.aero_intake.specs.PlanTerms.{terms_of}
 pub returns-in-Ok-clause-stands : goal.returns-in-Ok-clause-stands
 returns-in-Ok-clause-stands g c = λ old before st.
     let terms = (terms_of c.args.around.now.plan.now) in
+    let form = c.args.around.now.plan.now.form in
     let now = map (sighted g.R.Read.remaining) c.args.sources.now in
     let after = map (sighted g.R.Read.remaining) c.step.new.sources in
     let mid = seen_by g.W.Write.contents c.args.writer.now in
@@ -25,6 +26,7 @@ returns-in-Ok-clause-stands g c = λ old before st.
 pub returns-in-Err-clause-stopped : goal.returns-in-Err-clause-stopped
 returns-in-Err-clause-stopped g c = λ old before st.
     let terms = (terms_of c.args.around.now.plan.now) in
+    let form = c.args.around.now.plan.now.form in
     let now = map (sighted g.R.Read.remaining) c.args.sources.now in
     let after = map (sighted g.R.Read.remaining) c.step.new.sources in
     let mid = seen_by g.W.Write.contents c.args.writer.now in

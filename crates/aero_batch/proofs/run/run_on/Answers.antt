@@ -1,7 +1,10 @@
 use Rattle.std.proofs.Common.{map, sym, subst, ◌∙◌}
 use Rattle.std.proofs.lemmas.List.{length-map}
 use Rattle.aero_model.specs.CallCounts.{seen_by}
+use Rattle.aero_report.specs.declared.form.Form.{Form}
+use Rattle.aero_report.specs.Forms.{summary_line_in}
 use Rattle.aero_batch.specs.Founds.{sighted}
+use Rattle.aero_batch.specs.Telling.{TellsText}
 use Rattle.aero_batch.specs.Holding.{IsBegun}
 use Rattle.aero_batch.proofs.Standing.{begun_stands, summary_done}
 use Rattle.aero_batch.proofs.run.run_on.Goals as goal
@@ -16,6 +19,7 @@ steps-init g c =
 pub returns-then-branch-clause-done : goal.returns-then-branch-clause-done
 returns-then-branch-clause-done g c =
     let terms = (terms_of c.args.around.now.plan.now) in
+    let form = c.args.around.now.plan.now.form in
     let old = map (sighted g.R.Read.remaining) c.args.sources.now in
     let now = map (sighted g.R.Read.remaining) c.advance.new.sources in
     let before = seen_by g.W.Write.contents c.args.writer.now in
@@ -23,11 +27,13 @@ returns-then-branch-clause-done g c =
     let after = seen_by g.W.Write.contents c.tell_summary.new.writer in
     let st = c.in_ok-advance.ensures.stands old before c.steps.invariant in
     let all = c.in_ok-advance.ensures.all_told c.if-branch.true ∙ sym (length-map c.advance.new.sources (sighted g.R.Read.remaining)) in
-    (summary_done terms form old now before mid after c.advance.new.progress c.advance.new.told all st c.tell_summary.result c.tell_summary.ensures).0
+    let tells = subst (λ (f : Form). TellsText (summary_line_in f c.advance.new.told.counts) mid after c.tell_summary.result) c.style_of.ensures c.tell_summary.ensures in
+    (summary_done terms form old now before mid after c.advance.new.progress c.advance.new.told all st c.tell_summary.result tells).0
 
 pub returns-then-branch-clause-stopped : goal.returns-then-branch-clause-stopped
 returns-then-branch-clause-stopped g c =
     let terms = (terms_of c.args.around.now.plan.now) in
+    let form = c.args.around.now.plan.now.form in
     let old = map (sighted g.R.Read.remaining) c.args.sources.now in
     let now = map (sighted g.R.Read.remaining) c.advance.new.sources in
     let before = seen_by g.W.Write.contents c.args.writer.now in
@@ -35,4 +41,5 @@ returns-then-branch-clause-stopped g c =
     let after = seen_by g.W.Write.contents c.tell_summary.new.writer in
     let st = c.in_ok-advance.ensures.stands old before c.steps.invariant in
     let all = c.in_ok-advance.ensures.all_told c.if-branch.true ∙ sym (length-map c.advance.new.sources (sighted g.R.Read.remaining)) in
-    (summary_done terms form old now before mid after c.advance.new.progress c.advance.new.told all st c.tell_summary.result c.tell_summary.ensures).1
+    let tells = subst (λ (f : Form). TellsText (summary_line_in f c.advance.new.told.counts) mid after c.tell_summary.result) c.style_of.ensures c.tell_summary.ensures in
+    (summary_done terms form old now before mid after c.advance.new.progress c.advance.new.told all st c.tell_summary.result tells).1

@@ -1,7 +1,9 @@
 use Rattle.std.proofs.Common.{◌≡◌, ◌<◌, length, map, get_or, refl, subst, sym, ◌∙◌, ap, arith}
 use Rattle.std.proofs.lemmas.Option.{slice_get_read}
 use Rattle.aero_model.specs.CallCounts.{seen_by}
+use Rattle.aero_report.specs.declared.form.Form.{Form}
 use Rattle.aero_batch.specs.Founds.{sighted}
+use Rattle.aero_batch.specs.Telling.{TellsNext}
 use Rattle.aero_batch.proofs.Readers.{name_there}
 use Rattle.aero_batch.proofs.Standing.{telling}
 use Rattle.aero_batch.proofs.run.tell_ready.Goals as goal
@@ -22,6 +24,8 @@ returns g c =
     let there = slice_get_read sources (length sources) place source refl few (subst (λ n. source ≡ get_or sources n source) len_is c.index-sources-place.is) in
     let track = slice_get_read p.tracks.items p.tracks.len place c.index.result.now p.tracks.ok.0 many (subst (λ n. c.index.result.now ≡ get_or p.tracks.items n c.index.result.now) len_is c.index.ensures) in
     let name_is : c.as_slice-name.result.now ≡ source.name.items = c.as_slice-name.ensures.value ∙ ap (λ s. s.name.items) (sym c.index-sources-place.is) in
+    let tells = subst (λ (f : Form). TellsNext f c.as_slice-name.result.now c.index.result.now (seen_by g.W.Write.contents c.args.writer.now) (seen_by g.W.Write.contents c.tell_next.new.writer) a c.tell_next.new.told c.tell_next.result)
+    c.style_of.ensures c.tell_next.ensures in
     let t = telling (terms_of c.args.plan.now) c.args.plan.now.form (map (sighted known) sources) (seen_by g.W.Write.contents c.args.writer.now) (seen_by g.W.Write.contents c.tell_next.new.writer) p a c.tell_next.new.told
-    c.as_slice-name.result.now below (λ x is. name_there known sources place source x there is ∙ sym name_is) c.index.result.now c.tell_next.result track c.tell_next.ensures in
+    c.as_slice-name.result.now below (λ x is. name_there known sources place source x there is ∙ sym name_is) c.index.result.now c.tell_next.result track tells in
     record { stands = t.0; unchanged = t.1; stopped = t.2 }
