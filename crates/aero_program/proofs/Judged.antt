@@ -36,18 +36,19 @@ names_noted known (source ∷ more) (ending ∷ rest) = ap (λ l. source.name.it
 
 pub judged : {S O F : Type 0} (known : Input S O F → Option (List ℕ)) (labels : List (List ℕ)) (order explain long : Bool) (form : Form) (files : List (List ℕ)) (given : Option (List ℕ)) (limits : Limits)
     (was lent new now : List (Source (Input S O F))) (before between after : Shown) (endings : List (ℕ × Ending)) (counts : Counts) (cause : Option Cause)
-    (has_failed : Bool) (end : Result ℕ Failure) (told told_after : Seen) (status : ℕ) (terms : Terms)
-    → terms ≡ asking limits labels order explain → AreLimitsFor long limits → map (sighted known) was ≡ source_sightings files given → lent ≡ was → now ≡ new
-    → WasRun terms form (map (sighted known) lent) (map (sighted known) new) before.writer between.writer endings counts cause
+    (has_failed : Bool) (end : Result ℕ Failure) (told told_after : Seen) (status : ℕ) (terms : Terms) (made : Form)
+    → terms ≡ asking limits labels order explain → made ≡ form → AreLimitsFor long limits → map (sighted known) was ≡ source_sightings files given → lent ≡ was → now ≡ new
+    → WasRun terms made (map (sighted known) lent) (map (sighted known) new) before.writer between.writer endings counts cause
     → between.unflushed ≡ before.unflushed → WasFlushed between after has_failed → end ≡ end_of_run cause counts has_failed
     → Ends (noted_of_all now (if long then [] else endings)) end told told_after status
     → WasJudged labels order explain long form files given before after told told_after status
-judged known labels order explain long form files given limits was lent new now before between after endings counts cause has_failed end told told_after status terms
-    on_terms are seen is_was is_new run same flushed ended ends =
+judged known labels order explain long form files given limits was lent new now before between after endings counts cause has_failed end told told_after status terms made
+    on_terms in_form are seen is_was is_new run same flushed ended ends =
     let seen_lent : map (sighted known) lent ≡ source_sightings files given = ap (map (sighted known)) is_was ∙ seen in
     let ran : WasRun (asking limits labels order explain) form (source_sightings files given) (map (sighted known) new) before.writer between.writer endings counts cause =
     subst (λ r. WasRun r form (source_sightings files given) (map (sighted known) new) before.writer between.writer endings counts cause) on_terms
-    (subst (λ old. WasRun terms form old (map (sighted known) new) before.writer between.writer endings counts cause) seen_lent run) in
+    (subst (λ (f : Form). WasRun terms f (source_sightings files given) (map (sighted known) new) before.writer between.writer endings counts cause) in_form
+    (subst (λ old. WasRun terms made old (map (sighted known) new) before.writer between.writer endings counts cause) seen_lent run)) in
     let noted_endings : List (ℕ × Ending) = if long then [] else endings in
     record {
       limits = limits;

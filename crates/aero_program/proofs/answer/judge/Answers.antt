@@ -26,11 +26,11 @@ returns g c =
     (shown_by g.O.Write.contents c.args.output.now)
     (record { writer = seen_by (λ w. g.O.Write.contents (tried_by w)) c.run-outcome.new.writer; unflushed = c.args.output.now.unflushed.number })
     (shown_by g.O.Write.contents c.flush-flushed.new.self)
-    c.run-outcome.result.endings.items c.run-outcome.result.counts c.run-outcome.result.cause (is_err c.flush-flushed.result) c.status_after-end.result _ _ c.finish.result (terms_of c.in-Ok-into_plan.plan)
-    (λ i. asking c.in-Ok-into_plan.plan.limits (c.in-Ok-into_plan.ensures.except i) (c.in-Ok-into_plan.ensures.order i) (c.in-Ok-into_plan.ensures.explain i)) c.in-Ok-into_plan.ensures.limits
+    c.run-outcome.result.endings.items c.run-outcome.result.counts c.run-outcome.result.cause (is_err c.flush-flushed.result) c.status_after-end.result _ _ c.finish.result (terms_of c.in-Ok-into_plan.plan) c.in-Ok-into_plan.plan.form
+    (λ i. asking c.in-Ok-into_plan.plan.limits (c.in-Ok-into_plan.ensures.except i) (c.in-Ok-into_plan.ensures.order i) (c.in-Ok-into_plan.ensures.explain i)) c.in-Ok-into_plan.ensures.form c.in-Ok-into_plan.ensures.limits
     (◌∙◌ {b = source_sightings (map string_bytes c.deref.result.now) (g.S.Read.remaining c.args.stdin)} c.in-Ok-sources_of.ensures.sighted files_are)
     c.deref_mut.ensures.value (with_items_is c.in-Ok-sources_of.sources c.run-outcome.new.sources kept)
-    (subst (λ (f : Form). WasRun (terms_of c.in-Ok-into_plan.plan) f _ _ _ _ _ _ _) c.in-Ok-into_plan.ensures.form c.run-outcome.ensures.ran) refl
+    c.run-outcome.ensures.ran refl
     (record { bytes = c.flush-flushed.ensures.bytes; faults = c.flush-flushed.ensures.faults; unflushed = c.flush-flushed.ensures.unflushed })
     c.status_after-end.ensures (c.finish.ensures (noted_of_all _ (if c.args.config.long then [] else c.run-outcome.result.endings.items))
     (noted_as (λ text. text.items) _ c.noted.result.now (if c.args.config.long then [] else c.run-outcome.result.endings.items)
