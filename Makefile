@@ -27,6 +27,8 @@ test:
 install: bin/aerodrome
 	install -D -m 755 bin/aerodrome $(DESTDIR)$(PREFIX)/bin/aerodrome
 	install -D -m 644 docs/aerodrome.1 $(DESTDIR)$(PREFIX)/share/man/man1/aerodrome.1
+	install -D -m 644 completions/aerodrome.bash $(DESTDIR)$(PREFIX)/share/bash-completion/completions/aerodrome
+	install -D -m 644 completions/_aerodrome $(DESTDIR)$(PREFIX)/share/zsh/site-functions/_aerodrome
 	@if command -v $${CC:-gcc} > /dev/null; then logger/build $(DESTDIR)$(PREFIX); \
 	else echo "no $${CC:-gcc} here: the logger isn't installed"; fi
 
