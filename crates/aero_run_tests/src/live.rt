@@ -64,10 +64,10 @@ static ROWS: [Row; 7] = [
 
 // What a text of one block says.
 fn part_of(alloc: Global, text: &str) -> Result<Parsed, Fail> {
-    if text.len() > 1_000 {
+    let bytes = lines_of(alloc, text)?;
+    if bytes.len() > 1_000 {
         return Err("a longer text".into());
     }
-    let bytes = lines_of(alloc, text)?;
     Ok(parse_block(alloc, &bytes)?)
 }
 

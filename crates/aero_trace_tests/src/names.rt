@@ -174,21 +174,23 @@ fn name_of_four_words(number: u32) -> [u8; 32] {
 fn are_numbered_at_one_place(names: &mut Names, count: u32) -> bool {
     let mut fits = true;
     for number in 0..count {
-        fits &= names.number_of_bytes(&name_of_two_words(number)) == Ok(2 * number);
-        fits &= names.number_of_bytes(&name_of_four_words(number)) == Ok(2 * number + 1);
+        let even = number.saturating_mul(2);
+        fits &= names.number_of_bytes(&name_of_two_words(number)) == Ok(even);
+        fits &= names.number_of_bytes(&name_of_four_words(number)) == Ok(even.saturating_add(1));
     }
     fits
 }
 
 // The same for the first time and again, and then with other names behind them. As many are listed.
 fn do_names_of_one_hash_keep_their_numbers(alloc: Global, count: u32) -> bool {
-    let mut names = Names::new(alloc, 2 * count + 1);
+    let all = count.saturating_mul(2);
+    let mut names = Names::new(alloc, all.saturating_add(1));
     are_numbered_at_one_place(&mut names, count)
         && are_numbered_at_one_place(&mut names, count)
-        && names.number_of_bytes(b"x") == Ok(2 * count)
+        && names.number_of_bytes(b"x") == Ok(all)
         && names.number_of_bytes(b"y") == Err(NamesFault::Full)
         && are_numbered_at_one_place(&mut names, count)
-        && names.into_list().len() == 2 * count + 1
+        && names.into_list().len() == all.saturating_add(1)
 }
 
 // Up to a few of them are found along their chain, and more of them by their bytes.
