@@ -67,12 +67,18 @@ fn the_words_that_are_taken(rt: HostRuntime) {
 // Words, and the form of the report that they ask for.
 type Formed = (Words, Form);
 
+fn has_form(alloc: Global, row: &Formed) -> bool {
+    let Ok(config) = settled(alloc, row.0) else {
+        return false;
+    };
+    config.form == row.1
+}
+
 // The first row that doesn't hold.
 fn first_misformed(alloc: Global, rows: &[Formed]) -> Option<usize> {
     for i in 0..rows.len() {
-        match settled(alloc, rows[i].0) {
-            Ok(config) if config.form == rows[i].1 => {}
-            _ => return Some(i),
+        if !has_form(alloc, &rows[i]) {
+            return Some(i);
         }
     }
     None
