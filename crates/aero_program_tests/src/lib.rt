@@ -1,15 +1,10 @@
-//! Tests of a run over many sources, of what the program does with it, of its command line, and of its line
-//! on progress.
+//! Tests of what the program does with a run, of its command line, and of its line on progress.
 //!
 //! A crate with tests is proved twice, with them and without, so they stand here, above these crates, and
 //! each is proved once. A module has the tests of the crate that it is named for. It has nothing for
 //! other crates.
 #![tactic(auto)]
 
-#[cfg(test)]
-mod batch;
-#[cfg(test)]
-mod except;
 #[cfg(test)]
 mod program;
 #[cfg(test)]

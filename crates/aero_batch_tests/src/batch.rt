@@ -1,18 +1,17 @@
 // The rows of a run: what is written of a text, whoever helps, and where reads and writes fail. In
 // texts and reports `/` stands for the byte 10.
 mod damage;
-pub(crate) mod gates;
+mod gates;
 mod gathered;
 mod habits;
 mod live;
-pub(crate) mod runs;
+mod runs;
 mod streams;
 mod verdicts;
 
 use crate::batch::habits::Habit;
 use crate::batch::runs::{Who, plan_by, run_by, run_planned};
-use crate::batch::streams::{BreaksOnce, CutsOnce, Either, Endless, Later, Tells};
-use crate::program::streams::never_flushed;
+use crate::batch::streams::{BreaksOnce, CutsOnce, Either, Endless, Flushed, Later, Tells};
 use aero_batch::outcome::{Cause, Outcome};
 use aero_intake::plan::Plan;
 use aero_intake::source::Source;
@@ -505,10 +504,13 @@ fn is_unflushed<T: AllocGlobal + Threads + Wait + Copy + Send + 'static>(
 ) -> Result<bool, Fail> {
     let texts = texts_of_two(rt.alloc())?;
     let mut sources = three_sources(&texts, rt.alloc())?;
-    let mut writer = Counting::new(never_flushed(rt.alloc()));
+    let mut writer = Counting::new(Flushed {
+        taken: Vec::new(rt.alloc()),
+        times: 0,
+    });
     run_by(*rt, who, &mut sources, &mut writer, Limits::greatest(), 7)?;
     let written = writer.into_inner();
-    Ok(written.at.is_empty() && written.taken == lines_of(rt.alloc(), REPORT_OF_THREE)?)
+    Ok(written.times == 0 && written.taken == lines_of(rt.alloc(), REPORT_OF_THREE)?)
 }
 
 #[test]

@@ -21,18 +21,18 @@ use std::thread::Threads;
 const TURNS: u32 = 1_000_000;
 
 // How the waits in a gate ended: all in time, or one of them in vain.
-pub(crate) const IN_TIME: &str = "in time";
+const IN_TIME: &str = "in time";
 
 const TOO_LATE: &str = "the other worker didn't come within 1,000,000 turns";
 
 // Where a gate waits for others.
 #[derive(Drop)]
-pub(crate) struct Meeting {
+struct Meeting {
     count: AtomicU64,
     is_late: AtomicBool,
 }
 
-pub(crate) fn nobody_yet() -> Meeting {
+fn nobody_yet() -> Meeting {
     Meeting {
         count: AtomicU64::new(0),
         is_late: AtomicBool::new(false),
@@ -40,12 +40,12 @@ pub(crate) fn nobody_yet() -> Meeting {
 }
 
 impl Meeting {
-    pub(crate) fn enter(&self) {
+    fn enter(&self) {
         self.count.fetch_add(1, Ordering::SeqCst);
     }
 
     // Waits until so many have entered.
-    pub(crate) fn wait_for(&self, count: u64) {
+    fn wait_for(&self, count: u64) {
         for _ in 0..TURNS {
             if self.count.load(Ordering::SeqCst) >= count {
                 return;
@@ -56,7 +56,7 @@ impl Meeting {
     }
 
     // Whether so many came at least, and how the waits for them ended.
-    pub(crate) fn was_met(&self, count: u64) -> (bool, &'static str) {
+    fn was_met(&self, count: u64) -> (bool, &'static str) {
         let waited = if self.is_late.load(Ordering::SeqCst) {
             TOO_LATE
         } else {
@@ -115,7 +115,7 @@ impl Gate for TwoAtOnce {
     }
 }
 
-pub(crate) fn plan_with(alloc: Global, workers: u32, piece: u32) -> Result<Plan, Fail> {
+fn plan_with(alloc: Global, workers: u32, piece: u32) -> Result<Plan, Fail> {
     let except = listed(alloc, "").ok_or("labels")?;
     match Plan::new(workers, piece, Limits::greatest(), except, false) {
         Some(plan) => Ok(plan),
@@ -123,7 +123,7 @@ pub(crate) fn plan_with(alloc: Global, workers: u32, piece: u32) -> Result<Plan,
     }
 }
 
-pub(crate) fn ran(outcome: Option<Outcome>) -> Result<Outcome, Fail> {
+fn ran(outcome: Option<Outcome>) -> Result<Outcome, Fail> {
     match outcome {
         Some(outcome) => Ok(outcome),
         None => Err("the crew was not closed".into()),
@@ -200,4 +200,49 @@ fn workers_answer_in_another_order_and_at_once(rt: HostRuntime) -> Result<(), Fa
     expect_second_first(rt, 16)?;
     expect_two_at_once(rt, false)?;
     expect_two_at_once(rt, true)
+}
+
+// Each of the first two verdicts waits until the other is begun.
+#[derive(Drop)]
+struct TwoVerdicts {
+    meeting: Meeting,
+}
+
+impl Gate for TwoVerdicts {
+    fn before(&self, question: &Question) {
+        match question {
+            Question::Check { .. } => {
+                self.meeting.enter();
+                self.meeting.wait_for(2);
+            }
+            Question::Parse { .. } => {}
+        }
+    }
+
+    fn after(&self, _answer: &Answer) {}
+}
+
+// How many of two sources that never wait are violations, and how many questions on them were answered by the run itself.
+fn two_verdicts_under<T: AllocGlobal + Threads + Wait + Copy + Send + 'static>(
+    rt: T,
+    gate: Arc<TwoVerdicts>,
+) -> Result<(u64, u64), Fail> {
+    let plan = plan_with(rt.alloc(), 2, 65_536)?;
+    let crossed = lines_of(rt.alloc(), CROSSED)?;
+    let mut sources = Vec::new(rt.alloc());
+    add_source(&mut sources, rt.alloc(), "n", &crossed)?;
+    add_source(&mut sources, rt.alloc(), "m", &crossed)?;
+    let mut writer = Counting::new(Vec::new(rt.alloc()));
+    let outcome = ran(run_gated(rt, &mut sources, &mut writer, &plan, gate))?;
+    Ok((outcome.counts.violations, outcome.tally.done_here))
+}
+
+// The second source is read and asked about while the verdict on the first is worked out, where none may wait.
+#[test]
+fn two_sources_are_judged_at_once(rt: HostRuntime) -> Result<(), Fail> {
+    let meeting = nobody_yet();
+    let gate = Arc::new(rt.alloc(), TwoVerdicts { meeting })?;
+    assert_eq!(rt; two_verdicts_under(rt, Arc::try_clone(&gate)?)?, (2, 0));
+    assert_eq!(rt; gate.meeting.was_met(2), (true, IN_TIME));
+    Ok(())
 }

@@ -175,3 +175,22 @@ impl Write for TakesBytes {
         Ok(())
     }
 }
+
+// A writer that takes all, and counts its flushes.
+#[derive(Drop)]
+pub(crate) struct Flushed {
+    pub(crate) taken: Vec<u8>,
+    pub(crate) times: u64,
+}
+
+impl Write for Flushed {
+    fn write(&mut self, buf: &[u8]) -> io::Result<usize> {
+        self.taken.extend_from_slice(buf)?;
+        Ok(buf.len())
+    }
+
+    fn flush(&mut self) -> io::Result<()> {
+        self.times = self.times.saturating_add(1);
+        Ok(())
+    }
+}
