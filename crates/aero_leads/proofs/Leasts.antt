@@ -1,12 +1,11 @@
 -- The least place that a row has for a thread, as the row changes.
 use Rattle.std.proofs.Common.{◌≡◌, ◌≢◌, ◌⊎◌, inl, inr, ⊎_elim, ℕ, zero, suc, ◌+◌, ◌<◌, ◌≤◌, add-one, take, List, [], ◌∷◌, ◌++◌, Option, Some, None, refl, sym, ap, ap₂, subst, ◌∙◌, arith}
 use Rattle.std.specs.Prelude.{◌==◌, ◌||◌, ◌&&◌, min, nat_lt, not, filter, is_some, Bool, true, false, if◌then◌else◌, slice_get, slice_set, length}
-use Rattle.std.proofs.lemmas.Bool.{cases_Bool, cases_eq, cases_lt, both_ways, cond-true, cond-false, eqb-true, eq-eqb, ne_eqb, lt-ltb, le-ltb, ltb-true, ltb-false, or_cases, or_left, or_right, and_from, and_parts, not_from_true, not_from_false}
+use Rattle.std.proofs.lemmas.Bool.{cases_Bool, cases_eq, cases_lt, both_ways, cond-true, cond-false, eqb-true, eq-eqb, ne_eqb, lt-ltb, le-ltb, ltb-true, ltb-false, or_cases, or_left, or_right}
 use Rattle.std.proofs.lemmas.Option.{same_Some, slice_get_past}
 use Rattle.aero_leads.specs.declared.row.Lead.{Lead}
 use Rattle.aero_leads.specs.Steps.{gains, lesser}
-use Rattle.aero_leads.specs.Kept.{least_in, is_below, absorbed, IsLeastBack}
-use Rattle.aero_leads.specs.Leads.{Rows}
+use Rattle.aero_leads.specs.Kept.{least_in, is_below, absorbed}
 use Rattle.aero_leads.specs.Indexed.{opener_of, IsFound}
 
 abbrev pub lead : ℕ → ℕ → Lead
@@ -228,6 +227,14 @@ lowered_first_all n i ls now w e h = ap (λ xs. least_in xs w) e ∙ go i ls (su
     go (suc j) [] g = refl
     go (suc j) (x ∷ xs) g = ap (λ r. if x.opener == w then lesser (Some (min x.place n)) r else r) (go j xs (omega (arith, g))) ∙ down (x.opener == w) x.place (least_in xs w)
 
+-- and their openers stay where they stand
+pub openers_lowered : (n i : ℕ) (ls : List Lead) (j : ℕ) → opener_of (slice_get (lowered_first n i ls) j) ≡ opener_of (slice_get ls j)
+unfolding lowered_first
+openers_lowered n zero ls j = refl
+openers_lowered n (suc i) [] j = refl
+openers_lowered n (suc i) (l ∷ ls) zero = refl
+openers_lowered n (suc i) (l ∷ ls) (suc j) = openers_lowered n i ls j
+
 -- an end
 same_test : (t w : ℕ) → (t == w) ≡ (w == t)
 same_test t w = ⊎_elim (λ e. eq-eqb t w e ∙ sym (eq-eqb w t (sym e))) (λ ne. ne_eqb t w ne ∙ sym (ne_eqb w t (λ e. ne (sym e)))) (cases_eq t w)
@@ -251,11 +258,6 @@ absorbed_some row ended now new t n there lowered dropped w =
 pub absorbed_empty : (row ended new : List Lead) (t : ℕ) → ended ≡ [] → ((w : ℕ) → least_in new w ≡ (if t == w then None else least_in row w)) → (w : ℕ) → least_in new w ≡ absorbed (least_in ended) (least_in row) t w
 absorbed_empty row ended new t none dropped w =
     dropped w ∙ ap₂ (λ b r. if b then None else r) (same_test t w) (sym (ap (λ es. if is_some (least_in es w) then lesser (least_in row w) (least_in row t) else least_in row w) none))
-
--- the least opener that passes a test, if there is one
-abbrev pub LeastPassing : (ℕ → Bool) → List Lead → Option ℕ → Type 0
-LeastPassing test ls None = (u : ℕ) → is_some (least_in ls u) ≡ true → test u ≡ false
-LeastPassing test ls (Some v) = (test v ≡ true) × (is_some (least_in ls v) ≡ true) × ((u : ℕ) → is_some (least_in ls u) ≡ true → test u ≡ true → v ≤ u)
 
 pub some_next : (ls : List Lead) (i : ℕ) (l : Lead) (u : ℕ) → slice_get ls i ≡ Some l → is_some (least_in (take (i + 1) ls) u) ≡ (l.opener == u || is_some (least_in (take i ls) u))
 some_next ls i l u at = ap is_some (least_next ls i l u at) ∙ go (l.opener == u) (least_in (take i ls) u)
@@ -411,6 +413,10 @@ pub found_some : (ls : List Lead) (w : ℕ) (r : Option ℕ) → IsFound ls w r 
 found_some ls w None h k = let z : false ≡ true = k in cc
 found_some ls w (Some i) (less, at) k = found_there ls i w at
 
+pub found_same : (ls : List Lead) (w : ℕ) (r : Option ℕ) → IsFound ls w r → is_some r ≡ is_some (least_in ls w)
+found_same ls w None h = sym h
+found_same ls w (Some i) (less, at) = sym (found_there ls i w at)
+
 pub found_none : (ls : List Lead) (w : ℕ) (r : Option ℕ) → IsFound ls w r → is_some r ≡ false → is_some (least_in ls w) ≡ false
 found_none ls w None h k = h
 found_none ls w (Some i) h k = let z : true ≡ false = k in cc
@@ -430,40 +436,3 @@ pub settled : (row now new : List Lead) (t n : ℕ) → Some n ≡ least_in row 
     → ((w : ℕ) → least_in new w ≡ (if t == w then None else least_in now w))
     → (w : ℕ) → least_in new w ≡ absorbed (least_in row) (least_in row) t w
 settled row now new t n = absorbed_some row row now new t n
-
-pub passing_still : (test : ℕ → Bool) (ls : List Lead) (i : ℕ) (l : Lead) (o : Option ℕ) → slice_get ls i ≡ Some l → test l.opener ≡ false → LeastPassing test (take i ls) o → LeastPassing test (take (i + 1) ls) o
-passing_still test ls i l None at fails h = λ u some. ⊎_elim (λ e. ap test (sym (eqb-true l.opener u e)) ∙ fails) (λ k. h u k) (or_cases _ _ (sym (some_next ls i l u at) ∙ some))
-passing_still test ls i l (Some v) at fails (passes, there, least) = (
-  passes,
-  some_next ls i l v at ∙ or_right (l.opener == v) _ there,
-  λ u some ok. ⊎_elim (λ e. absurd (both_ways (test u) (ap test (sym (eqb-true l.opener u e)) ∙ fails) ok)) (λ k. least u k ok) (or_cases _ _ (sym (some_next ls i l u at) ∙ some)),
-)
-
-pub passing_next : (test : ℕ → Bool) (ls : List Lead) (i : ℕ) (l : Lead) (o : Option ℕ) → slice_get ls i ≡ Some l → test l.opener ≡ true → LeastPassing test (take i ls) o → LeastPassing test (take (i + 1) ls) (lesser o (Some l.opener))
-passing_next test ls i l None at passes h = (
-  passes,
-  some_next ls i l l.opener at ∙ or_left _ _ (eq-eqb l.opener l.opener refl),
-  λ u some ok. ⊎_elim (λ e. let same = eqb-true l.opener u e in omega (arith, same)) (λ k. absurd (both_ways (test u) (h u k) ok)) (or_cases _ _ (sym (some_next ls i l u at) ∙ some)),
-)
-passing_next test ls i l (Some v) at passes (was, there, least) = go (cases_lt l.opener v)
-  where
-    either_way : (m : ℕ) → m ≤ v → m ≤ l.opener → (u : ℕ) → is_some (least_in (take (i + 1) ls) u) ≡ true → test u ≡ true → m ≤ u
-    either_way m a b u some ok = ⊎_elim (λ e. let same = eqb-true l.opener u e in omega (arith, same, b)) (λ k. omega (arith, least u k ok, a)) (or_cases _ _ (sym (some_next ls i l u at) ∙ some))
-
-    go : (l.opener < v) ⊎ (v ≤ l.opener) → LeastPassing test (take (i + 1) ls) (Some (min v l.opener))
-    go (inl less) =
-        subst (λ m. LeastPassing test (take (i + 1) ls) (Some m)) (omega (arith, less))
-        (passes, some_next ls i l l.opener at ∙ or_left _ _ (eq-eqb l.opener l.opener refl), either_way l.opener (omega (arith, less)) (omega arith))
-    go (inr le) =
-        subst (λ m. LeastPassing test (take (i + 1) ls) (Some m)) (omega (arith, le))
-        (was, some_next ls i l v at ∙ or_right (l.opener == v) _ there, either_way v (omega arith) le)
-
--- and the least thread back
-pub is_least_back : (rows : Rows) (t : ℕ) (row : List Lead) (o : Option ℕ) → ((u : ℕ) → least_in row u ≡ rows t u) → LeastPassing (λ u. not (u == t) && is_some (rows u t)) row o → IsLeastBack rows t o
-is_least_back rows t row None same h = λ u b.
-    both_ways _ (h u (ap is_some (same u) ∙ b.into)) (and_from _ _ (not_from_false (u == t) (ne_eqb u t b.other)) b.back)
-is_least_back rows t row (Some v) same (passes, there, least) =
-    let p = and_parts (not (v == t)) _ passes in (
-      record { other = λ e. both_ways _ (not_from_true (v == t) (eq-eqb v t e)) p.0; into = ap is_some (sym (same v)) ∙ there; back = p.1 },
-      λ u b. least u (ap is_some (same u) ∙ b.into) (and_from _ _ (not_from_false (u == t) (ne_eqb u t b.other)) b.back),
-    )

@@ -17,3 +17,6 @@ pub mod Ends
 pub mod Seeing
 pub mod Lowering
 pub mod Compacting
+pub mod Backs
+pub mod Passing
+pub mod Singles

@@ -1,13 +1,13 @@
 -- What is known to lead to a thread stays so, until a block ends.
 use Rattle.std.proofs.Common.{◌≡◌, ◌≢◌, ◌⊎◌, inl, inr, ⊎_elim, ℕ, ◌+◌, add-one, take, List, [], Option, Some, None, refl, sym, ap, ◌∙◌}
-use Rattle.std.specs.Prelude.{◌==◌, Bool, true, false, is_some, if◌then◌else◌, slice_get}
+use Rattle.std.specs.Prelude.{◌==◌, ◌&&◌, Bool, true, false, is_some, if◌then◌else◌, slice_get}
 use Rattle.std.specs.List.{list_any}
 use Rattle.std.proofs.lemmas.Bool.{cases_eq, both_ways, cond-true, cond-false, eqb-true, eq-eqb, ne_eqb, or_cases}
 use Rattle.aero_leads.specs.declared.row.Lead.{Lead}
 use Rattle.aero_leads.specs.declared.thread.Thread.{Thread}
 use Rattle.aero_leads.specs.declared.led.Led.{Led}
 use Rattle.aero_leads.specs.declared.seen.Seen.{Seen}
-use Rattle.aero_leads.specs.Kept.{least_in, is_below, thread_row, rows_in, absorbed, HasRow, TakesRow, EndsBlock}
+use Rattle.aero_leads.specs.Kept.{least_in, is_below, thread_row, rows_in, absorbed, HasRow, TakesRow, BeginsBlock, EndsBlock}
 use Rattle.aero_leads.specs.Listed.{followers, is_listed, AreListed, Grows}
 use Rattle.aero_leads.specs.Seen.{is_seen, AreSeen}
 use Rattle.aero_leads.specs.Steps.{gains, lesser}
@@ -37,6 +37,15 @@ seen_taken old new seen t o below n takes are v w h = ap is_some (takes.rows v w
     go true c None k = let z : false ≡ true = k in cc
     go true c (Some p) k = refl
     go false c r k = k
+
+-- and so does one that begins a block
+pub seen_begun : (old new : List Thread) (seen : Seen) (t n : ℕ) → BeginsBlock old new t n → AreSeen old seen → AreSeen new seen
+seen_begun old new seen t n begins are v w h = ap is_some (begins.rows v w) ∙ go ((v == t) && (t == w)) (rows_in old v w) (are v w h)
+  where
+    go : (b : Bool) (r : Option ℕ) → is_some r ≡ true → is_some (if b then lesser r (Some n) else r) ≡ true
+    go true None k = let z : false ≡ true = k in cc
+    go true (Some p) k = refl
+    go false r k = k
 
 -- at an end each row that has the block loses it, and no other
 pub seen_ended : (old new : List Thread) (led : Led) (was now : Seen) (t : ℕ) → EndsBlock old new t → AreListed old led

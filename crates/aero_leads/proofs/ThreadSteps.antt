@@ -1,5 +1,5 @@
 -- One thread of a list is changed.
-use Rattle.std.proofs.Common.{◌≡◌, ◌≢◌, ◌⊎◌, inl, inr, ℕ, zero, suc, ◌+◌, add-one, take, List, [], ◌∷◌, ◌++◌, ◌≤◌, length, Option, Some, None, refl, sym, ap, ap₂, ◌∙◌}
+use Rattle.std.proofs.Common.{◌≡◌, ◌≢◌, ◌⊎◌, inl, inr, ℕ, zero, suc, ◌+◌, add-one, take, List, [], ◌∷◌, ◌≤◌, length, Option, Some, None, refl, sym, ap, ap₂, subst, ◌∙◌}
 use Rattle.std.specs.Prelude.{◌==◌, ◌&&◌, ◌||◌, Bool, true, false, is_some, if◌then◌else◌, slice_get, slice_set}
 use Rattle.std.specs.List.{list_any}
 use Rattle.std.proofs.lemmas.Bool.{cases_eq, eqb-true, eq-eqb, ne_eqb, cond-true, cond-false, and_left}
@@ -8,9 +8,10 @@ use Rattle.aero_access.proofs.KeptLists.{slice_get-set}
 use Rattle.aero_leads.specs.declared.thread.Thread.{Thread}
 use Rattle.aero_leads.specs.declared.led.Led.{Led}
 use Rattle.aero_leads.specs.Listed.{is_listed, IsListedRow, AreListed, Grows}
+use Rattle.aero_leads.specs.Single.{IsSingle, AreSingle}
 use Rattle.aero_leads.specs.Steps.{lesser, end_rows}
 use Rattle.aero_leads.specs.Kept.{least_in, thread_row, thread_in_block, thread_begins, thread_acted, rows_in, absorbed, HaveSameBlocks, BeginsBlock, EndsBlock}
-use Rattle.aero_leads.proofs.Leasts.{lead, least_push, lesser_none}
+use Rattle.aero_leads.proofs.Leasts.{lesser_none}
 
 module _ (threads : List Thread) (t : ℕ) (old new : Thread) (at : slice_get threads t ≡ Some old) where
   -- what it has now
@@ -40,6 +41,14 @@ module _ (threads : List Thread) (t : ℕ) (old new : Thread) (at : slice_get th
           ∙ sym (cond-true (t == v) _ _ (eq-eqb t v e))
       go (inr e) = cond-false (t == v) _ _ (ne_eqb t v e) ∙ sym (cond-false (t == v) _ _ (ne_eqb t v e))
 
+  -- a row that has each block once
+  pub single_at : (IsSingle old.row.items → IsSingle new.row.items) → AreSingle threads → AreSingle (slice_set threads t new)
+  single_at row are v = subst IsSingle (sym (written thread_row v)) (go (t == v))
+    where
+      go : (b : Bool) → IsSingle (if b then new.row.items else thread_row (slice_get threads v))
+      go true = row (subst IsSingle (ap thread_row at) (are t))
+      go false = are v
+
   pub same_blocks : new.in_block ≡ old.in_block → new.begins ≡ old.begins → new.acted ≡ old.acted → HaveSameBlocks threads (slice_set threads t new)
   same_blocks inside begins acted = record {
     in_block = λ u. unwritten thread_in_block u inside;
@@ -60,14 +69,13 @@ module _ (threads : List Thread) (t : ℕ) (old new : Thread) (at : slice_get th
       go (inr e) = grows w o (h o w ne (ap is_some (sym (written (λ p. least_in (thread_row p) w) o ∙ cond-false (t == o) _ _ (ne_eqb t o e))) ∙ some))
 
   -- the thread begins a block of its own
-  pub listed_begin : (led : Led) (place : ℕ) → new.row.items ≡ old.row.items ++ lead t place ∷ [] → AreListed threads led → AreListed (slice_set threads t new) led
-  listed_begin led place row = listed_at led led (λ w o h. h) own
+  pub listed_begin : (led : Led) → ((w : ℕ) → w ≢ t → least_in new.row.items w ≡ least_in old.row.items w) → AreListed threads led → AreListed (slice_set threads t new) led
+  listed_begin led row = listed_at led led (λ w o h. h) own
     where
       own : IsListedRow old.row.items led t → IsListedRow new.row.items led t
-      own h w ne some =
-          h w ne (ap is_some (sym (ap (λ xs. least_in xs w) row ∙ least_push old.row.items (lead t place) w ∙ cond-false (t == w) _ _ (ne_eqb t w (λ e. ne (sym e))))) ∙ some)
+      own h w ne some = h w ne (ap is_some (sym (row w ne)) ∙ some)
 
-  pub begins_block : (place : ℕ) → new.row.items ≡ old.row.items ++ lead t place ∷ [] → new.in_block ≡ true → new.begins ≡ old.begins + 1 → new.acted ≡ old.acted → BeginsBlock threads (slice_set threads t new) t place
+  pub begins_block : (place : ℕ) → ((w : ℕ) → least_in new.row.items w ≡ (if t == w then lesser (least_in old.row.items w) (Some place) else least_in old.row.items w)) → new.in_block ≡ true → new.begins ≡ old.begins + 1 → new.acted ≡ old.acted → BeginsBlock threads (slice_set threads t new) t place
   begins_block place row inside begins acted = record {
     rows = λ o w. written (λ p. least_in (thread_row p) w) o ∙ rows o w (cases_eq t o);
     in_block = λ u. written thread_in_block u ∙ ap (λ b. if t == u then b else thread_in_block (slice_get threads u)) inside;
@@ -77,7 +85,7 @@ module _ (threads : List Thread) (t : ℕ) (old new : Thread) (at : slice_get th
     where
       rows : (o w : ℕ) → (t ≡ o) ⊎ (t ≢ o) → (if t == o then least_in new.row.items w else rows_in threads o w) ≡ (if (o == t) && (t == w) then lesser (rows_in threads o w) (Some place) else rows_in threads o w)
       rows o w (inl e) =
-          cond-true (t == o) _ _ (eq-eqb t o e) ∙ ap (λ ls. least_in ls w) row ∙ least_push old.row.items (lead t place) w
+          cond-true (t == o) _ _ (eq-eqb t o e) ∙ row w
           ∙ ap (λ r. if t == w then lesser r (Some place) else r) (ap (λ p. least_in (thread_row p) w) (sym at) ∙ ap (λ v. rows_in threads v w) e)
           ∙ ap (λ b. if b && (t == w) then lesser (rows_in threads o w) (Some place) else rows_in threads o w) (sym (eq-eqb o t (sym e)))
       rows o w (inr e) = cond-false (t == o) _ _ (ne_eqb t o e) ∙ sym (cond-false ((o == t) && (t == w)) _ _ (and_left (o == t) (t == w) (ne_eqb o t (λ h. e (sym h)))))

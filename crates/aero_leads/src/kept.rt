@@ -8,7 +8,6 @@ ghost use Rattle.aero_leads.specs.Kept.{last, IsLeastBack};
 use crate::last::Last;
 use crate::table;
 use crate::table::{Table, gain, may_be_led, no_thread, take, take_reads};
-use crate::thread::least_back;
 use crate::variable::{
     Variable, last_release, last_write, latest_read, note_read, note_release, note_write,
     other_reads,
@@ -198,10 +197,12 @@ impl Kept {
     }
 
     /// The least thread whose open block closes a cycle through the block that thread `t` ends now.
-    pub(crate) fn least_back(&self, t: u32) -> Option<u32>
-        ensures { IsLeastBack (state_in self.now).rows t result }
+    pub(crate) fn least_back(&mut self, t: u32) -> Result<Option<u32>, AllocError>
+        ensures least { IfOk result (IsLeastBack (state_in self.new).rows t) }
+        ensures same { AreSame (state_in self.old) (state_in self.new) }
+        ensures room { HasRoom self.old t → HasRoom self.new t }
     {
-        least_back(&self.table.threads, t)
+        table::least_back(&mut self.table, t)
     }
 
     /// Thread `t` ends its outermost block.

@@ -25,7 +25,8 @@ pub struct Leads {
 }
 
 impl Leads {
-    ghost use Rattle.aero_leads.specs.Standing.{in_block_at, begins_at, acted_at, closed_by, is_spent, StandsFor, Answers, Follows, Tells, quiet, IsStarted, IsRefused, IsFinished, IsClosed, IsToldOf, HasRoom};
+    ghost use Rattle.aero_leads.specs.Kept.{IsLeastBack};
+    ghost use Rattle.aero_leads.specs.Standing.{state_of, in_block_at, begins_at, acted_at, closed_by, is_spent, StandsFor, Answers, Follows, Tells, quiet, IsStarted, IsRefused, IsFinished, IsClosed, IsToldOf, HasRoom};
 
     /// No event.
     pub fn new(alloc: Global) -> Leads
@@ -178,8 +179,7 @@ impl Leads {
             → closes (h ++ event t End ∷ []) t (length h) ≡ true
             → IfOk result (Tells self.new (h ++ event t End ∷ []) (length h)) }
     {
-        self.start(t)?;
-        let closing = self.kept.least_back(t);
+        let closing = self.start_end(t)?;
         if closing.is_some() {
             self.tell(closing);
             return Ok(closing);
@@ -200,6 +200,18 @@ impl Leads {
         self.spent = true;
         self.kept.reach(t)?;
         Ok(())
+    }
+
+    // Begins a call that ends the block of thread t. The least thread that closes a cycle with that.
+    fn start_end(&mut self, t: u32) -> Result<Option<u32>, Spent>
+        ensures ok { OnOk result (IsStarted self.old self.new t) }
+        ensures least { IfOk result (IsLeastBack (state_of self.new).rows t) }
+        ensures err { OnErr result (IsRefused self.old self.new) }
+        ensures spent { is_spent self.old ≡ true → IsErr result }
+    {
+        self.start(t)?;
+        let closing = self.kept.least_back(t)?;
+        Ok(closing)
     }
 
     // Ends a call: this block is told.

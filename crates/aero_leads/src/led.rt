@@ -4,10 +4,18 @@ ghost use Rattle.aero_leads.specs.Listed.{followers, followers_in};
 
 use std::alloc::{AllocError, Global};
 
-/// Threads to which a block leads.
+/// A thread to which a block leads. In the thread's row the block stands at this place, unless a lead was moved: a hint alone.
+#[derive(Clone, Copy)]
+pub struct Entry {
+    pub thread: u32,
+    pub at: u32,
+}
+
+/// Threads to which a block leads, and the hints.
 #[derive(Drop)]
 pub struct Followers {
     pub threads: Vec<u32>,
+    pub hints: Vec<u32>,
 }
 
 /// Those of the open block of each thread, by the thread's number.
@@ -43,12 +51,35 @@ pub(crate) fn follower(led: &Led, t: u32, i: usize) -> u32
     led.lists[t as usize].threads[i]
 }
 
-/// The open block of thread `w` leads to thread `o`.
-pub(crate) fn note(led: &mut Led, w: u32, o: u32) -> Result<(), AllocError>
+/// One of these, with its hint.
+pub(crate) fn listed_at(led: &Led, t: u32, i: usize) -> Entry
+    requires { i < length (followers led.now t) }
+    ensures { slice_get (followers led.now t) i ≡ Some result.thread }
+{
+    Entry {
+        thread: follower(led, t, i),
+        at: hint_at(led, t, i),
+    }
+}
+
+fn hint_at(led: &Led, t: u32, i: usize) -> u32 {
+    match led.lists.get(t as usize) {
+        Some(list) => match list.hints.get(i) {
+            Some(at) => *at,
+            None => 0,
+        },
+        None => 0,
+    }
+}
+
+/// The open block of thread `w` leads to thread `o`, in whose row it comes to stand at this place.
+pub(crate) fn note(led: &mut Led, w: u32, o: u32, at: usize) -> Result<(), AllocError>
     ensures noted { OnOk result ((v : ℕ) → followers led.new v ≡ (if v == w then followers led.old v ++ o ∷ [] else followers led.old v)) }
     ensures err { OnErr result ((v : ℕ) → followers led.new v ≡ followers led.old v) }
 {
     reach(&mut led.lists, w)?;
+    let hint = (at % MOST_PLACES) as u32;
+    led.lists[w as usize].hints.push(hint)?;
     led.lists[w as usize].threads.push(o)?;
     Ok(())
 }
@@ -58,9 +89,13 @@ pub(crate) fn forget(led: &mut Led, t: u32)
     ensures { (v : ℕ) → followers led.new v ≡ (if v == t then [] else followers led.old v) }
 {
     if (t as usize) < led.lists.len() {
+        empty(&mut led.lists[t as usize].hints);
         empty(&mut led.lists[t as usize].threads);
     }
 }
+
+// Of how many places of a row a hint can tell.
+const MOST_PLACES: usize = 1 << 32;
 
 // How many places a list keeps for the next block.
 const MOST_KEPT: usize = 64;
@@ -84,6 +119,7 @@ fn reach(lists: &mut Vec<Followers>, w: u32) -> Result<(), AllocError>
         let alloc = *lists.allocator();
         lists.push(Followers {
             threads: Vec::new(alloc),
+            hints: Vec::new(alloc),
         })?;
     }
     Ok(())

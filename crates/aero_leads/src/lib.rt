@@ -17,6 +17,9 @@
 //!   leads to later events of it alone. A thread's earlier reads may stay, since what leads to them leads to the write.
 //! - At an end, what leads to the block leads to all that the block led to, each from where the block
 //!   did, and the block leaves all rows. No variable and no lock is looked at.
+//!   What led to the block before it led on to another thread leads there already, and is passed over. Each row has a
+//!   block once, and whoever is listed with a block knows where it stood in the row, so no row is gone through to take
+//!   it out unless its lead was moved.
 //!
 //! ```text
 //! let mut leads = Leads::new(alloc);
@@ -46,6 +49,7 @@ mod last;
 pub mod leads;
 mod led;
 mod lows;
+mod passed;
 mod row;
 mod seen;
 mod table;

@@ -1,8 +1,7 @@
 //! From which place on open blocks may lead to a thread, so that most events of other threads are passed over
 //! without a look at the thread's row.
-ghost use Rattle.std.specs.Prelude.{◌≡◌, ◌==◌, ◌≤◌, ◌<◌, ℕ, true, false, OnOk, vec_len, slice_get, if◌then◌else◌};
-ghost use Rattle.aero_leads.specs.Kept.{least_in, is_below};
-ghost use Rattle.aero_leads.specs.Listed.{is_listed};
+ghost use Rattle.std.specs.Prelude.{◌≡◌, ◌==◌, ◌≤◌, ◌<◌, ℕ, true, false, OnOk, vec_len, length, slice_get, if◌then◌else◌};
+ghost use Rattle.aero_leads.specs.Kept.{least_in, is_below, thread_row};
 ghost use Rattle.aero_leads.specs.Lows.{low_of, low_in, IsLow};
 
 use crate::led::{Led, count, follower};
@@ -56,16 +55,30 @@ pub(crate) fn lower(lows: &mut Lows, t: u32, place: u32)
 }
 
 /// The block of thread `w` is open no more, so that the rows of the threads that are listed with it, and its own
-/// thread's, may begin later.
+/// thread's, may begin later. What was kept for them stays true.
 pub(crate) fn raise_all(lows: &mut Lows, threads: &[Thread], led: &Led, w: u32)
     ensures kept { (o : ℕ) → IsLow threads.now lows.old o → IsLow threads.now lows.new o }
     ensures own { IsLow threads.now lows.new w }
-    ensures listed { (o : ℕ) → is_listed led.now w o ≡ true → IsLow threads.now lows.new o }
 {
     raise(lows, threads, w);
     let listed = count(led, w);
     for i in 0..listed {
-        raise(lows, threads, follower(led, w, i));
+        raise_seldom(lows, threads, follower(led, w, i));
+    }
+}
+
+// A row of up to so many blocks is gone through whenever one of them ends.
+const FEW: usize = 32;
+
+// A longer row is gone through where its length has come to a power of two. So of all that it loses, each costs no more than
+// two looks.
+fn raise_seldom(lows: &mut Lows, threads: &[Thread], o: u32)
+    ensures kept { (u : ℕ) → IsLow threads.now lows.old u → IsLow threads.now lows.new u }
+    ensures here { length (thread_row (slice_get threads.now o)) ≤ 32 → IsLow threads.now lows.new o }
+{
+    let left = row_of(threads, o).len();
+    if left <= FEW || left.is_power_of_two() {
+        raise(lows, threads, o);
     }
 }
 

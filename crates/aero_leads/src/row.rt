@@ -3,10 +3,11 @@ ghost use Rattle.std.specs.Prelude.{◌≡◌, ◌≢◌, ◌==◌, ◌&&◌, �
 ghost use Rattle.aero_leads.specs.Kept.{least_in, is_below, absorbed};
 ghost use Rattle.aero_leads.specs.Indexed.{IsIndexed, IsFound, opener_of};
 ghost use Rattle.aero_leads.specs.Listed.{IsListedRow, Grows, followers};
+ghost use Rattle.aero_leads.specs.Single.{IsSingle};
 ghost use Rattle.aero_leads.specs.Steps.{gains, lesser};
 
 use crate::index::{Index, enter, place_at};
-use crate::led::{Led, note};
+use crate::led::{Entry, Led, note};
 use std::alloc::AllocError;
 
 /// The thread whose open block leads to another thread, and the place of the first event of that
@@ -112,8 +113,8 @@ fn is_news(news: bool, row: &[Lead], lead: Lead, below: u32) -> bool
     !has(row, lead.opener)
 }
 
-// Enters the places of the row.
-fn enter_all(row: &[Lead], index: &mut Index) -> Result<(), AllocError>
+/// Enters the places of the row.
+pub(crate) fn enter_all(row: &[Lead], index: &mut Index) -> Result<(), AllocError>
     ensures { OnOk result (IsIndexed row.now index.new) }
 {
     for i in 0..row.len() {
@@ -134,6 +135,14 @@ fn find(row: &[Lead], index: &Index, w: u32) -> Option<usize>
     None
 }
 
+/// Whether the open block of thread `w` leads to the row's thread, by the places that are entered.
+pub(crate) fn has_entered(row: &[Lead], index: &Index, w: u32) -> bool
+    requires { IsIndexed row.now index.now }
+    ensures { result ≡ is_some (least_in row.now w) }
+{
+    find(row, index, w).is_some()
+}
+
 // The open block of a thread leads to thread `o`, whose row this is, from this place on. The thread
 // is listed first, so that it is wherever memory is refused.
 fn add(
@@ -146,11 +155,12 @@ fn add(
 ) -> Result<(), AllocError>
     ensures indexed { OnOk result (IsIndexed row.old.items index.old → IsIndexed row.new.items index.new) }
     ensures row { OnOk result ((w : ℕ) → least_in row.new.items w ≡ (if opener == w then lesser (least_in row.old.items w) (Some place) else least_in row.old.items w)) }
+    ensures single { is_some (least_in row.old.items opener) ≡ false → IsSingle row.old.items → IsSingle row.new.items }
     ensures listed { IsListedRow row.old.items led.old o → IsListedRow row.new.items led.new o }
     ensures grows { Grows led.old led.new }
     ensures others { (v : ℕ) → v ≢ opener → followers led.new v ≡ followers led.old v }
 {
-    note(led, opener, o)?;
+    note(led, opener, o, row.len())?;
     enter(index, opener, row.len())?;
     row.push(Lead { opener, place })?;
     Ok(())
@@ -168,6 +178,7 @@ fn gain(
     requires { IsIndexed row.old.items index.old }
     ensures indexed { OnOk result (IsIndexed row.new.items index.new) }
     ensures gains { OnOk result ((w : ℕ) → least_in row.new.items w ≡ gains (least_in row.old.items w) (opener == w) place) }
+    ensures single { IsSingle row.old.items → IsSingle row.new.items }
     ensures listed { IsListedRow row.old.items led.old o → IsListedRow row.new.items led.new o }
     ensures grows { Grows led.old led.new }
 {
@@ -190,6 +201,7 @@ fn gain_below(
     requires { IsIndexed row.old.items index.old }
     ensures indexed { OnOk result (IsIndexed row.new.items index.new) }
     ensures gains { OnOk result ((w : ℕ) → least_in row.new.items w ≡ gains (least_in row.old.items w) (if lead.opener == w then nat_lt lead.place below else false) place) }
+    ensures single { IsSingle row.old.items → IsSingle row.new.items }
     ensures listed { IsListedRow row.old.items led.old o → IsListedRow row.new.items led.new o }
     ensures grows { Grows led.old led.new }
 {
@@ -211,6 +223,7 @@ pub(crate) fn gain_all(
     index: &mut Index,
 ) -> Result<(), AllocError>
     ensures gains { OnOk result ((w : ℕ) → least_in row.new.items w ≡ gains (least_in row.old.items w) (is_below (least_in other.now w) below) place) }
+    ensures single { IsSingle row.old.items → IsSingle row.new.items }
     ensures listed { IsListedRow row.old.items led.old o → IsListedRow row.new.items led.new o }
     ensures grows { Grows led.old led.new }
 {
@@ -226,6 +239,7 @@ fn lower_at(row: &mut Vec<Lead>, at: usize, opener: u32, place: u32)
     requires { IsFound row.old.items opener (Some at) }
     ensures openers { (i : ℕ) → opener_of (slice_get row.new.items i) ≡ opener_of (slice_get row.old.items i) }
     ensures lowers { (w : ℕ) → least_in row.new.items w ≡ (if opener == w then lesser (least_in row.old.items w) (Some place) else least_in row.old.items w) }
+    ensures single { IsSingle row.old.items → IsSingle row.new.items }
 {
     let place = place.min(row[at].place);
     row[at] = Lead { opener, place };
@@ -244,6 +258,7 @@ fn lower(
     requires { IsIndexed row.old.items index.old }
     ensures indexed { OnOk result (IsIndexed row.new.items index.new) }
     ensures lowers { OnOk result ((w : ℕ) → least_in row.new.items w ≡ (if opener == w then lesser (least_in row.old.items w) (Some place) else least_in row.old.items w)) }
+    ensures single { IsSingle row.old.items → IsSingle row.new.items }
     ensures listed { IsListedRow row.old.items led.old o → IsListedRow row.new.items led.new o }
     ensures grows { Grows led.old led.new }
     ensures others { (v : ℕ) → v ≢ opener → followers led.new v ≡ followers led.old v }
@@ -264,6 +279,7 @@ fn lower_all(
     index: &mut Index,
 ) -> Result<(), AllocError>
     ensures lowers { OnOk result ((w : ℕ) → least_in row.new.items w ≡ (if is_some (least_in other.now w) then lesser (least_in row.old.items w) (Some place) else least_in row.old.items w)) }
+    ensures single { IsSingle row.old.items → IsSingle row.new.items }
     ensures listed { IsListedRow row.old.items led.old o → IsListedRow row.new.items led.new o }
     ensures grows { Grows led.old led.new }
     ensures others { (v : ℕ) → is_some (least_in other.now v) ≡ false → followers led.new v ≡ followers led.old v }
@@ -275,43 +291,117 @@ fn lower_all(
     Ok(())
 }
 
-// The block of this thread is open no more.
-fn drop_opener(row: &mut Vec<Lead>, opener: u32)
-    ensures { (w : ℕ) → least_in row.new.items w ≡ (if opener == w then None else least_in row.old.items w) }
+// Where it is true, the open block of thread `w` stands at this place.
+fn stands_at(row: &[Lead], at: usize, w: u32) -> bool
+    ensures { result ≡ true → IsFound row.now w (Some at) }
 {
-    row.retain(|lead| lead.opener != opener);
+    at < row.len() && row[at].opener == w
 }
 
-/// The block of thread `t` ends, to which the blocks of the row `ended` lead: where it led to thread
-/// `o`, whose row this is, they lead there too, from the same place on.
+// The place where the open block of thread `w` stands: first the hint is tried, and then the last place, to which leads move.
+fn seek(row: &[Lead], w: u32, hint: usize) -> Option<usize>
+    ensures { IsFound row.now w result }
+{
+    if stands_at(row, hint, w) {
+        return Some(hint);
+    }
+    let last = row.len().saturating_sub(1);
+    if stands_at(row, last, w) {
+        return Some(last);
+    }
+    seek_through(row, w)
+}
+
+fn seek_through(row: &[Lead], w: u32) -> Option<usize>
+    ensures { IsFound row.now w result }
+{
+    for i in 0..row.len() {
+        if row[i].opener == w {
+            return Some(i);
+        }
+    }
+    None
+}
+
+// The block of this thread is open no more. It may stand where the hint says.
+fn drop_opener(row: &mut Vec<Lead>, opener: u32, hint: usize)
+    requires { IsSingle row.old.items }
+    ensures dropped { (w : ℕ) → least_in row.new.items w ≡ (if opener == w then None else least_in row.old.items w) }
+    ensures single { IsSingle row.new.items }
+{
+    let Some(at) = seek(row, opener, hint) else {
+        return;
+    };
+    take_out(row, opener, at);
+}
+
+// The last lead comes to stand where this thread's did.
+fn take_out(row: &mut Vec<Lead>, opener: u32, at: usize)
+    requires found { IsFound row.old.items opener (Some at) }
+    requires single { IsSingle row.old.items }
+    ensures dropped { (w : ℕ) → least_in row.new.items w ≡ (if opener == w then None else least_in row.old.items w) }
+    ensures single { IsSingle row.new.items }
+{
+    row.swap_remove(at);
+}
+
+/// The block of thread `t`, whose row this is, leads from this place on.
+pub(crate) fn open(row: &mut Vec<Lead>, t: u32, place: u32) -> Result<(), AllocError>
+    ensures row { OnOk result ((w : ℕ) → least_in row.new.items w ≡ (if t == w then lesser (least_in row.old.items w) (Some place) else least_in row.old.items w)) }
+    ensures others { (w : ℕ) → w ≢ t → least_in row.new.items w ≡ least_in row.old.items w }
+    ensures single { IsSingle row.old.items → IsSingle row.new.items }
+{
+    let Some(at) = seek(row, t, 0) else {
+        return put_lead(row, t, place);
+    };
+    lower_at(row, at, t, place);
+    Ok(())
+}
+
+fn put_lead(row: &mut Vec<Lead>, opener: u32, place: u32) -> Result<(), AllocError>
+    requires { is_some (least_in row.old.items opener) ≡ false }
+    ensures row { OnOk result ((w : ℕ) → least_in row.new.items w ≡ (if opener == w then lesser (least_in row.old.items w) (Some place) else least_in row.old.items w)) }
+    ensures others { (w : ℕ) → w ≢ opener → least_in row.new.items w ≡ least_in row.old.items w }
+    ensures single { IsSingle row.old.items → IsSingle row.new.items }
+{
+    row.push(Lead { opener, place })?;
+    Ok(())
+}
+
+/// The block of thread `t` ends, to which the blocks of the row `ended` lead: where it led to the thread of this entry, whose row
+/// this is, they lead there too, from the same place on.
 pub(crate) fn absorb(
     row: &mut Vec<Lead>,
-    o: u32,
+    entry: Entry,
     ended: &[Lead],
     t: u32,
     led: &mut Led,
     index: &mut Index,
 ) -> Result<(), AllocError>
+    requires { IsSingle row.old.items }
     ensures absorbs { OnOk result ((w : ℕ) → least_in row.new.items w ≡ absorbed (least_in ended.now) (least_in row.old.items) t w) }
-    ensures listed { IsListedRow row.old.items led.old o → IsListedRow row.new.items led.new o }
+    ensures single { IsSingle row.new.items }
+    ensures listed { IsListedRow row.old.items led.old entry.thread → IsListedRow row.new.items led.new entry.thread }
     ensures grows { Grows led.old led.new }
     ensures others { (v : ℕ) → is_some (least_in ended.now v) ≡ false → followers led.new v ≡ followers led.old v }
 {
+    let hint = entry.at as usize;
     if ended.is_empty() {
-        drop_opener(row, t);
+        drop_opener(row, t, hint);
         return Ok(());
     }
     let Some(place) = first(row, t) else {
         return Ok(());
     };
-    lower_all(row, o, ended, place, led, index)?;
-    drop_opener(row, t);
+    lower_all(row, entry.thread, ended, place, led, index)?;
+    drop_opener(row, t, hint);
     Ok(())
 }
 
 // All of the row's blocks lead from this place on, or from an earlier one.
 fn lower_each(row: &mut [Lead], place: u32)
-    ensures { (w : ℕ) → least_in row.new w ≡ (if is_some (least_in row.old w) then lesser (least_in row.old w) (Some place) else least_in row.old w) }
+    ensures lowers { (w : ℕ) → least_in row.new w ≡ (if is_some (least_in row.old w) then lesser (least_in row.old w) (Some place) else least_in row.old w) }
+    ensures single { IsSingle row.old → IsSingle row.new }
 {
     for lead in row.iter_mut() {
         lead.place = lead.place.min(place);
@@ -320,11 +410,13 @@ fn lower_each(row: &mut [Lead], place: u32)
 
 /// The block of thread `t`, whose row this is, ends: what led to the block leads to its begin.
 pub(crate) fn settle(row: &mut Vec<Lead>, t: u32)
-    ensures { (w : ℕ) → least_in row.new.items w ≡ absorbed (least_in row.old.items) (least_in row.old.items) t w }
+    requires { IsSingle row.old.items }
+    ensures absorbs { (w : ℕ) → least_in row.new.items w ≡ absorbed (least_in row.old.items) (least_in row.old.items) t w }
+    ensures single { IsSingle row.new.items }
 {
     let Some(place) = first(row, t) else {
         return;
     };
     lower_each(row, place);
-    drop_opener(row, t);
+    drop_opener(row, t, 0);
 }

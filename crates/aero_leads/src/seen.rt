@@ -71,10 +71,10 @@ fn is_in(openers: &[bool], w: u32) -> bool
 }
 
 // How many places there are for each lead of a row, at most.
-const PLACES: usize = 16;
+const PLACES: usize = 12;
 
 /// What leads to thread `t` is known from now on, where its row is long and memory isn't refused. No more than
-/// sixteen bytes are taken for each lead: blocks of threads with a greater number aren't known.
+/// twelve bytes are taken for each lead: blocks of threads with a greater number aren't known.
 pub(crate) fn see_all(seen: &mut Seen, threads: &[Thread], t: u32)
     ensures { AreSeen threads.now seen.old → AreSeen threads.now seen.new }
 {

@@ -1,22 +1,27 @@
 //! What is kept of the threads, and to which of them each open block leads.
 ghost use Rattle.std.specs.Prelude.{◌≡◌, ◌≢◌, ◌∷◌, ◌++◌, ◌<◌, ◌-◌, ◌^◌, ◌==◌, ℕ, true, false, [], OnOk, OnErr, IfOk, vec_len, slice_get, is_some, if◌then◌else◌};
-ghost use Rattle.aero_leads.specs.Kept.{rows_in, is_below, thread_in_block, thread_begins, thread_acted, leads_to, leads_to_any, if_any, TakesAll, TakesRow, HaveSameBlocks, AreSameThreads, BeginsBlock, EndsBlock};
+ghost use Rattle.aero_leads.specs.Kept.{rows_in, is_below, thread_row, thread_in_block, thread_begins, thread_acted, leads_to, leads_to_any, if_any, TakesAll, TakesRow, HaveSameBlocks, AreSameThreads, BeginsBlock, EndsBlock, IsLeastBack};
 ghost use Rattle.aero_leads.specs.Listed.{AreListed};
 ghost use Rattle.aero_leads.specs.Lows.{AreLow};
+ghost use Rattle.aero_leads.specs.Passed.{ArePassed, leads_since, passed_of};
 ghost use Rattle.aero_leads.specs.Seen.{AreSeen};
+ghost use Rattle.aero_leads.specs.Single.{AreSingle};
 
 use crate::index::{Index, no_row};
 use crate::last::Last;
 use crate::led::{Led, forget, no_block};
 use crate::lows::{Lows, forget_lows, is_low, lower, no_low, raise_all};
-use crate::row::{Brought, brought_by, gain_all, settle};
+use crate::passed::{
+    Passed, forget_places, lower_place, no_place, note_begin, note_gain, passed_before, since,
+};
+use crate::row::{Brought, Lead, brought_by, gain_all, settle};
 use crate::seen::{Seen, forget_all, has_seen, nothing_seen, see_all, unsee_all};
 use crate::thread;
 use crate::thread::{Thread, leave, put_row, row_of, spread, take_row};
 use std::alloc::{AllocError, Global};
 
 /// The threads, by their numbers. With each open block the other threads are listed to whose events
-/// it leads. The index is room to work in. What is seen and what is low are parts of what the rows say.
+/// it leads. The index is room to work in. What is seen, what is low and what was passed on are parts of what the rows say.
 #[derive(Drop)]
 pub struct Table {
     pub threads: Vec<Thread>,
@@ -24,9 +29,12 @@ pub struct Table {
     pub index: Index,
     pub seen: Seen,
     pub lows: Lows,
+    pub passed: Passed,
     ghost listed: { AreListed threads.items led },
     ghost known: { AreSeen threads.items seen },
     ghost low: { AreLow threads.items lows },
+    ghost passing: { ArePassed threads.items passed },
+    ghost single: { AreSingle threads.items },
 }
 
 /// No thread.
@@ -39,6 +47,7 @@ pub(crate) fn no_thread(alloc: Global) -> Table
         index: no_row(alloc),
         seen: nothing_seen(alloc),
         lows: no_low(alloc),
+        passed: no_place(alloc),
     }
 }
 
@@ -75,11 +84,14 @@ pub(crate) fn gain(
     let Ok(()) = gain_all(&mut row, t, other, below, place, led, index) else {
         forget_all(&mut table.seen);
         forget_lows(&mut table.lows);
+        forget_places(&mut table.passed);
         return Err(AllocError);
     };
     put_row(&mut table.threads, t, row);
     see_all(&mut table.seen, &table.threads, t);
     lower(&mut table.lows, t, place);
+    lower_place(&mut table.passed, o, below);
+    note_gain(&mut table.passed, &table.led, t, place);
     Ok(())
 }
 
@@ -214,10 +226,21 @@ pub(crate) fn begin(table: &mut Table, t: u32, place: u32) -> Result<(), AllocEr
     let Ok(()) = thread::begin(&mut table.threads, t, place) else {
         forget_all(&mut table.seen);
         forget_lows(&mut table.lows);
+        forget_places(&mut table.passed);
         return Err(AllocError);
     };
     lower(&mut table.lows, t, place);
+    note_begin(&mut table.passed, &table.led, t, place);
     Ok(())
+}
+
+/// The least thread whose open block closes a cycle through that of thread `t`.
+pub(crate) fn least_back(table: &mut Table, t: u32) -> Result<Option<u32>, AllocError>
+    ensures least { IfOk result (IsLeastBack (rows_in table.new.threads.items) t) }
+    ensures same { table.new.threads ≡ table.old.threads }
+{
+    let (led, index) = (&table.led, &mut table.index);
+    thread::least_back(&table.threads, t, led, index)
 }
 
 /// Thread `t` ends its block: what leads to the block leads to all that the block led to.
@@ -227,12 +250,14 @@ pub(crate) fn end(table: &mut Table, t: u32) -> Result<(), AllocError>
     ensures err { OnErr result (HaveSameBlocks table.old.threads.items table.new.threads.items) }
     ensures room { vec_len table.new.threads ≡ vec_len table.old.threads }
 {
+    let later = not_passed(table, t)?;
     let mut row = take_row(&mut table.threads, t);
     settle(&mut row, t);
     let (led, index) = (&mut table.led, &mut table.index);
-    let Ok(()) = spread(&mut table.threads, &row, t, led, index) else {
+    let Ok(()) = spread(&mut table.threads, &later, t, led, index) else {
         forget_all(&mut table.seen);
         forget_lows(&mut table.lows);
+        forget_places(&mut table.passed);
         return Err(AllocError);
     };
     put_row(&mut table.threads, t, row);
@@ -241,6 +266,16 @@ pub(crate) fn end(table: &mut Table, t: u32) -> Result<(), AllocError>
     raise_all(&mut table.lows, &table.threads, &table.led, t);
     forget(&mut table.led, t);
     Ok(())
+}
+
+// What leads to thread t, and hasn't been passed on yet to the threads to which its open block leads.
+fn not_passed(table: &Table, t: u32) -> Result<Vec<Lead>, AllocError>
+    ensures { IfOk result (λ ls. ls.items ≡ leads_since t (passed_of table.now.passed t) (thread_row (slice_get table.now.threads.items t))) }
+{
+    let alloc = *table.threads.allocator();
+    let place = passed_before(&table.passed, t);
+    let later = since(row_of(&table.threads, t), t, place, alloc)?;
+    Ok(later)
 }
 
 /// Thread `t` has made an event.

@@ -1,11 +1,13 @@
 //! What is kept of the threads.
 ghost use Rattle.std.specs.Prelude.{◌≡◌, ◌<◌, ◌-◌, ◌^◌, ◌==◌, ℕ, true, false, max, None, Some, [], OnOk, OnErr, IfOk, vec_len, slice_get, length, not, is_some, ◌&&◌, if◌then◌else◌};
 ghost use Rattle.aero_leads.specs.Kept.{rows_in, thread_row, HaveSameBlocks, AreSameThreads, HasRow, BeginsBlock, IsLeastBack, absorbed, least_in, thread_in_block, thread_begins, thread_acted};
+ghost use Rattle.aero_leads.specs.Indexed.{IsIndexed};
 ghost use Rattle.aero_leads.specs.Listed.{followers, is_listed, AreListed, Grows};
+ghost use Rattle.aero_leads.specs.Single.{AreSingle};
 
 use crate::index::Index;
-use crate::led::{Led, count, follower};
-use crate::row::{Lead, absorb, has, least_of};
+use crate::led::{Entry, Led, count, follower, listed_at};
+use crate::row::{Lead, absorb, enter_all, has, has_entered, least_of, open};
 use std::alloc::{AllocError, Global};
 use std::mem;
 
@@ -23,6 +25,7 @@ pub struct Thread {
 pub(crate) fn reach(threads: &mut Vec<Thread>, t: u32) -> Result<(), AllocError>
     ensures room { OnOk result (t < vec_len threads.new) }
     ensures same { AreSameThreads threads.old.items threads.new.items }
+    ensures lists { (v : ℕ) → thread_row (slice_get threads.new.items v) ≡ thread_row (slice_get threads.old.items v) }
 {
     let at = t as usize;
     while threads.len() <= at {
@@ -74,35 +77,57 @@ pub(crate) fn begin(threads: &mut Vec<Thread>, t: u32, place: u32) -> Result<(),
     ensures begins { OnOk result (BeginsBlock threads.old.items threads.new.items t place) }
     ensures err { OnErr result (HaveSameBlocks threads.old.items threads.new.items) }
     ensures listed { (led : Led) → AreListed threads.old.items led → AreListed threads.new.items led }
+    ensures single { AreSingle threads.old.items → AreSingle threads.new.items }
     ensures room { vec_len threads.new ≡ vec_len threads.old }
 {
     let thread = &mut threads[t as usize];
-    thread.row.push(Lead { opener: t, place })?;
+    open(&mut thread.row, t, place)?;
     thread.in_block = true;
     thread.begins += 1;
     Ok(())
 }
 
 /// The least other thread whose open block leads to thread `t`, and to which the open block of `t`
-/// leads.
-pub(crate) fn least_back(threads: &[Thread], t: u32) -> Option<u32>
+/// leads, so that it is listed with `t`.
+pub(crate) fn least_back(
+    threads: &[Thread],
+    t: u32,
+    led: &Led,
+    index: &mut Index,
+) -> Result<Option<u32>, AllocError>
+    requires { AreListed threads.now led.now }
+    ensures { IfOk result (IsLeastBack (rows_in threads.now) t) }
+{
+    if count(led, t) == 0 {
+        return Ok(None);
+    }
+    enter_all(row_of(threads, t), index)?;
+    Ok(least_listed(threads, t, led, index))
+}
+
+fn least_listed(threads: &[Thread], t: u32, led: &Led, index: &Index) -> Option<u32>
+    requires listed { AreListed threads.now led.now }
+    requires indexed { IsIndexed (thread_row (slice_get threads.now t)) index.now }
     ensures { IsLeastBack (rows_in threads.now) t result }
 {
-    let row = row_of(threads, t);
     let mut least = None;
-    for lead in row.iter() {
-        if leads_back(threads, t, lead.opener) {
-            least = Some(least_of(least, lead.opener));
+    let listed = count(led, t);
+    for i in 0..listed {
+        let u = follower(led, t, i);
+        if is_back(threads, t, u, index) {
+            least = Some(least_of(least, u));
         }
     }
     least
 }
 
-// Whether the open block of thread t leads to thread u, which is another.
-fn leads_back(threads: &[Thread], t: u32, u: u32) -> bool
-    ensures { result ≡ (not (u == t) && is_some (rows_in threads.now u t)) }
+// Whether the open block of thread u, which is another, leads to thread t, and that of t to u. The first is seen at once, and
+// seldom so.
+fn is_back(threads: &[Thread], t: u32, u: u32, index: &Index) -> bool
+    requires { IsIndexed (thread_row (slice_get threads.now t)) index.now }
+    ensures { result ≡ (not (u == t) && (is_some (rows_in threads.now t u) && is_some (rows_in threads.now u t))) }
 {
-    u != t && has(row_of(threads, u), t)
+    u != t && has_entered(row_of(threads, t), index, u) && has(row_of(threads, u), t)
 }
 
 /// Thread `t` has made an event.
@@ -112,6 +137,7 @@ pub(crate) fn act(threads: &mut Vec<Thread>, t: u32)
     ensures in_block { (u : ℕ) → thread_in_block (slice_get threads.new.items u) ≡ thread_in_block (slice_get threads.old.items u) }
     ensures begins { (u : ℕ) → thread_begins (slice_get threads.new.items u) ≡ thread_begins (slice_get threads.old.items u) }
     ensures acted { (u : ℕ) → thread_acted (slice_get threads.new.items u) ≡ (if t == u then true else thread_acted (slice_get threads.old.items u)) }
+    ensures lists { (v : ℕ) → thread_row (slice_get threads.new.items v) ≡ thread_row (slice_get threads.old.items v) }
 {
     threads[t as usize].acted = true;
 }
@@ -123,29 +149,33 @@ pub(crate) fn leave(threads: &mut Vec<Thread>, t: u32)
     ensures in_block { (u : ℕ) → thread_in_block (slice_get threads.new.items u) ≡ (if t == u then false else thread_in_block (slice_get threads.old.items u)) }
     ensures begins { (u : ℕ) → thread_begins (slice_get threads.new.items u) ≡ thread_begins (slice_get threads.old.items u) }
     ensures acted { (u : ℕ) → thread_acted (slice_get threads.new.items u) ≡ thread_acted (slice_get threads.old.items u) }
+    ensures lists { (v : ℕ) → thread_row (slice_get threads.new.items v) ≡ thread_row (slice_get threads.old.items v) }
     ensures room { vec_len threads.new ≡ vec_len threads.old }
 {
     threads[t as usize].in_block = false;
 }
 
-// Thread `o` takes over what led to the block of thread `t`, the row `ended`, if that block led to it.
+// The thread of this entry takes over what led to the block of thread `t`, the row `ended`, if that block led to it.
 fn visit(
     threads: &mut Vec<Thread>,
-    o: u32,
+    entry: Entry,
     ended: &[Lead],
     t: u32,
     led: &mut Led,
     index: &mut Index,
 ) -> Result<(), AllocError>
-    ensures rows { OnOk result ((v w : ℕ) → rows_in threads.new.items v w ≡ (if o == v then absorbed (least_in ended.now) (rows_in threads.old.items v) t w else rows_in threads.old.items v w)) }
+    requires { AreSingle threads.old.items }
+    ensures rows { OnOk result ((v w : ℕ) → rows_in threads.new.items v w ≡ (if entry.thread == v then absorbed (least_in ended.now) (rows_in threads.old.items v) t w else rows_in threads.old.items v w)) }
     ensures same { HaveSameBlocks threads.old.items threads.new.items }
     ensures listed { AreListed threads.old.items led.old → AreListed threads.new.items led.new }
     ensures grows { Grows led.old led.new }
     ensures others { (v : ℕ) → is_some (least_in ended.now v) ≡ false → followers led.new v ≡ followers led.old v }
+    ensures single { AreSingle threads.new.items }
     ensures room { vec_len threads.new ≡ vec_len threads.old }
 {
+    let o = entry.thread;
     if (o as usize) < threads.len() {
-        return absorb(&mut threads[o as usize].row, o, ended, t, led, index);
+        return absorb(&mut threads[o as usize].row, entry, ended, t, led, index);
     }
     Ok(())
 }
@@ -159,16 +189,18 @@ pub(crate) fn spread(
     led: &mut Led,
     index: &mut Index,
 ) -> Result<(), AllocError>
-    requires { is_some (least_in ended.now t) ≡ false }
+    requires own { is_some (least_in ended.now t) ≡ false }
+    requires single { AreSingle threads.old.items }
     ensures rows { OnOk result ((o w : ℕ) → rows_in threads.new.items o w ≡ (if is_listed led.old t o then absorbed (least_in ended.now) (rows_in threads.old.items o) t w else rows_in threads.old.items o w)) }
     ensures same { HaveSameBlocks threads.old.items threads.new.items }
     ensures listed { AreListed threads.old.items led.old → AreListed threads.new.items led.new }
     ensures grows { Grows led.old led.new }
+    ensures single { AreSingle threads.new.items }
     ensures room { vec_len threads.new ≡ vec_len threads.old }
 {
     let listed = count(led, t);
     for i in 0..listed {
-        visit(threads, follower(led, t, i), ended, t, led, index)?;
+        visit(threads, listed_at(led, t, i), ended, t, led, index)?;
     }
     Ok(())
 }

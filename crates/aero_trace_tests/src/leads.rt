@@ -570,3 +570,128 @@ fn has_each_of_many(counts: Result<[u32; 2], u32>) -> bool {
 fn both_engines_answer_the_same_where_many_blocks_are_open(rt: HostRuntime) {
     assert!(rt; has_each_of_many(counts_of_many(rt.alloc(), 24)));
 }
+
+// How many blocks there are in a chain: each thread opens one, writes, reads what the thread before it wrote last, and
+// writes another variable.
+const LINKS: u32 = 90;
+
+// In which order the blocks of a chain end.
+#[derive(Clone, Copy)]
+enum Order {
+    FirstFirst,
+    LastFirst,
+    Mixed,
+}
+
+fn ending(order: Order, i: u32) -> u32 {
+    match order {
+        Order::FirstFirst => i,
+        Order::LastFirst => (LINKS - 1).saturating_sub(i),
+        Order::Mixed => (i % LINKS * 7 + 3) % LINKS,
+    }
+}
+
+// What both answer to the event, or `None` where they differ or refuse it.
+fn step(leads: &mut Leads, clocks: &mut Clocks, t: u32, event: Event) -> Option<Option<u32>> {
+    let answer = make(leads, t, event);
+    if answer != make_by_clocks(clocks, t, event) || !agree(leads, clocks, t) {
+        return None;
+    }
+    answer.ok()
+}
+
+fn is_quiet(leads: &mut Leads, clocks: &mut Clocks, t: u32, event: Event) -> bool {
+    step(leads, clocks, t, event) == Some(None)
+}
+
+fn is_linked(leads: &mut Leads, clocks: &mut Clocks, t: u32) -> bool {
+    let begins = is_quiet(leads, clocks, t, Event::Begin);
+    let writes = is_quiet(leads, clocks, t, Event::Write(t));
+    let before = Event::Read(LINKS.saturating_add(t).saturating_sub(1));
+    let reads = t == 0 || is_quiet(leads, clocks, t, before);
+    let last = Event::Write(LINKS.saturating_add(t));
+    begins && writes && reads && is_quiet(leads, clocks, t, last)
+}
+
+fn are_linked(leads: &mut Leads, clocks: &mut Clocks) -> bool {
+    let mut fits = true;
+    for t in 0..LINKS {
+        fits &= is_linked(leads, clocks, t);
+    }
+    fits
+}
+
+// The first answer to an end that tells a block, if one does.
+fn end_all(leads: &mut Leads, clocks: &mut Clocks, order: Order) -> Option<Option<u32>> {
+    for i in 0..LINKS {
+        let told = step(leads, clocks, ending(order, i), Event::End)?;
+        if told.is_some() {
+            return Some(told);
+        }
+    }
+    Some(None)
+}
+
+// Thread 0 reads what the last thread wrote before the chain led there.
+fn told_at_end(leads: &mut Leads, clocks: &mut Clocks, order: Order) -> Option<Option<u32>> {
+    if !is_quiet(leads, clocks, 0, Event::Read(LINKS - 1)) {
+        return None;
+    }
+    end_all(leads, clocks, order)
+}
+
+// Thread 0 reads what one more thread wrote in a block, which the end of its own block passes on to the whole chain. Once
+// all have ended, that thread reads what a thread of the chain wrote last.
+fn told_after_ends(leads: &mut Leads, clocks: &mut Clocks, order: Order) -> Option<Option<u32>> {
+    let begins = is_quiet(leads, clocks, LINKS, Event::Begin);
+    let writes = is_quiet(leads, clocks, LINKS, Event::Write(2 * LINKS));
+    let reads = is_quiet(leads, clocks, 0, Event::Read(2 * LINKS));
+    if !(begins && writes && reads) || end_all(leads, clocks, order) != Some(None) {
+        return None;
+    }
+    step(leads, clocks, LINKS, Event::Read(LINKS + LINKS / 2))
+}
+
+// An order, whether an end closes a cycle, and the thread that is told.
+type Chain = (Order, bool, u32);
+
+const CHAINS: [Chain; 6] = [
+    (Order::FirstFirst, true, LINKS - 1),
+    (Order::LastFirst, true, 0),
+    (Order::Mixed, true, 0),
+    (Order::FirstFirst, false, LINKS),
+    (Order::LastFirst, false, LINKS),
+    (Order::Mixed, false, LINKS),
+];
+
+fn told_of(leads: &mut Leads, clocks: &mut Clocks, chain: Chain) -> Option<Option<u32>> {
+    let (order, at_end, _) = chain;
+    if !are_linked(leads, clocks) {
+        return None;
+    }
+    if at_end {
+        return told_at_end(leads, clocks, order);
+    }
+    told_after_ends(leads, clocks, order)
+}
+
+fn is_told(alloc: Global, chain: Chain) -> bool {
+    let mut leads = Leads::new(alloc);
+    let mut clocks = Clocks::new(alloc);
+    told_of(&mut leads, &mut clocks, chain) == Some(Some(chain.2))
+}
+
+// The first chain that doesn't hold.
+fn first_unlinked(alloc: Global) -> Option<usize> {
+    for i in 0..CHAINS.len() {
+        if !is_told(alloc, CHAINS[i]) {
+            return Some(i);
+        }
+    }
+    None
+}
+
+#[test]
+fn both_engines_answer_the_same_of_a_chain_in_each_order_of_ends(rt: HostRuntime) {
+    assert_eq!(rt; first_unlinked(rt.alloc()), None);
+}

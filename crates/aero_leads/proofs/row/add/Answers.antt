@@ -1,8 +1,10 @@
-use Rattle.std.proofs.Common.{◌∙◌, ap, arith}
+use Rattle.std.proofs.Common.{◌∙◌, ap, sym, subst, arith}
 use Rattle.aero_leads.specs.Indexed.{place_of}
 use Rattle.aero_leads.specs.Kept.{least_in}
+use Rattle.aero_leads.specs.Single.{IsSingle}
 use Rattle.aero_leads.proofs.Leasts.{lead, least_push, indexed_added}
 use Rattle.aero_leads.proofs.Listings.{grows_noted, noted_there, listed_added}
+use Rattle.aero_leads.proofs.Singles.{single_pushed}
 use Rattle.aero_leads.proofs.row.add.Goals as goal
 
 pub returns-clause-row : goal.returns-clause-row
@@ -17,5 +19,8 @@ returns-clause-listed c =
 
 pub returns-clause-indexed : goal.returns-clause-indexed
 returns-clause-indexed c =
-    indexed_added c.args.row.now.items c.push.new.self.items (lead c.args.opener c.args.place) c.len.result (place_of c.args.index.now) (place_of c.enter.new.index)
-    c.in_ok-push.ensures.items (omega (arith, c.len.ensures, c.args.row.now.ok.0)) c.in_ok-enter.ensures
+    indexed_added c.args.row.now.items c.push.new.self.items (lead c.args.opener c.args.place) c.len-2.result (place_of c.args.index.now) (place_of c.enter.new.index)
+    c.in_ok-push.ensures.items (omega (arith, c.len-2.ensures, c.args.row.now.ok.0)) c.in_ok-enter.ensures
+
+pub returns-clause-single : goal.returns-clause-single
+returns-clause-single c = λ none single. subst IsSingle (sym c.in_ok-push.ensures.items) (single_pushed c.args.row.now.items (lead c.args.opener c.args.place) none single)

@@ -10,5 +10,6 @@ loop-lead-preserved c =
           (slice_get-get_or c.args.other.now c.loop-lead.lead-index (lead 0 0) c.loop-lead-test.true) c.loop-lead.invariant.gained c.in_ok-gain_below.ensures.gains;
       listed = λ h. c.gain_below.ensures.listed (c.loop-lead.invariant.listed h);
       indexed = c.in_ok-gain_below.ensures.indexed;
+      single = λ h. c.gain_below.ensures.single (c.loop-lead.invariant.single h);
       grows = λ w o h. c.gain_below.ensures.grows w o (c.loop-lead.invariant.grows w o h);
     }

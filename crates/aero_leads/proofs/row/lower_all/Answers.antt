@@ -13,6 +13,7 @@ loop-lead-preserved c =
           at c.loop-lead.invariant.lowered c.in_ok-lower.ensures.lowers;
       listed = λ h. c.lower.ensures.listed (c.loop-lead.invariant.listed h);
       indexed = c.in_ok-lower.ensures.indexed;
+      single = λ h. c.lower.ensures.single (c.loop-lead.invariant.single h);
       grows = λ w o h. c.lower.ensures.grows w o (c.loop-lead.invariant.grows w o h);
       others = λ v h.
           let n = none_next c.args.other.now c.loop-lead.lead-index l v at h in

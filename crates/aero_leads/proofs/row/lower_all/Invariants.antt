@@ -3,6 +3,7 @@ use Rattle.std.specs.Prelude.{is_some, false}
 use Rattle.aero_leads.specs.Kept.{least_in}
 use Rattle.aero_leads.specs.Indexed.{IsIndexed}
 use Rattle.aero_leads.specs.Listed.{IsListedRow, Grows, followers}
+use Rattle.aero_leads.specs.Single.{IsSingle}
 use Rattle.aero_leads.specs.Steps.{lesser}
 use Rattle.aero_leads.proofs.row.lower_all.Given as goal
 
@@ -12,5 +13,6 @@ invariant-loop-lead l = record {
   listed : IsListedRow l.initial.row.items l.initial.led l.o → IsListedRow l.row.items l.led l.o;
   grows : Grows l.initial.led l.led;
   indexed : IsIndexed l.row.items l.index;
+  single : IsSingle l.initial.row.items → IsSingle l.row.items;
   others : (v : ℕ) → is_some (least_in (take l.lead-index l.other) v) ≡ false → followers l.led v ≡ followers l.initial.led v;
 }

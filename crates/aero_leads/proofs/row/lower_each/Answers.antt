@@ -1,7 +1,9 @@
-use Rattle.std.proofs.Common.{◌∙◌, ap, get_or, arith}
+use Rattle.std.proofs.Common.{◌∙◌, ap, sym, subst, get_or, arith}
 use Rattle.std.specs.Prelude.{slice_set}
 use Rattle.std.proofs.lemmas.Option.{slice_get-get_or}
-use Rattle.aero_leads.proofs.Leasts.{lead, lowered_first_none, lowered_first_next, lowered_first_all}
+use Rattle.aero_leads.specs.Single.{IsSingle}
+use Rattle.aero_leads.proofs.Leasts.{lead, lowered_first_none, lowered_first_next, lowered_first_all, openers_lowered}
+use Rattle.aero_leads.proofs.Singles.{single_same}
 use Rattle.aero_leads.proofs.row.lower_each.Goals as goal
 
 pub loop-lead-init : goal.loop-lead-init
@@ -16,5 +18,8 @@ loop-lead-preserved c =
           ∙ lowered_first_next c.args.place c.loop-lead.lead-index c.args.row.now c.loop-lead.row l c.loop-lead.invariant.lowered (slice_get-get_or c.loop-lead.row c.loop-lead.lead-index (lead 0 0) (omega (arith, c.loop-lead-test.true, c.loop-lead.auto.row)));
     }
 
-pub returns : goal.returns
-returns c = λ w. lowered_first_all c.args.place c.loop-lead.lead-index c.args.row.now c.loop-lead.row w c.loop-lead.invariant.lowered (omega (arith, c.loop-lead-test.false, c.loop-lead.auto.row))
+pub returns-clause-lowers : goal.returns-clause-lowers
+returns-clause-lowers c = λ w. lowered_first_all c.args.place c.loop-lead.lead-index c.args.row.now c.loop-lead.row w c.loop-lead.invariant.lowered (omega (arith, c.loop-lead-test.false, c.loop-lead.auto.row))
+
+pub returns-clause-single : goal.returns-clause-single
+returns-clause-single c = λ single. subst IsSingle (sym c.loop-lead.invariant.lowered) (single_same c.args.row.now _ (openers_lowered c.args.place c.loop-lead.lead-index c.args.row.now) single)

@@ -1,36 +1,51 @@
-use Rattle.std.proofs.Common.{ap, ◌∙◌}
-use Rattle.std.specs.Prelude.{if◌then◌else◌}
-use Rattle.aero_leads.specs.Kept.{least_in, rows_in, absorbed}
+use Rattle.std.proofs.Common.{ap, sym, subst, ◌∙◌}
+use Rattle.std.specs.Prelude.{if◌then◌else◌, is_some, slice_get}
+use Rattle.aero_leads.specs.Kept.{least_in, rows_in, thread_row, absorbed}
 use Rattle.aero_leads.specs.Listed.{is_listed}
+use Rattle.aero_leads.specs.Passed.{passed_of}
+use Rattle.aero_leads.specs.Single.{IsSingle}
 use Rattle.aero_leads.proofs.Ends.{ends_all}
 use Rattle.aero_leads.proofs.Seeing.{listed_ended, seen_ended}
 use Rattle.aero_leads.proofs.Lowering.{low_ended}
+use Rattle.aero_leads.proofs.Passing.{passed_ended, since_own, since_spreads}
+use Rattle.aero_leads.proofs.Singles.{single_row, single_rows, single_taken}
 use Rattle.aero_leads.proofs.table.end.Goals as goal
 
 pub returns-clause-ends : goal.returns-clause-ends
 returns-clause-ends c =
     ends_all c.args.table.now.threads.items c.take_row-row.new.threads.items c.spread.new.threads.items c.put_row.new.threads.items c.leave.new.threads.items c.args.t
-    c.take_row-row.result.items c.settle.new.row.items c.args.table.now.led c.args.table.now.listed
-    c.take_row-row.ensures.row c.take_row-row.ensures.rest c.settle.ensures
+    c.take_row-row.result.items c.settle.new.row.items _ c.args.table.now.led c.args.table.now.listed
+    c.take_row-row.ensures.row c.take_row-row.ensures.rest c.settle.ensures.absorbs
     (λ o w. c.in-Ok.ensures.rows o w ∙ ap (λ es. if is_listed c.args.table.now.led c.args.t o then absorbed (least_in es) (rows_in c.take_row-row.new.threads.items o) c.args.t w else rows_in c.take_row-row.new.threads.items o w) c.deref.ensures.value)
+    (λ o w ne. ap (λ xs. absorbed (least_in xs) (rows_in c.args.table.now.threads.items o) c.args.t w) c.in_ok-later.ensures ∙ since_spreads c.args.table.now.threads.items c.args.table.now.passed c.args.t o w ne c.args.table.now.passing)
     c.spread.ensures.same c.put_row.ensures.row c.leave.ensures.rows c.leave.ensures.in_block c.leave.ensures.begins c.leave.ensures.acted
 
 pub invariant_of-table-2 : goal.invariant_of-table-2
 invariant_of-table-2 c =
     let ends =
     ends_all c.args.table.now.threads.items c.take_row-row.new.threads.items c.spread.new.threads.items c.put_row.new.threads.items c.leave.new.threads.items c.args.t
-    c.take_row-row.result.items c.settle.new.row.items c.args.table.now.led c.args.table.now.listed
-    c.take_row-row.ensures.row c.take_row-row.ensures.rest c.settle.ensures
+    c.take_row-row.result.items c.settle.new.row.items _ c.args.table.now.led c.args.table.now.listed
+    c.take_row-row.ensures.row c.take_row-row.ensures.rest c.settle.ensures.absorbs
     (λ o w. c.in-Ok.ensures.rows o w ∙ ap (λ es. if is_listed c.args.table.now.led c.args.t o then absorbed (least_in es) (rows_in c.take_row-row.new.threads.items o) c.args.t w else rows_in c.take_row-row.new.threads.items o w) c.deref.ensures.value)
+    (λ o w ne. ap (λ xs. absorbed (least_in xs) (rows_in c.args.table.now.threads.items o) c.args.t w) c.in_ok-later.ensures ∙ since_spreads c.args.table.now.threads.items c.args.table.now.passed c.args.t o w ne c.args.table.now.passing)
     c.spread.ensures.same c.put_row.ensures.row c.leave.ensures.rows c.leave.ensures.in_block c.leave.ensures.begins c.leave.ensures.acted in
     record {
       listed = listed_ended c.args.table.now.threads.items c.take_row-row.new.threads.items c.spread.new.threads.items c.put_row.new.threads.items c.leave.new.threads.items c.args.t
           c.take_row-row.result.items c.settle.new.row.items c.args.table.now.led c.spread.new.led c.forget.new.led c.args.table.now.listed
-          c.take_row-row.ensures.row c.take_row-row.ensures.rest c.settle.ensures c.spread.ensures.listed c.spread.ensures.grows c.put_row.ensures.row c.leave.ensures.rows c.forget.ensures ends;
+          c.take_row-row.ensures.row c.take_row-row.ensures.rest c.settle.ensures.absorbs c.spread.ensures.listed c.spread.ensures.grows c.put_row.ensures.row c.leave.ensures.rows c.forget.ensures ends;
       known = seen_ended c.args.table.now.threads.items c.leave.new.threads.items c.spread.new.led c.args.table.now.seen c.unsee_all.new.seen c.args.t ends
           (λ o w ne some. c.spread.ensures.grows w o (c.args.table.now.listed o w ne some))
           c.unsee_all.ensures.kept c.unsee_all.ensures.own c.unsee_all.ensures.listed c.args.table.now.known;
-      low = low_ended c.args.table.now.threads.items c.leave.new.threads.items c.deref-2.result.now c.spread.new.led c.args.table.now.lows c.raise_all.new.lows c.args.t c.deref-2.ensures.value ends
-          (λ o w ne some. c.spread.ensures.grows w o (c.args.table.now.listed o w ne some))
-          c.raise_all.ensures.kept c.raise_all.ensures.own c.raise_all.ensures.listed c.args.table.now.low;
+      low = low_ended c.args.table.now.threads.items c.leave.new.threads.items c.deref-2.result.now c.args.table.now.lows c.raise_all.new.lows c.args.t c.deref-2.ensures.value ends c.raise_all.ensures.kept c.args.table.now.low;
+      passing = passed_ended c.args.table.now.threads.items c.leave.new.threads.items c.args.table.now.passed c.args.t ends c.args.table.now.passing;
+      single = single_rows c.put_row.new.threads.items c.leave.new.threads.items c.leave.ensures.lists (single_row c.spread.new.threads.items c.put_row.new.threads.items c.args.t c.settle.new.row.items c.put_row.ensures.row c.settle.ensures.single c.spread.ensures.single);
     }
+
+pub spread-requires-clause-own : goal.spread-requires-clause-own
+spread-requires-clause-own c = ap (λ xs. is_some (least_in xs c.args.t)) (c.deref.ensures.value ∙ c.in_ok-later.ensures) ∙ since_own c.args.t (passed_of c.args.table.now.passed c.args.t) (thread_row (slice_get c.args.table.now.threads.items c.args.t))
+
+pub spread-requires-clause-single : goal.spread-requires-clause-single
+spread-requires-clause-single c = single_taken c.args.table.now.threads.items c.take_row-row.new.threads.items c.args.t c.take_row-row.ensures.rest c.args.table.now.single
+
+pub settle-requires : goal.settle-requires
+settle-requires c = subst IsSingle (sym c.take_row-row.ensures.row) (c.args.table.now.single c.args.t)

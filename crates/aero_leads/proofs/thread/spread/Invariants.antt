@@ -3,6 +3,7 @@ use Rattle.std.specs.Prelude.{◌==◌, if◌then◌else◌}
 use Rattle.std.specs.List.{list_any}
 use Rattle.aero_leads.specs.Kept.{least_in, rows_in, absorbed, HaveSameBlocks}
 use Rattle.aero_leads.specs.Listed.{followers, AreListed, Grows}
+use Rattle.aero_leads.specs.Single.{AreSingle}
 use Rattle.aero_leads.proofs.thread.spread.Given as goal
 
 abbrev pub invariant-loop-i : goal.invariant-loop-i
@@ -12,5 +13,6 @@ invariant-loop-i l = record {
   same : HaveSameBlocks l.initial.threads.items l.threads.items;
   listed : AreListed l.initial.threads.items l.initial.led → AreListed l.threads.items l.led;
   grows : Grows l.initial.led l.led;
+  single : AreSingle l.threads.items;
   room : vec_len l.threads ≡ vec_len l.initial.threads;
 }

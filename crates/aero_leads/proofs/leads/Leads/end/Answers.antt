@@ -9,10 +9,10 @@ use Rattle.aero_leads.proofs.leads.Leads.end.Goals as goal
 pub returns-clause-follows : goal.returns-clause-follows
 returns-clause-follows c = λ h stands ok closing.
     subst (Tells c.finish.new.self (h ++ event c.args.t End ∷ []) (length h)) (sym (c.finish.ensures.untold refl))
-    (follows_end c.args.self.now c.start.new.self _ c.finish.new.self c.args.t c.in_ok-start.ensures.ok
-    (subst (IsLeastBack (state_of c.start.new.self).rows c.args.t) (is_none_of c.least_back-closing.result (sym c.is_some.ensures ∙ c.if-is_some.false)) c.least_back-closing.ensures)
+    (follows_end c.args.self.now c.start_end.new.self _ c.finish.new.self c.args.t c.in_ok-closing.ensures.ok
+    (subst (IsLeastBack (state_of c.start_end.new.self).rows c.args.t) (is_none_of _ (sym c.is_some.ensures ∙ c.if-is_some.false)) c.in_ok-closing.ensures.least)
     c.in_ok-end.ensures.ends refl (c.finish.ensures.finished refl) h stands ok closing)
 
 pub returns-then-is_some-clause-follows : goal.returns-then-is_some-clause-follows
 returns-then-is_some-clause-follows c =
-    follows_told c.args.self.now c.start.new.self c.tell.new.self c.args.t c.least_back-closing.result c.in_ok-start.ensures.ok c.least_back-closing.ensures (sym c.is_some.ensures ∙ c.if-is_some.true)
+    follows_told c.args.self.now c.start_end.new.self c.tell.new.self c.args.t _ c.in_ok-closing.ensures.ok c.in_ok-closing.ensures.least (sym c.is_some.ensures ∙ c.if-is_some.true)

@@ -1,0 +1,21 @@
+use Rattle.std.proofs.Common.{sym}
+use Rattle.aero_leads.proofs.Lowering.{low_begun}
+use Rattle.aero_leads.proofs.Passing.{passed_begun}
+use Rattle.aero_leads.proofs.Seeing.{seen_begun}
+use Rattle.aero_leads.proofs.table.begin.Goals as goal
+
+pub invariant_of-table-2-clause-known : goal.invariant_of-table-2-clause-known
+invariant_of-table-2-clause-known c = seen_begun c.args.table.now.threads.items c.begin.new.threads.items c.args.table.now.seen c.args.t c.args.place c.in-Ok.ensures.begins c.args.table.now.known
+
+pub invariant_of-table-2-clause-low : goal.invariant_of-table-2-clause-low
+invariant_of-table-2-clause-low c =
+    low_begun c.args.table.now.threads.items c.begin.new.threads.items c.args.table.now.lows c.lower.new.lows c.args.t c.args.place c.in-Ok.ensures.begins c.lower.ensures.less c.lower.ensures.place c.args.table.now.low
+
+pub invariant_of-table-2-clause-passing : goal.invariant_of-table-2-clause-passing
+invariant_of-table-2-clause-passing c =
+    passed_begun c.args.table.now.threads.items c.begin.new.threads.items c.args.table.now.led c.args.table.now.passed c.note_begin.new.passed c.args.t c.args.place c.in-Ok.ensures.begins
+    (λ v ne some. c.args.table.now.listed v c.args.t (λ e. ne (sym e)) some)
+    c.note_begin.ensures.others c.note_begin.ensures.own c.note_begin.ensures.early c.note_begin.ensures.latest c.args.table.now.passing
+
+pub invariant_of-table-2-clause-single : goal.invariant_of-table-2-clause-single
+invariant_of-table-2-clause-single c = c.begin.ensures.single c.args.table.now.single
