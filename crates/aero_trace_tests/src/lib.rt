@@ -1,4 +1,5 @@
-//! Tests of the crates that read and judge one trace: names, lines, events, clocks, serial orders and verdicts.
+//! Tests of the crates that read and judge one trace: names, lines, events, clocks, serial orders and verdicts,
+//! and the sentences on faults.
 //!
 //! A crate with tests is proved twice, with them and without, so they stand here, above all of the
 //! crates, and each is proved once. A module has the tests of the crate that it is named for, most of
@@ -14,6 +15,8 @@ mod clock;
 mod end;
 #[cfg(test)]
 mod explained;
+#[cfg(test)]
+mod faults;
 #[cfg(test)]
 mod grammar;
 #[cfg(test)]

@@ -261,7 +261,7 @@ fn does_a_refusal_stay(alloc: Global, text: &str) -> Option<bool> {
     Some(was_refused == Some(is_spent))
 }
 
-// Holds whatever memory is refused, which `rt try --test --fail-alloc 1..` does.
+// Holds whichever one allocation is refused, as `rt try --test --fail-alloc N` refuses the N-th.
 #[test]
 fn a_refusal_stays(rt: HostRuntime) {
     let text =

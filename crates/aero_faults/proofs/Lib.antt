@@ -1,0 +1,4 @@
+mod Counts
+mod Explains
+mod Holders
+mod Parts
