@@ -1,0 +1,3 @@
+pub mod Ends
+pub mod SameVerdict
+pub mod Texts

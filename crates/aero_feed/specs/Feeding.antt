@@ -1,0 +1,34 @@
+-- What a caller sees of a text that is fed piece by piece.
+use Rattle.std.specs.Prelude.{◌≡◌, ◌⊎◌, ◌+◌, ℕ, Bool, true, false, List, [], ◌∷◌, ◌++◌, Option, None}
+use Rattle.aero_model.specs.declared.verdict.LineFault.TheVariants.{TooManyLines}
+use Rattle.aero_model.specs.declared.verdict.Verdict.{Verdict}
+use Rattle.aero_model.specs.declared.verdict.Verdict.TheVariants.{Malformed}
+use Rattle.aero_model.specs.Verdicts.{HasOwnFault}
+use Rattle.aero_grammar.specs.Reading.{reading_of}
+use Rattle.aero_verdict.specs.Ordered.{is_faultless}
+use Rattle.aero_verdict.specs.Verdict.{Rules, IsVerdict}
+
+-- The rules, the bytes that were fed, the verdict that is known to be certain, if one is, and whether memory was refused
+pub record Feeding : Type 0 where
+  pub rules : Rules
+  pub text : List ℕ
+  pub certain : Option Verdict
+  pub is_spent : Bool
+
+-- nothing was fed
+abbrev pub nothing_fed : Rules → Feeding
+nothing_fed rules = record { rules = rules; text = []; certain = None; is_spent = false }
+
+-- the verdict on a text
+abbrev pub IsTextVerdict : List ℕ → Rules → Verdict → Type 0
+IsTextVerdict text rules = IsVerdict (reading_of text ∷ []) rules
+
+-- something is wrong with this text, and this is the verdict, whatever comes behind it
+pub record IsCertainOf (text : List ℕ) (rules : Rules) (verdict : Verdict) : Type 0 where
+  pub is_verdict : (rest : List ℕ) → IsTextVerdict (text ++ rest) rules verdict
+  pub own_fault : HasOwnFault verdict
+  pub wrong : is_faultless verdict ≡ false
+
+-- nothing is wrong with this text, but maybe that there is one line too many
+abbrev pub IsOpenText : List ℕ → Rules → Type 0
+IsOpenText text rules = (verdict : Verdict) → IsTextVerdict text rules verdict → (is_faultless verdict ≡ true) ⊎ (verdict ≡ Malformed (rules.limits.lines + 1) TooManyLines)

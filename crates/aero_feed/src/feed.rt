@@ -1,0 +1,145 @@
+//! A text that comes in pieces.
+ghost use Rattle.std.specs.Prelude.{◌≡◌, ◌≤◌, ◌^◌, ◌++◌, [], true, false, length, is_some, IfOk, IfSome, OnOk, OnErr};
+ghost use Rattle.aero_model.specs.Lines.{EndsLine};
+ghost use Rattle.aero_model.specs.Verdicts.{HasOwnFault};
+ghost use Rattle.aero_verdict.specs.Verdict.{under};
+ghost use Rattle.aero_feed.specs.Feeding.{nothing_fed, IsTextVerdict, IsCertainOf, IsOpenText};
+
+use crate::text_monitor::TextMonitor;
+use aero_model::except::Except;
+use aero_model::limits::Limits;
+use aero_model::verdict::Verdict;
+use std::alloc::{AllocError, Global};
+use std::marker::Model;
+
+// How many bytes are gathered before they are judged, unless it is asked whether the verdict is certain.
+const HELD_BYTES: usize = 1 << 16;
+
+/// The text of a trace, of which pieces come. It is judged as it comes and let go: what is kept are 131,072 bytes at
+/// most, names, and what is known of threads, variables, locks and open blocks.
+///
+/// Contracts see the rules, the bytes that were fed, and the verdict that is known to be certain, if one is.
+#[derive(Drop)]
+pub struct Feed {
+    monitor: TextMonitor,
+    // What isn't judged yet.
+    held: Vec<u8>,
+}
+
+impl Model for Feed {
+    ghost use Rattle.aero_feed.specs.Feeding.{Feeding};
+
+    ghost Value = { Feeding };
+
+    ghost use Rattle.std.specs.Prelude.{◌≤◌, ◌^◌, ◌++◌, length};
+
+    ghost view = { λ f. record { rules = f.monitor.rules; text = f.monitor.text ++ f.held.items; certain = f.monitor.certain; is_spent = f.monitor.is_spent } };
+
+    ghost invariant = { λ f. length f.held.items ≤ 2 ^ 17 };
+}
+
+impl Feed {
+    /// A text of which no byte has come, under these limits. A block that begins with one of the labels of `except`
+    /// is no transaction.
+    pub fn new(alloc: Global, limits: &Limits, except: Except) -> Feed
+        ensures { result ≡ nothing_fed (under limits.now except) }
+    {
+        Feed {
+            monitor: TextMonitor::new(alloc, limits, except),
+            held: Vec::new(alloc),
+        }
+    }
+
+    /// Takes the next piece, of any length: lines may be cut anywhere.
+    ///
+    /// # Errors
+    ///
+    /// `AllocError` where memory was refused, and at each call from then on.
+    pub fn feed(&mut self, piece: &[u8]) -> Result<(), AllocError>
+        ensures text { OnOk result (self.new.text ≡ self.old.text ++ piece.now) }
+        ensures rules { self.new.rules ≡ self.old.rules }
+        ensures stays { IfSome self.old.certain (λ verdict. self.new.certain ≡ self.old.certain) }
+        ensures spent { OnErr result (self.new.is_spent ≡ true) }
+        ensures stays_spent { self.old.is_spent ≡ true → self.new.is_spent ≡ true }
+    {
+        let mut rest = piece;
+        while rest.len() > HELD_BYTES {
+            let (front, back) = rest.split_at(HELD_BYTES);
+            self.hold(front)?;
+            rest = back;
+        }
+        self.hold(rest)
+    }
+
+    /// Judges what came so far, up to the last line that is whole, and says whether the verdict is certain, whatever
+    /// comes: a line is malformed, an event is ill-formed or closes a cycle, or there are two lines more than may be.
+    /// Each call looks at the lines that came since the last one: asked after each event it makes a feed slow.
+    ///
+    /// # Errors
+    ///
+    /// `AllocError` where memory was refused, and at each call from then on.
+    pub fn is_certain(&mut self) -> Result<bool, AllocError>
+        ensures text { OnOk result (self.new.text ≡ self.old.text) }
+        ensures rules { self.new.rules ≡ self.old.rules }
+        ensures told { IfOk result (λ is_certain. is_certain ≡ is_some self.new.certain) }
+        ensures certain { OnOk result (IfSome self.new.certain (IsCertainOf self.new.text self.new.rules)) }
+        ensures going_on { IfOk result (λ is_certain. is_certain ≡ false → EndsLine self.new.text → IsOpenText self.new.text self.new.rules) }
+        ensures stays { IfSome self.old.certain (λ verdict. self.new.certain ≡ self.old.certain) }
+        ensures spent { OnErr result (self.new.is_spent ≡ true) }
+        ensures stays_spent { self.old.is_spent ≡ true → self.new.is_spent ≡ true }
+    {
+        judge_held(&mut self.monitor, &mut self.held)?;
+        Ok(self.monitor.is_certain())
+    }
+
+    /// The verdict on exactly the bytes that were fed, as one text.
+    ///
+    /// # Errors
+    ///
+    /// `AllocError` where memory is or was refused.
+    pub fn finish(self) -> Result<Verdict, AllocError>
+        ensures verdict { IfOk result (IsTextVerdict self.text self.rules) }
+        ensures own_fault { IfOk result HasOwnFault }
+    {
+        let Feed { monitor, held } = self;
+        let mut monitor = monitor;
+        monitor.take(&held)?;
+        monitor.finish()
+    }
+
+    // Holds a short piece, and judges what is held once it is long.
+    fn hold(&mut self, piece: &[u8]) -> Result<(), AllocError>
+        requires { length piece.now ≤ 2 ^ 16 }
+        ensures text { OnOk result (self.new.text ≡ self.old.text ++ piece.now) }
+        ensures rules { self.new.rules ≡ self.old.rules }
+        ensures stays { IfSome self.old.certain (λ verdict. self.new.certain ≡ self.old.certain) }
+        ensures spent { OnErr result (self.new.is_spent ≡ true) }
+        ensures stays_spent { self.old.is_spent ≡ true → self.new.is_spent ≡ true }
+    {
+        if self.held.len() >= HELD_BYTES {
+            judge_held(&mut self.monitor, &mut self.held)?;
+        }
+        let held = self.held.extend_from_slice(piece);
+        if held.is_err() {
+            self.monitor.spend();
+        }
+        held
+    }
+}
+
+// Judges what is held, and lets it go.
+fn judge_held(monitor: &mut TextMonitor, held: &mut Vec<u8>) -> Result<(), AllocError>
+    requires { length held.old.items ≤ 2 ^ 17 }
+    ensures text { OnOk result (monitor.new.text ++ held.new.items ≡ monitor.old.text ++ held.old.items) }
+    ensures none { OnOk result (held.new.items ≡ []) }
+    ensures short { length held.new.items ≤ length held.old.items }
+    ensures rules { monitor.new.rules ≡ monitor.old.rules }
+    ensures stays { IfSome monitor.old.certain (λ verdict. monitor.new.certain ≡ monitor.old.certain) }
+    ensures spent { OnErr result (monitor.new.is_spent ≡ true) }
+    ensures unspent { OnOk result (monitor.new.is_spent ≡ false) }
+    ensures stays_spent { monitor.old.is_spent ≡ true → monitor.new.is_spent ≡ true }
+{
+    monitor.take(held.as_slice())?;
+    held.clear();
+    Ok(())
+}

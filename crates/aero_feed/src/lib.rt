@@ -1,0 +1,28 @@
+//! The verdict on a text that comes in pieces, whoever brings them.
+//!
+//! A `Feed` takes the bytes of a trace as they come: lines may be cut anywhere. It says when the verdict is certain,
+//! whatever comes, and at the end gives the verdict on exactly the bytes that were fed.
+//!
+//! ```text
+//! let mut feed = Feed::new(alloc, &Limits::greatest(), Except::new(Vec::new(alloc)).ok_or("labels")?);
+//! feed.feed(b"T1|begin\nT1|w(x)\nT2|beg")?;
+//! feed.feed(b"in\nT2|r(x)\nT2|w(y)\n")?;
+//! feed.is_certain()?;      // false
+//! feed.feed(b"T1|r(y)\n")?;
+//! feed.is_certain()?;      // true
+//! feed.finish()?;          // Violation { line: 6, thread: T1, begun: 1 }
+//! ```
+//!
+//! # What is proved
+//!
+//! - A feed has exactly the bytes that it was fed, under the rules that it began with: `Feed::new`; `feed`, `text`,
+//!   `rules`.
+//! - It is told that the verdict is certain only where it is, whatever bytes come, and stays so: `Feed::is_certain`,
+//!   `certain`, `stays`. Where the bytes end a line and it isn't told, nothing is wrong with them, but maybe that there
+//!   is one line too many: `going_on`.
+//! - The verdict is that of the text, as one part: `Feed::finish`. So it is what `check_trace` answers of it.
+#![tactic(auto)]
+
+pub mod feed;
+mod ghost_text;
+mod text_monitor;
