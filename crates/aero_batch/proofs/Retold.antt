@@ -60,7 +60,7 @@ without_reading terms old now p q tale read intake blocks ended apart tracked ho
 settled_tracked : (terms : Terms) (tale : ℕ → Story) (q : Question) (rest : List Question) (old_tracks new_tracks : List Track) →
     IsSettledWith q old_tracks new_tracks → AreTracked terms (q ∷ rest) tale old_tracks → AreTracked terms rest tale new_tracks
 settled_tracked terms tale q rest old_tracks new_tracks is tracked s t at =
-    value_goes terms tale q rest is.value old_tracks is.known tracked s t (subst (λ ts. slice_get ts s ≡ Some t) is.tracks at)
+    value_goes terms tale q rest is.value is.most is.certain old_tracks is.known tracked s t (subst (λ ts. slice_get ts s ≡ Some t) is.tracks at)
 
 -- what is left open once the oldest question of a kind is settled
 record LeavesOpen (terms : Terms) (tale : ℕ → Story) (new : Inquired) (new_tracks : List Track) : Type 0 where

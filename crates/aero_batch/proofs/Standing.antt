@@ -19,7 +19,8 @@ use Rattle.aero_batch.specs.declared.progress.Progress.{Progress}
 use Rattle.aero_batch.specs.declared.told.Told.{Told}
 use Rattle.aero_intake.specs.declared.track.Track.{Track}
 use Rattle.aero_intake.specs.declared.track.Track.TheVariants as tracks
-use Rattle.aero_batch.specs.Founds.{Sighted, Found, IsFoundAt, AreOfTheFirst, told, ending_of, lines_of_all, counts_of_all, Took, IsNextText, WasCutOff, IsWritten, WasRun}
+use Rattle.aero_batch.specs.Faults.{fault_of}
+use Rattle.aero_batch.specs.Founds.{Sighted, Found, IsFoundAt, AreOfTheFirst, told, ending_of, faulty_line, lines_of_all, counts_of_all, Took, IsNextText, WasCutOff, IsWritten, WasRun}
 use Rattle.aero_batch.specs.Holding.{Holds, HasComeFrom, Counted, AreTold, Tells, Stands, HasNumbers, IsBegun, nothing_known}
 use Rattle.aero_batch.specs.Inquiries.{Inquired, AreApart, all_open, open_count}
 use Rattle.aero_intake.specs.Held.{nothing_read}
@@ -154,6 +155,8 @@ told_stands terms form old now before mid after p a b bytes ending finding name 
         counts = more.counts ∙ (ap (λ c. counted c finding) t.counts ∙ sym (counts_more st.founds f));
         total_is = omega (arith, more.counted_one, t.total_is, length_push st.founds f);
         room = more.room ∙ t.room;
+        faults = more.faults ∙ (ap (λ fs. fs ++ fault_of finding ∷ []) t.faults ∙ sym (map-append faulty_line st.founds (f ∷ [])));
+        faults_room = more.faults_room ∙ t.faults_room;
       };
       counted = st.counted;
       names = st.names;
@@ -163,7 +166,7 @@ told_stands terms form old now before mid after p a b bytes ending finding name 
 
 stopped : (terms : Terms) (form : Form) (old now now' : List Sighted) (before mid after : Seen) (p : Progress) (a : Told) (st : Stands terms form old now before mid p a) (cause : Option Cause) →
     ((s : ℕ) → s < p.read → slice_get now' s ≡ slice_get now s) → map (λ x. x.name) now' ≡ map (λ x. x.name) now →
-    IsWritten terms form old now' st.founds before after cause → WasRun terms form old now' before after a.endings.items a.counts cause
+    IsWritten terms form old now' st.founds before after cause → WasRun terms form old now' before after a.endings.items a.faults.items a.counts cause
 stopped terms form old now now' before mid after p a st cause same names written = record {
   founds = st.founds;
   found = λ place f at.
@@ -173,13 +176,14 @@ stopped terms form old now now' before mid after p a st cause same names written
       record { before = is.before; after = is.after; was = is.was; is = same place (omega (arith, within, few)) ∙ is.is; found_of = is.found_of };
   names = names ∙ st.names;
   ended = st.are_told.endings;
+  faulty = st.are_told.faults;
   counted = st.are_told.counts;
   written = written;
 }
 
 pub memory_stops : (terms : Terms) (form : Form) (old now now' : List Sighted) (before mid after : Seen) (p : Progress) (a : Told) → Stands terms form old now before mid p a →
     ((s : ℕ) → s < p.read → slice_get now' s ≡ slice_get now s) → map (λ x. x.name) now' ≡ map (λ x. x.name) now → Took mid after [] →
-    WasRun terms form old now' before after a.endings.items a.counts (Some Memory)
+    WasRun terms form old now' before after a.endings.items a.faults.items a.counts (Some Memory)
 memory_stops terms form old now now' before mid after p a st same names took =
     stopped terms form old now now' before mid after p a st (Some Memory) same names (took_nothing before mid after (lines_of_all form st.founds) st.are_told.took took)
 
@@ -198,7 +202,7 @@ cut_off terms form old now before mid after founds text next took cut = record {
 pub line_stops : (terms : Terms) (form : Form) (old now : List Sighted) (before mid after : Seen) (p : Progress) (a : Told) (bytes : ℕ) (ending : Ending) (finding : Finding) (name : List ℕ) →
     vec_len a.endings < p.checked → slice_get p.tracks.items (vec_len a.endings) ≡ Some (tracks.Found bytes ending finding) →
     ((x : Sighted) → slice_get now (vec_len a.endings) ≡ Some x → x.name ≡ name) → WasCut mid after (source_line_in form name finding) → Stands terms form old now before mid p a →
-    WasRun terms form old now before after a.endings.items a.counts (Some Write)
+    WasRun terms form old now before after a.endings.items a.faults.items a.counts (Some Write)
 line_stops terms form old now before mid after p a bytes ending finding name below at named cut st =
     let t = st.are_told in
     let place = vec_len a.endings in
@@ -229,22 +233,22 @@ findings_told (f ∷ founds) = ap (λ fs. f.finding ∷ fs) (findings_told found
 
 -- all sources are told, and the summary is written, or not
 pub summary_stops : (terms : Terms) (form : Form) (old now : List Sighted) (before mid after : Seen) (p : Progress) (a : Told) → vec_len a.endings ≡ length old → Stands terms form old now before mid p a →
-    (r : Result Unit Cause) → TellsText (summary_line_in form a.counts) mid after r → (cause : Option Cause) → cause ≡ cause_of r → WasRun terms form old now before after a.endings.items a.counts cause
+    (r : Result Unit Cause) → TellsText (summary_line_in form a.counts) mid after r → (cause : Option Cause) → cause ≡ cause_of r → WasRun terms form old now before after a.endings.items a.faults.items a.counts cause
 summary_stops terms form old now before mid after p a all st r tells cause is = go r tells cause is
   where
     told_all : length st.founds ≡ length old
     told_all = sym (a.endings.ok.0 ∙ (ap length st.are_told.endings ∙ length-map st.founds ending_of)) ∙ all
 
-    go : (r : Result Unit Cause) → TellsText (summary_line_in form a.counts) mid after r → (cause : Option Cause) → cause ≡ cause_of r → WasRun terms form old now before after a.endings.items a.counts cause
-    go (Ok u) tells cause is = subst (λ c. WasRun terms form old now before after a.endings.items a.counts c) (sym is)
+    go : (r : Result Unit Cause) → TellsText (summary_line_in form a.counts) mid after r → (cause : Option Cause) → cause ≡ cause_of r → WasRun terms form old now before after a.endings.items a.faults.items a.counts cause
+    go (Ok u) tells cause is = subst (λ c. WasRun terms form old now before after a.endings.items a.faults.items a.counts c) (sym is)
         (stopped terms form old now now before mid after p a st None (λ s less. refl) refl (
           told_all,
           subst (λ c. Took before after (lines_of_all form st.founds ++ summary_line_in form c)) (st.are_told.counts ∙ sym (ap counts_of (findings_told st.founds)))
               (took_more before mid after (lines_of_all form st.founds) (summary_line_in form a.counts) st.are_told.took tells),
         ))
-    go (Err Memory) tells cause is = subst (λ c. WasRun terms form old now before after a.endings.items a.counts c) (sym is)
+    go (Err Memory) tells cause is = subst (λ c. WasRun terms form old now before after a.endings.items a.faults.items a.counts c) (sym is)
         (memory_stops terms form old now now before mid after p a st (λ s less. refl) refl tells)
-    go (Err Write) tells cause is = subst (λ c. WasRun terms form old now before after a.endings.items a.counts c) (sym is)
+    go (Err Write) tells cause is = subst (λ c. WasRun terms form old now before after a.endings.items a.faults.items a.counts c) (sym is)
         (stopped terms form old now now before mid after p a st (Some Write) (λ s less. refl) refl
         (cut_off terms form old now before mid after st.founds (summary_line_in form (counts_of_all st.founds)) (inr (told_all, refl)) st.are_told.took
         (subst (λ c. WasCut mid after (summary_line_in form c)) st.are_told.counts tells)))
@@ -259,9 +263,11 @@ still_told terms form old before mid p q a tale new founds below more same t = r
   few = omega (arith, t.few, more);
   took = t.took;
   endings = t.endings;
+  faults = t.faults;
   counts = t.counts;
   total_is = t.total_is;
   room = t.room;
+  faults_room = t.faults_room;
 }
 
 slice_get_some : {A : Type 0} (xs : List A) (i : ℕ) → i < length xs → (x : A) × (slice_get xs i ≡ Some x)
@@ -354,7 +360,7 @@ module _ (terms : Terms) (form : Form) (now : List Sighted) (mid after : Seen) (
   Untouched r = IfOk r (λ is_told. is_told ≡ false → (after ≡ mid) × (b ≡ a))
 
   abbrev Stops : Result Bool Cause → Type 0
-  Stops r = IfErr r (λ cause. (old : List Sighted) (before : Seen) → Stands terms form old now before mid p a → WasRun terms form old now before after b.endings.items b.counts (Some cause))
+  Stops r = IfErr r (λ cause. (old : List Sighted) (before : Seen) → Stands terms form old now before mid p a → WasRun terms form old now before after b.endings.items b.faults.items b.counts (Some cause))
 
   abbrev Tellings : Result Bool Cause → Type 0
   Tellings r = KeepsStanding r × Untouched r × Stops r
@@ -370,13 +376,13 @@ module _ (terms : Terms) (form : Form) (now : List Sighted) (mid after : Seen) (
   found_told bytes ending finding (Err Memory) at tells = (
     tt,
     tt,
-    λ old before st. subst (λ (t : Told). WasRun terms form old now before after t.endings.items t.counts (Some Memory)) (sym tells.1)
+    λ old before st. subst (λ (t : Told). WasRun terms form old now before after t.endings.items t.faults.items t.counts (Some Memory)) (sym tells.1)
         (memory_stops terms form old now now before mid after p a st (λ s less. refl) refl tells.0),
   )
   found_told bytes ending finding (Err Write) at tells = (
     tt,
     tt,
-    λ old before st. subst (λ (t : Told). WasRun terms form old now before after t.endings.items t.counts (Some Write)) (sym tells.1)
+    λ old before st. subst (λ (t : Told). WasRun terms form old now before after t.endings.items t.faults.items t.counts (Some Write)) (sym tells.1)
         (line_stops terms form old now before mid after p a bytes ending finding name below at named tells.0 st),
   )
 
@@ -401,6 +407,8 @@ standing_numbers terms form old now before mid p a st =
       told_few = omega (arith, same, st.are_told.few);
       total_is = st.are_told.total_is ∙ sym same;
       room = st.are_told.room;
+      as_many = a.faults.ok.0 ∙ (ap length st.are_told.faults ∙ length-map st.founds faulty_line) ∙ sym same;
+      faults_room = st.are_told.faults_room;
     }
 
 get_replicate : {A : Type 0} (n s : ℕ) (x y : A) → slice_get (replicate n x) s ≡ Some y → y ≡ x
@@ -443,9 +451,11 @@ begun_stands terms form old before p a is =
         few = omega arith;
         took = record { went = Appends-nil before.bytes; faults = refl };
         endings = is.endings;
+        faults = is.faults;
         counts = is.counts;
         total_is = ap total is.counts;
         room = is.room;
+        faults_room = is.faults_room;
       };
       counted = record {
         tracks = ap length start.tracks ∙ length-replicate (length old) (tracks.Arriving (nothing_read terms));
@@ -462,12 +472,13 @@ begun_stands terms form old before p a is =
     }
 
 -- memory was refused before the first step
-pub refused_at_once : (terms : Terms) (form : Form) (old : List Sighted) (before : Seen) → WasRun terms form old old before before [] no_counts (Some Memory)
+pub refused_at_once : (terms : Terms) (form : Form) (old : List Sighted) (before : Seen) → WasRun terms form old old before before [] [] no_counts (Some Memory)
 refused_at_once terms form old before = record {
   founds = [];
   found = λ place f at. cc (at);
   names = refl;
   ended = refl;
+  faulty = refl;
   counted = refl;
   written = record { went = Appends-nil before.bytes; faults = refl };
 }
@@ -475,13 +486,13 @@ refused_at_once terms form old before = record {
 -- at the end: all sources are told, and the summary is written, or not
 pub summary_done : (terms : Terms) (form : Form) (old now : List Sighted) (before mid after : Seen) (p : Progress) (a : Told) → vec_len a.endings ≡ length now → Stands terms form old now before mid p a →
     (r : Result Unit Cause) → TellsText (summary_line_in form a.counts) mid after r →
-    OnOk r (WasRun terms form old now before after a.endings.items a.counts None) × IfErr r (λ cause. WasRun terms form old now before after a.endings.items a.counts (Some cause))
+    OnOk r (WasRun terms form old now before after a.endings.items a.faults.items a.counts None) × IfErr r (λ cause. WasRun terms form old now before after a.endings.items a.faults.items a.counts (Some cause))
 summary_done terms form old now before mid after p a all st r tells = go r (summary_stops terms form old now before mid after p a told_all st r tells)
   where
     told_all : vec_len a.endings ≡ length old
     told_all = all ∙ (sym (length-map now (λ x. x.name)) ∙ (ap length st.names ∙ length-map old (λ x. x.name)))
 
-    go : (r : Result Unit Cause) → ((cause : Option Cause) → cause ≡ cause_of r → WasRun terms form old now before after a.endings.items a.counts cause) →
-        OnOk r (WasRun terms form old now before after a.endings.items a.counts None) × IfErr r (λ cause. WasRun terms form old now before after a.endings.items a.counts (Some cause))
+    go : (r : Result Unit Cause) → ((cause : Option Cause) → cause ≡ cause_of r → WasRun terms form old now before after a.endings.items a.faults.items a.counts cause) →
+        OnOk r (WasRun terms form old now before after a.endings.items a.faults.items a.counts None) × IfErr r (λ cause. WasRun terms form old now before after a.endings.items a.faults.items a.counts (Some cause))
     go (Ok u) all = (all None refl, tt)
     go (Err cause) all = (tt, all (Some cause) refl)

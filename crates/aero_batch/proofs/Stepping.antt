@@ -1,5 +1,5 @@
 -- What the code of a step does is the step.
-use Rattle.std.proofs.Common.{◌≡◌, ℕ, ◌+◌, ◌<◌, List, [], ◌∷◌, length, slice_get, Option, Some, None, Bool, true, false, refl, ◌∙◌, ap, ap₂, inl, inr}
+use Rattle.std.proofs.Common.{◌≡◌, ℕ, ◌+◌, ◌<◌, List, [], ◌∷◌, length, slice_get, Option, Some, None, Bool, true, false, refl, sym, ◌∙◌, ap, ap₂, inl, inr}
 use Rattle.std.specs.Prelude.{if◌then◌else◌}
 use Rattle.std.specs.Vec.{with_item}
 use Rattle.std.proofs.lemmas.Option.{some_pair_parts}
@@ -11,9 +11,9 @@ use Rattle.aero_intake.specs.declared.track.Track.{Track}
 use Rattle.aero_batch.specs.Inquiries.{Inquired, Gives}
 use Rattle.aero_lines.specs.Cutting.{block_of}
 use Rattle.aero_intake.specs.Intake.{Taking, nothing_taken, with_cut}
-use Rattle.aero_batch.specs.Steps.{CutsHeld, HasEnough, GoesOn, EndsSource, IsWanted, faulty_there, with_block, last_of, ended_track, Settles}
+use Rattle.aero_batch.specs.Steps.{CutsHeld, HasEnough, GoesOn, EndsSource, IsWanted, faulty_there, told_there, with_block, last_of, ended_track, Settles}
 use Rattle.aero_intake.specs.Stories.{changed, trace_of}
-use Rattle.aero_intake.specs.Tracks.{is_faulty, with_value}
+use Rattle.aero_intake.specs.Tracks.{is_faulty, is_told, with_value}
 use Rattle.aero_intake.proofs.Tracked.{set_changed}
 
 -- asking about a block changes the questions and the number of blocks alone
@@ -64,10 +64,12 @@ cuts_held p q i given some going_on is_cut given_is is =
     }
 
 -- where it isn't told that what was read decides, no line is known to be malformed
-pub goes_on : (p : Progress) (t : Track) (told : Bool) → slice_get p.tracks.items p.read ≡ Some t → p.intake.passed ≡ false → (is_faulty t ≡ true → told ≡ true) → told ≡ false → GoesOn p
-goes_on p t told at none faulty not_told = record {
+pub goes_on : (p : Progress) (t : Track) (told : Bool) → slice_get p.tracks.items p.read ≡ Some t → p.intake.passed ≡ false → (is_faulty t ≡ true → told ≡ true) → told ≡ is_told t →
+    told ≡ false → GoesOn p
+goes_on p t told at none faulty told_is not_told = record {
   none_passed = none;
   no_fault = ap faulty_there at ∙ not_faulty (is_faulty t) faulty;
+  none_told = ap told_there at ∙ (sym told_is ∙ not_told);
 }
   where
     not_faulty : (b : Bool) → (b ≡ true → told ≡ true) → b ≡ false
@@ -104,15 +106,17 @@ ends_source ending p mid has_enough fresh last bytes x y is_fresh bytes_are enou
       reading = refl;
     }
 
-pub settles_from_gives : (qs : List Question) (left : List Question → Inquired) (new : Inquired) (trace : ℕ) (v : Value) (old_tracks new_tracks : List Track) →
-    Gives qs left new (Some (trace, v)) → new_tracks ≡ changed trace (λ t. with_value t v) old_tracks → Settles qs left new old_tracks new_tracks
-settles_from_gives [] left new trace v old_tracks new_tracks is given = cc (is.0)
-settles_from_gives (q ∷ rest) left new trace v old_tracks new_tracks is given =
+pub settles_from_gives : (qs : List Question) (left : List Question → Inquired) (new : Inquired) (trace : ℕ) (v : Value) (most : ℕ) (certain : Bool) (old_tracks new_tracks : List Track) →
+    Gives qs left new (Some (trace, v)) → new_tracks ≡ changed trace (λ t. with_value most certain t v) old_tracks → Settles qs left new old_tracks new_tracks
+settles_from_gives [] left new trace v most certain old_tracks new_tracks is given = cc (is.0)
+settles_from_gives (q ∷ rest) left new trace v most certain old_tracks new_tracks is given =
     let parts = some_pair_parts trace (trace_of q) v is.0 is.2 in (
       is.3,
       record {
         value = is.0;
         known = is.1;
-        tracks = given ∙ ap₂ (λ n w. changed n (λ t. with_value t w) old_tracks) parts.0 parts.1;
+        most = most;
+        certain = certain;
+        tracks = given ∙ ap₂ (λ n w. changed n (λ t. with_value most certain t w) old_tracks) parts.0 parts.1;
       },
     )

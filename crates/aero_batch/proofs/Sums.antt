@@ -42,7 +42,7 @@ settled_fewer kind i new [] old_tracks new_tracks are is =
     left_fewer kind i new [] old_tracks new_tracks none is.0 (ap length is.1)
 settled_fewer kind i new (q ∷ rest) old_tracks new_tracks are is =
     let more : length (open_of kind i) ≡ suc (length rest) = ap length are in
-    left_fewer kind i new rest old_tracks new_tracks (omega (arith, more)) is.0 (ap length is.1.tracks ∙ changed_length (trace_of q) (λ t. with_value t is.1.value) old_tracks)
+    left_fewer kind i new rest old_tracks new_tracks (omega (arith, more)) is.0 (ap length is.1.tracks ∙ changed_length (trace_of q) (λ t. with_value is.1.most is.1.certain t is.1.value) old_tracks)
 
 pub settling_counted : (terms : Terms) (n : ℕ) (kind : Kind) (p q : Progress) → SettlesNext kind p q → Counted terms n p → Counted terms n q
 settling_counted terms n kind p q is c =

@@ -8,8 +8,10 @@ use Rattle.aero_model.specs.CallCounts.{Seen, seen_by}
 use Rattle.aero_report.specs.declared.form.Form.{Form}
 use Rattle.aero_report.specs.Forms.{source_line_in, source_lines_in, summary_line_in, report_in}
 use Rattle.aero_report.specs.Texts.{counts_of}
+use Rattle.aero_batch.specs.Faults.{fault_of}
 use Rattle.aero_batch.specs.declared.outcome.Cause.{Cause}
 use Rattle.aero_batch.specs.declared.outcome.Cause.TheVariants.{Memory, Write}
+use Rattle.aero_batch.specs.declared.outcome.FaultyLine.{FaultyLine}
 use Rattle.aero_intake.specs.declared.source.Source.{Source}
 use Rattle.aero_intake.specs.Source.{WasRead}
 use Rattle.aero_verdict.specs.Finding.{Terms, IsFinding}
@@ -56,6 +58,10 @@ told found = (found.name, found.finding)
 abbrev pub ending_of : Found → ℕ × Ending
 ending_of found = (length found.bytes, found.ending)
 
+-- the faulty line that is told of a source, if one is
+abbrev pub faulty_line : Found → Option FaultyLine
+faulty_line found = fault_of found.finding
+
 abbrev pub lines_of_all : Form → List Found → List ℕ
 lines_of_all form founds = source_lines_in form (map told founds)
 
@@ -88,11 +94,12 @@ IsWritten terms form old new founds before after None = (length founds ≡ lengt
 IsWritten terms form old new founds before after (Some Memory) = Took before after (lines_of_all form founds)
 IsWritten terms form old new founds before after (Some Write) = WasCutOff terms form old new founds before after
 
--- A run over these sources. It tells how many bytes came of each of the first ones, how they ended, and how many were found to be what, and wrote of these what is said of them.
-pub record WasRun (terms : Terms) (form : Form) (old new : List Sighted) (before after : Seen) (endings : List (ℕ × Ending)) (counts : Counts) (cause : Option Cause) : Type 0 where
+-- A run over these sources. It tells how many bytes came of each of the first ones, how they ended, which line is told to be faulty, and how many were found to be what, and wrote of these what is said of them.
+pub record WasRun (terms : Terms) (form : Form) (old new : List Sighted) (before after : Seen) (endings : List (ℕ × Ending)) (faults : List (Option FaultyLine)) (counts : Counts) (cause : Option Cause) : Type 0 where
   pub founds : List Found
   pub found : AreOfTheFirst terms old new founds
   pub names : map (λ s. s.name) new ≡ map (λ s. s.name) old
   pub ended : endings ≡ map ending_of founds
+  pub faulty : faults ≡ map faulty_line founds
   pub counted : counts ≡ counts_of_all founds
   pub written : IsWritten terms form old new founds before after cause

@@ -7,7 +7,7 @@ use Rattle.aero_report.specs.Texts.{no_counts}
 use Rattle.aero_report.specs.declared.form.Form.{Form}
 use Rattle.aero_batch.specs.declared.progress.Progress.{Progress}
 use Rattle.aero_batch.specs.declared.told.Told.{Told}
-use Rattle.aero_batch.specs.Founds.{Sighted, Found, Took, ending_of, counts_of_all, lines_of_all}
+use Rattle.aero_batch.specs.Founds.{Sighted, Found, Took, ending_of, counts_of_all, lines_of_all, faulty_line}
 use Rattle.aero_intake.specs.Intake.{IsTaken, HaveCome}
 use Rattle.aero_intake.specs.Source.{WasRead}
 use Rattle.aero_batch.specs.Inquiries.{AreApart, all_open, open_count}
@@ -81,9 +81,11 @@ pub record AreTold (terms : Terms) (form : Form) (old : List Sighted) (before af
   pub few : length founds ≤ p.checked
   pub took : Took before after (lines_of_all form founds)
   pub endings : told.endings.items ≡ map ending_of founds
+  pub faults : told.faults.items ≡ map faulty_line founds
   pub counts : told.counts ≡ counts_of_all founds
   pub total_is : total told.counts ≡ length founds
   pub room : vec_capacity told.endings ≡ length old
+  pub faults_room : vec_capacity told.faults ≡ length old
 
 -- between two steps
 pub record Stands (terms : Terms) (form : Form) (old now : List Sighted) (before after : Seen) (p : Progress) (told : Told) : Type 0 where
@@ -100,6 +102,8 @@ pub record HasNumbers (terms : Terms) (sources : ℕ) (p : Progress) (told : Tol
   pub told_few : vec_len told.endings ≤ p.checked
   pub total_is : total told.counts ≡ vec_len told.endings
   pub room : vec_capacity told.endings ≡ sources
+  pub as_many : vec_len told.faults ≡ vec_len told.endings
+  pub faults_room : vec_capacity told.faults ≡ sources
 
 -- before the first step
 pub record IsBegun (terms : Terms) (sources : ℕ) (p : Progress) (told : Told) : Type 0 where
@@ -107,5 +111,7 @@ pub record IsBegun (terms : Terms) (sources : ℕ) (p : Progress) (told : Told) 
   pub few : sources ≤ 65536
   pub few_bytes : terms.rules.limits.bytes ≤ 2 ^ 46
   pub endings : told.endings.items ≡ []
+  pub faults : told.faults.items ≡ []
   pub counts : told.counts ≡ no_counts
   pub room : vec_capacity told.endings ≡ sources
+  pub faults_room : vec_capacity told.faults ≡ sources

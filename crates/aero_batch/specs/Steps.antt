@@ -17,7 +17,7 @@ use Rattle.aero_batch.specs.declared.kind.Kind.TheVariants.{Block, Verdict}
 use Rattle.aero_batch.specs.Inquiries.{Inquired, nothing_asked, open_count, open_of, with_open, with_question}
 use Rattle.aero_intake.specs.Held.{nothing_read}
 use Rattle.aero_intake.specs.Intake.{nothing_taken, with_piece, with_cut, with_passing, Comes, Ends}
-use Rattle.aero_intake.specs.Tracks.{is_faulty, IsDecided, with_arrival, IsReady, GivesReadings}
+use Rattle.aero_intake.specs.Tracks.{is_faulty, is_told, IsDecided, with_arrival, IsReady, GivesReadings}
 use Rattle.aero_intake.specs.Stories.{changed, IsSettledWith}
 use Rattle.aero_verdict.specs.Finding.{Terms}
 
@@ -62,10 +62,16 @@ HasDecided p = DecidesThere (slice_get p.tracks.items p.read)
 abbrev pub HasEnough : Progress → Type 0
 HasEnough p = (p.intake.passed ≡ true) ⊎ HasDecided p
 
--- Its next block counts: nothing of it was passed over, and no line is known to be malformed, or one too many.
+-- whether it is told of the source that is being read that what was read decides
+abbrev pub told_there : Option Track → Bool
+told_there None = false
+told_there (Some track) = is_told track
+
+-- Its next block counts: nothing of it was passed over, no line is known to be malformed, or one too many, and no verdict to be certain.
 pub record GoesOn (p : Progress) : Type 0 where
   pub none_passed : p.intake.passed ≡ false
   pub no_fault : has_fault p ≡ false
+  pub none_told : told_there (slice_get p.tracks.items p.read) ≡ false
 
 -- The block that is asked about of the last one, if there is one: none, where it doesn't count.
 abbrev pub IsWanted : Progress → (given asked : Option (List ℕ)) → Type 0

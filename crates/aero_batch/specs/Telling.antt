@@ -13,6 +13,7 @@ use Rattle.aero_batch.specs.declared.outcome.Cause.TheVariants.{Memory, Write}
 use Rattle.aero_batch.specs.declared.told.Told.{Told}
 use Rattle.aero_intake.specs.declared.track.Track.{Track}
 use Rattle.aero_intake.specs.declared.track.Track.TheVariants.{Found}
+use Rattle.aero_batch.specs.Faults.{fault_of}
 use Rattle.aero_batch.specs.Founds.{Took}
 
 abbrev pub total : Counts → ℕ
@@ -21,6 +22,7 @@ total counts = counts.serializable + counts.pending + counts.violations + counts
 -- one more source may be told
 pub record HasRoom (told : Told) : Type 0 where
   pub reserved : vec_len told.endings < vec_capacity told.endings
+  pub faults_reserved : vec_len told.faults < vec_capacity told.faults
   pub few : total told.counts < 65536
 
 -- A part of the text went out, and then a write failed.
@@ -40,6 +42,8 @@ TellsText text before after (Err Write) = WasCut before after text
 pub record IsOneMore (old new : Told) (bytes : ℕ) (ending : Ending) (finding : Finding) : Type 0 where
   pub endings : new.endings.items ≡ old.endings.items ++ (bytes, ending) ∷ []
   pub room : vec_capacity new.endings ≡ vec_capacity old.endings
+  pub faults : new.faults.items ≡ old.faults.items ++ fault_of finding ∷ []
+  pub faults_room : vec_capacity new.faults ≡ vec_capacity old.faults
   pub counts : new.counts ≡ counted old.counts finding
   pub counted_one : total new.counts ≡ total old.counts + 1
 

@@ -1,9 +1,9 @@
 //! Asking for the verdicts of whole sources, and settling what was asked.
-ghost use Rattle.std.specs.Prelude.{◌≡◌, ◌<◌, ◌-◌, ◌^◌, length, vec_len, slice_get, IfOk, OnOk};
+ghost use Rattle.std.specs.Prelude.{◌≡◌, ◌<◌, ◌-◌, ◌^◌, Bool, length, vec_len, slice_get, IfOk, OnOk};
 ghost use Rattle.std.specs.Arc.{arc_value};
 ghost use Rattle.aero_batch.specs.Inquiries.{open_count};
 ghost use Rattle.aero_batch.specs.Steps.{MayAsk, ChecksNext, SettlesNext, with_check};
-ghost use Rattle.aero_intake.specs.PlanTerms.{terms_of};
+ghost use Rattle.aero_intake.specs.PlanTerms.{terms_of, most_kept};
 ghost use Rattle.aero_intake.specs.Tracks.{IsReady, with_value};
 ghost use Rattle.aero_intake.specs.Stories.{changed};
 
@@ -103,7 +103,7 @@ pub fn settle_next<H: Helpers, T: Wait>(
     give_value(&mut progress.tracks, alloc, trace, value, plan)
 }
 
-// Gives a value to the track of its source, if there is one.
+// Gives a value to the track of its source, if there is one, of which as much is kept as the plan says.
 fn give_value(
     tracks: &mut Vec<Track>,
     alloc: Global,
@@ -111,7 +111,7 @@ fn give_value(
     value: Value,
     plan: &Plan,
 ) -> Result<(), AllocError>
-    ensures { OnOk result (tracks.new.items ≡ changed trace (λ t. with_value t value) tracks.old.items) }
+    ensures { OnOk result ((certain : Bool) × (tracks.new.items ≡ changed trace (λ t. with_value (most_kept plan.now.keeping trace (length tracks.old.items)) certain t value) tracks.old.items)) }
 {
     let count = tracks.len() as u64;
     if trace >= count {

@@ -38,6 +38,9 @@
 //!   of the next text follows: `ran`.
 //! - It holds of each run that returns, whichever answers come, in whatever order, lost, repeated or forged. Any
 //!   `Helpers` may give them, of which a `Crew` is one, or nobody: `run_over`.
+//! - A block is asked about only while nothing of its source was passed over, and it isn't told that what was read
+//!   decides: `step`, over `GoesOn`. The value of a block goes to its source's track, of which as much is kept as the
+//!   plan says: `give_value`.
 //! - `run_over` says how many helpers it had, and `run` no more than were asked for: `workers`. Answers kept and values
 //!   worked out here are no more than the questions, and as many where nothing was refused: `tallied`, `all_settled`.
 //!

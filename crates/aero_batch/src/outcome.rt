@@ -1,6 +1,6 @@
 //! What a run comes to.
 use aero_gather::gather::Tally;
-use aero_model::verdict::{Counts, Ending};
+use aero_model::verdict::{Counts, Ending, LineFault, ShapeFault};
 
 /// Why a run stopped before its end.
 #[derive(Clone, Copy, Debug, PartialEq, Eq)]
@@ -11,11 +11,27 @@ pub enum Cause {
     Write,
 }
 
+/// What is wrong with a line: it is no event, or its event can't stand there.
+#[derive(Clone, Copy, Debug, PartialEq, Eq)]
+pub enum Fault {
+    Malformed(LineFault),
+    IllFormed(ShapeFault),
+}
+
+/// The faulty line of a source: its number, from 1, and what is wrong with it.
+#[derive(Clone, Copy, Debug, PartialEq, Eq)]
+pub struct FaultyLine {
+    pub line: u32,
+    pub fault: Fault,
+}
+
 /// What a run came to. It speaks of the sources whose text was written whole, in their order: how
-/// many bytes were read of each and how its reading ended, and how many were found to be what.
+/// many bytes were read of each and how its reading ended, which of its lines is faulty, if the
+/// verdict on it is that one is, and how many were found to be what.
 #[derive(Drop)]
 pub struct Outcome {
     pub endings: Vec<(u64, Ending)>,
+    pub faults: Vec<Option<FaultyLine>>,
     pub counts: Counts,
     /// Why it stopped before the summary was written, if it did.
     pub cause: Option<Cause>,

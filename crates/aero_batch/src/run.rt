@@ -42,7 +42,7 @@ pub fn run<R: Read, W: Write, G: Gate + Drop + 'static, T: Threads + Wait + Copy
 ) -> Outcome
     requires { length sources.old ≤ 65536 }
     ensures ran { WasRun (terms_of plan.now) plan.now.form (map (sighted R.remaining) sources.old) (map (sighted R.remaining) sources.new)
-        (seen_by W.contents writer.old) (seen_by W.contents writer.new) result.endings.items result.counts result.cause }
+        (seen_by W.contents writer.old) (seen_by W.contents writer.new) result.endings.items result.faults.items result.counts result.cause }
     ensures all_settled { result.cause ≡ None → result.tally.asked ≡ result.tally.kept + result.tally.done_here }
     ensures tallied { result.tally.kept + result.tally.done_here ≤ result.tally.asked }
     ensures workers { result.workers ≤ plan.now.workers }
@@ -67,7 +67,7 @@ pub fn run_over<R: Read, W: Write, H: Helpers, T: Wait>(
 ) -> Outcome
     requires { length sources.old ≤ 65536 }
     ensures ran { WasRun (terms_of plan.now) plan.now.form (map (sighted R.remaining) sources.old) (map (sighted R.remaining) sources.new)
-        (seen_by W.contents writer.old) (seen_by W.contents writer.new) result.endings.items result.counts result.cause }
+        (seen_by W.contents writer.old) (seen_by W.contents writer.new) result.endings.items result.faults.items result.counts result.cause }
     ensures all_settled { result.cause ≡ None → result.tally.asked ≡ result.tally.kept + result.tally.done_here }
     ensures tallied { result.tally.kept + result.tally.done_here ≤ result.tally.asked }
     ensures workers { result.workers ≡ H.count helpers.old }
@@ -109,6 +109,7 @@ fn begin(
 // Where memory was refused before the first step.
 fn refused(alloc: Global, workers: u32) -> Outcome
     ensures endings { result.endings.items ≡ [] }
+    ensures faults { result.faults.items ≡ [] }
     ensures counts { result.counts ≡ no_counts }
     ensures cause { result.cause ≡ Some Cause.Memory }
     ensures nothing { (result.tally.asked ≡ 0) × (result.tally.kept ≡ 0) × (result.tally.done_here ≡ 0) }
@@ -121,6 +122,7 @@ fn refused(alloc: Global, workers: u32) -> Outcome
     };
     Outcome {
         endings: Vec::new(alloc),
+        faults: Vec::new(alloc),
         counts: nothing_counted(),
         cause: Some(Cause::Memory),
         tally,
@@ -131,6 +133,7 @@ fn refused(alloc: Global, workers: u32) -> Outcome
 // What a run that came so far has told, asked and kept.
 fn outcome_of(told: Told, cause: Option<Cause>, inquiry: &Inquiry, workers: u32) -> Outcome
     ensures endings { result.endings ≡ told.endings }
+    ensures faults { result.faults ≡ told.faults }
     ensures counts { result.counts ≡ told.counts }
     ensures cause { result.cause ≡ cause }
     ensures asked { result.tally.asked ≡ inquiry.now.asked }
@@ -138,9 +141,14 @@ fn outcome_of(told: Told, cause: Option<Cause>, inquiry: &Inquiry, workers: u32)
     ensures settled { open_count inquiry.now ≡ 0 → result.tally.asked ≡ result.tally.kept + result.tally.done_here }
     ensures workers { result.workers ≡ workers }
 {
-    let Told { endings, counts } = told;
+    let Told {
+        endings,
+        faults,
+        counts,
+    } = told;
     Outcome {
         endings,
+        faults,
         counts,
         cause,
         tally: inquiry.tally(),
@@ -159,9 +167,9 @@ fn run_on<R: Read, W: Write, H: Helpers, T: Wait>(
 ) -> Result<(), Cause>
     requires { IsBegun (terms_of around.now.plan.now) (length sources.old) progress.old told.old }
     ensures done { OnOk result (WasRun (terms_of around.now.plan.now) around.now.plan.now.form (map (sighted R.remaining) sources.old) (map (sighted R.remaining) sources.new)
-        (seen_by W.contents writer.old) (seen_by W.contents writer.new) told.new.endings.items told.new.counts None) }
+        (seen_by W.contents writer.old) (seen_by W.contents writer.new) told.new.endings.items told.new.faults.items told.new.counts None) }
     ensures stopped { IfErr result (λ cause. WasRun (terms_of around.now.plan.now) around.now.plan.now.form (map (sighted R.remaining) sources.old) (map (sighted R.remaining) sources.new)
-        (seen_by W.contents writer.old) (seen_by W.contents writer.new) told.new.endings.items told.new.counts (Some cause)) }
+        (seen_by W.contents writer.old) (seen_by W.contents writer.new) told.new.endings.items told.new.faults.items told.new.counts (Some cause)) }
     ensures settled { OnOk result (open_count progress.new.inquiry ≡ 0) }
 {
     'steps: for _ in around.rt.forever() {
@@ -186,7 +194,7 @@ fn advance<R: Read, W: Write, H: Helpers, T: Wait>(
     ensures stands { OnOk result ((old : List Sighted) (before : Seen) → Stands (terms_of around.now.plan.now) around.now.plan.now.form old (map (sighted R.remaining) sources.old) before (seen_by W.contents writer.old) progress.old told.old
         → Stands (terms_of around.now.plan.now) around.now.plan.now.form old (map (sighted R.remaining) sources.new) before (seen_by W.contents writer.new) progress.new told.new) }
     ensures stopped { IfErr result (λ cause. (old : List Sighted) (before : Seen) → Stands (terms_of around.now.plan.now) around.now.plan.now.form old (map (sighted R.remaining) sources.old) before (seen_by W.contents writer.old) progress.old told.old
-        → WasRun (terms_of around.now.plan.now) around.now.plan.now.form old (map (sighted R.remaining) sources.new) before (seen_by W.contents writer.new) told.new.endings.items told.new.counts (Some cause)) }
+        → WasRun (terms_of around.now.plan.now) around.now.plan.now.form old (map (sighted R.remaining) sources.new) before (seen_by W.contents writer.new) told.new.endings.items told.new.faults.items told.new.counts (Some cause)) }
     ensures all_told { IfOk result (λ is_done. is_done ≡ true → vec_len told.new.endings ≡ length sources.new) }
     ensures all_settled { IfOk result (λ is_done. is_done ≡ true → open_count progress.new.inquiry ≡ 0) }
 {
@@ -234,7 +242,7 @@ fn tell_ready<R: Read, W: Write>(
         → Stands (terms_of plan.now) plan.now.form old (map (sighted R.remaining) sources.now) before (seen_by W.contents writer.new) progress.now told.new) }
     ensures unchanged { IfOk result (λ is_told. is_told ≡ false → (seen_by W.contents writer.new ≡ seen_by W.contents writer.old) × (told.new ≡ told.old)) }
     ensures stopped { IfErr result (λ cause. (old : List Sighted) (before : Seen) → Stands (terms_of plan.now) plan.now.form old (map (sighted R.remaining) sources.now) before (seen_by W.contents writer.old) progress.now told.old
-        → WasRun (terms_of plan.now) plan.now.form old (map (sighted R.remaining) sources.now) before (seen_by W.contents writer.new) told.new.endings.items told.new.counts (Some cause)) }
+        → WasRun (terms_of plan.now) plan.now.form old (map (sighted R.remaining) sources.now) before (seen_by W.contents writer.new) told.new.endings.items told.new.faults.items told.new.counts (Some cause)) }
 {
     let place = told.endings.len();
     if place >= progress.checked {

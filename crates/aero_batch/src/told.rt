@@ -3,9 +3,10 @@ ghost use Rattle.std.specs.Prelude.{◌≡◌, ◌<◌, ◌≤◌, ◌+◌, ◌+
 ghost use Rattle.aero_model.specs.CallCounts.{seen_by};
 ghost use Rattle.aero_report.specs.Forms.{summary_line_in};
 ghost use Rattle.aero_report.specs.Texts.{no_counts, counted, verdict_counted};
+ghost use Rattle.aero_batch.specs.Faults.{fault_of as fault_in, verdict_fault as verdict_fault_in};
 ghost use Rattle.aero_batch.specs.Telling.{TellsNext, TellsText, HasRoom, total};
 
-use crate::outcome::Cause;
+use crate::outcome::{Cause, Fault, FaultyLine};
 use aero_intake::track::Track;
 use aero_model::counting::Counting;
 use aero_model::verdict::{Counts, Ending, Finding, Verdict};
@@ -13,10 +14,12 @@ use aero_report::{Form, put, source_text, totals_text};
 use std::alloc::{AllocError, Global};
 use std::io::Write;
 
-/// The endings of the sources that were told, in order, and how many were found to be what.
+/// The endings and the faulty lines of the sources that were told, in order, and how many were found
+/// to be what.
 #[derive(Drop)]
 pub struct Told {
     pub endings: Vec<(u64, Ending)>,
+    pub faults: Vec<Option<FaultyLine>>,
     pub counts: Counts,
 }
 
@@ -25,10 +28,13 @@ impl Told {
     pub fn new(alloc: Global, sources: usize) -> Result<Told, AllocError>
         ensures endings { IfOk result (λ told. told.endings.items ≡ []) }
         ensures room { IfOk result (λ told. vec_capacity told.endings ≡ sources) }
+        ensures faults { IfOk result (λ told. told.faults.items ≡ []) }
+        ensures faults_room { IfOk result (λ told. vec_capacity told.faults ≡ sources) }
         ensures counts { IfOk result (λ told. told.counts ≡ no_counts) }
     {
         Ok(Told {
             endings: Vec::with_capacity(alloc, sources)?,
+            faults: Vec::with_capacity(alloc, sources)?,
             counts: nothing_counted(),
         })
     }
@@ -76,6 +82,7 @@ pub fn tell_next<W: Write>(
     let text = source_text(style.alloc, style.form, name, finding).map_err(|_| Cause::Memory)?;
     tell(writer, &text)?;
     told.endings.push_reserved((*bytes, *ending));
+    told.faults.push_reserved(fault_of(finding));
     told.counts = with_finding(&told.counts, finding);
     Ok(true)
 }
@@ -99,6 +106,34 @@ fn tell<W: Write>(writer: &mut Counting<W>, text: &[u8]) -> Result<(), Cause>
     match put(writer, text) {
         Ok(()) => Ok(()),
         Err(_) => Err(Cause::Write),
+    }
+}
+
+// The faulty line of a source, if this says of it that one is.
+fn fault_of(finding: &Finding) -> Option<FaultyLine>
+    ensures { result ≡ fault_in finding.now }
+{
+    match finding {
+        Finding::Judged(verdict) => verdict_fault(verdict),
+        Finding::Ordered(verdict, _) => verdict_fault(verdict),
+        Finding::Explained(verdict, _) => verdict_fault(verdict),
+        Finding::Broken(_) | Finding::TooLarge => None,
+    }
+}
+
+fn verdict_fault(verdict: &Verdict) -> Option<FaultyLine>
+    ensures { result ≡ verdict_fault_in verdict.now }
+{
+    match verdict {
+        Verdict::Malformed { line, fault } => Some(FaultyLine {
+            line: *line,
+            fault: Fault::Malformed(*fault),
+        }),
+        Verdict::IllFormed { line, fault } => Some(FaultyLine {
+            line: *line,
+            fault: Fault::IllFormed(*fault),
+        }),
+        _ => None,
     }
 }
 

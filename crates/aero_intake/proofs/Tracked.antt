@@ -102,9 +102,9 @@ settled_other terms q rest s story (Checking bytes) no_block no_check is = (
 settled_other terms q rest s story (Found bytes ending finding) no_block no_check is = is
 
 -- the block that is settled goes from those that are asked about to those that are read
-part_settled : (terms : Terms) (story : Story) (rest : List Question) (s trace number : ℕ) (bytes : List ℕ) (known : Known) (r : Reading) → trace ≡ s → r ≡ reading_of bytes →
-    AreSettled terms story (Parse trace number bytes ∷ rest) s known → AreSettled terms story rest s (with_next known r)
-part_settled terms story rest s trace number bytes known r same is before = record {
+part_settled : (terms : Terms) (story : Story) (rest : List Question) (s trace number most : ℕ) (certain : Bool) (bytes : List ℕ) (known : Known) (r : Reading) → trace ≡ s → r ≡ reading_of bytes →
+    AreSettled terms story (Parse trace number bytes ∷ rest) s known → AreSettled terms story rest s (with_next most certain known r)
+part_settled terms story rest s trace number most certain bytes known r same is before = record {
   on = before.on;
   all = append_assoc known.parts (r ∷ []) (map reading_of (blocks_asked s rest))
       ∙ (ap (λ x. known.parts ++ (x ∷ map reading_of (blocks_asked s rest))) is
@@ -179,36 +179,36 @@ settled_check terms trace parts limits labels order explain rest s story (Checki
 settled_check terms trace parts limits labels order explain rest s story (Found n ending finding) f same known is = is
 
 -- what is known of the source of which a question is settled
-settled_own : (terms : Terms) (q : Question) (rest : List Question) (s : ℕ) (story : Story) (t : Track) (v : Value) → trace_of q ≡ s → IsValueOf q v →
-    IsTracked terms (q ∷ rest) s story t → IsTracked terms rest s story (with_value t v)
-settled_own terms (Parse trace number bytes) rest s story (Arriving k) (Parsed r) same known is =
-    (part_settled terms story rest s trace number bytes k r same (parsed_value trace number bytes r known) is.0, is.1, is.2)
-settled_own terms (Parse trace number bytes) rest s story (Arrived n blocks k) (Parsed r) same known is =
-    (part_settled terms story rest s trace number bytes k r same (parsed_value trace number bytes r known) is.0, is.1, is.2)
-settled_own terms (Parse trace number bytes) rest s story (Checking n) (Parsed r) same known is = is
-settled_own terms (Parse trace number bytes) rest s story (Found n ending finding) (Parsed r) same known is = is
-settled_own terms (Parse trace number bytes) rest s story t (Judged w) same known is = absurd (not_judged trace number bytes w known)
-settled_own terms (Parse trace number bytes) rest s story t (Ordered w steps) same known is = absurd (not_ordered trace number bytes w steps known)
-settled_own terms (Parse trace number bytes) rest s story t (Explained w steps) same known is = absurd (not_explained trace number bytes w steps known)
-settled_own terms (Check trace parts limits labels order explain) rest s story t (Parsed r) same known is = absurd (not_parsed trace parts limits labels order explain r known)
-settled_own terms (Check trace parts limits labels order explain) rest s story t (Judged w) same known is =
+settled_own : (terms : Terms) (q : Question) (rest : List Question) (s most : ℕ) (certain : Bool) (story : Story) (t : Track) (v : Value) → trace_of q ≡ s → IsValueOf q v →
+    IsTracked terms (q ∷ rest) s story t → IsTracked terms rest s story (with_value most certain t v)
+settled_own terms (Parse trace number bytes) rest s most certain story (Arriving k) (Parsed r) same known is =
+    (part_settled terms story rest s trace number most certain bytes k r same (parsed_value trace number bytes r known) is.0, is.1, is.2)
+settled_own terms (Parse trace number bytes) rest s most certain story (Arrived n blocks k) (Parsed r) same known is =
+    (part_settled terms story rest s trace number most certain bytes k r same (parsed_value trace number bytes r known) is.0, is.1, is.2)
+settled_own terms (Parse trace number bytes) rest s most certain story (Checking n) (Parsed r) same known is = is
+settled_own terms (Parse trace number bytes) rest s most certain story (Found n ending finding) (Parsed r) same known is = is
+settled_own terms (Parse trace number bytes) rest s most certain story t (Judged w) same known is = absurd (not_judged trace number bytes w known)
+settled_own terms (Parse trace number bytes) rest s most certain story t (Ordered w steps) same known is = absurd (not_ordered trace number bytes w steps known)
+settled_own terms (Parse trace number bytes) rest s most certain story t (Explained w steps) same known is = absurd (not_explained trace number bytes w steps known)
+settled_own terms (Check trace parts limits labels order explain) rest s most certain story t (Parsed r) same known is = absurd (not_parsed trace parts limits labels order explain r known)
+settled_own terms (Check trace parts limits labels order explain) rest s most certain story t (Judged w) same known is =
     settled_check terms trace parts limits labels order explain rest s story t (findings.Judged w) same known is
-settled_own terms (Check trace parts limits labels order explain) rest s story t (Ordered w steps) same known is =
+settled_own terms (Check trace parts limits labels order explain) rest s most certain story t (Ordered w steps) same known is =
     settled_check terms trace parts limits labels order explain rest s story t (findings.Ordered w steps) same known is
-settled_own terms (Check trace parts limits labels order explain) rest s story t (Explained w steps) same known is =
+settled_own terms (Check trace parts limits labels order explain) rest s most certain story t (Explained w steps) same known is =
     settled_check terms trace parts limits labels order explain rest s story t (findings.Explained w steps) same known is
 
-pub value_goes : (terms : Terms) (tale : ℕ → Story) (q : Question) (rest : List Question) (v : Value) (tracks : List Track) → IsValueOf q v →
-    AreTracked terms (q ∷ rest) tale tracks → AreTracked terms rest tale (changed (trace_of q) (λ x. with_value x v) tracks)
-value_goes terms tale q rest v tracks known tracked s t at =
+pub value_goes : (terms : Terms) (tale : ℕ → Story) (q : Question) (rest : List Question) (v : Value) (most : ℕ) (certain : Bool) (tracks : List Track) → IsValueOf q v →
+    AreTracked terms (q ∷ rest) tale tracks → AreTracked terms rest tale (changed (trace_of q) (λ x. with_value most certain x v) tracks)
+value_goes terms tale q rest v most certain tracks known tracked s t at =
     elim (cases_eq (trace_of q) s) [
       | inl same ↦
-          (let at_place = subst (λ p. slice_get (changed p (λ x. with_value x v) tracks) s ≡ Some t) same at in
-          let was = before_change (λ x. with_value x v) (slice_get tracks s) t (sym (changed_there s (λ x. with_value x v) tracks) ∙ at_place) in
-          subst (λ x. IsTracked terms rest s (tale s) x) (sym was.2) (settled_own terms q rest s (tale s) was.0 v same known (tracked s was.0 was.1)))
+          (let at_place = subst (λ p. slice_get (changed p (λ x. with_value most certain x v) tracks) s ≡ Some t) same at in
+          let was = before_change (λ x. with_value most certain x v) (slice_get tracks s) t (sym (changed_there s (λ x. with_value most certain x v) tracks) ∙ at_place) in
+          subst (λ x. IsTracked terms rest s (tale s) x) (sym was.2) (settled_own terms q rest s most certain (tale s) was.0 v same known (tracked s was.0 was.1)))
       | inr other ↦
           settled_other terms q rest s (tale s) t (own_block-other s q other) (own_check-other s q other)
-          (tracked s t (sym (changed_elsewhere (trace_of q) s (λ x. with_value x v) tracks other) ∙ at))
+          (tracked s t (sym (changed_elsewhere (trace_of q) s (λ x. with_value most certain x v) tracks other) ∙ at))
     ]
 
 -- asking

@@ -1,5 +1,6 @@
 -- What is held of a source whose blocks are being read.
-use Rattle.std.specs.Prelude.{◌≡◌, ◌↔◌, ℕ, false, List, [], ◌∷◌, ◌++◌, map, ⊤}
+use Rattle.std.specs.Prelude.{◌≡◌, ◌↔◌, ℕ, ◌-◌, ◌^◌, min, nat_lt, Bool, true, false, not, ◌&&◌, ◌||◌, is_some, List, [], ◌∷◌, ◌++◌, map, length, ⊤}
+use Rattle.std.specs.List.{sum_by}
 use Rattle.aero_grammar.specs.Reading.{Reading, reading_of}
 use Rattle.aero_intake.specs.declared.keeping.Held.{Held}
 use Rattle.aero_intake.specs.declared.keeping.Held.TheVariants.{Kept, Live}
@@ -8,18 +9,34 @@ use Rattle.aero_intake.specs.declared.keeping.Judged.TheVariants.{ByParts, Alrea
 use Rattle.aero_model.specs.declared.verdict.Finding.{Finding}
 use Rattle.aero_verdict.specs.Finding.{Terms, IsTraceFinding}
 
--- on what terms a source is judged, and what its first blocks say, in their order
+-- on what terms a source is judged, what its first blocks say, in their order, whether it is live, that is, judged as it comes, and whether its
+-- verdict is certain then
 pub record Known : Type 0 where
   pub terms : Terms
   pub parts : List Reading
+  pub live : Bool
+  pub certain : Bool
 
 -- no block is read yet
 abbrev pub nothing_read : Terms → Known
-nothing_read terms = record { terms = terms; parts = [] }
+nothing_read terms = record { terms = terms; parts = []; live = false; certain = false }
 
--- with what the next block says
-abbrev pub with_next : Known → Reading → Known
-with_next known part = record { terms = known.terms; parts = known.parts ++ part ∷ [] }
+-- how many events the blocks have, but no more than 2^64 - 1
+abbrev pub event_count : List Reading → ℕ
+event_count parts = min (sum_by (λ r. length r.events) parts) (2 ^ 64 - 1)
+
+-- whether blocks that were kept are to be judged: they have more than so many events, and no violation is to be explained
+abbrev pub turns_live : ℕ → Terms → List Reading → Bool
+turns_live most terms parts = not terms.explain && nat_lt most (event_count parts)
+
+-- with what the next block says, where so many events are kept at most, and it is then certain or not what the verdict is
+abbrev pub with_next : ℕ → Bool → Known → Reading → Known
+with_next most certain known part = record {
+  terms = known.terms;
+  parts = known.parts ++ part ∷ [];
+  live = known.live || turns_live most known.terms (known.parts ++ part ∷ []);
+  certain = certain;
+}
 
 -- These parts decide: whatever blocks come after them, what is found is the same.
 abbrev pub IsDecisive : Terms → List Reading → Type 0
@@ -29,6 +46,21 @@ IsDecisive terms parts = (more : List (List ℕ)) (f : Finding) → IsTraceFindi
 abbrev pub parts_in : Held → List Reading
 parts_in (Kept parts events) = parts.items
 parts_in (Live live) = live.parts
+
+-- whether they are judged as they come
+abbrev pub live_in : Held → Bool
+live_in (Kept parts events) = false
+live_in (Live live) = true
+
+-- whether the verdict on those that are judged as they come is certain
+abbrev pub certain_in : Held → Bool
+certain_in (Kept parts events) = false
+certain_in (Live live) = is_some live.certain
+
+-- The number of events is that of the blocks that are kept.
+abbrev pub CountsEvents : Held → Type 0
+CountsEvents (Kept parts events) = events ≡ event_count parts.items
+CountsEvents (Live live) = ⊤
 
 -- A source is judged as it comes under its own rules, with its order exactly where that is asked for, and only where the events of a cycle aren't.
 abbrev pub FitsTerms : Terms → Held → Type 0

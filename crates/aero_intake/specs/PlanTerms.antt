@@ -1,7 +1,13 @@
--- The terms of a plan.
+-- The terms of a plan, and how much is kept by it.
+use Rattle.std.specs.Prelude.{ℕ, ◌+◌, ◌==◌, if◌then◌else◌}
+use Rattle.aero_intake.specs.declared.plan.Keeping.{Keeping}
 use Rattle.aero_intake.specs.declared.plan.Plan.{Plan}
 use Rattle.aero_verdict.specs.Finding.{Terms, asking}
 
 -- on which the sources are judged
 abbrev pub terms_of : Plan → Terms
 terms_of plan = asking plan.limits plan.except plan.order plan.explain
+
+-- how many events are kept at most of the source at this place, where there are so many sources
+abbrev pub most_kept : Keeping → ℕ → ℕ → ℕ
+most_kept keeping place sources = if place + 1 == sources then keeping.last_events else keeping.events

@@ -1,5 +1,5 @@
 -- What is known of each source, while questions on it are asked and settled.
-use Rattle.std.specs.Prelude.{◌≡◌, ◌⊎◌, ℕ, zero, suc, ◌==◌, if◌then◌else◌, List, [], ◌∷◌, ◌++◌, map, length, slice_get, Option, Some, None, All}
+use Rattle.std.specs.Prelude.{◌≡◌, ◌⊎◌, Bool, ℕ, zero, suc, ◌==◌, if◌then◌else◌, List, [], ◌∷◌, ◌++◌, map, length, slice_get, Option, Some, None, All}
 use Rattle.std.specs.List.{concat}
 use Rattle.aero_model.specs.declared.verdict.Ending.{Ending}
 use Rattle.aero_model.specs.declared.verdict.Ending.TheVariants as endings
@@ -92,8 +92,10 @@ changed place f [] = []
 changed zero f (x ∷ xs) = f x ∷ xs
 changed (suc place) f (x ∷ xs) = x ∷ changed place f xs
 
--- The value of the question goes to the track of its source.
+-- The value of the question goes to the track of its source, of which so many events are kept at most.
 pub record IsSettledWith (q : Question) (old new : List Track) : Type 0 where
   pub value : Value
   pub known : IsValueOf q value
-  pub tracks : new ≡ changed (trace_of q) (λ t. with_value t value) old
+  pub most : ℕ
+  pub certain : Bool
+  pub tracks : new ≡ changed (trace_of q) (λ t. with_value most certain t value) old

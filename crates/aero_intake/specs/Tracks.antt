@@ -1,5 +1,5 @@
 -- How far a source is.
-use Rattle.std.specs.Prelude.{◌≡◌, ◌⊎◌, ℕ, Bool, false, is_some, List, length, Option, Some, None, ⊤}
+use Rattle.std.specs.Prelude.{◌≡◌, ◌⊎◌, ℕ, Bool, false, ◌||◌, is_some, List, length, Option, Some, None, ⊤}
 use Rattle.aero_model.specs.declared.limits.Limits.{Limits}
 use Rattle.aero_model.specs.declared.verdict.Ending.TheVariants as endings
 use Rattle.aero_model.specs.declared.verdict.Finding.{Finding}
@@ -21,17 +21,28 @@ abbrev pub is_faulty : Track → Bool
 is_faulty (Arriving known) = decides known.terms.rules.limits known.parts
 is_faulty track = false
 
+-- whether it is told of a source that is still coming that what is known of it decides: that is so, or it is live, and its verdict is certain
+abbrev pub is_told : Track → Bool
+is_told (Arriving known) = decides known.terms.rules.limits known.parts || known.certain
+is_told track = false
+
 -- what is known of a source that is still coming decides
 abbrev pub IsDecided : Track → Type 0
 IsDecided (Arriving known) = IsDecisive known.terms known.parts
 IsDecided track = ⊥
 
--- the track with one more part of its source read
-abbrev pub with_part : Track → Reading → Track
-with_part (Arriving known) r = Arriving (with_next known r)
-with_part (Arrived bytes blocks known) r = Arrived bytes blocks (with_next known r)
-with_part (Checking bytes) r = Checking bytes
-with_part (Found bytes ending finding) r = Found bytes ending finding
+-- whether the verdict on a source that is live is certain before its end
+abbrev pub certain_of : Track → Bool
+certain_of (Arriving known) = known.certain
+certain_of (Arrived bytes blocks known) = known.certain
+certain_of track = false
+
+-- the track with one more part of its source read, of which so many events are kept at most
+abbrev pub with_part : ℕ → Bool → Track → Reading → Track
+with_part most certain (Arriving known) r = Arriving (with_next most certain known r)
+with_part most certain (Arrived bytes blocks known) r = Arrived bytes blocks (with_next most certain known r)
+with_part most certain (Checking bytes) r = Checking bytes
+with_part most certain (Found bytes ending finding) r = Found bytes ending finding
 
 -- the track with what is found of its source
 abbrev pub with_finding : Track → Finding → Track
@@ -40,11 +51,11 @@ with_finding (Arrived bytes blocks known) f = Arrived bytes blocks known
 with_finding (Checking bytes) f = Found bytes endings.Whole f
 with_finding (Found bytes ending finding) f = Found bytes ending finding
 
-abbrev pub with_value : Track → Value → Track
-with_value track (Parsed r) = with_part track r
-with_value track (Judged verdict) = with_finding track (findings.Judged verdict)
-with_value track (Ordered verdict steps) = with_finding track (findings.Ordered verdict steps)
-with_value track (Explained verdict cycle) = with_finding track (findings.Explained verdict cycle)
+abbrev pub with_value : ℕ → Bool → Track → Value → Track
+with_value most certain track (Parsed r) = with_part most certain track r
+with_value most certain track (Judged verdict) = with_finding track (findings.Judged verdict)
+with_value most certain track (Ordered verdict steps) = with_finding track (findings.Ordered verdict steps)
+with_value most certain track (Explained verdict cycle) = with_finding track (findings.Explained verdict cycle)
 
 -- the track of a source that came whole
 abbrev pub with_arrival : Track → ℕ → ℕ → Track

@@ -1,6 +1,6 @@
 //! What is held of a source whose blocks are being read.
-ghost use Rattle.std.specs.Prelude.{◌≡◌, ◌++◌, ◌∷◌, [], length, true, false, IfOk, OnOk, IsTrue};
-ghost use Rattle.aero_intake.specs.Held.{parts_in, FitsTerms, IsDecisive, IsJudgedFrom};
+ghost use Rattle.std.specs.Prelude.{◌≡◌, ◌++◌, ◌∷◌, [], length, true, false, not, ◌&&◌, ◌||◌, nat_lt, IfOk, OnOk, IsTrue};
+ghost use Rattle.aero_intake.specs.Held.{parts_in, live_in, certain_in, event_count, turns_live, CountsEvents, FitsTerms, IsDecisive, IsJudgedFrom};
 ghost use Rattle.aero_verdict.specs.Finding.{Terms as Asked, IsTraceFinding};
 
 use crate::live::Live;
@@ -14,7 +14,7 @@ use std::mem;
 /// What the first blocks of a source say, in their order.
 #[derive(Drop)]
 pub enum Held {
-    /// Their parts, and how many events these have.
+    /// Their parts, and how many events these have, but no more than 2^64 - 1.
     Kept { parts: Vec<Parsed>, events: u64 },
     /// What judges them.
     Live(Live),
@@ -30,7 +30,10 @@ pub enum Judged {
 /// Nothing is held yet.
 pub fn nothing_held(alloc: Global) -> Held
     ensures parts { parts_in result ≡ [] }
+    ensures live { live_in result ≡ false }
+    ensures certain { certain_in result ≡ false }
     ensures fits { (terms : Asked) → FitsTerms terms result }
+    ensures counted { CountsEvents result }
 {
     Held::Kept {
         parts: Vec::new(alloc),
@@ -50,7 +53,8 @@ pub fn held_count(held: &Held) -> u64
 
 /// Whether the verdict on a source that is judged as it comes is certain by now, whatever blocks come.
 pub fn is_certain(held: &Held) -> bool
-    ensures { IsTrue result → (terms : Asked) → FitsTerms terms held.now → IsDecisive terms (parts_in held.now) }
+    ensures told { result ≡ certain_in held.now }
+    ensures decisive { IsTrue result → (terms : Asked) → FitsTerms terms held.now → IsDecisive terms (parts_in held.now) }
 {
     match held {
         Held::Kept { .. } => false,
@@ -67,18 +71,24 @@ pub fn add_to(
     terms: &Terms,
     most: u64,
 ) -> Result<(), AllocError>
-    requires { FitsTerms terms.now held.old }
+    requires fits { FitsTerms terms.now held.old }
+    requires counted { CountsEvents held.old }
     ensures parts { OnOk result (parts_in held.new ≡ parts_in held.old ++ part ∷ []) }
+    ensures live { OnOk result (live_in held.new ≡ live_in held.old || turns_live most terms.now (parts_in held.new)) }
     ensures fits { OnOk result (FitsTerms terms.now held.new) }
+    ensures counted { OnOk result (CountsEvents held.new) }
 {
     keep_or_feed(held, part, terms)?;
     go_live(held, alloc, terms, most)
 }
 
 fn keep_or_feed(held: &mut Held, part: Parsed, terms: &Terms) -> Result<(), AllocError>
-    requires { FitsTerms terms.now held.old }
+    requires fits { FitsTerms terms.now held.old }
+    requires counted { CountsEvents held.old }
     ensures parts { OnOk result (parts_in held.new ≡ parts_in held.old ++ part ∷ []) }
+    ensures live { OnOk result (live_in held.new ≡ live_in held.old) }
     ensures fits { OnOk result (FitsTerms terms.now held.new) }
+    ensures counted { OnOk result (CountsEvents held.new) }
 {
     match held {
         Held::Kept { parts, events } => {
@@ -93,9 +103,12 @@ fn keep_or_feed(held: &mut Held, part: Parsed, terms: &Terms) -> Result<(), Allo
 // Where more events are kept than may be, they are to be judged from here on, unless a violation is to be explained:
 // then the parts are gone over again.
 fn go_live(held: &mut Held, alloc: Global, terms: &Terms, most: u64) -> Result<(), AllocError>
-    requires { FitsTerms terms.now held.old }
+    requires fits { FitsTerms terms.now held.old }
+    requires counted { CountsEvents held.old }
     ensures parts { OnOk result (parts_in held.new ≡ parts_in held.old) }
+    ensures live { OnOk result (live_in held.new ≡ live_in held.old || turns_live most terms.now (parts_in held.old)) }
     ensures fits { OnOk result (FitsTerms terms.now held.new) }
+    ensures counted { OnOk result (CountsEvents held.new) }
 {
     if terms.explain() || !has_more(held, most) {
         return Ok(());
@@ -106,7 +119,10 @@ fn go_live(held: &mut Held, alloc: Global, terms: &Terms, most: u64) -> Result<(
 }
 
 // Whether more events are kept.
-fn has_more(held: &Held, most: u64) -> bool {
+fn has_more(held: &Held, most: u64) -> bool
+    requires { CountsEvents held.now }
+    ensures { result ≡ not (live_in held.now) && nat_lt most (event_count (parts_in held.now)) }
+{
     match held {
         Held::Kept { events, .. } => *events > most,
         Held::Live(_) => false,

@@ -1,7 +1,7 @@
 //! What is known of a source while it is worked on.
-ghost use Rattle.std.specs.Prelude.{◌≡◌, length, true, OnOk, IfOk, ◌↔◌, IsTrue};
+ghost use Rattle.std.specs.Prelude.{◌≡◌, ◌||◌, length, true, OnOk, IfOk, ◌↔◌, IsTrue};
 ghost use Rattle.aero_intake.specs.Held.{nothing_read, with_next, IsDecisive, IsJudgedFrom};
-ghost use Rattle.aero_intake.specs.Tracks.{with_part, with_finding, with_value, with_arrival, decides, is_faulty, IsDecided, IsReady, TakesReadings, GivesReadings};
+ghost use Rattle.aero_intake.specs.Tracks.{with_part, with_finding, with_value, with_arrival, certain_of, decides, is_faulty, is_told, IsDecided, IsReady, TakesReadings, GivesReadings};
 
 use crate::keeping::{Held, Judged, add_to, held_count, is_certain, judged_from, nothing_held};
 use crate::terms::Terms;
@@ -28,15 +28,16 @@ impl Model for Readings {
 
     ghost Value = { Known };
 
-    ghost use Rattle.aero_intake.specs.Held.{parts_in, FitsTerms};
+    ghost use Rattle.aero_intake.specs.Held.{parts_in, live_in, certain_in, CountsEvents, FitsTerms};
 
-    ghost view = { λ r. record { terms = r.terms; parts = parts_in r.held } };
+    ghost view = { λ r. record { terms = r.terms; parts = parts_in r.held; live = live_in r.held; certain = certain_in r.held } };
 
     ghost use Rattle.std.specs.Prelude.{◌≡◌, ◌-◌, ◌^◌, min, is_some};
     ghost use Rattle.aero_grammar.specs.Reading.{whole_reading};
 
     ghost invariant = { λ r. record {
       fits : FitsTerms r.terms r.held;
+      counted : CountsEvents r.held;
       lines : r.lines ≡ min (whole_reading (parts_in r.held)).lines (2 ^ 32 - 1);
       fault : r.has_fault ≡ is_some (whole_reading (parts_in r.held)).fault;
     } };
@@ -55,10 +56,10 @@ impl Readings {
         }
     }
 
-    /// Adds what the next block says. At most so many events are kept; once more have come they are judged. An
-    /// `AllocError` says that memory was refused.
+    /// Adds what the next block says. At most so many events are kept: once more have come the source is live, unless
+    /// a violation is to be explained. An `AllocError` says that memory was refused.
     pub fn add(&mut self, alloc: Global, part: Parsed, most: u64) -> Result<(), AllocError>
-        ensures { OnOk result (self.new ≡ with_next self.old part) }
+        ensures { OnOk result (self.new ≡ with_next most self.new.certain self.old part) }
     {
         let more_lines = part.lines;
         let is_faulty = part.fault.is_some();
@@ -78,6 +79,7 @@ impl Readings {
     /// Whether it is known that they decide, whatever blocks come after them: a line of them is malformed, or they
     /// have more lines than may be, or they are judged as they come and the verdict is certain.
     pub fn decide(&self) -> bool
+        ensures told { result ≡ decides self.now.terms.rules.limits self.now.parts || self.now.certain }
         ensures faulty { decides self.now.terms.rules.limits self.now.parts ≡ true → IsTrue result }
         ensures decisive { IsTrue result → IsDecisive self.now.terms self.now.parts }
     {
@@ -137,7 +139,7 @@ pub fn take_value(
     value: Value,
     most: u64,
 ) -> Result<(), AllocError>
-    ensures { OnOk result (track.new ≡ with_value track.old value) }
+    ensures { OnOk result (track.new ≡ with_value most (certain_of track.new) track.old value) }
 {
     match value {
         Value::Parsed(part) => take_part(track, alloc, part, most),
@@ -157,7 +159,7 @@ pub fn take_value(
 }
 
 fn take_part(track: &mut Track, alloc: Global, part: Parsed, most: u64) -> Result<(), AllocError>
-    ensures { OnOk result (track.new ≡ with_part track.old part) }
+    ensures { OnOk result (track.new ≡ with_part most (certain_of track.new) track.old part) }
 {
     match track {
         Track::Arriving(readings) => readings.add(alloc, part, most),
@@ -214,6 +216,7 @@ pub fn is_ready(track: &Track) -> bool
 /// Whether it is known that what was read of a source that is still coming decides what is to be said of it, unless
 /// its bytes end otherwise than whole: no later block of it counts.
 pub fn is_decided(track: &Track) -> bool
+    ensures told { result ≡ is_told track.now }
     ensures faulty { is_faulty track.now ≡ true → IsTrue result }
     ensures decided { IsTrue result → IsDecided track.now }
 {

@@ -34,6 +34,6 @@ returns-in-Err-clause-stopped g c = λ old before st.
     let stops = memory_stops terms form old now after before mid mid c.args.progress.now c.args.told.now st (λ s less. c.step.ensures.others s (λ e. omega (arith, less, e))) c.step.ensures.names
     (record { went = Appends-nil mid.bytes; faults = refl }) in
     let told = c.tell_ready.new.told in
-    subst (λ (x : Cause). WasRun terms form old after before (seen_by g.W.Write.contents c.tell_ready.new.writer) told.endings.items told.counts (Some x)) (sym c.cause_of.ensures)
-    (subst (λ (s : Seen). WasRun terms form old after before s told.endings.items told.counts (Some Memory)) (sym same.0)
-    (subst (λ (t : Told). WasRun terms form old after before mid t.endings.items t.counts (Some Memory)) (sym same.1) stops))
+    subst (λ (x : Cause). WasRun terms form old after before (seen_by g.W.Write.contents c.tell_ready.new.writer) told.endings.items told.faults.items told.counts (Some x)) (sym c.cause_of.ensures)
+    (subst (λ (s : Seen). WasRun terms form old after before s told.endings.items told.faults.items told.counts (Some Memory)) (sym same.0)
+    (subst (λ (t : Told). WasRun terms form old after before mid t.endings.items t.faults.items t.counts (Some Memory)) (sym same.1) stops))

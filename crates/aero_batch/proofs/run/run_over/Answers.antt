@@ -7,5 +7,5 @@ use Rattle.aero_intake.specs.PlanTerms.{terms_of}
 
 pub returns-in_default-clause-ran : goal.returns-in_default-clause-ran
 returns-in_default-clause-ran g c =
-    rw (c.refused.ensures.endings, c.refused.ensures.counts, c.refused.ensures.cause)
+    rw (c.refused.ensures.endings, c.refused.ensures.faults, c.refused.ensures.counts, c.refused.ensures.cause)
     (refused_at_once (terms_of c.args.plan.now) c.args.plan.now.form (map (sighted g.R.Read.remaining) c.args.sources.now) (seen_by g.W.Write.contents c.args.writer.now))

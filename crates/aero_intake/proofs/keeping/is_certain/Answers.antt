@@ -4,8 +4,8 @@ use Rattle.aero_intake.specs.Held.{parts_in, FitsTerms, IsDecisive}
 use Rattle.aero_intake.proofs.Decisive.{some_certain_decides}
 use Rattle.aero_intake.proofs.keeping.is_certain.Goals as goal
 
-pub returns-in-Live : goal.returns-in-Live
-returns-in-Live c = λ is_true terms fits.
+pub returns-in-Live-clause-decisive : goal.returns-in-Live-clause-decisive
+returns-in-Live-clause-decisive c = λ is_true terms fits.
     let live = c.in-Live.live in
     let fit = subst (FitsTerms terms) c.in-Live.is fits in
     subst (λ (h : Held). IsDecisive terms (parts_in h)) (sym c.in-Live.is)

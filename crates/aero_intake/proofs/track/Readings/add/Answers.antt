@@ -8,6 +8,7 @@ use Rattle.aero_intake.proofs.track.Readings.add.Goals as goal
 pub invariant_of-self : goal.invariant_of-self
 invariant_of-self c = record {
   fits = c.nothing_held.ensures.fits c.self.inside.terms;
+  counted = c.nothing_held.ensures.counted;
   lines = ap (λ rs. min (whole_reading rs).lines 4294967295) (sym c.nothing_held.ensures.parts);
   fault = ap (λ rs. is_some (whole_reading rs).fault) (sym c.nothing_held.ensures.parts);
 }
@@ -20,6 +21,7 @@ invariant_of-self-then-not-self c =
     let fault : is_some (whole_reading (parts_in c.add_to.new.held)).fault ≡ is_some c.args.part.fault = ap (λ l. is_some (whole_reading l).fault) c.in_default.ensures.parts ∙ fault_more rs c.args.part faultless in
     record {
       fits = c.in_default.ensures.fits;
+      counted = c.in_default.ensures.counted;
       lines = omega (arith, c.saturating_add-self-inside.ensures, c.self.invariant.lines, lines, ap (λ (r : Reading). r.lines) c.part.view_is);
       fault = c.is_some-is_faulty.ensures ∙ (ap (λ (r : Reading). is_some r.fault) c.part.view_is ∙ sym fault);
     }
@@ -31,6 +33,7 @@ invariant_of-self-else-not-self c =
     let same : whole_reading (parts_in c.add_to.new.held) ≡ whole_reading rs = ap whole_reading c.in_default.ensures.parts ∙ read_after_fault rs c.args.part faulty in
     record {
       fits = c.in_default.ensures.fits;
+      counted = c.in_default.ensures.counted;
       lines = omega (arith, c.self.invariant.lines, ap (λ (r : Reading). r.lines) same);
       fault = c.self.invariant.fault ∙ sym (ap (λ (r : Reading). is_some r.fault) same);
     }
