@@ -1,8 +1,8 @@
-//! What one read of a source adds to what was read.
+//! What one read of a source adds to what was read, and one write of a report to what was told.
 ghost use Rattle.std.specs.Prelude.{◌≡◌, ◌↔◌, IfErr, IfOk, false};
 ghost use Rattle.std.specs.IoError.{error_kind};
 ghost use Rattle.std.specs.declared.io.ErrorKind.TheVariants.{Interrupted};
-ghost use Rattle.aero_progress.specs.Gains.{bytes_in, finds_end};
+ghost use Rattle.aero_progress.specs.Gains.{bytes_in, finds_end, takes_all};
 
 use std::io;
 use std::io::ErrorKind;
@@ -38,5 +38,16 @@ pub fn gain_of_failure(error: &io::Error) -> Gain
     Gain {
         bytes: 0,
         ends: error.kind() != ErrorKind::Interrupted,
+    }
+}
+
+/// Whether a write ends a text, of which all its calls hand over what is left: it took all the bytes, at least one,
+/// of the `handed`.
+pub fn ends_text(outcome: &io::Result<usize>, handed: usize) -> bool
+    ensures { result ≡ takes_all outcome.now handed }
+{
+    match outcome {
+        Ok(count) => *count == handed && handed > 0,
+        Err(_) => false,
     }
 }

@@ -1,11 +1,12 @@
-//! A reader that tells a meter what is read.
-use crate::gain::gain_of;
+//! A reader that tells a meter what is read, and a writer that tells it what is out.
+use crate::gain::{ends_text, gain_of};
 use crate::meter::Meter;
 use std::io;
-use std::io::Read;
+use std::io::{Read, Write};
 
-/// A reader of one source, which hands each call on to what it was made of, and tells the meter, if it
-/// has one, what came. Of reads after the source has been read nothing is told.
+/// A reader of one source or a writer of texts, which hands each call on to what it was made of, and tells the
+/// meter, if it has one, what came or went out. Of reads after the source has been read nothing is told. A text is
+/// out with the write that takes all that it was handed, where what is left of a text is handed over each time.
 #[derive(Drop)]
 pub struct Metered<'a, T> {
     inner: T,
@@ -15,7 +16,7 @@ pub struct Metered<'a, T> {
 impl<'a, T> Metered<'a, T> {
     ghost use Rattle.std.specs.Prelude.{◌≡◌};
 
-    /// Nothing was read yet.
+    /// Nothing was read or written yet.
     pub fn new(inner: T, meter: Option<&'a Meter>) -> Metered<'a, T>
         ensures { result.inner ≡ inner }
     {
@@ -43,5 +44,31 @@ impl<R: Read> Read for Metered<'_, R> {
             }
         }
         outcome
+    }
+}
+
+impl<W: Write> Write for Metered<'_, W> {
+    ghost use Rattle.std.specs.Io.{WritesAtMost};
+    ghost use Rattle.std.specs.Io.KnownBytes.{WriteAppends, Keeps};
+
+    ghost contents = { λ m. W.contents m.inner };
+
+    fn write(&mut self, buf: &[u8]) -> io::Result<usize>
+        ensures bound { WritesAtMost result buf.now }
+        ensures bytes { WriteAppends (W.contents self.old.inner) (W.contents self.new.inner) result buf.now }
+    {
+        let outcome = self.inner.write(buf);
+        if let Some(meter) = self.meter {
+            if ends_text(&outcome, buf.len()) {
+                meter.add_text();
+            }
+        }
+        outcome
+    }
+
+    fn flush(&mut self) -> io::Result<()>
+        ensures bytes { Keeps (W.contents self.old.inner) (W.contents self.new.inner) }
+    {
+        self.inner.flush()
     }
 }

@@ -1,6 +1,8 @@
 //! The thread that writes the line.
-use crate::line::{Line, text_of};
+use crate::course::Course;
+use crate::line::Line;
 use crate::meter::Meter;
+use crate::reached::Work;
 use std::alloc::Global;
 use std::io::Write;
 use std::sync::{Arc, Condvar, Mutex, Wait};
@@ -24,28 +26,26 @@ pub struct Ticker<W> {
 // What the thread shares with who started it.
 #[derive(Drop)]
 struct Shared<W> {
-    meter: Meter,
+    course: Course,
     line: Mutex<Line<W>>,
     // Told when the line is over.
     ended: Condvar,
-    sources: u64,
 }
 
 impl<W: Write + Drop + Send + 'static> Ticker<W> {
-    /// Starts the thread, which writes the line on so many sources to the writer. `None` where memory or
-    /// the thread is refused.
+    /// Starts the thread, which shows on the line how far this work has come since now. `None` where memory,
+    /// the thread or the time is refused.
     pub fn start<R: Threads + Wait + Clock + Copy + Send + 'static>(
         rt: R,
         alloc: Global,
-        writer: W,
-        sources: u64,
+        line: Line<W>,
+        work: Work,
         pace: Pace,
     ) -> Option<Ticker<W>> {
         let shared = Shared {
-            meter: Meter::new(),
-            line: Mutex::new(Line::new(writer)),
+            course: Course::begin(&rt, work).ok()?,
+            line: Mutex::new(line),
             ended: Condvar::new(),
-            sources,
         };
         let shared = Arc::new(alloc, shared).ok()?;
         let theirs = Arc::try_clone(&shared).ok()?;
@@ -53,9 +53,9 @@ impl<W: Write + Drop + Send + 'static> Ticker<W> {
         Some(Ticker { shared, thread })
     }
 
-    /// What is to be told of reads.
+    /// What is to be told of reads and of texts.
     pub fn meter(&self) -> &Meter {
-        &self.shared.meter
+        self.shared.course.meter()
     }
 
     /// The line, for a `Beside`.
@@ -72,7 +72,7 @@ impl<W: Write + Drop + Send + 'static> Ticker<W> {
     }
 }
 
-// Writes the line at each tick, until it is over.
+// Shows the line at each tick, until it is over. Where that fails, it waits for the next one.
 fn tick_on<W: Write, R: Wait + Clock>(rt: &R, alloc: Global, shared: &Shared<W>, pace: Pace) {
     let mut line = shared.line.lock(rt);
     let mut left = Duration::from_millis(pace.first_after);
@@ -81,15 +81,7 @@ fn tick_on<W: Write, R: Wait + Clock>(rt: &R, alloc: Global, shared: &Shared<W>,
             return;
         }
         line = shared.ended.wait_timeout(rt, line, left).0;
-        show(alloc, shared, &mut *line);
+        let _ = shared.course.show(rt, alloc, &mut *line);
         left = Duration::from_millis(pace.tick);
-    }
-}
-
-// Writes the line as things stand. Where memory is refused, or the write fails, it waits for the next tick.
-fn show<W: Write>(alloc: Global, shared: &Shared<W>, line: &mut Line<W>) {
-    let meter = &shared.meter;
-    if let Ok(text) = text_of(alloc, meter.ended(), shared.sources, meter.bytes()) {
-        let _ = line.show(&text);
     }
 }
