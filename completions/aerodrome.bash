@@ -10,11 +10,11 @@ _aerodrome() {
     case $before in
         --workers) COMPREPLY=($(compgen -W '1 2 4 8 16' -- "$word")) ;;
         --format) COMPREPLY=($(compgen -W 'text json' -- "$word")) ;;
-        --piece | --except) ;;
+        --piece | --except | --files0-from | --label) ;;
         *)
             case $word in
                 -*) COMPREPLY=($(compgen -W '--workers --piece --except --order --explain --long --format --progress --quiet
-                    --help --version' -- "$word")) ;;
+                    --files0-from --label --fail-open --help --version' -- "$word")) ;;
             esac
             ;;
     esac

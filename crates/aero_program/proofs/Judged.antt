@@ -6,65 +6,72 @@ use Rattle.aero_model.specs.declared.verdict.Ending.{Ending}
 use Rattle.aero_model.specs.CallCounts.{Seen}
 use Rattle.aero_verdict.specs.Finding.{Terms, asking}
 use Rattle.aero_batch.specs.declared.outcome.Cause.{Cause}
+use Rattle.aero_batch.specs.declared.outcome.FaultyLine.{FaultyLine}
 use Rattle.aero_report.specs.declared.form.Form.{Form}
-use Rattle.aero_batch.specs.Founds.{sighted, WasRun}
+use Rattle.aero_batch.specs.Founds.{Sighted, sighted, WasRun}
 use Rattle.aero_intake.specs.declared.source.Source.{Source}
+use Rattle.aero_program.specs.declared.command.Config.{Config}
 use Rattle.aero_program.specs.declared.failure.Failure.{Failure}
 use Rattle.aero_program.specs.declared.input.Input.{Input}
 use Rattle.aero_program.specs.Answers.{Ends, WasJudged}
-use Rattle.aero_program.specs.Command.{AreLimitsFor}
-use Rattle.aero_program.specs.Inputs.{source_names}
+use Rattle.aero_program.specs.Command.{AreLimitsFor, are_words}
 use Rattle.aero_program.specs.Notes.{noted_of_all}
-use Rattle.aero_program.proofs.Noting.{are_noted}
-use Rattle.aero_program.specs.Sightings.{file_sighting, source_sightings}
+use Rattle.aero_program.proofs.Noting.{are_faulty, are_noted}
+use Rattle.aero_program.specs.Sightings.{AreNames, bytes_known, sighting, source_sightings}
 use Rattle.aero_program.specs.Status.{end_of_run}
 use Rattle.aero_program.specs.Streams.{Shown, WasFlushed}
 
-names_of_files : (files : List (List ℕ)) → map (λ s. s.name) (map file_sighting files) ≡ files
-names_of_files [] = refl
-names_of_files (file ∷ more) = ap (λ l. file ∷ l) (names_of_files more)
+names_of_sightings : (known : Option (List ℕ)) (names : List (List ℕ)) → map (λ s. s.name) (map (sighting known) names) ≡ names
+names_of_sightings known [] = refl
+names_of_sightings known (name ∷ more) = ap (λ l. name ∷ l) (names_of_sightings known more)
 
-names_of_sources : (files : List (List ℕ)) (given : Option (List ℕ)) → map (λ s. s.name) (source_sightings files given) ≡ source_names files
-names_of_sources [] given = refl
-names_of_sources (file ∷ more) given = names_of_files (file ∷ more)
+names_noted : {S O F : Type 0} (words : Bool) (known : Input S O F → Option (List ℕ)) (sources : List (Source (Input S O F))) (endings : List (ℕ × Ending)) (faults : List (Option FaultyLine))
+    → map (λ n. n.name) (noted_of_all words sources endings faults) ≡ map (λ s. s.name) (map (sighted known) sources)
+names_noted words known [] endings faults = refl
+names_noted words known (source ∷ more) [] [] = ap (λ l. source.name.items ∷ l) (names_noted words known more [] [])
+names_noted words known (source ∷ more) [] (fault ∷ faults) = ap (λ l. source.name.items ∷ l) (names_noted words known more [] faults)
+names_noted words known (source ∷ more) (ending ∷ rest) [] = ap (λ l. source.name.items ∷ l) (names_noted words known more rest [])
+names_noted words known (source ∷ more) (ending ∷ rest) (fault ∷ faults) = ap (λ l. source.name.items ∷ l) (names_noted words known more rest faults)
 
-names_noted : {S O F : Type 0} (known : Input S O F → Option (List ℕ)) (sources : List (Source (Input S O F))) (endings : List (ℕ × Ending))
-    → map (λ n. n.name) (noted_of_all sources endings) ≡ map (λ s. s.name) (map (sighted known) sources)
-names_noted known [] endings = refl
-names_noted known (source ∷ more) [] = ap (λ l. source.name.items ∷ l) (names_noted known more [])
-names_noted known (source ∷ more) (ending ∷ rest) = ap (λ l. source.name.items ∷ l) (names_noted known more rest)
-
-pub judged : {S O F : Type 0} (known : Input S O F → Option (List ℕ)) (labels : List (List ℕ)) (order explain long : Bool) (form : Form) (files : List (List ℕ)) (given : Option (List ℕ)) (limits : Limits)
-    (was lent new now : List (Source (Input S O F))) (before between after : Shown) (endings : List (ℕ × Ending)) (counts : Counts) (cause : Option Cause)
+pub judged : {S O F : Type 0} (known : Input S O F → Option (List ℕ)) (config : Config) (given : Option (List ℕ)) (limits : Limits) (names : List (List ℕ))
+    (was lent new now : List (Source (Input S O F))) (before between after : Shown) (endings : List (ℕ × Ending)) (faults : List (Option FaultyLine)) (counts : Counts) (cause : Option Cause)
     (has_failed : Bool) (end : Result ℕ Failure) (told told_after : Seen) (status : ℕ) (terms : Terms) (made : Form)
-    → terms ≡ asking limits labels order explain → made ≡ form → AreLimitsFor long limits → map (sighted known) was ≡ source_sightings files given → lent ≡ was → now ≡ new
-    → WasRun terms made (map (sighted known) lent) (map (sighted known) new) before.writer between.writer endings counts cause
-    → between.unflushed ≡ before.unflushed → WasFlushed between after has_failed → end ≡ end_of_run cause counts has_failed
-    → Ends (noted_of_all now (if long then [] else endings)) end told told_after status
-    → WasJudged labels order explain long form files given before after told told_after status
-judged known labels order explain long form files given limits was lent new now before between after endings counts cause has_failed end told told_after status terms made
-    on_terms in_form are seen is_was is_new run same flushed ended ends =
-    let seen_lent : map (sighted known) lent ≡ source_sightings files given = ap (map (sighted known)) is_was ∙ seen in
-    let ran : WasRun (asking limits labels order explain) form (source_sightings files given) (map (sighted known) new) before.writer between.writer endings counts cause =
-    subst (λ r. WasRun r form (source_sightings files given) (map (sighted known) new) before.writer between.writer endings counts cause) on_terms
-    (subst (λ (f : Form). WasRun terms f (source_sightings files given) (map (sighted known) new) before.writer between.writer endings counts cause) in_form
-    (subst (λ old. WasRun terms made old (map (sighted known) new) before.writer between.writer endings counts cause) seen_lent run)) in
-    let noted_endings : List (ℕ × Ending) = if long then [] else endings in
+    → terms ≡ asking limits config.except.items config.order config.explain → made ≡ config.form → AreLimitsFor config.long limits
+    → AreNames config.files given names → map (sighted known) was ≡ source_sightings config.files given names → lent ≡ was → now ≡ new
+    → WasRun terms made (map (sighted known) lent) (map (sighted known) new) before.writer between.writer endings faults counts cause
+    → between.unflushed ≡ before.unflushed → WasFlushed between after has_failed → end ≡ end_of_run config.fail_open cause counts has_failed
+    → Ends (noted_of_all (are_words config.files) now (if config.long then [] else endings) faults) end told told_after status
+    → WasJudged config given before after told told_after status
+judged known config given limits names was lent new now before between after endings faults counts cause has_failed end told told_after status terms made
+    on_terms in_form are named seen is_was is_new run same flushed ended ends =
+    let sightings : List Sighted = source_sightings config.files given names in
+    let wanted : Terms = asking limits config.except.items config.order config.explain in
+    let words : Bool = are_words config.files in
+    let seen_lent : map (sighted known) lent ≡ sightings = ap (map (sighted known)) is_was ∙ seen in
+    let ran : WasRun wanted config.form sightings (map (sighted known) new) before.writer between.writer endings faults counts cause =
+    subst (λ r. WasRun r config.form sightings (map (sighted known) new) before.writer between.writer endings faults counts cause) on_terms
+    (subst (λ (f : Form). WasRun terms f sightings (map (sighted known) new) before.writer between.writer endings faults counts cause) in_form
+    (subst (λ old. WasRun terms made old (map (sighted known) new) before.writer between.writer endings faults counts cause) seen_lent run)) in
+    let noted_endings : List (ℕ × Ending) = if config.long then [] else endings in
     record {
       limits = limits;
       limits_are = are;
+      names = names;
+      names_are = named;
       sources = map (sighted known) new;
       between = between;
       endings = endings;
+      faults = faults;
       counts = counts;
       cause = cause;
       ran = ran;
       same = same;
       has_failed = has_failed;
       flushed = flushed;
-      noted = noted_of_all new noted_endings;
-      names = names_noted known new noted_endings ∙ ran.names ∙ names_of_sources files given;
-      are_noted = are_noted new noted_endings;
-      ends = subst (λ l. Ends (noted_of_all l noted_endings) (end_of_run cause counts has_failed) told told_after status) is_new
-          (subst (λ e. Ends (noted_of_all now noted_endings) e told told_after status) ended ends);
+      noted = noted_of_all words new noted_endings faults;
+      of_names = names_noted words known new noted_endings faults ∙ ran.names ∙ names_of_sightings (bytes_known config.files given) names;
+      are_noted = are_noted words new noted_endings faults;
+      are_faulty = are_faulty words new noted_endings faults;
+      ends = subst (λ l. Ends (noted_of_all words l noted_endings faults) (end_of_run config.fail_open cause counts has_failed) told told_after status) is_new
+          (subst (λ e. Ends (noted_of_all words now noted_endings faults) e told told_after status) ended ends);
     }

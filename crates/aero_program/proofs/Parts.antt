@@ -11,3 +11,10 @@ five_parts old one two three four five first second third fourth fifth p q r s t
     two_parts old (one ++ two ++ three ++ four) five fourth fifth
     (two_parts old (one ++ two ++ three) four third fourth
     (two_parts old (one ++ two) three second third (two_parts old one two first second p q) r) s) t
+
+pub seven_parts : (old one two three four five six seven first second third fourth fifth sixth seventh : List ℕ) → first ≡ old ++ one → second ≡ first ++ two
+    → third ≡ second ++ three → fourth ≡ third ++ four → fifth ≡ fourth ++ five → sixth ≡ fifth ++ six → seventh ≡ sixth ++ seven
+    → seventh ≡ old ++ (one ++ two ++ three ++ four ++ five ++ six ++ seven)
+seven_parts old one two three four five six seven first second third fourth fifth sixth seventh p q r s t u v =
+    two_parts old (one ++ two ++ three ++ four ++ five ++ six) seven sixth seventh
+    (two_parts old (one ++ two ++ three ++ four ++ five) six fifth sixth (five_parts old one two three four five first second third fourth fifth p q r s t) u) v

@@ -6,7 +6,7 @@ use Rattle.aero_model.specs.declared.verdict.Ending.{Ending}
 use Rattle.aero_model.specs.CallCounts.{Seen}
 use Rattle.aero_verdict.specs.Finding.{asking}
 use Rattle.aero_batch.specs.declared.outcome.Cause.{Cause}
-use Rattle.aero_report.specs.declared.form.Form.{Form}
+use Rattle.aero_batch.specs.declared.outcome.FaultyLine.{FaultyLine}
 use Rattle.aero_batch.specs.Founds.{Sighted, Took, WasRun}
 use Rattle.aero_program.specs.declared.command.Config.{Config}
 use Rattle.aero_program.specs.declared.command.Refused.TheVariants as refused
@@ -14,11 +14,13 @@ use Rattle.aero_program.specs.declared.command.Stop.{Stop}
 use Rattle.aero_program.specs.declared.command.Stop.TheVariants as stop
 use Rattle.aero_program.specs.declared.failure.Failure.{Failure}
 use Rattle.aero_program.specs.declared.failure.Failure.TheVariants as failure
-use Rattle.aero_program.specs.Command.{AreLimitsFor}
+use Rattle.aero_program.specs.declared.listing.Unlisted.{Unlisted}
+use Rattle.aero_program.specs.declared.listing.Unlisted.TheVariants as unlisted
+use Rattle.aero_program.specs.Command.{AreLimitsFor, are_words, list_path}
 use Rattle.aero_program.specs.Failure.{failure_of, failure_status, line_of}
-use Rattle.aero_program.specs.Inputs.{source_names}
-use Rattle.aero_program.specs.Notes.{AreNoted, Noted, notes}
-use Rattle.aero_program.specs.Sightings.{source_sightings}
+use Rattle.aero_program.specs.Notes.{AreFaulty, AreNoted, Noted, note_line, notes}
+use Rattle.aero_program.specs.Reasons.{reason_words}
+use Rattle.aero_program.specs.Sightings.{AreNames, AreUnlisted, source_sightings}
 use Rattle.aero_program.specs.Status.{end_of_run}
 use Rattle.aero_program.specs.Streams.{IsTold, Shown, WasCut, WasFlushed}
 
@@ -70,30 +72,47 @@ Ends noted (Ok wanted) told told_after status =
 Ends noted (Err why) told told_after status =
     (IsTold told told_after (notes noted ++ line_of why) × (status ≡ failure_status why)) ⊎ Fails why told told_after status
 
--- The files, or standard input, which has these bytes, where there are none, were judged under the greatest limits, or those of long sources, blocks with these labels as no transactions, and their serial orders were asked for, or not, and violations to be explained, or not: the report in this form went out on standard output, as every run's does, and a flush and the ends of the run decide.
-pub record WasJudged (labels : List (List ℕ)) (order explain long : Bool) (form : Form) (files : List (List ℕ)) (given : Option (List ℕ)) (shown shown_after : Shown) (told told_after : Seen) (status : ℕ) : Type 0 where
+-- What the configuration asks for was judged: its sources, under the limits that it asks for, blocks with its labels as no transactions. The report in its form went out on standard output, as every run's does, and a flush and the ends of the run decide.
+pub record WasJudged (config : Config) (given : Option (List ℕ)) (shown shown_after : Shown) (told told_after : Seen) (status : ℕ) : Type 0 where
   pub limits : Limits
-  pub limits_are : AreLimitsFor long limits
+  pub limits_are : AreLimitsFor config.long limits
+  pub names : List (List ℕ)
+  pub names_are : AreNames config.files given names
   pub sources : List Sighted
   pub between : Shown
   pub endings : List (ℕ × Ending)
+  pub faults : List (Option FaultyLine)
   pub counts : Counts
   pub cause : Option Cause
-  pub ran : WasRun (asking limits labels order explain) form (source_sightings files given) sources shown.writer between.writer endings counts cause
+  pub ran : WasRun (asking limits config.except.items config.order config.explain) config.form (source_sightings config.files given names) sources shown.writer between.writer endings faults counts cause
   pub same : between.unflushed ≡ shown.unflushed
   pub has_failed : Bool
   pub flushed : WasFlushed between shown_after has_failed
   pub noted : List Noted
-  pub names : map (λ n. n.name) noted ≡ source_names files
-  pub are_noted : AreNoted (if long then [] else endings) noted
-  pub ends : Ends noted (end_of_run cause counts has_failed) told told_after status
+  pub of_names : map (λ n. n.name) noted ≡ names
+  pub are_noted : AreNoted (are_words config.files) (if config.long then [] else endings) noted
+  pub are_faulty : AreFaulty faults noted
+  pub ends : Ends noted (end_of_run config.fail_open cause counts has_failed) told told_after status
+
+-- how it is told that there are no sources, since the list with their names, at this path, can't be had
+abbrev pub TellsUnlisted : (path : List ℕ) → Unlisted → Seen → Seen → ℕ → Type 0
+TellsUnlisted path (unlisted.Unread reason) told told_after status = IsTold told told_after (note_line path (reason_words reason)) × (status ≡ 3)
+TellsUnlisted path unlisted.TooMany told told_after status = Fails failure.TooManyFiles told told_after status
+TellsUnlisted path unlisted.Memory told told_after status = Fails failure.Memory told told_after status
+
+-- there are no sources, and that is told
+pub record WasUnlisted (config : Config) (given : Option (List ℕ)) (told told_after : Seen) (status : ℕ) : Type 0 where
+  pub why : Unlisted
+  pub are : AreUnlisted config.files given why
+  pub tells : TellsUnlisted (list_path config.files) why told told_after status
 
 -- or memory was refused before that
-abbrev pub Judges : List (List ℕ) → (order explain long : Bool) → Form → List (List ℕ) → Option (List ℕ) → Shown → Shown → Seen → Seen → ℕ → Type 0
-Judges labels order explain long form files given shown shown_after told told_after status =
-    WasJudged labels order explain long form files given shown shown_after told told_after status ⊎ ((shown_after ≡ shown) × Fails failure.Memory told told_after status)
+abbrev pub Judges : Config → Option (List ℕ) → Shown → Shown → Seen → Seen → ℕ → Type 0
+Judges config given shown shown_after told told_after status =
+    WasJudged config given shown shown_after told told_after status
+    ⊎ ((shown_after ≡ shown) × (WasUnlisted config given told told_after status ⊎ Fails failure.Memory told told_after status))
 
 -- `given` is what standard input has, where it is known
 abbrev pub AnswersTo : Result Config Stop → Option (List ℕ) → Shown → Shown → Seen → Seen → ℕ → Type 0
-AnswersTo (Ok config) given shown shown_after told told_after status = Judges config.except.items config.order config.explain config.long config.form (map string_bytes config.files.items) given shown shown_after told told_after status
+AnswersTo (Ok config) given shown shown_after told told_after status = Judges config given shown shown_after told told_after status
 AnswersTo (Err why) given shown shown_after told told_after status = Stops why shown shown_after told told_after status

@@ -1,8 +1,40 @@
--- The limits under which the program runs, and when it shows the line on progress.
-use Rattle.std.specs.Prelude.{◌≡◌, ◌^◌, ℕ, Bool, false, true, Option, Some, None}
+-- What is to be judged, the limits under which the program runs, and when it shows the line on progress.
+use Rattle.std.specs.Prelude.{◌≡◌, ◌^◌, ℕ, Bool, false, true, List, [], map, Option, Some, None, string_bytes, vec_len}
 use Rattle.aero_model.specs.declared.limits.Limits.{Limits}
 use Rattle.aero_program.specs.declared.command.Progress.{Progress}
 use Rattle.aero_program.specs.declared.command.Progress.TheVariants.{Auto, Always, Never}
+use Rattle.aero_program.specs.declared.command.Sources.{Sources}
+use Rattle.aero_program.specs.declared.command.Sources.TheVariants as sources
+
+-- the files that words name, in order
+abbrev pub files_named : Sources → List (List ℕ)
+files_named (sources.Standard name) = []
+files_named (sources.Files words) = map string_bytes words.items
+files_named (sources.Listed path) = []
+
+-- how many these are
+abbrev pub count_named : Sources → ℕ
+count_named (sources.Standard name) = 0
+count_named (sources.Files words) = vec_len words
+count_named (sources.Listed path) = 0
+
+-- whether it is known how many sources there are before any is read
+abbrev pub are_counted : Sources → Bool
+are_counted (sources.Standard name) = true
+are_counted (sources.Files words) = true
+are_counted (sources.Listed path) = false
+
+-- whether they are files that words name
+abbrev pub are_words : Sources → Bool
+are_words (sources.Standard name) = false
+are_words (sources.Files words) = true
+are_words (sources.Listed path) = false
+
+-- the path of the list with the names of the files
+abbrev pub list_path : Sources → List ℕ
+list_path (sources.Standard name) = []
+list_path (sources.Files words) = []
+list_path (sources.Listed path) = string_bytes path
 
 -- the greatest limits: 2^30 bytes and 2^28 lines of a source, 65,536 threads, 2^26 variables and locks
 abbrev pub AreGreatest : Limits → Type 0

@@ -1,5 +1,5 @@
--- The names of the sources, how far an input has come, and what one read does to that.
-use Rattle.std.specs.Prelude.{◌≡◌, ◌<◌, ◌+◌, ℕ, List, [], ◌∷◌, map, length, Option, None, Result, Ok, Err, ⊤, IsErr, is_err, if◌then◌else◌, codes, string_bytes}
+-- How far an input has come, and what one read does to that.
+use Rattle.std.specs.Prelude.{◌≡◌, ◌<◌, ◌+◌, ℕ, List, length, Option, None, Result, Ok, Err, ⊤, IsErr, is_err, if◌then◌else◌, string_bytes}
 use Rattle.std.specs.Io.KnownBytes.{ReadConsumes}
 use Rattle.aero_model.specs.CallCounts.{Seen, moves_nothing}
 use Rattle.aero_program.specs.declared.input.Input.{Input}
@@ -71,13 +71,3 @@ StepsTo can_open Reading new buffer result = Leaves new buffer result
 StepsTo can_open Ended Ended buffer result = result ≡ Ok 0
 StepsTo can_open Failed Failed buffer result = IsErr result
 StepsTo can_open old new buffer result = ⊥
-
--- the sources are named as the files that the words name, in order, or `-` where they name none
-abbrev pub source_names : List (List ℕ) → List (List ℕ)
-source_names [] = codes "-" ∷ []
-source_names (file ∷ more) = file ∷ more
-
--- the readers of the sources stand so: each for its own word, not opened yet, or standard input with these bytes where there are no words
-abbrev pub source_standings : List (List ℕ) → Option (List ℕ) → List Standing
-source_standings [] given = Standard (unread given) ∷ []
-source_standings (file ∷ more) given = map Unopened (file ∷ more)

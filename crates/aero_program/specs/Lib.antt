@@ -1,15 +1,17 @@
 -- To be believed: Answers (what goes out, and the exit status), with Failure, Status, Streams and Notes. Also Command
--- (the limits and the line on progress), Inputs (files and standard input), Retries and Calls (calls that were
--- interrupted), Starts, Reasons and Sightings. Nothing here serves proofs alone.
+-- (the limits and the line on progress), Inputs (files and standard input), Sightings and Listing (the names of the
+-- sources), Retries and Calls (calls that were interrupted), Starts, Reasons and Sizes. Nothing here serves proofs alone.
 pub mod Answers
 pub mod Calls
 pub mod Command
 pub mod Failure
 pub mod Inputs
+pub mod Listing
 pub mod Notes
 pub mod Reasons
 pub mod Retries
 pub mod Sightings
+pub mod Sizes
 pub mod Starts
 pub mod Status
 pub mod Streams

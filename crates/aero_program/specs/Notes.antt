@@ -1,44 +1,65 @@
 -- The lines on the sources on standard error, each with the byte 10 that ends it.
-use Rattle.std.specs.Prelude.{◌≡◌, ℕ, Bool, true, false, List, [], ◌∷◌, ◌++◌, Option, None, Some, codes, bytes_eq, flat_map, if◌then◌else◌, slice_get}
+use Rattle.std.specs.Prelude.{◌≡◌, ◌==◌, ◌&&◌, ℕ, Bool, true, false, List, [], ◌∷◌, ◌++◌, Option, None, Some, codes, decimal, bytes_eq, flat_map, if◌then◌else◌, slice_get}
 use Rattle.aero_model.specs.CallCounts.{inner_of}
 use Rattle.aero_model.specs.declared.verdict.Ending.{Ending}
 use Rattle.aero_model.specs.declared.verdict.Ending.TheVariants as endings
+use Rattle.aero_batch.specs.declared.outcome.Fault.{Fault}
+use Rattle.aero_batch.specs.declared.outcome.Fault.TheVariants.{Malformed, IllFormed}
+use Rattle.aero_batch.specs.declared.outcome.FaultyLine.{FaultyLine}
+use Rattle.aero_faults.specs.Words.{line_words, shape_words}
 use Rattle.aero_intake.specs.declared.source.Source.{Source}
 use Rattle.aero_program.specs.declared.input.Input.{Input}
 use Rattle.aero_program.specs.declared.reason.Reason.{Reason}
+use Rattle.aero_program.specs.declared.reason.Reason.TheVariants.{System, Unnumbered, NotUtf8}
 use Rattle.aero_program.specs.Inputs.{start_of, reason_of}
 use Rattle.aero_program.specs.Reasons.{reason_words}
 use Rattle.aero_program.specs.Starts.{byte_order_mark}
 
--- what was noted of a source: its name, the first three bytes that came, why the first read that failed did, and whether it had more bytes than a source may have that isn't long
+-- what was noted of a source: its name, whether that is a FILE word, the first three bytes that came, why the first read that failed did, whether it had more bytes than a source may have that isn't long, and its faulty line
 pub record Noted : Type 0 where
   pub name : List ℕ
+  pub is_word : Bool
   pub start : List ℕ
   pub reason : Option Reason
   pub too_large : Bool
+  pub fault : Option FaultyLine
 
 -- whether a source whose reading ended so, after so many bytes, was too large; one that the run didn't come to was not
 abbrev pub was_too_large : Option (ℕ × Ending) → Bool
 was_too_large (Some (bytes, endings.TooLarge)) = true
 was_too_large ending = false
 
-abbrev pub noted_of : {S O F : Type 0} → Source (Input S O F) → (too_large : Bool) → Noted
-noted_of source too_large = record {
+-- the faulty line of a source, of which this was told; of one that the run didn't come to none was
+abbrev pub fault_told : Option (Option FaultyLine) → Option FaultyLine
+fault_told None = None
+fault_told (Some fault) = fault
+
+abbrev pub noted_of : {S O F : Type 0} → (is_word : Bool) → Source (Input S O F) → (too_large : Bool) → Option FaultyLine → Noted
+noted_of is_word source too_large fault = record {
   name = source.name.items;
+  is_word = is_word;
   start = start_of (inner_of source.reader);
   reason = reason_of (inner_of source.reader);
   too_large = too_large;
+  fault = fault;
 }
 
--- what was noted of the sources, whose readings ended so, as far as the run came
-abbrev pub noted_of_all : {S O F : Type 0} → List (Source (Input S O F)) → List (ℕ × Ending) → List Noted
-noted_of_all [] endings = []
-noted_of_all (source ∷ more) [] = noted_of source false ∷ noted_of_all more []
-noted_of_all (source ∷ more) (ending ∷ rest) = noted_of source (was_too_large (Some ending)) ∷ noted_of_all more rest
+-- what was noted of the sources, whose names are FILE words, or aren't, whose readings ended so, and of which these faulty lines were told, as far as the run came
+abbrev pub noted_of_all : {S O F : Type 0} → (are_words : Bool) → List (Source (Input S O F)) → List (ℕ × Ending) → List (Option FaultyLine) → List Noted
+noted_of_all are_words [] endings faults = []
+noted_of_all are_words (source ∷ more) [] [] = noted_of are_words source false None ∷ noted_of_all are_words more [] []
+noted_of_all are_words (source ∷ more) [] (fault ∷ faults) = noted_of are_words source false fault ∷ noted_of_all are_words more [] faults
+noted_of_all are_words (source ∷ more) (ending ∷ rest) [] = noted_of are_words source (was_too_large (Some ending)) None ∷ noted_of_all are_words more rest []
+noted_of_all are_words (source ∷ more) (ending ∷ rest) (fault ∷ faults) = noted_of are_words source (was_too_large (Some ending)) fault ∷ noted_of_all are_words more rest faults
 
--- the sources were noted as too large whose readings ended so
-abbrev pub AreNoted : List (ℕ × Ending) → List Noted → Type 0
-AreNoted endings noted = (at : ℕ) (n : Noted) → slice_get noted at ≡ Some n → n.too_large ≡ was_too_large (slice_get endings at)
+-- the sources were noted as too large whose readings ended so, and all as FILE words, or none
+abbrev pub AreNoted : (are_words : Bool) → List (ℕ × Ending) → List Noted → Type 0
+AreNoted are_words endings noted =
+    (at : ℕ) (n : Noted) → slice_get noted at ≡ Some n → (n.too_large ≡ was_too_large (slice_get endings at)) × (n.is_word ≡ are_words)
+
+-- the sources were noted with the faulty lines that were told
+abbrev pub AreFaulty : List (Option FaultyLine) → List Noted → Type 0
+AreFaulty faults noted = (at : ℕ) (n : Noted) → slice_get noted at ≡ Some n → n.fault ≡ fault_told (slice_get faults at)
 
 abbrev pub note_line : List ℕ → List ℕ → List ℕ
 note_line name words = codes "aerodrome: " ++ name ++ codes ": " ++ words ++ 10 ∷ []
@@ -47,18 +68,47 @@ abbrev pub mark_line : List ℕ → Bool → List ℕ
 mark_line name true = note_line name (codes "starts with a byte order mark, which counts as part of the first thread's name")
 mark_line name false = []
 
-abbrev pub reason_line : List ℕ → Option Reason → List ℕ
-reason_line name None = []
-reason_line name (Some reason) = note_line name (reason_words reason)
+-- whether there is no such file
+abbrev pub is_missing : Reason → Bool
+is_missing (System number) = number == 2
+is_missing Unnumbered = false
+is_missing NotUtf8 = false
+
+-- of a FILE word `-` that names no file it is said what would be read without it
+abbrev pub reason_text : (is_word : Bool) → List ℕ → Reason → List ℕ
+reason_text is_word name reason =
+    if is_word && (bytes_eq name (codes "-") && is_missing reason)
+    then codes "No such file or directory (standard input is read where no FILE is given)"
+    else reason_words reason
+
+abbrev pub reason_line : (is_word : Bool) → List ℕ → Option Reason → List ℕ
+reason_line is_word name None = []
+reason_line is_word name (Some reason) = note_line name (reason_text is_word name reason)
 
 -- how a source that is too large is judged all the same
 abbrev pub size_line : List ℕ → (too_large : Bool) → List ℕ
 size_line name true = note_line name (codes "over 1073741824 bytes: --long judges sources of any size")
 size_line name false = []
 
+-- what is wrong with a faulty line, in words
+abbrev pub words_of : Fault → List ℕ
+words_of (Malformed fault) = line_words fault
+words_of (IllFormed fault) = shape_words fault
+
+-- a line on a line of a source
+abbrev pub line_note : List ℕ → (line : ℕ) → List ℕ → List ℕ
+line_note name line words = codes "aerodrome: " ++ name ++ codes ":" ++ decimal line ++ codes ": " ++ words ++ 10 ∷ []
+
+-- what is wrong with the source's faulty line
+abbrev pub fault_line : List ℕ → Option FaultyLine → List ℕ
+fault_line name None = []
+fault_line name (Some faulty) = line_note name faulty.line (words_of faulty.fault)
+
 -- the lines on a source
 abbrev pub note : Noted → List ℕ
-note noted = mark_line noted.name (bytes_eq noted.start byte_order_mark) ++ (reason_line noted.name noted.reason ++ size_line noted.name noted.too_large)
+note noted =
+    mark_line noted.name (bytes_eq noted.start byte_order_mark)
+    ++ (reason_line noted.is_word noted.name noted.reason ++ (size_line noted.name noted.too_large ++ fault_line noted.name noted.fault))
 
 -- the lines on all sources, in order
 abbrev pub notes : List Noted → List ℕ

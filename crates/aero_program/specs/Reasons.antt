@@ -1,7 +1,7 @@
--- Why a source couldn't be opened or read, in the system's words.
+-- Why a source couldn't be opened or read, in the system's words where it was asked.
 use Rattle.std.specs.Prelude.{ℕ, ℤ, pos, negsuc, ◌==◌, if◌then◌else◌, List, [], ◌∷◌, Option, Some, None, Result, Ok, Err, codes}
 use Rattle.aero_program.specs.declared.reason.Reason.{Reason}
-use Rattle.aero_program.specs.declared.reason.Reason.TheVariants.{System, Unnumbered}
+use Rattle.aero_program.specs.declared.reason.Reason.TheVariants.{System, Unnumbered, NotUtf8}
 
 -- the reason of an error with this number of the system
 abbrev pub reason_in : Option ℤ → Reason
@@ -41,6 +41,7 @@ system_words number = words_in system_table number
 abbrev pub reason_words : Reason → List ℕ
 reason_words (System number) = system_words number
 reason_words Unnumbered = codes "Unknown error"
+reason_words NotUtf8 = codes "the name isn't UTF-8"
 
 -- the reason of the first failure, after one more read with this result; `number` is the system's number of an error
 abbrev pub reason_after : {E : Type 0} → (E → Option ℤ) → Option Reason → Result ℕ E → Option Reason

@@ -1,23 +1,27 @@
 -- The exit status of a run: the greatest number that applies.
-use Rattle.std.specs.Prelude.{ℕ, nat_lt, if◌then◌else◌, Bool, true, false, Option, Some, None, Result, Ok, Err}
+use Rattle.std.specs.Prelude.{ℕ, nat_lt, ◌&&◌, ◌||◌, if◌then◌else◌, Bool, true, false, Option, Some, None, Result, Ok, Err}
 use Rattle.aero_batch.specs.declared.outcome.Cause.{Cause}
 use Rattle.aero_batch.specs.declared.outcome.Cause.TheVariants as cause
 use Rattle.aero_model.specs.declared.verdict.Counts.{Counts}
 use Rattle.aero_program.specs.declared.failure.Failure.{Failure}
 use Rattle.aero_program.specs.declared.failure.Failure.TheVariants.{Memory, Write}
 
+-- whether a trace is one that status 1 tells: it has a violation, or, where that is asked for, open blocks
+abbrev pub has_failing : (fail_open : Bool) → Counts → Bool
+has_failing fail_open counts = nat_lt 0 counts.violations || (fail_open && nat_lt 0 counts.pending)
+
 -- of a run that wrote its summary
-abbrev pub counts_status : Counts → ℕ
-counts_status counts = if nat_lt 0 counts.faults then 2 else if nat_lt 0 counts.violations then 1 else 0
+abbrev pub counts_status : (fail_open : Bool) → Counts → ℕ
+counts_status fail_open counts = if nat_lt 0 counts.faults then 2 else if has_failing fail_open counts then 1 else 0
 
 -- of a run that may have stopped before
-abbrev pub status_of : Option Cause → Counts → ℕ
-status_of (Some why) counts = 4
-status_of None counts = counts_status counts
+abbrev pub status_of : (fail_open : Bool) → Option Cause → Counts → ℕ
+status_of fail_open (Some why) counts = 4
+status_of fail_open None counts = counts_status fail_open counts
 
 -- the status after a run and a flush, of which this is said whether it failed, or why the program fails
-abbrev pub end_of_run : Option Cause → Counts → Bool → Result ℕ Failure
-end_of_run (Some cause.Memory) counts has_failed = Err Memory
-end_of_run (Some cause.Write) counts has_failed = Err Write
-end_of_run None counts true = Err Write
-end_of_run None counts false = Ok (counts_status counts)
+abbrev pub end_of_run : (fail_open : Bool) → Option Cause → Counts → Bool → Result ℕ Failure
+end_of_run fail_open (Some cause.Memory) counts has_failed = Err Memory
+end_of_run fail_open (Some cause.Write) counts has_failed = Err Write
+end_of_run fail_open None counts true = Err Write
+end_of_run fail_open None counts false = Ok (counts_status fail_open counts)

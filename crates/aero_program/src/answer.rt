@@ -1,8 +1,10 @@
 //! What the program does with what its words ask for.
-ghost use Rattle.std.specs.Prelude.{◌≡◌, List, [], if◌then◌else◌, map, string_bytes, IfOk, OnOk, OnErr};
+ghost use Rattle.std.specs.Prelude.{◌≡◌, ◌⊎◌, List, [], if◌then◌else◌, IfOk, OnOk, OnErr};
 ghost use Rattle.aero_model.specs.CallCounts.{seen_by};
 ghost use Rattle.aero_batch.specs.Founds.{Took};
-ghost use Rattle.aero_program.specs.Answers.{AnswersTo, Ends, Fails, Helps, Judges, Stops};
+ghost use Rattle.aero_program.specs.Answers.{AnswersTo, Ends, Fails, Helps, Judges, Stops, TellsUnlisted};
+ghost use Rattle.aero_program.specs.declared.failure.Failure.TheVariants.{Memory};
+ghost use Rattle.aero_program.specs.declared.listing.Unlisted.TheVariants.{Unread};
 ghost use Rattle.aero_program.specs.Notes.{Noted, notes as notes_on};
 ghost use Rattle.aero_program.specs.Retries.{tried_by};
 ghost use Rattle.aero_program.specs.Streams.{WasCut, shown_by};
@@ -11,8 +13,10 @@ use crate::command::{Config, Refused, Stop};
 use crate::failure::Failure;
 use crate::files::Opener;
 use crate::input::Input;
-use crate::notes::notes_of;
+use crate::listing::Unlisted;
+use crate::notes::{notes_of, reason_note};
 use crate::output::Output;
+use crate::reason::Reason;
 use crate::retrying::Retrying;
 use crate::sources::sources_of;
 use crate::status::status_after;
@@ -32,7 +36,8 @@ use std::thread::Threads;
 /// Where they ask for traces to be judged, it judges the files, or standard input where there are
 /// none, in which blocks with the labels that they give are no transactions, writes the report, with
 /// the serial orders and the events of cycles where they ask for those, to standard output and
-/// flushes it, and then writes the notes on the sources to standard error. Help goes to standard
+/// flushes it, and then writes the notes on the sources to standard error. Where the files stand in a
+/// list that can't be had, it says why, and judges nothing. Help goes to standard
 /// output, which is flushed; why there is nothing to judge, and why the program fails, goes to
 /// standard error. Where standard error takes nothing, the status still tells. A read, a write or a
 /// flush that is interrupted is tried again.
@@ -76,24 +81,51 @@ fn judge<
     output: &mut Output<O>,
     errors: &mut Counting<E>,
 ) -> u8
-    ensures { Judges config.except.items config.order config.explain config.long config.form (map string_bytes config.files.items) (S.remaining stdin) (shown_by O.contents output.old) (shown_by O.contents output.new)
+    ensures { Judges config (S.remaining stdin) (shown_by O.contents output.old) (shown_by O.contents output.new)
         (seen_by E.contents errors.old) (seen_by E.contents errors.new) result }
 {
     let Ok(gate) = Arc::new(alloc, NoGate) else {
         return fail(Failure::Memory, errors);
     };
     let long = config.long;
-    let Ok((plan, words)) = config.into_plan(alloc) else {
+    let fail_open = config.fail_open;
+    let Ok((plan, asked)) = config.into_plan(alloc) else {
         return fail(Failure::Memory, errors);
     };
-    let Ok(mut sources) = sources_of(alloc, files, stdin, &words) else {
-        return fail(Failure::Memory, errors);
+    let mut sources = match sources_of(alloc, files, stdin, &asked) {
+        Ok(sources) => sources,
+        Err(why) => return tell_unlisted(alloc, asked.list_path(), why, errors),
     };
     let outcome = run(rt, alloc, &mut sources, &mut output.writer, &plan, gate);
     let flushed = output.flush();
-    let end = status_after(&outcome, &flushed);
-    let notes = notes_of(alloc, sources, noted(&outcome.endings, long));
+    let end = status_after(&outcome, &flushed, fail_open);
+    let endings = noted(&outcome.endings, long);
+    let notes = notes_of(alloc, sources, endings, &outcome.faults, asked.are_words());
     finish(end, notes, errors)
+}
+
+// Tells why there are no sources, where the list with their names, at this path, can't be had.
+fn tell_unlisted<E: Write>(alloc: Global, path: &str, why: Unlisted, errors: &mut Counting<E>) -> u8
+    ensures { TellsUnlisted path.now why (seen_by E.contents errors.old) (seen_by E.contents errors.new) result
+        ⊎ Fails Memory (seen_by E.contents errors.old) (seen_by E.contents errors.new) result }
+{
+    match why {
+        Unlisted::Unread(reason) => tell_unread(alloc, path, reason, errors),
+        Unlisted::TooMany => fail(Failure::TooManyFiles, errors),
+        Unlisted::Memory => fail(Failure::Memory, errors),
+    }
+}
+
+// Tells why the list at this path couldn't be opened or read.
+fn tell_unread<E: Write>(alloc: Global, path: &str, reason: Reason, errors: &mut Counting<E>) -> u8
+    ensures { TellsUnlisted path.now (Unread reason) (seen_by E.contents errors.old) (seen_by E.contents errors.new) result
+        ⊎ Fails Memory (seen_by E.contents errors.old) (seen_by E.contents errors.new) result }
+{
+    let Ok(line) = reason_note(alloc, path.as_bytes(), reason) else {
+        return fail(Failure::Memory, errors);
+    };
+    let _ = tell(errors, &line);
+    3
 }
 
 // The endings by which it is noted which sources are too large: of long ones none are.

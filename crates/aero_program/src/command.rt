@@ -1,6 +1,6 @@
 //! What a command line asks for, or why nothing is judged.
-ghost use Rattle.std.specs.Prelude.{◌≡◌, ◌<◌, ◌≤◌, ◌^◌, ◌&&◌, false, IfOk, vec_len};
-ghost use Rattle.aero_program.specs.Command.{AreLimitsFor, shown_after};
+ghost use Rattle.std.specs.Prelude.{◌≡◌, ◌<◌, ◌≤◌, ◌^◌, ◌&&◌, false, IfOk, length, map, string_bytes, vec_len};
+ghost use Rattle.aero_program.specs.Command.{AreLimitsFor, are_counted, are_words, count_named, files_named, list_path, shown_after};
 
 use crate::arguments::Unread;
 use aero_batch::plan::Plan;
@@ -13,23 +13,28 @@ use std::alloc::{AllocError, Global};
 /// How many milliseconds lie between one line on progress and the next.
 pub const TICK: u64 = 200;
 
+/// How many files one run judges at most.
+pub const MOST_FILES: usize = 65_536;
+
 // From how many milliseconds on a run is one to wait for.
 const LONG_RUN: u64 = 2_000;
 
-/// What a command line asks for: 1 to 16 workers, reads of 1 to 1,048,576 bytes, at most 65,536
-/// files, and at most 64 labels of blocks that are no transactions, both in the order of the words,
-/// whether the serial order is asked for, whether violations are to be explained, whether long sources
-/// are to be judged, the form of the report, and when the line on progress is shown. No files at all means standard input. The
-/// serial orders of long sources aren't to be had: each source is kept for its order.
+/// What a command line asks for: 1 to 16 workers, reads of 1 to 1,048,576 bytes, the sources, of which
+/// it names 65,536 files at most, and at most 64 labels of blocks that are no transactions, both in the
+/// order of the words, whether the serial order is asked for, whether violations are to be explained,
+/// whether long sources are to be judged, the form of the report, and when the line on progress is shown.
+/// The serial orders of long sources aren't to be had: each source is kept for its order.
 #[derive(Drop)]
 pub struct Config {
     pub workers: u32,
     pub piece: u32,
-    pub files: Vec<String>,
+    pub files: Sources,
     pub except: Vec<Name>,
     pub order: bool,
     pub explain: bool,
     pub long: bool,
+    /// Whether open blocks make the exit status 1, as a violation does.
+    pub fail_open: bool,
     pub form: Form,
     /// No report, note or status depends on it.
     pub progress: Progress,
@@ -37,9 +42,57 @@ pub struct Config {
     ghost most_workers: { workers ≤ 16 },
     ghost some_piece: { 0 < piece },
     ghost most_piece: { piece ≤ 2 ^ 20 },
-    ghost most_files: { vec_len files ≤ 2 ^ 16 },
+    ghost most_files: { count_named files ≤ 2 ^ 16 },
     ghost most_labels: { vec_len except ≤ 64 },
     ghost no_long_order: { (long && order) ≡ false },
+}
+
+/// What is to be judged.
+#[derive(Drop)]
+pub enum Sources {
+    /// Standard input, which has this name, or `-`.
+    Standard(Option<String>),
+    /// These files, in this order.
+    Files(Vec<String>),
+    /// The files whose names stand in this one, or in standard input where it is `-`.
+    Listed(String),
+}
+
+impl Sources {
+    /// The files that words name.
+    pub fn named(&self) -> &[String]
+        ensures names { map string_bytes result.now ≡ files_named self.now }
+        ensures count { length result.now ≡ count_named self.now }
+    {
+        match self {
+            Sources::Files(words) => words,
+            Sources::Standard(_) | Sources::Listed(_) => &[],
+        }
+    }
+
+    /// Whether it is known how many there are before any is read.
+    pub fn are_counted(&self) -> bool
+        ensures { result ≡ are_counted self.now }
+    {
+        !matches!(self, Sources::Listed(_))
+    }
+
+    /// Whether they are files that words name.
+    pub fn are_words(&self) -> bool
+        ensures { result ≡ are_words self.now }
+    {
+        matches!(self, Sources::Files(_))
+    }
+
+    /// The path of the list with the names of the files, where there is one, and else nothing.
+    pub fn list_path(&self) -> &str
+        ensures { result.now ≡ list_path self.now }
+    {
+        match self {
+            Sources::Listed(path) => path.as_str(),
+            Sources::Standard(_) | Sources::Files(_) => "",
+        }
+    }
 }
 
 /// When the line on progress is shown on standard error.
@@ -69,8 +122,8 @@ impl Progress {
 
 impl Config {
     /// The plan of a run that does what is asked for, under the greatest limits, or those of long
-    /// sources where these are asked for, and the files that it is to judge.
-    pub fn into_plan(self, alloc: Global) -> Result<(Plan, Vec<String>), AllocError>
+    /// sources where these are asked for, and what it is to judge.
+    pub fn into_plan(self, alloc: Global) -> Result<(Plan, Sources), AllocError>
         ensures workers { IfOk result (λ made. made.0.workers ≡ self.workers) }
         ensures piece { IfOk result (λ made. made.0.piece ≡ self.piece) }
         ensures limits { IfOk result (λ made. AreLimitsFor self.long made.0.limits) }

@@ -48,6 +48,11 @@ impl<F: Files> FilesOf<F> {
     pub fn new(files: F) -> FilesOf<F> {
         FilesOf { files }
     }
+
+    // What reaches them.
+    pub(crate) fn files(&self) -> &F {
+        &self.files
+    }
 }
 
 impl<F: Files> Opener for FilesOf<F> {

@@ -37,8 +37,9 @@ enum Stage<S, O: Opener> {
 }
 
 impl<S: Read + Drop, O: Opener + Drop> Input<S, O> {
-    ghost use Rattle.std.specs.Prelude.{◌≡◌, [], None, IfOk, bytes_eq};
-    ghost use Rattle.aero_program.specs.Inputs.{standing_of, start_of, reason_of, unread, Standard, Unopened};
+    ghost use Rattle.std.specs.Prelude.{◌≡◌, [], Some, None, IfOk, bytes_eq};
+    ghost use Rattle.aero_program.specs.Inputs.{standing_of, start_of, reason_of, unread, Standard, Unopened, Failed};
+    ghost use Rattle.aero_program.specs.declared.reason.Reason.TheVariants.{NotUtf8};
     ghost use Rattle.aero_program.specs.Starts.{byte_order_mark};
 
     /// Standard input.
@@ -58,6 +59,19 @@ impl<S: Read + Drop, O: Opener + Drop> Input<S, O> {
     {
         let path = String::from_str(alloc, path)?;
         Ok(Input::at(Stage::Unopened(files, path)))
+    }
+
+    /// A file whose name isn't UTF-8, and which can't be opened for that.
+    pub fn unnamed() -> Input<S, O>
+        ensures standing { standing_of S.remaining result ≡ Failed }
+        ensures start { start_of result ≡ [] }
+        ensures reason { reason_of result ≡ Some NotUtf8 }
+    {
+        Input {
+            stage: Stage::Failed(ErrorKind::InvalidFilename),
+            start: Start::Nothing,
+            reason: Some(Reason::NotUtf8),
+        }
     }
 
     fn at(stage: Stage<S, O>) -> Input<S, O>

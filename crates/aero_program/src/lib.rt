@@ -3,8 +3,8 @@
 //!
 //! `words_of` gives the words. `answer` does what they ask for and gives the exit status: it runs over
 //! the sources of `sources_of`, of which each is an `Input`, standard input or a file that is opened
-//! at its first read by an `Opener`, and then tells on standard error what `notes_of` says of them. A `Failure` has
-//! the line and the status where there is no whole report.
+//! at its first read by an `Opener`, and then tells on standard error what `notes_of` says of them. The files may be
+//! named in a list (`read_list`). A `Failure` has the line and the status where there is no whole report.
 //!
 //! ```text
 //! let mut output = Output::new(rt.stdout());
@@ -21,19 +21,21 @@
 //! - A plan is what the command line asks for, with its labels. Its limits are the greatest, or those of long sources
 //!   where `Config.long` is set: `Config::into_plan`, `limits`, and a clause for each other field.
 //! - A `Config` lies within its ranges, and never has both `long` and `order`: `no_long_order`.
-//! - There is a source for each word, named as it, whose reader stands unopened for that word's file. Without words it
-//!   is standard input: `sources_of`, `names`, `readers`, `sighted`.
+//! - There is a source for each word, named as it, whose reader stands unopened for that word's file, or for each name
+//!   in a list, or standard input under its name: `sources_of`, `names`, `readers`, `reasons`, `sighted`.
+//! - A list of names is read to its end, or it is said why not, and is cut at each byte 0: `read_list`, `first_name`.
 //! - A read of standard input fails exactly where the stream does, interruptions apart, or where it is given up. It
 //!   finds the end exactly where the stream does: `Input::standard`, `read`, `steps`.
 //! - A file is opened at its first read, by any `Opener`. It has bytes or an end only where an open can have worked, and
 //!   after a failed open each read fails: `Input::path`, `read`, `steps`.
 //! - An input notes its first three bytes and its first failure: `Input::read`, `start`, `reason`.
+//! - The whole size of files is the sum of theirs, where each is known: `whole_size`.
 //! - A call through `Retrying` is done exactly where one call of the stream was done, and once. It fails exactly where
 //!   one failed otherwise than by an interruption, or after 2^64 - 1 interruptions: `Retrying`: `read`, `write`,
 //!   `flush`.
 //! - It never fails with an interruption, and finds the end exactly where the stream does. What is read or written is
 //!   the stream's, where its type tells its bytes: `lasting`, `idle`, `bytes`.
-//! - The notes on byte order marks, failed reads and sizes: `notes_of`. The system's words: `Reason::of`, `words`.
+//! - The notes on byte order marks, failed reads, sizes and faulty lines: `notes_of`. The system's words: `Reason::of`, `words`.
 //! - After how many milliseconds the line on progress is shown first, if ever: `Progress::first_after`.
 //!
 //! No contract says how often a stream is flushed: tests show that standard output is, once and behind all that it has.
@@ -47,10 +49,12 @@ pub mod command;
 pub mod failure;
 pub mod files;
 pub mod input;
+pub mod listing;
 pub mod notes;
 pub mod output;
 pub mod reason;
 pub mod retrying;
+pub mod sizes;
 pub mod sources;
 pub mod start;
 pub mod status;

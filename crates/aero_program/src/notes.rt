@@ -1,19 +1,25 @@
 //! What the program has to tell of its sources beside the report, on standard error.
-ghost use Rattle.std.specs.Prelude.{◌≡◌, ◌++◌, IfOk, OnOk};
+ghost use Rattle.std.specs.Prelude.{◌≡◌, ◌++◌, IfOk, OnOk, bytes_eq, codes};
 ghost use Rattle.std.specs.Option.{option_copied};
-ghost use Rattle.aero_program.specs.Notes.{note, note_line, noted_of, noted_of_all, notes, mark_line, reason_line, size_line, was_too_large};
+ghost use Rattle.aero_program.specs.Notes.{fault_line, fault_told, is_missing, line_note, note, note_line, noted_of, noted_of_all, notes, mark_line, reason_line, reason_text, size_line, was_too_large, words_of};
+ghost use Rattle.aero_program.specs.Reasons.{reason_words};
 
 use crate::files::Opener;
 use crate::input::Input;
 use crate::reason::Reason;
+use aero_batch::outcome::{Fault, FaultyLine};
 use aero_batch::source::Source;
+use aero_faults::words::{line_words, shape_words};
 use aero_model::verdict::Ending;
+use itoa::Buffer;
 use std::alloc::{AllocError, Global};
 use std::io::Read;
 
 /// The lines on the sources, in order: of each that it starts with a byte order mark, if it does,
-/// then why its first read that failed did, if one did, and then how it is judged all the same, if it
-/// was too large. The endings are those of the first sources, each with how many bytes came.
+/// then why its first read that failed did, if one did, then how it is judged all the same, if it
+/// was too large, and then what is wrong with its faulty line, if it has one. The endings are those of
+/// the first sources, each with how many bytes came, and the faults are theirs. Where the names are FILE
+/// words, one `-` that names no file is told what would be read without it.
 ///
 /// # Errors
 ///
@@ -22,13 +28,22 @@ pub fn notes_of<S: Read + Drop, F: Opener + Drop>(
     alloc: Global,
     sources: Vec<Source<Input<S, F>>>,
     endings: &[(u64, Ending)],
+    faults: &[Option<FaultyLine>],
+    are_words: bool,
 ) -> Result<Vec<u8>, AllocError>
-    ensures { IfOk result (λ text. text.items ≡ notes (noted_of_all sources.items endings.now)) }
+    ensures { IfOk result (λ text. text.items ≡ notes (noted_of_all are_words sources.items endings.now faults.now)) }
 {
     let mut text = Vec::new(alloc);
     let mut place = 0usize;
     for source in sources {
-        append_notes(&mut text, source, is_too_large(endings.get(place)))?;
+        let fault = fault_of(faults.get(place));
+        append_notes(
+            &mut text,
+            source,
+            is_too_large(endings.get(place)),
+            fault,
+            are_words,
+        )?;
         place += 1;
     }
     Ok(text)
@@ -41,18 +56,31 @@ fn is_too_large(ending: Option<&(u64, Ending)>) -> bool
     matches!(ending, Some((_, Ending::TooLarge)))
 }
 
+// The faulty line of a source. One that the run didn't come to has none.
+fn fault_of(fault: Option<&Option<FaultyLine>>) -> Option<FaultyLine>
+    ensures { result ≡ fault_told (option_copied fault.entry) }
+{
+    match fault {
+        Some(fault) => *fault,
+        None => None,
+    }
+}
+
 fn append_notes<S: Read + Drop, F: Opener + Drop>(
     text: &mut Vec<u8>,
     source: Source<Input<S, F>>,
     too_large: bool,
+    fault: Option<FaultyLine>,
+    is_word: bool,
 ) -> Result<(), AllocError>
-    ensures { OnOk result (text.new.items ≡ text.old.items ++ note (noted_of source too_large)) }
+    ensures { OnOk result (text.new.items ≡ text.old.items ++ note (noted_of is_word source too_large fault)) }
 {
     let Source { name, reader, .. } = source;
     let input = reader.into_inner();
     append_mark(text, &name, input.has_mark())?;
-    append_reason(text, &name, input.reason())?;
-    append_size(text, &name, too_large)
+    append_reason(text, &name, input.reason(), is_word)?;
+    append_size(text, &name, too_large)?;
+    append_fault(text, &name, fault)
 }
 
 fn append_mark(text: &mut Vec<u8>, name: &[u8], has_mark: bool) -> Result<(), AllocError>
@@ -68,13 +96,43 @@ fn append_mark(text: &mut Vec<u8>, name: &[u8], has_mark: bool) -> Result<(), Al
     )
 }
 
-fn append_reason(text: &mut Vec<u8>, name: &[u8], reason: Option<Reason>) -> Result<(), AllocError>
-    ensures { OnOk result (text.new.items ≡ text.old.items ++ reason_line name.now reason) }
+fn append_reason(
+    text: &mut Vec<u8>,
+    name: &[u8],
+    reason: Option<Reason>,
+    is_word: bool,
+) -> Result<(), AllocError>
+    ensures { OnOk result (text.new.items ≡ text.old.items ++ reason_line is_word name.now reason) }
 {
     match reason {
         None => Ok(()),
-        Some(reason) => append_line(text, name, reason.words()),
+        Some(reason) => append_line(text, name, reason_text(name, reason, is_word)),
     }
+}
+
+// Why a source of this name couldn't be read, and of a word `-` that names no file, what is read without one.
+fn reason_text(name: &[u8], reason: Reason, is_word: bool) -> &'static str
+    ensures { result.now ≡ reason_text is_word name.now reason }
+{
+    if is_word && is_dash(name) && is_missing(reason) {
+        return "No such file or directory (standard input is read where no FILE is given)";
+    }
+    reason.words()
+}
+
+fn is_dash(name: &[u8]) -> bool
+    ensures { result ≡ bytes_eq name.now (codes "-") }
+{
+    match name {
+        b"-" => true,
+        _ => false,
+    }
+}
+
+fn is_missing(reason: Reason) -> bool
+    ensures { result ≡ is_missing reason }
+{
+    reason == Reason::System(2)
 }
 
 fn append_size(text: &mut Vec<u8>, name: &[u8], too_large: bool) -> Result<(), AllocError>
@@ -88,6 +146,57 @@ fn append_size(text: &mut Vec<u8>, name: &[u8], too_large: bool) -> Result<(), A
         name,
         "over 1073741824 bytes: --long judges sources of any size",
     )
+}
+
+/// The line that says why what has this name couldn't be opened or read.
+///
+/// # Errors
+///
+/// `AllocError` where memory is refused.
+pub fn reason_note(alloc: Global, name: &[u8], reason: Reason) -> Result<Vec<u8>, AllocError>
+    ensures { IfOk result (λ text. text.items ≡ note_line name.now (reason_words reason)) }
+{
+    let mut text = Vec::new(alloc);
+    append_line(&mut text, name, reason.words())?;
+    Ok(text)
+}
+
+fn append_fault(
+    text: &mut Vec<u8>,
+    name: &[u8],
+    fault: Option<FaultyLine>,
+) -> Result<(), AllocError>
+    ensures { OnOk result (text.new.items ≡ text.old.items ++ fault_line name.now fault) }
+{
+    match fault {
+        None => Ok(()),
+        Some(FaultyLine { line, fault }) => append_line_at(text, name, line, fault_words(fault)),
+    }
+}
+
+// The fault in words.
+fn fault_words(fault: Fault) -> &'static str
+    ensures { result.now ≡ words_of fault }
+{
+    match fault {
+        Fault::Malformed(fault) => line_words(fault),
+        Fault::IllFormed(fault) => shape_words(fault),
+    }
+}
+
+// A line on a line of the source of this name.
+fn append_line_at(text: &mut Vec<u8>, name: &[u8], line: u32, words: &str) -> Result<(), AllocError>
+    ensures { OnOk result (text.new.items ≡ text.old.items ++ line_note name.now line words.now) }
+{
+    let mut buffer = Buffer::new();
+    text.extend_from_slice(b"aerodrome: ")?;
+    text.extend_from_slice(name)?;
+    text.extend_from_slice(b":")?;
+    text.extend_from_slice(buffer.format(line).as_bytes())?;
+    text.extend_from_slice(b": ")?;
+    text.extend_from_slice(words.as_bytes())?;
+    text.extend_from_slice(b"\n")?;
+    Ok(())
 }
 
 // A line on the source of this name.

@@ -1,4 +1,4 @@
-//! Why a source couldn't be opened or read, in the system's words.
+//! Why a source couldn't be opened or read, in the system's words where it was asked.
 ghost use Rattle.std.specs.Prelude.{◌≡◌};
 ghost use Rattle.std.specs.IoError.{raw_os_error};
 ghost use Rattle.aero_program.specs.Reasons.{reason_in, reason_words, system_words};
@@ -12,6 +12,8 @@ pub enum Reason {
     System(u32),
     /// The system gave no number.
     Unnumbered,
+    /// The system wasn't asked: the name isn't UTF-8, and only such names can be opened.
+    NotUtf8,
 }
 
 impl Reason {
@@ -25,13 +27,14 @@ impl Reason {
         }
     }
 
-    /// What `strerror` says of it, or `Unknown error`.
+    /// What `strerror` says of it, or `Unknown error`, or that the name isn't UTF-8.
     pub fn words(self) -> &'static str
         ensures { result.now ≡ reason_words self }
     {
         match self {
             Reason::System(number) => words_of_number(number),
             Reason::Unnumbered => "Unknown error",
+            Reason::NotUtf8 => "the name isn't UTF-8",
         }
     }
 }

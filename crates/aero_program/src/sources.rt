@@ -1,57 +1,100 @@
-//! The sources that the words name.
-ghost use Rattle.std.specs.Prelude.{◌≡◌, ◌≤◌, ◌^◌, ◌∷◌, [], IfOk, OnOk, codes, length, map, string_bytes, vec_len};
+//! The sources that are asked for.
+ghost use Rattle.std.specs.Prelude.{◌≡◌, ◌≤◌, ◌^◌, ◌∷◌, ℕ, List, [], Some, None, if◌then◌else◌, IfErr, IfOk, OnOk, map, option_map, codes, string_bytes, unwrap_or, vec_len};
+ghost use Rattle.std.specs.Str.{is_utf8};
 ghost use Rattle.aero_model.specs.CallCounts.{inner_of};
 ghost use Rattle.aero_batch.specs.Founds.{sighted};
-ghost use Rattle.aero_program.specs.Inputs.{bytes_left, source_names, source_standings, standing_of, unread, Standard, Unopened};
-ghost use Rattle.aero_program.specs.Sightings.{file_sighting, source_sightings, standard_sighting};
+ghost use Rattle.aero_program.specs.Command.{count_named};
+ghost use Rattle.aero_program.specs.Inputs.{bytes_left, reason_of, standing_of, unread, Standard, Unopened, Failed};
+ghost use Rattle.aero_program.specs.Listing.{IsListFault, IsWhole, list_given, names_in};
+ghost use Rattle.aero_program.specs.declared.reason.Reason.TheVariants.{NotUtf8};
+ghost use Rattle.aero_program.specs.Sightings.{AreNames, AreUnlisted, listed_reason, listed_standing, sighting, source_reasons, source_sightings, source_standings};
 
+use crate::command::{MOST_FILES, Sources};
 use crate::files::Opener;
 use crate::input::Input;
+use crate::listing::{Unlisted, first_name, read_list};
 use aero_batch::source::Source;
 use aero_model::counting::Counting;
 use std::alloc::{AllocError, Global};
 use std::io::Read;
+use std::str;
 
-/// Standard input, named `-`, where there are no words, and else the file of each word, named as
-/// its word. No file is opened yet, and what is no plain file, a pipe say, is taken for one that may wait.
+/// Standard input, under its name or `-`, or the file of each word, named as it, or of each name in a
+/// list, which is read for that. No other file is opened yet, and what is no plain file, a pipe say, is
+/// taken for one that may wait. A file can't be opened of which a list has a name that isn't UTF-8.
+///
+/// # Errors
+///
+/// `Unread` and `TooMany` where it is so with the list; `Memory` where memory is refused.
 pub fn sources_of<'a, S: Read + Drop, F: Opener + Drop>(
     alloc: Global,
     files: &'a F,
     stdin: S,
-    words: &[String],
-) -> Result<Vec<Source<Input<S, &'a F>>>, AllocError>
-    ensures few { length words.now ≤ 2 ^ 16 → IfOk result (λ sources. vec_len sources ≤ 2 ^ 16) }
-    ensures names { IfOk result (λ sources. map (λ s. s.name.items) sources.items ≡ source_names (map string_bytes words.now)) }
-    ensures readers { IfOk result (λ sources. map (λ s. standing_of S.remaining (inner_of s.reader)) sources.items ≡ source_standings (map string_bytes words.now) (S.remaining stdin)) }
-    ensures sighted { IfOk result (λ sources. map (sighted (λ input. bytes_left (standing_of S.remaining input))) sources.items ≡ source_sightings (map string_bytes words.now) (S.remaining stdin)) }
+    asked: &Sources,
+) -> Result<Vec<Source<Input<S, &'a F>>>, Unlisted>
+    ensures few { count_named asked.now ≤ 2 ^ 16 → IfOk result (λ sources. vec_len sources ≤ 2 ^ 16) }
+    ensures names { IfOk result (λ sources. AreNames asked.now (S.remaining stdin) (map (λ s. s.name.items) sources.items)) }
+    ensures readers { IfOk result (λ sources. map (λ s. standing_of S.remaining (inner_of s.reader)) sources.items ≡ source_standings asked.now (S.remaining stdin) (map (λ s. s.name.items) sources.items)) }
+    ensures reasons { IfOk result (λ sources. map (λ s. reason_of (inner_of s.reader)) sources.items ≡ source_reasons asked.now (map (λ s. s.name.items) sources.items)) }
+    ensures sighted { IfOk result (λ sources. map (sighted (λ input. bytes_left (standing_of S.remaining input))) sources.items ≡ source_sightings asked.now (S.remaining stdin) (map (λ s. s.name.items) sources.items)) }
+    ensures unlisted { IfErr result (AreUnlisted asked.now (S.remaining stdin)) }
 {
-    if !words.is_empty() {
-        return files_of(alloc, files, words);
+    match asked {
+        Sources::Standard(name) => Ok(standard_alone(alloc, stdin, name)?),
+        Sources::Files(words) => Ok(files_of(alloc, files, words)?),
+        Sources::Listed(path) => listed_at(alloc, files, stdin, path.as_str()),
     }
-    let source = standard_of(alloc, stdin)?;
+}
+
+// Standard input alone.
+fn standard_alone<'a, S: Read + Drop, F: Opener + Drop>(
+    alloc: Global,
+    stdin: S,
+    name: &Option<String>,
+) -> Result<Vec<Source<Input<S, &'a F>>>, AllocError>
+    ensures names { IfOk result (λ sources. map (λ s. s.name.items) sources.items ≡ unwrap_or (option_map string_bytes name.now) (codes "-") ∷ []) }
+    ensures readers { IfOk result (λ sources. map (λ s. standing_of S.remaining (inner_of s.reader)) sources.items ≡ Standard (unread (S.remaining stdin)) ∷ []) }
+    ensures reasons { IfOk result (λ sources. map (λ s. reason_of (inner_of s.reader)) sources.items ≡ None ∷ []) }
+    ensures sighted { IfOk result (λ sources. map (sighted (λ input. bytes_left (standing_of S.remaining input))) sources.items ≡ map (sighting (S.remaining stdin)) (unwrap_or (option_map string_bytes name.now) (codes "-") ∷ [])) }
+    ensures one { IfOk result (λ sources. vec_len sources ≡ 1) }
+{
+    let source = standard_of(alloc, stdin, name_or_dash(name))?;
     alone(alloc, source)
+}
+
+// The name that standard input has in the report.
+fn name_or_dash(name: &Option<String>) -> &[u8]
+    ensures { result.now ≡ unwrap_or (option_map string_bytes name.now) (codes "-") }
+{
+    match name {
+        Some(name) => name.as_bytes(),
+        None => b"-",
+    }
 }
 
 // One item alone.
 fn alone<T: Drop>(alloc: Global, item: T) -> Result<Vec<T>, AllocError>
-    ensures { IfOk result (λ items. items.items ≡ item ∷ []) }
+    ensures item { IfOk result (λ items. items.items ≡ item ∷ []) }
+    ensures one { IfOk result (λ items. vec_len items ≡ 1) }
 {
     let mut items = Vec::new(alloc);
     items.push(item)?;
     Ok(items)
 }
 
-// Standard input, named `-`.
+// Standard input of this name.
 fn standard_of<'a, S: Read + Drop, F: Opener + Drop>(
     alloc: Global,
     stdin: S,
+    name: &[u8],
 ) -> Result<Source<Input<S, &'a F>>, AllocError>
-    ensures name { IfOk result (λ s. s.name.items ≡ codes "-") }
+    ensures name { IfOk result (λ s. s.name.items ≡ name.now) }
     ensures reader { IfOk result (λ s. standing_of S.remaining (inner_of s.reader) ≡ Standard (unread (S.remaining stdin))) }
-    ensures sighted { IfOk result (λ s. sighted (λ input. bytes_left (standing_of S.remaining input)) s ≡ standard_sighting (S.remaining stdin)) }
+    ensures reason { IfOk result (λ s. reason_of (inner_of s.reader) ≡ None) }
+    ensures sighted { IfOk result (λ s. sighted (λ input. bytes_left (standing_of S.remaining input)) s ≡ sighting (S.remaining stdin) name.now) }
 {
     Ok(Source {
-        name: Vec::from_slice(alloc, b"-")?,
+        name: Vec::from_slice(alloc, name)?,
         reader: Counting::new(Input::standard(stdin)),
         may_wait: true,
     })
@@ -65,7 +108,8 @@ fn files_of<'a, S: Read + Drop, F: Opener + Drop>(
 ) -> Result<Vec<Source<Input<S, &'a F>>>, AllocError>
     ensures names { IfOk result (λ sources. map (λ s. s.name.items) sources.items ≡ map string_bytes words.now) }
     ensures readers { IfOk result (λ sources. map (λ s. standing_of S.remaining (inner_of s.reader)) sources.items ≡ map Unopened (map string_bytes words.now)) }
-    ensures sighted { IfOk result (λ sources. map (sighted (λ input. bytes_left (standing_of S.remaining input))) sources.items ≡ map file_sighting (map string_bytes words.now)) }
+    ensures reasons { IfOk result (λ sources. map (λ s. reason_of (inner_of s.reader)) sources.items ≡ map (λ _. None) (map string_bytes words.now)) }
+    ensures sighted { IfOk result (λ sources. map (sighted (λ input. bytes_left (standing_of S.remaining input))) sources.items ≡ map (sighting None) (map string_bytes words.now)) }
 {
     let mut sources = Vec::new(alloc);
     add_files(alloc, files, words, &mut sources)?;
@@ -82,28 +126,152 @@ fn add_files<'a, S: Read + Drop, F: Opener + Drop>(
     requires { sources.old.items ≡ [] }
     ensures names { OnOk result (map (λ s. s.name.items) sources.new.items ≡ map string_bytes words.now) }
     ensures readers { OnOk result (map (λ s. standing_of S.remaining (inner_of s.reader)) sources.new.items ≡ map Unopened (map string_bytes words.now)) }
-    ensures sighted { OnOk result (map (sighted (λ input. bytes_left (standing_of S.remaining input))) sources.new.items ≡ map file_sighting (map string_bytes words.now)) }
+    ensures reasons { OnOk result (map (λ s. reason_of (inner_of s.reader)) sources.new.items ≡ map (λ _. None) (map string_bytes words.now)) }
+    ensures sighted { OnOk result (map (sighted (λ input. bytes_left (standing_of S.remaining input))) sources.new.items ≡ map (sighting None) (map string_bytes words.now)) }
 {
     for word in words {
-        let source = file_of(alloc, files, word)?;
+        let source = file_of(alloc, files, word.as_str())?;
         sources.push(source)?;
     }
     Ok(())
 }
 
-// The file of a word, named as it.
+// The file at a path, named as it.
 fn file_of<'a, S: Read + Drop, F: Opener + Drop>(
     alloc: Global,
     files: &'a F,
-    word: &String,
+    path: &str,
 ) -> Result<Source<Input<S, &'a F>>, AllocError>
-    ensures name { IfOk result (λ s. s.name.items ≡ string_bytes word.now) }
-    ensures reader { IfOk result (λ s. standing_of S.remaining (inner_of s.reader) ≡ Unopened (string_bytes word.now)) }
-    ensures sighted { IfOk result (λ s. sighted (λ input. bytes_left (standing_of S.remaining input)) s ≡ file_sighting (string_bytes word.now)) }
+    ensures name { IfOk result (λ s. s.name.items ≡ path.now) }
+    ensures reader { IfOk result (λ s. standing_of S.remaining (inner_of s.reader) ≡ Unopened path.now) }
+    ensures reason { IfOk result (λ s. reason_of (inner_of s.reader) ≡ None) }
+    ensures sighted { IfOk result (λ s. sighted (λ input. bytes_left (standing_of S.remaining input)) s ≡ sighting None path.now) }
 {
     Ok(Source {
-        name: Vec::from_slice(alloc, word.as_bytes())?,
-        reader: Counting::new(Input::path(alloc, files, word.as_str())?),
-        may_wait: !files.is_plain(word.as_str()),
+        name: Vec::from_slice(alloc, path.as_bytes())?,
+        reader: Counting::new(Input::path(alloc, files, path)?),
+        may_wait: !files.is_plain(path),
+    })
+}
+
+// The file of each name in the list at a path, or in standard input where that is `-`.
+fn listed_at<'a, S: Read + Drop, F: Opener + Drop>(
+    alloc: Global,
+    files: &'a F,
+    stdin: S,
+    path: &str,
+) -> Result<Vec<Source<Input<S, &'a F>>>, Unlisted>
+    ensures few { IfOk result (λ sources. vec_len sources ≤ 2 ^ 16) }
+    ensures names { IfOk result (λ sources. (list : List ℕ) × IsWhole (list_given path.now (S.remaining stdin)) list × (map (λ s. s.name.items) sources.items ≡ names_in list)) }
+    ensures readers { IfOk result (λ sources. map (λ s. standing_of S.remaining (inner_of s.reader)) sources.items ≡ map listed_standing (map (λ s. s.name.items) sources.items)) }
+    ensures reasons { IfOk result (λ sources. map (λ s. reason_of (inner_of s.reader)) sources.items ≡ map listed_reason (map (λ s. s.name.items) sources.items)) }
+    ensures sighted { IfOk result (λ sources. map (sighted (λ input. bytes_left (standing_of S.remaining input))) sources.items ≡ map (sighting None) (map (λ s. s.name.items) sources.items)) }
+    ensures unlisted { IfErr result (IsListFault (list_given path.now (S.remaining stdin))) }
+{
+    let mut input = list_input(alloc, files, stdin, path)?;
+    let list = read_list(alloc, &mut input)?;
+    let sources = listed_in(alloc, files, &list)?;
+    if sources.len() > MOST_FILES {
+        return Err(Unlisted::TooMany);
+    }
+    Ok(sources)
+}
+
+// What the list at a path is read by.
+fn list_input<'a, S: Read + Drop, F: Opener + Drop>(
+    alloc: Global,
+    files: &'a F,
+    stdin: S,
+    path: &str,
+) -> Result<Input<S, &'a F>, AllocError>
+    ensures bytes { IfOk result (λ input. bytes_left (standing_of S.remaining input) ≡ list_given path.now (S.remaining stdin)) }
+    ensures reason { IfOk result (λ input. reason_of input ≡ None) }
+{
+    if path == "-" {
+        return Ok(Input::standard(stdin));
+    }
+    Input::path(alloc, files, path)
+}
+
+// The file of each name in a list.
+fn listed_in<'a, S: Read + Drop, F: Opener + Drop>(
+    alloc: Global,
+    files: &'a F,
+    list: &[u8],
+) -> Result<Vec<Source<Input<S, &'a F>>>, AllocError>
+    ensures names { IfOk result (λ sources. map (λ s. s.name.items) sources.items ≡ names_in list.now) }
+    ensures readers { IfOk result (λ sources. map (λ s. standing_of S.remaining (inner_of s.reader)) sources.items ≡ map listed_standing (map (λ s. s.name.items) sources.items)) }
+    ensures reasons { IfOk result (λ sources. map (λ s. reason_of (inner_of s.reader)) sources.items ≡ map listed_reason (map (λ s. s.name.items) sources.items)) }
+    ensures sighted { IfOk result (λ sources. map (sighted (λ input. bytes_left (standing_of S.remaining input))) sources.items ≡ map (sighting None) (map (λ s. s.name.items) sources.items)) }
+{
+    let mut sources = Vec::new(alloc);
+    add_listed(alloc, files, list, &mut sources)?;
+    Ok(sources)
+}
+
+// Adds the file of each name in a list.
+fn add_listed<'a, S: Read + Drop, F: Opener + Drop>(
+    alloc: Global,
+    files: &'a F,
+    list: &[u8],
+    sources: &mut Vec<Source<Input<S, &'a F>>>,
+) -> Result<(), AllocError>
+    requires { sources.old.items ≡ [] }
+    ensures names { OnOk result (map (λ s. s.name.items) sources.new.items ≡ names_in list.now) }
+    ensures readers { OnOk result (map (λ s. standing_of S.remaining (inner_of s.reader)) sources.new.items ≡ map listed_standing (map (λ s. s.name.items) sources.new.items)) }
+    ensures reasons { OnOk result (map (λ s. reason_of (inner_of s.reader)) sources.new.items ≡ map listed_reason (map (λ s. s.name.items) sources.new.items)) }
+    ensures sighted { OnOk result (map (sighted (λ input. bytes_left (standing_of S.remaining input))) sources.new.items ≡ map (sighting None) (map (λ s. s.name.items) sources.new.items)) }
+{
+    let mut rest = list;
+    while !rest.is_empty() {
+        let (name, behind) = first_name(rest);
+        let source = named_of(alloc, files, name)?;
+        sources.push(source)?;
+        rest = behind;
+    }
+    Ok(())
+}
+
+// The file of a name that stands in a list.
+fn named_of<'a, S: Read + Drop, F: Opener + Drop>(
+    alloc: Global,
+    files: &'a F,
+    name: &[u8],
+) -> Result<Source<Input<S, &'a F>>, AllocError>
+    ensures name { IfOk result (λ s. s.name.items ≡ name.now) }
+    ensures reader { IfOk result (λ s. standing_of S.remaining (inner_of s.reader) ≡ listed_standing name.now) }
+    ensures reason { IfOk result (λ s. reason_of (inner_of s.reader) ≡ listed_reason name.now) }
+    ensures sighted { IfOk result (λ s. sighted (λ input. bytes_left (standing_of S.remaining input)) s ≡ sighting None name.now) }
+{
+    let Some(path) = path_of(name) else {
+        return unnamed_of(alloc, name);
+    };
+    file_of(alloc, files, path)
+}
+
+// The path that a name is, where it is UTF-8.
+fn path_of(name: &[u8]) -> Option<&str>
+    ensures { option_map (λ path. path.now) result ≡ (if is_utf8 name.now then Some name.now else None) }
+{
+    match str::from_utf8(name) {
+        Ok(path) => Some(path),
+        Err(_) => None,
+    }
+}
+
+// A file whose name isn't UTF-8.
+fn unnamed_of<'a, S: Read + Drop, F: Opener + Drop>(
+    alloc: Global,
+    name: &[u8],
+) -> Result<Source<Input<S, &'a F>>, AllocError>
+    ensures name { IfOk result (λ s. s.name.items ≡ name.now) }
+    ensures reader { IfOk result (λ s. standing_of S.remaining (inner_of s.reader) ≡ Failed) }
+    ensures reason { IfOk result (λ s. reason_of (inner_of s.reader) ≡ Some NotUtf8) }
+    ensures sighted { IfOk result (λ s. sighted (λ input. bytes_left (standing_of S.remaining input)) s ≡ sighting None name.now) }
+{
+    Ok(Source {
+        name: Vec::from_slice(alloc, name)?,
+        reader: Counting::new(Input::unnamed()),
+        may_wait: false,
     })
 }

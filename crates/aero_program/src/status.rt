@@ -7,15 +7,16 @@ use aero_batch::outcome::{Cause, Outcome};
 use std::io;
 
 /// The exit status of a run: 4 where it stopped before its summary was written, else 2 where a
-/// source is malformed, ill-formed, broken or too large, else 1 where one has a violation, else 0.
-pub fn status(outcome: &Outcome) -> u8
-    ensures { result ≡ status_of outcome.now.cause outcome.now.counts }
+/// source is malformed, ill-formed, broken or too large, else 1 where one has a violation, or open blocks
+/// and these are to be told so, else 0.
+pub fn status(outcome: &Outcome, fail_open: bool) -> u8
+    ensures { result ≡ status_of fail_open outcome.now.cause outcome.now.counts }
 {
     if outcome.cause.is_some() {
         4
     } else if outcome.counts.faults > 0 {
         2
-    } else if outcome.counts.violations > 0 {
+    } else if outcome.counts.violations > 0 || (fail_open && outcome.counts.pending > 0) {
         1
     } else {
         0
@@ -28,13 +29,17 @@ pub fn status(outcome: &Outcome) -> u8
 /// # Errors
 ///
 /// `Memory` or `Write` where the run stopped for that; `Write` where the flush failed.
-pub fn status_after(outcome: &Outcome, flushed: &io::Result<()>) -> Result<u8, Failure>
-    ensures { result ≡ end_of_run outcome.now.cause outcome.now.counts (is_err flushed.now) }
+pub fn status_after(
+    outcome: &Outcome,
+    flushed: &io::Result<()>,
+    fail_open: bool,
+) -> Result<u8, Failure>
+    ensures { result ≡ end_of_run fail_open outcome.now.cause outcome.now.counts (is_err flushed.now) }
 {
     match outcome.cause {
         Some(Cause::Memory) => Err(Failure::Memory),
         Some(Cause::Write) => Err(Failure::Write),
         None if flushed.is_err() => Err(Failure::Write),
-        None => Ok(status(outcome)),
+        None => Ok(status(outcome, fail_open)),
     }
 }

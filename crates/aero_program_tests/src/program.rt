@@ -1,6 +1,9 @@
 pub(crate) mod sources;
 pub(crate) mod streams;
 
+ghost use Rattle.std.specs.Prelude.{◌≤◌, ◌^◌};
+ghost use Rattle.aero_program.specs.Command.{count_named};
+
 use crate::program::streams::{EVER, Flushes, Interrupted, Narrow, Shelf, Text, never_flushed};
 use aero_batch::outcome::{Cause, Outcome};
 use aero_gather::gather::Tally;
@@ -8,7 +11,7 @@ use aero_model::counting::Counting;
 use aero_model::verdict::Counts;
 use aero_program::answer::answer;
 use aero_program::arguments::{Unread, words_of};
-use aero_program::command::{Config, Form, Progress, Refused, Stop};
+use aero_program::command::{Config, Form, Progress, Refused, Sources, Stop};
 use aero_program::failure::Failure;
 use aero_program::files::{FilesOf, Opener};
 use aero_program::input::Input;
@@ -16,7 +19,7 @@ use aero_program::output::Output;
 use aero_program::reason::Reason;
 use aero_program::retrying::Retrying;
 use aero_program::status::{status, status_after};
-use std::alloc::Global;
+use std::alloc::{AllocError, Global};
 use std::env::{Env, FillError};
 use std::io;
 use std::io::{ErrorKind, Read};
@@ -28,6 +31,7 @@ fn outcome_of(alloc: Global, counts: [u64; 4], cause: Option<Cause>) -> Outcome 
     let [serializable, pending, violations, faults] = counts;
     Outcome {
         endings: Vec::new(alloc),
+        faults: Vec::new(alloc),
         counts: Counts {
             serializable,
             pending,
@@ -47,27 +51,33 @@ fn outcome_of(alloc: Global, counts: [u64; 4], cause: Option<Cause>) -> Outcome 
 // The highest status that applies to a run, and the line and the status of each failure.
 #[test]
 fn each_end_has_its_status(rt: HostRuntime) {
-    let runs: [([u64; 4], Option<Cause>, u8); 9] = [
-        ([0, 0, 0, 0], None, 0),
-        ([2, 0, 0, 0], None, 0),
-        ([0, 3, 0, 0], None, 0),
-        ([1, 0, 2, 0], None, 1),
-        ([0, 0, 0, 1], None, 2),
-        ([1, 1, 1, 1], None, 2),
-        ([2, 0, 0, 0], Some(Cause::Memory), 4),
-        ([0, 0, 1, 0], Some(Cause::Write), 4),
-        ([0, 0, 0, 1], Some(Cause::Write), 4),
+    // (what the run found, why it stopped, whether open blocks make the status 1, the status)
+    let runs: [([u64; 4], Option<Cause>, bool, u8); 14] = [
+        ([0, 0, 0, 0], None, false, 0),
+        ([2, 0, 0, 0], None, false, 0),
+        ([2, 0, 0, 0], None, true, 0),
+        ([0, 3, 0, 0], None, false, 0),
+        ([0, 3, 0, 0], None, true, 1),
+        ([1, 0, 2, 0], None, false, 1),
+        ([1, 0, 2, 0], None, true, 1),
+        ([0, 0, 0, 1], None, false, 2),
+        ([0, 3, 0, 1], None, true, 2),
+        ([1, 1, 1, 1], None, false, 2),
+        ([2, 0, 0, 0], Some(Cause::Memory), false, 4),
+        ([0, 3, 0, 0], Some(Cause::Memory), true, 4),
+        ([0, 0, 1, 0], Some(Cause::Write), false, 4),
+        ([0, 0, 0, 1], Some(Cause::Write), false, 4),
     ];
-    for (counts, cause, expected) in runs {
+    for (counts, cause, fail_open, expected) in runs {
         let outcome = outcome_of(rt.alloc(), counts, cause);
-        assert_eq!(rt; status(&outcome), expected);
-        let flushed = match status_after(&outcome, &Ok(())) {
+        assert_eq!(rt; status(&outcome, fail_open), expected);
+        let flushed = match status_after(&outcome, &Ok(()), fail_open) {
             Ok(status) => status,
             Err(failure) => failure.status(),
         };
         assert_eq!(rt; flushed, expected);
         let unflushed = Err(io::Error::from(ErrorKind::BrokenPipe));
-        assert!(rt; status_after(&outcome, &unflushed).is_err());
+        assert!(rt; status_after(&outcome, &unflushed, fail_open).is_err());
     }
     let failures = [
         (Failure::Memory, "aerodrome: out of memory\n", 4),
@@ -246,22 +256,36 @@ fn is_answered<R: AllocGlobal + Threads + Wait + Copy + Drop + Send + 'static, F
     out.as_slice() == wanted.0 && err.as_slice() == wanted.1 && status == wanted.2
 }
 
+// Asks for a file, or for standard input where there is none.
 fn config_of(alloc: Global, file: Option<&str>, order: bool) -> Result<Config, Fail> {
+    let sources = match file {
+        Some(file) => Sources::Files(one_file(alloc, file)?),
+        None => Sources::Standard(None),
+    };
+    Ok(config_for(alloc, sources, order, false))
+}
+
+fn one_file(alloc: Global, file: &str) -> Result<Vec<String>, AllocError> {
     let mut files = Vec::new(alloc);
-    if let Some(file) = file {
-        files.push(String::from_str(alloc, file)?)?;
-    }
-    Ok(Config {
+    files.push(String::from_str(alloc, file)?)?;
+    Ok(files)
+}
+
+fn config_for(alloc: Global, sources: Sources, order: bool, fail_open: bool) -> Config
+    requires { count_named sources ≤ 2 ^ 16 }
+{
+    Config {
         workers: 2,
         piece: 1,
         except: Vec::new(alloc),
-        files,
+        files: sources,
         order,
         explain: false,
         long: false,
+        fail_open,
         form: Form::Text,
         progress: Progress::Auto,
-    })
+    }
 }
 
 const REPORT: &[u8] = b"-: serializable (1 events, 0 blocks)\n\
@@ -730,6 +754,152 @@ fn a_file_is_opened_and_read_as_standard_input_is(rt: HostRuntime) -> Result<(),
         let config = config_of(rt.alloc(), Some("f"), false)?;
         let shelf = Shelf::new(WRITE, times, open_failures, read_failures);
         assert!(rt; is_answered(rt, &shelf, Ok(config), b"", &SOUND, wanted));
+    }
+    Ok(())
+}
+
+// What is judged, what standard input has, how it fails, how many opens do, and what is answered, where open
+// blocks make the status 1.
+type Named = (&'static str, &'static [u8], Damage, u32, Wanted);
+
+fn is_named_so<R: AllocGlobal + Threads + Wait + Copy + Drop + Send + 'static>(
+    rt: R,
+    sources: Sources,
+    row: &Named,
+) -> bool
+    requires { count_named sources ≤ 2 ^ 16 }
+{
+    let config = config_for(rt.alloc(), sources, false, true);
+    let shelf = Shelf::new(WRITE, row.2.times, row.3, 0);
+    is_answered(rt, &shelf, Ok(config), row.1, &row.2, row.4)
+}
+
+// Standard input under another name than `-`, also where it is a file's or nothing.
+#[test]
+fn standard_input_has_the_name_that_is_given(rt: HostRuntime) -> Result<(), Fail> {
+    let rows: [Named; 3] = [
+        (
+            "big.std",
+            WRITE,
+            SOUND,
+            0,
+            (
+                b"big.std: serializable (1 events, 0 blocks)\n\
+                    traces 1: serializable 1, open 0, violations 0, faults 0\n",
+                b"",
+                0,
+            ),
+        ),
+        (
+            "",
+            WRITE,
+            Damage { reads: 1, ..SOUND },
+            0,
+            (
+                b": broken after 8 bytes\n\
+                    traces 1: serializable 0, open 0, violations 0, faults 1\n",
+                b"aerodrome: : Input/output error\n",
+                2,
+            ),
+        ),
+        (
+            "f",
+            b"T1|begin\n",
+            SOUND,
+            0,
+            (
+                b"f: no violation, 1 blocks open (1 events, 1 blocks)\n\
+                    traces 1: serializable 0, open 1, violations 0, faults 0\n",
+                b"",
+                1,
+            ),
+        ),
+    ];
+    for row in rows {
+        let name = String::from_str(rt.alloc(), row.0)?;
+        assert!(rt; is_named_so(rt, Sources::Standard(Some(name)), &row));
+    }
+    Ok(())
+}
+
+// The files whose names stand in a list, which is standard input or a file. Where it can't be had nothing is
+// judged, and the status is 3.
+#[test]
+fn the_files_of_a_list_are_judged(rt: HostRuntime) -> Result<(), Fail> {
+    let both: Wanted = (
+        b"f: serializable (1 events, 0 blocks)\ng: serializable (1 events, 0 blocks)\n\
+            traces 2: serializable 2, open 0, violations 0, faults 0\n",
+        b"",
+        0,
+    );
+    let interrupted = Damage { times: 3, ..SOUND };
+    let rows: [Named; 8] = [
+        ("-", b"f\0g\0", SOUND, 0, both),
+        ("-", b"f\0g", interrupted, 0, both),
+        (
+            "-",
+            b"",
+            SOUND,
+            0,
+            (
+                b"traces 0: serializable 0, open 0, violations 0, faults 0\n",
+                b"",
+                0,
+            ),
+        ),
+        (
+            "-",
+            b"\xff\0f\0",
+            SOUND,
+            0,
+            (
+                b"\xff: broken after 0 bytes\nf: serializable (1 events, 0 blocks)\n\
+                    traces 2: serializable 1, open 0, violations 0, faults 1\n",
+                b"aerodrome: \xff: the name isn't UTF-8\n",
+                2,
+            ),
+        ),
+        (
+            "-",
+            b"f\0",
+            Damage { reads: 1, ..SOUND },
+            0,
+            (b"", b"aerodrome: -: Input/output error\n", 3),
+        ),
+        (
+            "list",
+            b"f\0",
+            SOUND,
+            0,
+            (
+                b"T1|w(x)\n: serializable (1 events, 0 blocks)\n\
+                    traces 1: serializable 1, open 0, violations 0, faults 0\n",
+                b"",
+                0,
+            ),
+        ),
+        (
+            "list",
+            b"f\0",
+            interrupted,
+            1,
+            (b"", b"aerodrome: list: Permission denied\n", 3),
+        ),
+        (
+            "list",
+            b"",
+            Damage {
+                error_room: 0,
+                error_writes: EVER,
+                ..SOUND
+            },
+            1,
+            (b"", b"", 3),
+        ),
+    ];
+    for row in rows {
+        let path = String::from_str(rt.alloc(), row.0)?;
+        assert!(rt; is_named_so(rt, Sources::Listed(path), &row));
     }
     Ok(())
 }

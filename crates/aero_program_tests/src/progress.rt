@@ -2,10 +2,12 @@ use crate::program::streams::{Interrupted, Narrow, Shelf, Text};
 use aero_program::command::{Progress, TICK};
 use aero_program::files::{MeteredFiles, Opener};
 use aero_progress::beside::Beside;
-use aero_progress::gain::{Gain, gain_of, gain_of_failure};
-use aero_progress::line::{Line, text_of};
+use aero_progress::course::Course;
+use aero_progress::gain::{Gain, ends_text, gain_of, gain_of_failure};
+use aero_progress::line::{Line, Surface, text_of};
 use aero_progress::meter::Meter;
 use aero_progress::metered::Metered;
+use aero_progress::reached::{Reached, Work};
 use aero_progress::ticker::{Pace, Ticker};
 use std::alloc::Global;
 use std::io::{ErrorKind, Read, Write};
@@ -33,28 +35,153 @@ fn a_line_is_shown_to_those_who_wait(rt: HostRuntime) {
     assert_eq!(rt; TICK, 200);
 }
 
+// Where so many sources have been read and judged, so many bytes came, and so many seconds have passed.
+fn reached(ended: u64, bytes: u64, judged: u64, seconds: u64) -> Reached {
+    Reached {
+        ended,
+        bytes,
+        judged,
+        seconds,
+    }
+}
+
+fn work(sources: u64, size: Option<u64>) -> Work {
+    Work { sources, size }
+}
+
 #[test]
 fn the_line_has_the_numbers(rt: HostRuntime) -> Result<(), Fail> {
-    let rows: [(u64, u64, u64, &'static [u8]); 3] = [
-        (0, 1, 0, b"\raerodrome: 0 of 1 sources read, 0 MiB"),
+    let rows: [(Work, Reached, &'static [u8]); 4] = [
         (
-            3,
-            12,
-            50_331_648,
-            b"\raerodrome: 3 of 12 sources read, 48 MiB",
+            work(1, None),
+            reached(0, 0, 0, 0),
+            b"\raerodrome: 0 of 1 sources, 0 MiB read, 0 judged, 0 s",
         ),
         (
-            65_535,
-            65_536,
-            2_097_151,
-            b"\raerodrome: 65535 of 65536 sources read, 1 MiB",
+            work(12, None),
+            reached(3, 50_331_648, 2, 14),
+            b"\raerodrome: 3 of 12 sources, 48 MiB read, 2 judged, 14 s",
+        ),
+        (
+            work(12, Some(325_058_560)),
+            reached(3, 50_331_648, 2, 14),
+            b"\raerodrome: 3 of 12 sources, 48 of 310 MiB read, 2 judged, 14 s",
+        ),
+        (
+            work(65_536, Some(2_097_151)),
+            reached(65_535, 2_097_151, 65_534, 86_400),
+            b"\raerodrome: 65535 of 65536 sources, 1 of 1 MiB read, 65534 judged, 86400 s",
         ),
     ];
-    for (ended, sources, bytes, expected) in rows {
-        let text = text_of(rt.alloc(), ended, sources, bytes)?;
+    for (work, reached, expected) in rows {
+        let text = text_of(rt.alloc(), Surface::Other, work, reached)?;
         assert!(rt; text.as_slice() == expected);
     }
     Ok(())
+}
+
+// On a terminal it isn't wrapped: lines are only again once it stands.
+#[test]
+fn the_line_is_not_wrapped_on_a_terminal(rt: HostRuntime) -> Result<(), Fail> {
+    let text = text_of(
+        rt.alloc(),
+        Surface::Terminal,
+        work(12, None),
+        reached(3, 50_331_648, 2, 14),
+    )?;
+    let expected: &'static [u8] =
+        b"\r\x1b[?7laerodrome: 3 of 12 sources, 48 MiB read, 2 judged, 14 s\x1b[?7h";
+    assert!(rt; text.as_slice() == expected);
+    Ok(())
+}
+
+// A clock that reads so many milliseconds more each time, or fails.
+#[derive(Drop)]
+struct Stepping {
+    now: AtomicU64,
+    step: u64,
+    is_broken: bool,
+}
+
+impl Clock for Stepping {
+    fn monotonic(&self) -> io::Result<Duration> {
+        if self.is_broken {
+            return Err(io::Error::from(ErrorKind::Other));
+        }
+        Ok(Duration::from_millis(self.now.fetch_add(self.step, Ordering::SeqCst)))
+    }
+
+    fn since_1970(&self) -> io::Result<Duration> {
+        self.monotonic()
+    }
+}
+
+fn stepping_by(step: u64, is_broken: bool) -> Stepping {
+    Stepping {
+        now: AtomicU64::new(7),
+        step,
+        is_broken,
+    }
+}
+
+// Reads a source to its end, and writes three texts, the second of them in two writes, of which one is interrupted.
+fn read_and_write(meter: &Meter, alloc: Global) -> io::Result<()> {
+    let mut reader = Metered::new(text(b"abc", 0), Some(meter));
+    let mut buf = [0u8; 8];
+    let _ = reader.read(&mut buf)?;
+    let _ = reader.read(&mut buf)?;
+    let mut writer = Metered::new(Interrupted::new(narrow(alloc, 9, 0), 1), Some(meter));
+    writer.write_all(b"first\n")?;
+    writer.write_all(b"second\n")?;
+    writer.write_all(b"all\n")
+}
+
+// What stands on a screen once the line was shown twice, by a clock that reads 1,700 milliseconds more each time.
+fn shown_twice(alloc: Global, screen: &mut Narrow, sources: u64) -> io::Result<()> {
+    let clock = stepping_by(1_700, false);
+    let course = Course::begin(&clock, work(sources, Some(3)))?;
+    let mut line = Line::new(screen, Surface::Other);
+    course.show(&clock, alloc, &mut line)?;
+    read_and_write(course.meter(), alloc)?;
+    course.show(&clock, alloc, &mut line)
+}
+
+// The line has what the meter was told, at most as many sources as there are, and the seconds since the start.
+#[test]
+fn the_line_tells_the_course_of_a_run(rt: HostRuntime) -> Result<(), Fail> {
+    let rows: [(u64, &'static [u8]); 2] = [
+        (
+            4,
+            b"\raerodrome: 0 of 4 sources, 0 of 0 MiB read, 0 judged, 1 s\raerodrome: 1 of 4 sources, 0 of 0 MiB read, 3 judged, 3 s",
+        ),
+        (
+            2,
+            b"\raerodrome: 0 of 2 sources, 0 of 0 MiB read, 0 judged, 1 s\raerodrome: 1 of 2 sources, 0 of 0 MiB read, 2 judged, 3 s",
+        ),
+    ];
+    for (sources, expected) in rows {
+        let mut screen = narrow(rt.alloc(), 200, 0);
+        shown_twice(rt.alloc(), &mut screen, sources)?;
+        assert!(rt; screen.taken.as_slice() == expected);
+    }
+    Ok(())
+}
+
+// Where the clock fails there is no course.
+#[test]
+fn no_run_begins_without_a_clock(rt: HostRuntime) {
+    assert!(rt; Course::begin(&stepping_by(1, true), work(1, None)).is_err());
+}
+
+#[test]
+fn a_write_that_takes_all_ends_a_text(rt: HostRuntime) {
+    let broken = Err(io::Error::from(ErrorKind::BrokenPipe));
+    assert!(rt;
+        ends_text(&Ok(3), 3)
+            && !ends_text(&Ok(2), 3)
+            && !ends_text(&Ok(0), 0)
+            && !ends_text(&broken, 3)
+    );
 }
 
 #[test]
@@ -133,11 +260,12 @@ fn narrow(alloc: Global, room: usize, failures: u32) -> Narrow {
     }
 }
 
-const BLANK: &[u8] = b"\r                                                    \r";
+const BLANK: &[u8] =
+    b"\r                                                                                         \r";
 
 // Shows lines, clears them, and ends.
-fn show_and_end(rt: &impl Abort, screen: &mut Narrow) -> io::Result<()> {
-    let mut line = Line::new(screen);
+fn show_and_end(rt: &impl Abort, screen: &mut Narrow, surface: Surface) -> io::Result<()> {
+    let mut line = Line::new(screen, surface);
     line.clear()?;
     line.show(b"\rab")?;
     line.show(b"\rabc")?;
@@ -155,7 +283,7 @@ fn show_and_end(rt: &impl Abort, screen: &mut Narrow) -> io::Result<()> {
 #[test]
 fn a_line_is_written_again_in_place(rt: HostRuntime) -> Result<(), Fail> {
     let mut screen = narrow(rt.alloc(), 2, 0);
-    show_and_end(&rt, &mut screen)?;
+    show_and_end(&rt, &mut screen, Surface::Other)?;
     let parts = [b"\rab\rabc".as_slice(), BLANK, b"\rd", BLANK];
     let mut rest = screen.taken.as_slice();
     for part in parts {
@@ -163,6 +291,16 @@ fn a_line_is_written_again_in_place(rt: HostRuntime) -> Result<(), Fail> {
         rest = &rest[part.len()..];
     }
     assert!(rt; rest.is_empty());
+    Ok(())
+}
+
+// On a terminal it is cleared up to its end.
+#[test]
+fn a_line_on_a_terminal_is_cleared(rt: HostRuntime) -> Result<(), Fail> {
+    let mut screen = narrow(rt.alloc(), 2, 0);
+    show_and_end(&rt, &mut screen, Surface::Terminal)?;
+    let expected: &'static [u8] = b"\rab\rabc\r\x1b[K\rd\r\x1b[K";
+    assert!(rt; screen.taken.as_slice() == expected);
     Ok(())
 }
 
@@ -183,7 +321,7 @@ fn writes_beside_a_line_clear_it(rt: HostRuntime) -> Result<(), Fail> {
 
 // Writes a report beside a line.
 fn write_beside<R: Wait + Drop>(rt: R, screen: &mut Narrow, report: &mut Narrow) -> io::Result<()> {
-    let mut line = Line::new(screen);
+    let mut line = Line::new(screen, Surface::Other);
     line.show(b"\rab")?;
     let shared = Mutex::new(line);
     let mut beside = Beside::new(rt, report, Some(&shared));
@@ -232,7 +370,7 @@ fn write_twice<R: Wait + Drop>(
 // No tick can show the line between what clears it and what is written then: it is locked until that is written.
 #[test]
 fn a_line_is_locked_while_something_is_written_beside_it(rt: HostRuntime) -> Result<(), Fail> {
-    let line = Mutex::new(Line::new(narrow(rt.alloc(), 3, 0)));
+    let line = Mutex::new(Line::new(narrow(rt.alloc(), 3, 0), Surface::Other));
     let writes = Writes {
         all: AtomicU64::new(0),
         locked: AtomicU64::new(0),
@@ -244,7 +382,7 @@ fn a_line_is_locked_while_something_is_written_beside_it(rt: HostRuntime) -> Res
     Ok(())
 }
 
-// Counts the bytes that it takes.
+// Counts the bytes that it takes, of a line the first 53: as many as one has in the first ten seconds.
 #[derive(Drop)]
 struct Tape {
     taken: Arc<AtomicU64>,
@@ -252,7 +390,12 @@ struct Tape {
 
 impl Write for Tape {
     fn write(&mut self, buf: &[u8]) -> io::Result<usize> {
-        self.taken.fetch_add(buf.len() as u64, Ordering::SeqCst);
+        let counted = if buf.starts_with(b"\raerodrome") {
+            buf.len().min(53)
+        } else {
+            buf.len()
+        };
+        self.taken.fetch_add(counted as u64, Ordering::SeqCst);
         Ok(buf.len())
     }
 
@@ -273,7 +416,8 @@ fn written_until<R: Threads + Wait + Clock + Copy + Send + 'static>(
     let tape = Tape {
         taken: Arc::try_clone(taken)?,
     };
-    let Some(ticker) = Ticker::start(rt, alloc, tape, sources, pace) else {
+    let line = Line::new(tape, Surface::Other);
+    let Some(ticker) = Ticker::start(rt, alloc, line, work(sources, None), pace) else {
         return Err(Fail::from("no ticker"));
     };
     let have_come = await_bytes(&rt, taken, least);
@@ -297,7 +441,7 @@ fn await_bytes<R: Clock>(rt: &R, taken: &AtomicU64, least: u64) -> bool {
     false
 }
 
-// The line has 38 bytes, and what clears it 54. Two ticks are awaited.
+// Of the line 53 bytes are counted, and what clears it has 91. Two ticks are awaited.
 #[test]
 fn the_line_comes_at_each_tick_and_goes(rt: HostRuntime) -> Result<(), Fail> {
     let taken = Arc::new(rt.alloc(), AtomicU64::new(0))?;
@@ -305,9 +449,9 @@ fn the_line_comes_at_each_tick_and_goes(rt: HostRuntime) -> Result<(), Fail> {
         first_after: 1,
         tick: 1,
     };
-    let all = written_until(rt, rt.alloc(), &taken, (3, pace), 76)?;
-    assert!(rt; all >= 76 + 54);
-    assert_eq!(rt; (all - 54) % 38, 0);
+    let all = written_until(rt, rt.alloc(), &taken, (3, pace), 106)?;
+    assert!(rt; all >= 106 + 91);
+    assert_eq!(rt; (all - 91) % 53, 0);
     thread::sleep(&rt, Duration::from_millis(20));
     assert_eq!(rt; taken.load(Ordering::SeqCst), all);
     Ok(())
@@ -322,8 +466,8 @@ fn the_first_wait_is_another_than_a_tick(rt: HostRuntime) -> Result<(), Fail> {
         tick: 600_000,
     };
     assert_eq!(rt;
-        written_until(rt, rt.alloc(), &taken, (3, soon), 38)?,
-        38 + 54
+        written_until(rt, rt.alloc(), &taken, (3, soon), 53)?,
+        53 + 91
     );
     Ok(())
 }

@@ -1,5 +1,5 @@
 use aero_model::name::Name;
-use aero_program::command::{Config, Form, Progress, Refused};
+use aero_program::command::{Config, Form, Progress, Refused, Sources};
 use aero_words::words::settle_words;
 use std::alloc::{AllocError, Global};
 
@@ -23,7 +23,16 @@ fn settled(alloc: Global, words: &[&str]) -> Result<Config, Refused> {
 // Words, and how many workers, reads of how many bytes and which files they ask for.
 type Taken = (Words, u32, u32, Words);
 
-fn are_files(files: &[String], wanted: &[&str]) -> bool {
+// Whether these files are asked for, or standard input where there are none.
+fn are_files(sources: &Sources, wanted: &[&str]) -> bool {
+    match sources {
+        Sources::Standard(name) => name.is_none() && wanted.is_empty(),
+        Sources::Files(files) => are_same(files, wanted),
+        Sources::Listed(_) => false,
+    }
+}
+
+fn are_same(files: &[String], wanted: &[&str]) -> bool {
     let mut are_same = files.len() == wanted.len();
     for (file, expected) in files.iter().zip(wanted) {
         are_same &= file.as_str() == *expected;
@@ -62,6 +71,65 @@ static TAKEN: [Taken; 8] = [
 #[test]
 fn the_words_that_are_taken(rt: HostRuntime) {
     assert_eq!(rt; first_mistaken(rt.alloc(), &TAKEN), None);
+}
+
+// Words, what is judged, by which text, and whether open blocks make the status 1.
+type Sourced = (Words, &'static str, Words, bool);
+
+fn is_sourced(alloc: Global, row: &Sourced) -> bool {
+    let Ok(config) = settled(alloc, row.0) else {
+        return false;
+    };
+    config.fail_open == row.3 && are_sources(&config.files, row.1, row.2)
+}
+
+fn are_sources(sources: &Sources, kind: &str, texts: &[&str]) -> bool {
+    match sources {
+        Sources::Standard(None) => kind == "standard" && texts.is_empty(),
+        Sources::Standard(Some(name)) => kind == "standard" && is_alone(name, texts),
+        Sources::Files(files) => kind == "files" && are_same(files, texts),
+        Sources::Listed(path) => kind == "listed" && is_alone(path, texts),
+    }
+}
+
+fn is_alone(text: &str, texts: &[&str]) -> bool {
+    match texts {
+        [alone] => text == *alone,
+        _ => false,
+    }
+}
+
+// The first row that doesn't hold.
+fn first_missourced(alloc: Global, rows: &[Sourced]) -> Option<usize> {
+    for i in 0..rows.len() {
+        if !is_sourced(alloc, &rows[i]) {
+            return Some(i);
+        }
+    }
+    None
+}
+
+static SOURCED: [Sourced; 10] = [
+    (&[], "standard", &[], false),
+    (&["a", "--fail-open", "b"], "files", &["a", "b"], true),
+    (&["--", "--fail-open"], "files", &["--fail-open"], false),
+    (&["--label", "a b"], "standard", &["a b"], false),
+    (&["--label", ""], "standard", &[""], false),
+    (&["--label=--x", "--fail-open"], "standard", &["--x"], true),
+    (&["--files0-from", "-"], "listed", &["-"], false),
+    (
+        &["--files0-from=names", "--order"],
+        "listed",
+        &["names"],
+        false,
+    ),
+    (&["--fail-open", "--files0-from", ""], "listed", &[""], true),
+    (&["-"], "files", &["-"], false),
+];
+
+#[test]
+fn what_is_judged(rt: HostRuntime) {
+    assert_eq!(rt; first_missourced(rt.alloc(), &SOURCED), None);
 }
 
 // Words, and the form of the report that they ask for.
@@ -124,7 +192,7 @@ fn first_not_refused(alloc: Global, rows: &[Wrong]) -> Option<usize> {
     None
 }
 
-static REFUSED: [Wrong; 28] = [
+static REFUSED: [Wrong; 39] = [
     (
         &["--workers", "0"],
         "invalid value '0' for '--workers <N>': 0 is not in 1..=16\n",
@@ -222,6 +290,50 @@ static REFUSED: [Wrong; 28] = [
         &["--quiet=true"],
         "unexpected value 'true' for '--quiet' found; no more were expected\n",
     ),
+    (
+        &["--files0-from"],
+        "a value is required for '--files0-from <FILE>' but none was supplied\n",
+    ),
+    (
+        &["--files0-from", "a", "--files0-from", "a"],
+        "the argument '--files0-from <FILE>' cannot be used multiple times\n",
+    ),
+    (
+        &["--files0-from", "a", "b"],
+        "the argument '--files0-from <FILE>' cannot be used with '[FILE]...'\n",
+    ),
+    (
+        &["b", "--label", "c", "--files0-from", "a", "--except", ""],
+        "the argument '--files0-from <FILE>' cannot be used with '[FILE]...'\n",
+    ),
+    (
+        &["--label"],
+        "a value is required for '--label <NAME>' but none was supplied\n",
+    ),
+    (
+        &["--label", "a", "--label", "a"],
+        "the argument '--label <NAME>' cannot be used multiple times\n",
+    ),
+    (
+        &["--label", "a", "b"],
+        "the argument '--label <NAME>' cannot be used with '[FILE]...'\n",
+    ),
+    (
+        &["-", "--label", "a"],
+        "the argument '--label <NAME>' cannot be used with '[FILE]...'\n",
+    ),
+    (
+        &["--label", "a", "--files0-from", "-"],
+        "the argument '--label <NAME>' cannot be used with '--files0-from <FILE>'\n",
+    ),
+    (
+        &["--fail-open", "--fail-open"],
+        "the argument '--fail-open' cannot be used multiple times\n",
+    ),
+    (
+        &["--fail-open=true"],
+        "unexpected value 'true' for '--fail-open' found; no more were expected\n",
+    ),
     (&["--nothing"], "unexpected argument '--nothing' found\n"),
     (&["-x"], "unexpected argument '-x' found\n"),
     (
@@ -235,7 +347,7 @@ fn the_words_that_are_refused(rt: HostRuntime) {
     assert_eq!(rt; first_not_refused(rt.alloc(), &REFUSED), None);
 }
 
-static PHRASES: [&str; 34] = [
+static PHRASES: [&str; 37] = [
     "atomic block",
     "RAPID",
     "STD",
@@ -254,6 +366,9 @@ static PHRASES: [&str; 34] = [
     "--format <FORM>",
     "--progress",
     "--quiet",
+    "--files0-from <FILE>",
+    "--label <NAME>",
+    "--fail-open",
     "Each time the one whose first event is earliest",
     "[FILE]...",
     "65536",
@@ -308,9 +423,12 @@ fn left_out(alloc: Global, words: &[&str]) -> Option<usize> {
 
 fn is_short_help(alloc: Global, words: &[&str]) -> bool {
     match help_of(alloc, words) {
-        Some(text) => text
-            .as_str()
-            .contains("Usage: aerodrome [OPTIONS] [FILE]..."),
+        Some(text) => {
+            has_short_lines(&text)
+                && text
+                    .as_str()
+                    .contains("Usage: aerodrome [OPTIONS] [FILE]...\n")
+        }
         None => false,
     }
 }
@@ -336,7 +454,7 @@ fn the_help_says_all_and_the_version_is_told(rt: HostRuntime) {
 // What is told of the words, and how many files they name where they are taken.
 fn told_of(told: &Result<Config, Refused>) -> (&'static str, usize) {
     match told {
-        Ok(config) => ("taken", config.files.len()),
+        Ok(config) => ("taken", config.files.named().len()),
         Err(Refused::Help(_)) => ("help", 0),
         Err(Refused::Usage(_)) => ("usage", 0),
         Err(Refused::TooManyFiles) => ("too many files", 0),
@@ -385,12 +503,13 @@ fn first_miscounted(alloc: Global, rows: &[Counted]) -> Option<usize> {
     None
 }
 
-static FILES: [Counted; 6] = [
+static FILES: [Counted; 7] = [
     ("a", 65_536, &[], "taken", 65_536),
     ("a", 65_536, &["a"], "too many files", 0),
     ("a", 65_536, &["a", "--help"], "help", 0),
     ("a", 65_536, &["a", "--help", "b"], "help", 0),
     ("a", 65_536, &["a", "--long", "--order"], "usage", 0),
+    ("a", 65_536, &["a", "--label", "b"], "usage", 0),
     ("--long", 1, &["--order", "--help"], "help", 0),
 ];
 

@@ -1,9 +1,9 @@
 -- The program's command line, and what its words ask for.
-use Rattle.std.specs.Prelude.{◌≡◌, ◌∷◌, ℕ, Bool, false, true, List, [], Option, Some, None, codes, if◌then◌else◌, map, option_and_then, pos, slice_get, string_bytes, unwrap_or, ◌^◌}
+use Rattle.std.specs.Prelude.{◌≡◌, ◌<◌, ◌∷◌, ℕ, Bool, false, true, List, [], Option, Some, None, codes, if◌then◌else◌, length, map, option_and_then, option_map, pos, slice_get, string_bytes, unwrap_or, ◌^◌}
 use Rattle.std.specs.Str.{bytes_eq}
 use Rattle.std.specs.Str.Parse.{digits_value, without_leading_plus}
 use Rattle.clap.specs.Lexer.{usize_max}
-use Rattle.clap.specs.Words.{App, Row, Rule, Text, all_of, matches_of, new_app, new_rule, one_of, with_rule}
+use Rattle.clap.specs.Words.{App, Row, Rule, Text, all_of, first_of, matches_of, new_app, new_rule, one_of, with_rule}
 use Rattle.clap.specs.declared.builder.action.ArgAction.TheVariants.{Append, Set, SetTrue}
 use Rattle.clap.specs.declared.builder.value_parser.ValueParser.TheVariants as vp
 use Rattle.aero_report.specs.declared.form.Form.{Form}
@@ -12,6 +12,8 @@ use Rattle.aero_report.specs.declared.form.Form.TheVariants as forms
 use Rattle.aero_program.specs.declared.command.Config.{Config}
 use Rattle.aero_program.specs.declared.command.Progress.{Progress}
 use Rattle.aero_program.specs.declared.command.Progress.TheVariants.{Auto, Always, Never}
+use Rattle.aero_program.specs.declared.command.Sources.{Sources}
+use Rattle.aero_program.specs.declared.command.Sources.TheVariants as sources
 
 -- an option with a number from 1 to `most`
 abbrev pub number_rule : Text → ℕ → Text → Rule
@@ -26,6 +28,10 @@ number_rule name most default = record (new_rule name) {
 -- the labels, each by an option of its own
 abbrev pub label_rule : Rule
 label_rule = record (new_rule (codes "except")) { long = Some (codes "except"); action = Some Append; value_names = 1 }
+
+-- an option with a text of its own
+abbrev pub text_rule : Text → Rule
+text_rule name = record (new_rule name) { long = Some name; action = Some Set; value_names = 1 }
 
 -- the form of the report
 abbrev pub format_rule : Rule
@@ -50,10 +56,11 @@ no_rules = record (new_app (codes "aerodrome")) {
 }
 
 abbrev pub program : App
-program = with_rule (with_rule (with_rule (with_rule (with_rule (with_rule (with_rule (with_rule (with_rule (with_rule no_rules
+program = with_rule (with_rule (with_rule (with_rule (with_rule (with_rule (with_rule (with_rule (with_rule (with_rule (with_rule (with_rule (with_rule no_rules
     (number_rule (codes "workers") 16 (codes "4")))
     (number_rule (codes "piece") (2 ^ 20) (codes "65536")))
-    label_rule) (flag_rule (codes "order"))) (flag_rule (codes "explain"))) (flag_rule (codes "long"))) format_rule) (flag_rule (codes "progress"))) (flag_rule (codes "quiet"))) files_rule
+    label_rule) (flag_rule (codes "order"))) (flag_rule (codes "explain"))) (flag_rule (codes "long"))) format_rule) (flag_rule (codes "progress"))) (flag_rule (codes "quiet")))
+    (text_rule (codes "files0-from"))) (text_rule (codes "label"))) (flag_rule (codes "fail-open"))) files_rule
 
 -- what each option has of these words, its default included
 abbrev pub rows_given : List Text → List Row
@@ -86,6 +93,12 @@ form_of text = if bytes_eq text (codes "json") then Some Json else if bytes_eq t
 abbrev pub form_told : List Text → Option Form
 form_told texts = option_and_then form_of (slice_get texts 0)
 
+-- What is judged: standard input, whose name can be given, where no file is; else the files, or those of a list. No two of these are given together.
+abbrev pub AreAskedFor : Sources → (files : List Text) → (list : Option Text) → (name : Option Text) → Type 0
+AreAskedFor (sources.Standard own) files list name = (option_map string_bytes own ≡ name) × (files ≡ []) × (list ≡ None)
+AreAskedFor (sources.Files words) files list name = (map string_bytes words.items ≡ files) × (0 < length files) × (list ≡ None) × (name ≡ None)
+AreAskedFor (sources.Listed path) files list name = (Some (string_bytes path) ≡ list) × (files ≡ []) × (name ≡ None)
+
 -- the configuration is what the options have
 pub record AsksFor (config : Config) (rows : List Row) : Type 0 where
   pub workers : config.workers ≡ number_told 4 (one_of (codes "workers") rows)
@@ -96,4 +109,5 @@ pub record AsksFor (config : Config) (rows : List Row) : Type 0 where
   pub long : config.long ≡ is_told (one_of (codes "long") rows)
   pub form : form_told (texts_told (all_of (codes "format") rows)) ≡ Some config.form
   pub progress : config.progress ≡ progress_told (is_told (one_of (codes "quiet") rows)) (is_told (one_of (codes "progress") rows))
-  pub files : map string_bytes config.files.items ≡ texts_told (all_of (codes "files") rows)
+  pub fail_open : config.fail_open ≡ is_told (one_of (codes "fail-open") rows)
+  pub sources : AreAskedFor config.files (texts_told (all_of (codes "files") rows)) (first_of (codes "files0-from") rows) (first_of (codes "label") rows)

@@ -23,3 +23,4 @@ pub record IsRead (found : Found) : Type 0 where
   pub long : ReadsFlag found (codes "long")
   pub progress : ReadsFlag found (codes "progress")
   pub quiet : ReadsFlag found (codes "quiet")
+  pub fail_open : ReadsFlag found (codes "fail-open")

@@ -36,17 +36,23 @@ and again between begin(main) and end, can be left out by --except main: its
 begin and its end then count as events of their thread alone, and blocks within
 it as blocks of their own.";
 
-pub const WORKERS: &str = "How many threads work on the traces, 1 to 16. The report is the same
+pub const WORKERS: &str = "How many threads work, 1 to 16";
+
+pub const LONG_WORKERS: &str = "How many threads work on the traces, 1 to 16. The report is the same
 for each";
 
-pub const PIECE: &str = "How many bytes one read asks for at most, 1 to 1048576. The report is
+pub const PIECE: &str = "Bytes of one read, 1 to 1048576";
+
+pub const LONG_PIECE: &str = "How many bytes one read asks for at most, 1 to 1048576. The report is
 the same for each";
 
-pub const EXCEPT: &str = "Blocks that begin with begin(LABEL) are no transactions. May be given
+pub const EXCEPT: &str = "Label of blocks that are no transactions";
+
+pub const LONG_EXCEPT: &str = "Blocks that begin with begin(LABEL) are no transactions. May be given
 for up to 64 labels, each 1 to 255 bytes without `|` and control
 characters; a label that begins with - as --except=LABEL";
 
-pub const ORDER: &str = "Under each serializable trace stand its transactions in a serial order";
+pub const ORDER: &str = "A serial order under each serializable trace";
 
 pub const LONG_ORDER: &str = "Under the line of a serializable trace stand its transactions (blocks,
 and events outside them) in an order in which they could have run one
@@ -54,7 +60,7 @@ after the other: for each, two spaces, the line of its first event, a
 space, its thread. Each time the one whose first event is earliest
 comes next, of those before which nothing is left that must come first";
 
-pub const EXPLAIN: &str = "Under each violation stand the events of the cycle that shows it";
+pub const EXPLAIN: &str = "The events of a cycle under each violation";
 
 pub const LONG_EXPLAIN: &str = "Under the line of a violation stand the events of a cycle that shows
 it: for each, two spaces, its line, a space, the line of the first
@@ -66,7 +72,7 @@ cycle from that block has fewer transactions. Ahead of them stands
 the block's label, if it has one: two spaces, `label`, a space, and
 the label. Each trace is kept in memory for it";
 
-pub const LONG: &str = "A source may have up to 4000000000 lines, of any number of bytes";
+pub const LONG: &str = "Sources of any size, of up to 4000000000 lines";
 
 pub const LONG_LONG: &str = "A source may have up to 4000000000 lines, of any number of bytes: up
 to 70368744177664, which so many lines never have. Without this option
@@ -85,7 +91,7 @@ string, or {\"bytes\":BASE64} where it isn't UTF-8";
 
 pub const NO_FORM: &str = "invalid value for '--format <FORM>': it takes text or json";
 
-pub const PROGRESS: &str = "Standard error has a line on progress, whatever it is";
+pub const PROGRESS: &str = "A line on progress on any standard error";
 
 pub const LONG_PROGRESS: &str =
     "A line on standard error says how many sources were read and how many
@@ -100,13 +106,40 @@ pub const QUIET: &str = "No line on progress, also where --progress is given";
 pub const LONG_QUIET: &str = "There is no line on progress, also where --progress is given. What
 standard error says else stays";
 
-pub const FILES: &str = "The traces to judge, in this order, at most 65536. Without a FILE it
+pub const LIST: &str = "The FILEs, as a list that has a byte 0 behind each";
+
+pub const LONG_LIST: &str = "The traces to judge are the files whose names stand in this one, each
+ended by a byte 0 as `find -print0` writes it: at most 65536, in this
+order. `-` is standard input. Without a name the report has no trace.
+Where the list can't be read nothing is judged. Not with FILE words";
+
+pub const LIST_WITH_FILES: &str =
+    "the argument '--files0-from <FILE>' cannot be used with '[FILE]...'";
+
+pub const LABEL: &str = "Standard input's name in the report";
+
+pub const LONG_LABEL: &str = "What the report calls standard input, in the place of `-`. Any text
+will do. Not with FILE words or --files0-from";
+
+pub const LABEL_WITH_FILES: &str = "the argument '--label <NAME>' cannot be used with '[FILE]...'";
+
+pub const LABEL_WITH_LIST: &str =
+    "the argument '--label <NAME>' cannot be used with '--files0-from <FILE>'";
+
+pub const FAIL_OPEN: &str = "Status 1 also where blocks are open";
+
+pub const LONG_FAIL_OPEN: &str = "The exit status is 1 also where a trace has open blocks, where it
+would be 0 else. The report is the same";
+
+pub const FILES: &str = "The traces to judge, else standard input";
+
+pub const LONG_FILES: &str = "The traces to judge, in this order, at most 65536. Without a FILE it
 is standard input, which the report calls `-`. As a FILE, `-` is a
 path like any other; each word after `--` is a FILE";
 
 pub const REPORT: &str =
     "The report, on standard output: a line for each trace, in order, and one on
-all of them. NAME is the FILE's word, byte by byte.
+all of them. NAME is the FILE's word or its name in a list, byte by byte.
   NAME: serializable (E events, B blocks)
       All B blocks have ended, and behave as if each had run alone. With
       --order a line for each transaction follows, in a serial order.
@@ -143,15 +176,18 @@ After the report, on standard error, in the order of the traces:
   first thread's name
       Such a mark (the bytes 239, 187, 191) is no part of the text form.
   aerodrome: NAME: REASON
-      Why it couldn't be opened or read, as `No such file or directory`.
+      Why it couldn't be opened or read, as `No such file or directory`, or
+      that its name isn't UTF-8: then it can't be opened.
   aerodrome: NAME: over 1073741824 bytes: --long judges sources of any size
       It is too large without --long.
+  aerodrome: NAME:L: WORDS
+      What is wrong with line L, which is malformed or ill-formed.
 
 The exit status, the highest that applies, so that 2 hides 1:
   0  no trace has a violation or a fault; also after --help and --version
-  1  a trace has a violation
+  1  a trace has a violation, or open blocks with --fail-open
   2  a trace is malformed, ill-formed, broken or too large
-  3  the command line was refused, or a word isn't UTF-8: what is wrong stands
-     on standard error
+  3  the command line was refused, a word isn't UTF-8, or a list of names can't
+     be read: what is wrong stands on standard error
   4  memory ran out, or the report couldn't be written: the last line on
      standard error says which";

@@ -1,23 +1,21 @@
 //! The words of the command line, and what they ask for.
-ghost use Rattle.std.specs.Prelude.{◌≡◌, ◌<◌, ◌≤◌, ◌++◌, ◌∷◌, ◌&&◌, [], IfErr, IfOk, OnOk, Some, codes, false, length, map, pos, string_bytes, true, vec_len};
-ghost use Rattle.clap.specs.Words.{all_of, app_of, found_of, one_of, rows_of, rule_of};
+ghost use Rattle.std.specs.Prelude.{◌≡◌, ◌<◌, ◌≤◌, ◌++◌, ◌∷◌, ◌&&◌, ◌^◌, [], IfErr, IfOk, None, OnOk, Some, codes, false, length, map, option_map, pos, string_bytes, true, vec_len};
+ghost use Rattle.clap.specs.Words.{all_of, app_of, first_of, found_of, one_of, rows_of, rule_of};
 ghost use Rattle.clap.specs.declared.builder.value_parser.ValueParser.TheVariants as vp;
 ghost use Rattle.std.specs.List.{list_any};
+ghost use Rattle.aero_program.specs.Command.{count_named};
 ghost use Rattle.aero_words.specs.Labels.{AreRefused, IsTold, is_no_label};
-ghost use Rattle.aero_words.specs.Line.{AsksFor, files_rule, flag_rule, form_of, form_told, format_rule, is_told, label_rule, no_rules, number_rule, number_told, program, progress_told, rows_given, texts_told};
+ghost use Rattle.aero_words.specs.Line.{AreAskedFor, AsksFor, files_rule, flag_rule, form_of, form_told, format_rule, is_told, label_rule, no_rules, number_rule, number_told, program, progress_told, rows_given, text_rule, texts_told};
 ghost use Rattle.aero_words.specs.Words.{IsRead, ReadsFlag, ReadsWithin};
 
 use crate::help;
 use aero_model::except::MOST_LABELS;
 use aero_model::name::{Name, NameFault};
-pub use aero_program::command::{Config, Form, Progress, Refused};
+pub use aero_program::command::{Config, Form, MOST_FILES, Progress, Refused, Sources};
 use clap::builder::ValueParser;
 use clap::error::ErrorKind;
 use clap::{Arg, ArgAction, ArgMatches, Command, Error, value_parser};
 use std::alloc::{AllocError, Global};
-
-/// How many files one run judges at most.
-pub const MOST_FILES: usize = 65_536;
 
 const MOST_WORKERS: u32 = 16;
 
@@ -26,6 +24,16 @@ const DEFAULT_WORKERS: u32 = 4;
 const MOST_PIECE: u32 = 1_048_576;
 
 const DEFAULT_PIECE: u32 = 65_536;
+
+const WORKERS: Texts<'static> = Texts {
+    short: help::WORKERS,
+    long: help::LONG_WORKERS,
+};
+
+const PIECE: Texts<'static> = Texts {
+    short: help::PIECE,
+    long: help::LONG_PIECE,
+};
 
 /// Reads the words that follow the program's name.
 pub fn settle_words(alloc: Global, words: &[String]) -> Result<Config, Refused>
@@ -51,8 +59,8 @@ fn command_line<'a>(alloc: Global) -> Result<Command<'a>, AllocError>
     ensures { IfOk result (λ line. app_of line ≡ program) }
 {
     bare_line(alloc)
-        .arg(number_option(alloc, "workers", MOST_WORKERS, "4", help::WORKERS))?
-        .arg(number_option(alloc, "piece", MOST_PIECE, "65536", help::PIECE))?
+        .arg(number_option(alloc, "workers", MOST_WORKERS, "4", WORKERS))?
+        .arg(number_option(alloc, "piece", MOST_PIECE, "65536", PIECE))?
         .arg(label_option(alloc))?
         .arg(flag(alloc, "order", help::ORDER, help::LONG_ORDER))?
         .arg(flag(alloc, "explain", help::EXPLAIN, help::LONG_EXPLAIN))?
@@ -60,6 +68,9 @@ fn command_line<'a>(alloc: Global) -> Result<Command<'a>, AllocError>
         .arg(format_option(alloc))?
         .arg(flag(alloc, "progress", help::PROGRESS, help::LONG_PROGRESS))?
         .arg(flag(alloc, "quiet", help::QUIET, help::LONG_QUIET))?
+        .arg(text_option(alloc, "files0-from", "FILE", help::LIST, help::LONG_LIST))?
+        .arg(text_option(alloc, "label", "NAME", help::LABEL, help::LONG_LABEL))?
+        .arg(flag(alloc, "fail-open", help::FAIL_OPEN, help::LONG_FAIL_OPEN))?
         .arg(file_words(alloc))
 }
 
@@ -75,13 +86,20 @@ fn bare_line<'a>(alloc: Global) -> Command<'a>
         .after_long_help(help::REPORT)
 }
 
+// The short help of an option and the long one.
+#[derive(Clone, Copy)]
+struct Texts<'a> {
+    short: &'a str,
+    long: &'a str,
+}
+
 // An option with a number from 1 to `most`.
 fn number_option<'a>(
     alloc: Global,
     name: &'a str,
     most: u32,
     default: &'a str,
-    text: &'a str,
+    texts: Texts<'a>,
 ) -> Arg<'a>
     ensures rule { rule_of result ≡ number_rule name.entry.now most default.entry.now }
     ensures local { result.global ≡ false }
@@ -92,7 +110,8 @@ fn number_option<'a>(
         .action(ArgAction::Set)
         .value_parser(numbers_to(most))
         .default_value(default)
-        .help(text)
+        .help(texts.short)
+        .long_help(texts.long)
 }
 
 // The option with a label, which may be used more than once.
@@ -105,6 +124,26 @@ fn label_option<'a>(alloc: Global) -> Arg<'a>
         .value_name("LABEL")
         .action(ArgAction::Append)
         .help(help::EXCEPT)
+        .long_help(help::LONG_EXCEPT)
+}
+
+// An option with a text of its own, which is called so in the help.
+fn text_option<'a>(
+    alloc: Global,
+    name: &'a str,
+    value: &'a str,
+    text: &'a str,
+    long_text: &'a str,
+) -> Arg<'a>
+    ensures rule { rule_of result ≡ text_rule name.entry.now }
+    ensures local { result.global ≡ false }
+{
+    Arg::new(alloc, name)
+        .long(name)
+        .value_name(value)
+        .action(ArgAction::Set)
+        .help(text)
+        .long_help(long_text)
 }
 
 // The option with the form of the report.
@@ -143,6 +182,7 @@ fn file_words<'a>(alloc: Global) -> Arg<'a>
         .action(ArgAction::Append)
         .num_args(0..)
         .help(help::FILES)
+        .long_help(help::LONG_FILES)
 }
 
 // What reads a number from 1 to `most`.
@@ -178,21 +218,18 @@ fn settle(alloc: Global, matches: &ArgMatches<'_>) -> Result<Config, Refused>
     let form = form_in(alloc, matches)?;
     let workers = number_in(matches, "workers", MOST_WORKERS, DEFAULT_WORKERS);
     let piece = number_in(matches, "piece", MOST_PIECE, DEFAULT_PIECE);
-    let given = matches.get_strs("files").unwrap_or(&[]);
-    if given.len() > MOST_FILES {
-        return Err(Refused::TooManyFiles);
-    }
+    let sources = sources_in(alloc, matches)?;
     let labels = matches.get_strs("except").unwrap_or(&[]);
     let except = labels_of(alloc, labels)?;
-    let files = owned(alloc, given)?;
     Ok(Config {
         workers,
         piece,
-        files,
+        files: sources,
         except,
         order,
         explain: flag_in(matches, "explain"),
         long,
+        fail_open: flag_in(matches, "fail-open"),
         form,
         progress: progress_in(matches),
     })
@@ -310,16 +347,66 @@ fn order_and_long_in(alloc: Global, matches: &ArgMatches<'_>) -> Result<(bool, b
     let order = flag_in(matches, "order");
     let long = flag_in(matches, "long");
     if long && order {
-        let error = both_given(alloc)?;
-        return Err(refusal_of(alloc, &error));
+        return Err(conflict(alloc, help::LONG_WITH_ORDER));
     }
     Ok((order, long))
 }
 
-// That `--long` and `--order` are both given.
-fn both_given(alloc: Global) -> Result<Error, AllocError> {
+// That two things are given together that don't go together.
+fn conflict(alloc: Global, text: &'static str) -> Refused {
+    match conflict_error(alloc, text) {
+        Ok(error) => refusal_of(alloc, &error),
+        Err(_) => Refused::Memory,
+    }
+}
+
+fn conflict_error(alloc: Global, text: &'static str) -> Result<Error, AllocError> {
     let mut line = command_line(alloc)?;
-    line.error(ErrorKind::ArgumentConflict, help::LONG_WITH_ORDER)
+    line.error(ErrorKind::ArgumentConflict, text)
+}
+
+// What is to be judged.
+fn sources_in(alloc: Global, matches: &ArgMatches<'_>) -> Result<Sources, Refused>
+    ensures asked { IfOk result (λ sources. AreAskedFor sources (texts_told (all_of (codes "files") (rows_of (found_of matches.now)))) (first_of (codes "files0-from") (rows_of (found_of matches.now))) (first_of (codes "label") (rows_of (found_of matches.now)))) }
+    ensures few { IfOk result (λ sources. count_named sources ≤ 2 ^ 16) }
+{
+    let words = matches.get_strs("files").unwrap_or(&[]);
+    let list = matches.get_str("files0-from");
+    let name = matches.get_str("label");
+    sources_asked(alloc, words, list, name)
+}
+
+// What is to be judged where these files, this list of files and this name of standard input are given.
+fn sources_asked(
+    alloc: Global,
+    words: &[&str],
+    list: Option<&str>,
+    name: Option<&str>,
+) -> Result<Sources, Refused>
+    ensures asked { IfOk result (λ sources. AreAskedFor sources (map (λ text. text.now) words.now) (option_map (λ text. text.now) list.entry) (option_map (λ text. text.now) name.entry)) }
+    ensures few { IfOk result (λ sources. count_named sources ≤ 2 ^ 16) }
+{
+    match (words.is_empty(), list, name) {
+        (true, None, None) => Ok(Sources::Standard(None)),
+        (true, None, Some(name)) => Ok(Sources::Standard(Some(String::from_str(alloc, name)?))),
+        (true, Some(path), None) => Ok(Sources::Listed(String::from_str(alloc, path)?)),
+        (false, None, None) => files_asked(alloc, words),
+        (false, Some(_), _) => Err(conflict(alloc, help::LIST_WITH_FILES)),
+        (false, None, Some(_)) => Err(conflict(alloc, help::LABEL_WITH_FILES)),
+        (true, Some(_), Some(_)) => Err(conflict(alloc, help::LABEL_WITH_LIST)),
+    }
+}
+
+// The files of these words.
+fn files_asked(alloc: Global, given: &[&str]) -> Result<Sources, Refused>
+    requires { 0 < length given.now }
+    ensures asked { IfOk result (λ sources. AreAskedFor sources (map (λ text. text.now) given.now) None None) }
+    ensures few { IfOk result (λ sources. count_named sources ≤ 2 ^ 16) }
+{
+    if given.len() > MOST_FILES {
+        return Err(Refused::TooManyFiles);
+    }
+    Ok(Sources::Files(owned(alloc, given)?))
 }
 
 // The form of the report. A word that names none is refused.
@@ -387,7 +474,8 @@ fn progress_of(is_quiet: bool, is_wanted: bool) -> Progress
 
 // Copies of the texts.
 fn owned(alloc: Global, texts: &[&str]) -> Result<Vec<String>, AllocError>
-    ensures { IfOk result (λ all. map string_bytes all.items ≡ map (λ text. text.now) texts.now) }
+    ensures same { IfOk result (λ all. map string_bytes all.items ≡ map (λ text. text.now) texts.now) }
+    ensures len { IfOk result (λ all. vec_len all ≡ length texts.now) }
 {
     let mut all = Vec::new(alloc);
     for text in texts {

@@ -26,8 +26,11 @@ use aero_program::command::{Config, Stop, TICK};
 use aero_program::files::{FilesOf, MeteredFiles};
 use aero_program::output::Output;
 use aero_program::retrying::Retrying;
+use aero_program::sizes::whole_size;
 use aero_progress::beside::Beside;
+use aero_progress::line::{Line, Surface};
 use aero_progress::metered::Metered;
+use aero_progress::reached::Work;
 use aero_progress::ticker::{Pace, Ticker};
 use aero_words::words::settle_words;
 use std::alloc::Global;
@@ -44,16 +47,15 @@ fn main(rt: HostRuntime) -> ExitCode {
         input: rt.stdin(),
         output: rt.stdout(),
         errors: rt.stderr(),
-        is_screen: rt.stdout().is_terminal(),
     };
     let asked = asked_by(&rt);
-    let ticker = ticker_for(
-        rt,
-        rt.alloc(),
-        &asked,
-        rt.stderr(),
-        rt.stderr().is_terminal(),
-    );
+    let surface = if rt.stderr().is_terminal() {
+        Surface::Terminal
+    } else {
+        Surface::Other
+    };
+    let line = Line::new(rt.stderr(), surface);
+    let ticker = ticker_for(rt, rt.alloc(), &asked, line);
     let status = answer_beside(rt, rt.alloc(), asked, streams, ticker.as_ref());
     if let Some(ticker) = ticker {
         ticker.stop(&rt);
@@ -67,27 +69,35 @@ fn asked_by<R: Runtime + AllocGlobal>(rt: &R) -> Result<Config, Stop> {
     Ok(settle_words(rt.alloc(), &words)?)
 }
 
-// What writes the line on progress to the writer, if it is asked for and can be had.
+// What shows on the line how far the run has come, if that is asked for and can be had, and if it is known how many
+// sources there are.
 fn ticker_for<W, R>(
     rt: R,
     alloc: Global,
     asked: &Result<Config, Stop>,
-    writer: W,
-    is_terminal: bool,
+    line: Line<W>,
 ) -> Option<Ticker<W>>
 where
     W: Write + Drop + Send + 'static,
-    R: Threads + Wait + Clock + Copy + Send + 'static,
+    R: Files + Threads + Wait + Clock + Copy + Drop + Send + 'static,
 {
     let Ok(config) = asked else {
         return None;
     };
+    if !config.files.are_counted() {
+        return None;
+    }
+    let is_terminal = line.surface() == Surface::Terminal;
     let pace = Pace {
         first_after: config.progress.first_after(is_terminal)?,
         tick: TICK,
     };
-    let sources = config.files.len().max(1);
-    Ticker::start(rt, alloc, writer, sources as u64, pace)
+    let named = config.files.named();
+    let work = Work {
+        sources: named.len().max(1) as u64,
+        size: whole_size(&FilesOf::new(rt), named),
+    };
+    Ticker::start(rt, alloc, line, work, pace)
 }
 
 // The three standard streams.
@@ -96,12 +106,10 @@ struct Streams<I, O, E> {
     input: I,
     output: O,
     errors: E,
-    // Whether standard output is a terminal, which the line on progress may share.
-    is_screen: bool,
 }
 
-// Does what is asked for. Where there is a line on progress, it hears what is read, and makes room for
-// what is written to its terminal.
+// Does what is asked for. Where there is a line on progress, it hears what is read and what is out, and makes room
+// for what is written: standard output may lead to its terminal by way of another program.
 fn answer_beside<I, O, E, L, R>(
     rt: R,
     alloc: Global,
@@ -118,8 +126,8 @@ where
 {
     let line = ticker.map(|ticker| ticker.line());
     let meter = ticker.map(|ticker| ticker.meter());
-    let on_screen = if streams.is_screen { line } else { None };
-    let mut output = Output::new(Beside::new(rt, streams.output, on_screen));
+    let told = Metered::new(streams.output, meter);
+    let mut output = Output::new(Beside::new(rt, told, line));
     let mut errors = Counting::new(Retrying::new(Beside::new(rt, streams.errors, line)));
     let files = MeteredFiles::new(FilesOf::new(rt), meter);
     let input = Metered::new(streams.input, meter);

@@ -1,7 +1,11 @@
-// The sources that words name: which may wait.
+// The sources that are asked for: their names, which may wait, and how many bytes they have.
 use crate::program::streams::{Drawer, Text};
 use aero_batch::source::Source;
+use aero_program::command::Sources;
+use aero_program::files::FilesOf;
 use aero_program::input::Input;
+use aero_program::listing::Unlisted;
+use aero_program::sizes::{Sizes, whole_size};
 use aero_program::sources::sources_of;
 use std::alloc::{AllocError, Global};
 use std::test::Fail;
@@ -11,22 +15,30 @@ const EMPTY: Text = Text {
     failures: 0,
 };
 
-type Sources<'a> = Vec<Source<Input<Text, &'a Drawer>>>;
+type Made<'a> = Vec<Source<Input<Text, &'a Drawer>>>;
 
+// The files of the words, or standard input where there are none.
 fn sources_named<'a>(
     alloc: Global,
     files: &'a Drawer,
     words: &[&str],
-) -> Result<Sources<'a>, AllocError> {
+) -> Result<Made<'a>, Unlisted> {
+    if words.is_empty() {
+        return sources_of(alloc, files, EMPTY, &Sources::Standard(None));
+    }
+    sources_of(alloc, files, EMPTY, &Sources::Files(owned(alloc, words)?))
+}
+
+fn owned(alloc: Global, words: &[&str]) -> Result<Vec<String>, AllocError> {
     let mut owned = Vec::new(alloc);
     for word in words {
         owned.push(String::from_str(alloc, word)?)?;
     }
-    sources_of(alloc, files, EMPTY, &owned)
+    Ok(owned)
 }
 
 // Whether those of the sources may wait that should.
-fn may_wait_so(sources: &Sources<'_>, wanted: &[bool]) -> bool {
+fn may_wait_so(sources: &Made<'_>, wanted: &[bool]) -> bool {
     let mut are_same = sources.len() == wanted.len();
     for (source, may_wait) in sources.iter().zip(wanted) {
         are_same &= source.may_wait == *may_wait;
@@ -36,10 +48,108 @@ fn may_wait_so(sources: &Sources<'_>, wanted: &[bool]) -> bool {
 
 // A file may wait that isn't plain, and standard input.
 #[test]
-fn what_is_no_plain_file_may_wait(rt: HostRuntime) -> Result<(), Fail> {
+fn what_is_no_plain_file_may_wait(rt: HostRuntime) {
     let drawer = Drawer { text: b"" };
-    let files = sources_named(rt.alloc(), &drawer, &["p1", "q", "p2"])?;
-    let alone = sources_named(rt.alloc(), &drawer, &[])?;
-    assert!(rt; may_wait_so(&files, &[false, true, false]) && may_wait_so(&alone, &[true]));
+    let files = sources_named(rt.alloc(), &drawer, &["p1", "q", "p2"]);
+    let alone = sources_named(rt.alloc(), &drawer, &[]);
+    assert!(rt; do_wait_so(&files, &[false, true, false]) && do_wait_so(&alone, &[true]));
+}
+
+fn do_wait_so(sources: &Result<Made<'_>, Unlisted>, wanted: &[bool]) -> bool {
+    match sources {
+        Ok(sources) => may_wait_so(sources, wanted),
+        Err(_) => false,
+    }
+}
+
+// A list, the names of the files in it, and which of them may wait. A name that isn't UTF-8 is no path.
+type Listed = (&'static [u8], &'static [&'static [u8]], &'static [bool]);
+
+static LISTED: [Listed; 9] = [
+    (b"", &[], &[]),
+    (b"p1\0", &[b"p1"], &[false]),
+    (b"p1", &[b"p1"], &[false]),
+    (b"\0", &[b""], &[true]),
+    (b"q\0p\0", &[b"q", b"p"], &[true, false]),
+    (b"q\0p", &[b"q", b"p"], &[true, false]),
+    (b"\0\0p", &[b"", b"", b"p"], &[true, true, false]),
+    (b"p\n \0-\0", &[b"p\n ", b"-"], &[false, true]),
+    (
+        b"q\xff\0\xc3\xa9\0",
+        &[b"q\xff", b"\xc3\xa9"],
+        &[false, true],
+    ),
+];
+
+// Whether the list at the path names them.
+fn is_listed(alloc: Global, path: &str, row: &Listed) -> bool {
+    let drawer = Drawer { text: row.0 };
+    let stdin = Text {
+        left: row.0,
+        failures: 0,
+    };
+    let Ok(path) = String::from_str(alloc, path) else {
+        return false;
+    };
+    match sources_of(alloc, &drawer, stdin, &Sources::Listed(path)) {
+        Ok(sources) => are_named(&sources, row.1) && may_wait_so(&sources, row.2),
+        Err(_) => false,
+    }
+}
+
+// Whether the sources have these names.
+fn are_named(sources: &Made<'_>, names: &[&[u8]]) -> bool {
+    let mut are_same = sources.len() == names.len();
+    for (source, name) in sources.iter().zip(names) {
+        are_same &= source.name.as_slice() == *name;
+    }
+    are_same
+}
+
+// The first row that doesn't hold, of a list in standard input or in a file.
+fn first_mislisted(alloc: Global, path: &str) -> Option<usize> {
+    for i in 0..LISTED.len() {
+        if !is_listed(alloc, path, &LISTED[i]) {
+            return Some(i);
+        }
+    }
+    None
+}
+
+#[test]
+fn the_names_in_a_list(rt: HostRuntime) {
+    let wrong = (
+        first_mislisted(rt.alloc(), "-"),
+        first_mislisted(rt.alloc(), "list"),
+    );
+    assert!(rt; wrong == (None, None));
+}
+
+// How many bytes the files of these words have together.
+fn size_of<Z: Sizes>(alloc: Global, files: &Z, words: &[&str]) -> Result<Option<u64>, AllocError> {
+    let mut owned = Vec::new(alloc);
+    for word in words {
+        owned.push(String::from_str(alloc, word)?)?;
+    }
+    Ok(whole_size(files, &owned))
+}
+
+// The whole size is known where each word names a plain file, and it has no more bytes than a number may say.
+#[test]
+fn the_whole_size_is_that_of_plain_files(rt: HostRuntime) -> Result<(), Fail> {
+    let drawer = Drawer { text: b"" };
+    let rows: [(&[&str], Option<u64>); 6] = [
+        (&["p1"], Some(2)),
+        (&["p1", "p22", "p1"], Some(7)),
+        (&["p1", "q"], None),
+        (&["p+"], Some(u64::MAX)),
+        (&["p+", "p1"], None),
+        (&[], None),
+    ];
+    for (words, expected) in rows {
+        assert!(rt; size_of(rt.alloc(), &drawer, words)? == expected);
+    }
+    let of_system = size_of(rt.alloc(), &FilesOf::new(rt), &["/dev/null"])?;
+    assert!(rt; of_system == None);
     Ok(())
 }

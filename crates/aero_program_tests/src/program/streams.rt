@@ -2,6 +2,7 @@
 ghost use Rattle.std.specs.Prelude.{⊤};
 
 use aero_program::files::Opener;
+use aero_program::sizes::Sizes;
 use std::alloc::Global;
 use std::io;
 use std::io::{ErrorKind, Read, Write};
@@ -189,6 +190,22 @@ impl Opener for Drawer {
 
     fn is_plain(&self, path: &str) -> bool {
         path.starts_with("p")
+    }
+}
+
+// A plain one has as many bytes as its path, and that at `p+` as many as there can be.
+impl Sizes for Drawer {
+    ghost has_size = { λ _ _. ⊤ };
+
+    fn size(&self, path: &str) -> Option<u64> {
+        if path == "p+" {
+            return Some(u64::MAX);
+        }
+        if self.is_plain(path) {
+            Some(path.len() as u64)
+        } else {
+            None
+        }
     }
 }
 

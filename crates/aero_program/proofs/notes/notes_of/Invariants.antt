@@ -5,6 +5,6 @@ use Rattle.aero_program.proofs.notes.notes_of.Given as goal
 -- the lines on the sources so far, and how many these are
 abbrev pub invariant-loop-source : goal.invariant-loop-source
 invariant-loop-source g l = record {
-  text : l.text.items ≡ notes (noted_of_all l.yielded l.endings);
+  text : l.text.items ≡ notes (noted_of_all l.are_words l.yielded l.endings l.faults);
   place : l.place ≡ length l.yielded;
 }

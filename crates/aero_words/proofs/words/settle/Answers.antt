@@ -8,12 +8,12 @@ returns c = record {
   workers = c.number_in-workers.ensures.told;
   piece = c.number_in-piece.ensures.told;
   except = c.in_ok-except.ensures.same
-      ∙ texts_read (found_of c.args.matches.now) (codes "except") c.get_strs-2.result c.unwrap_or-labels.result _ c.get_strs-2.ensures c.unwrap_or-labels.ensures refl;
+      ∙ texts_read (found_of c.args.matches.now) (codes "except") c.get_strs.result c.unwrap_or-labels.result _ c.get_strs.ensures c.unwrap_or-labels.ensures refl;
   order = c.in_ok-order.ensures.order;
   explain = c.flag_in.ensures;
   long = c.in_ok-order.ensures.long;
+  fail_open = c.flag_in-2.ensures;
   form = c.in_ok-form.ensures;
   progress = c.progress_in.ensures;
-  files = c.in_ok-files.ensures
-      ∙ texts_read (found_of c.args.matches.now) (codes "files") c.get_strs.result c.unwrap_or-given.result _ c.get_strs.ensures c.unwrap_or-given.ensures refl;
+  sources = c.in_ok-sources.ensures.asked;
 }

@@ -1,0 +1,29 @@
+use Rattle.std.proofs.Common.{◌≡◌, ◌<◌, ◌+◌, ◌^◌, ◌∙◌, ap, ap₂, sym, subst, arith, take, cond, ℕ}
+use Rattle.std.specs.Io.KnownBytes.{Consumes}
+use Rattle.std.specs.List.{count_by}
+use Rattle.std.proofs.KnownBytes.{Consumes-trans}
+use Rattle.std.proofs.lemmas.List.Sums.{sum_by-append}
+use Rattle.aero_program.specs.Inputs.{bytes_left, standing_of}
+use Rattle.aero_program.specs.Listing.{is_name_end}
+use Rattle.aero_program.proofs.Names.{names_ended}
+use Rattle.aero_program.proofs.listing.gather.Goals as goal
+
+pub returns-then-ends-gt-MOST_FILES-clause-fault : goal.returns-then-ends-gt-MOST_FILES-clause-fault
+returns-then-ends-gt-MOST_FILES-clause-fault g c = λ none.
+    let known = g.S.Read.remaining in
+    let list = c.extend_from_slice.new.self.items in
+    let piece = take c.in-Ok.count c.read.new.buf in
+    let both : count_by is_name_end list ≡ c.loop.ends + c.count_ends-ends.result =
+    ap (count_by is_name_end) c.in_ok-extend_from_slice.ensures.items
+    ∙ (sum_by-append (λ b. cond (is_name_end b) 1 0) c.loop.list.items piece
+    ∙ ap₂ (λ (a b : ℕ). a + b) (sym c.loop.invariant.ends) (sym c.count_ends-ends.ensures)) in
+    let ended = names_ended list in
+    let more : 2 ^ 16 < c.loop.ends + c.count_ends-ends.result = c.if-ends-gt-MOST_FILES.true in
+    record {
+      list = list;
+      left = bytes_left (standing_of known c.read.new.self);
+      came = subst (Consumes (bytes_left (standing_of known c.args.input.now)) (bytes_left (standing_of known c.read.new.self))) (sym c.in_ok-extend_from_slice.ensures.items)
+          (Consumes-trans (bytes_left (standing_of known c.args.input.now)) (bytes_left (standing_of known c.loop.input)) (bytes_left (standing_of known c.read.new.self)) c.loop.list.items piece
+          c.loop.invariant.came c.in-Ok.ensures.bytes.0);
+      many = omega (arith, both, ended, more);
+    }

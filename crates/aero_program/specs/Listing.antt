@@ -1,0 +1,45 @@
+-- The names of files in a list, each ended by a byte 0.
+use Rattle.std.specs.Prelude.{◌≡◌, ◌<◌, ◌^◌, ℕ, ◌==◌, Bool, if◌then◌else◌, List, length, Option, Some, None, ⊤, codes}
+use Rattle.std.specs.Io.KnownBytes.{Consumes, IsAtEnd}
+use Rattle.std.specs.List.{slice_split}
+use Rattle.std.specs.Str.{bytes_eq}
+use Rattle.aero_model.specs.Lines.{without_empty_last}
+use Rattle.aero_program.specs.declared.listing.Unlisted.{Unlisted}
+use Rattle.aero_program.specs.declared.listing.Unlisted.TheVariants.{Unread, TooMany, Memory}
+use Rattle.aero_program.specs.declared.reason.Reason.{Reason}
+
+abbrev pub is_name_end : ℕ → Bool
+is_name_end b = b == 0
+
+-- The list is cut at each byte 0, and an empty last part is no name.
+abbrev pub names_in : List ℕ → List (List ℕ)
+names_in list = without_empty_last (slice_split is_name_end list)
+
+-- the bytes of the list at this path, where they are known: those of standard input, where it is `-`
+abbrev pub list_given : List ℕ → Option (List ℕ) → Option (List ℕ)
+list_given path given = if bytes_eq path (codes "-") then given else None
+
+-- the list is all that its reader had, which has these bytes
+pub record IsWhole (given : Option (List ℕ)) (list : List ℕ) : Type 0 where
+  pub left : Option (List ℕ)
+  pub came : Consumes given left list
+  pub ends : IsAtEnd left
+
+-- what the reader had first has more than 65,536 names
+pub record HasTooMany (given : Option (List ℕ)) : Type 0 where
+  pub list : List ℕ
+  pub left : Option (List ℕ)
+  pub came : Consumes given left list
+  pub many : 2 ^ 16 < length (names_in list)
+
+-- why a list couldn't be had: a read failed, or it has too many names, or memory was refused
+abbrev pub IsListFault : (given : Option (List ℕ)) → Unlisted → Type 0
+IsListFault given (Unread why) = ⊤
+IsListFault given TooMany = HasTooMany given
+IsListFault given Memory = ⊤
+
+-- why a list wasn't read to its end: a read failed, of whose reader this is the first reason then, or there are too many names, or memory was refused
+abbrev pub IsFaultOf : (given : Option (List ℕ)) → Option Reason → Unlisted → Type 0
+IsFaultOf given reason (Unread why) = reason ≡ Some why
+IsFaultOf given reason TooMany = HasTooMany given
+IsFaultOf given reason Memory = ⊤
