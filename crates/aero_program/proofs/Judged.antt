@@ -1,5 +1,6 @@
 -- A run, a flush and what was told after it, as one.
 use Rattle.std.proofs.Common.{◌≡◌, ◌∙◌, ℕ, Bool, if◌then◌else◌, List, [], ◌∷◌, map, Option, Result, ap, subst, refl}
+use Rattle.std.specs.declared.io.ErrorKind.{ErrorKind}
 use Rattle.aero_model.specs.declared.limits.Limits.{Limits}
 use Rattle.aero_model.specs.declared.verdict.Counts.{Counts}
 use Rattle.aero_model.specs.declared.verdict.Ending.{Ending}
@@ -35,14 +36,14 @@ names_noted words known (source ∷ more) (ending ∷ rest) (fault ∷ faults) =
 
 pub judged : {S O F : Type 0} (known : Input S O F → Option (List ℕ)) (config : Config) (given : Option (List ℕ)) (limits : Limits) (names : List (List ℕ))
     (was lent new now : List (Source (Input S O F))) (before between after : Shown) (endings : List (ℕ × Ending)) (faults : List (Option FaultyLine)) (counts : Counts) (cause : Option Cause)
-    (has_failed : Bool) (end : Result ℕ Failure) (told told_after : Seen) (status : ℕ) (terms : Terms) (made : Form)
+    (fault : Option ErrorKind) (end : Result ℕ Failure) (told told_after : Seen) (status : ℕ) (terms : Terms) (made : Form)
     → terms ≡ asking limits config.except.items config.order config.explain → made ≡ config.form → AreLimitsFor config.long limits
     → AreNames config.files given names → map (sighted known) was ≡ source_sightings config.files given names → lent ≡ was → now ≡ new
     → WasRun terms made (map (sighted known) lent) (map (sighted known) new) before.writer between.writer endings faults counts cause
-    → between.unflushed ≡ before.unflushed → WasFlushed between after has_failed → end ≡ end_of_run config.fail_open cause counts has_failed
+    → between.unflushed ≡ before.unflushed → WasFlushed between after fault → end ≡ end_of_run config.fail_open cause counts fault
     → Ends (noted_of_all (are_words config.files) now (if config.long then [] else endings) faults) end told told_after status
     → WasJudged config given before after told told_after status
-judged known config given limits names was lent new now before between after endings faults counts cause has_failed end told told_after status terms made
+judged known config given limits names was lent new now before between after endings faults counts cause fault end told told_after status terms made
     on_terms in_form are named seen is_was is_new run same flushed ended ends =
     let sightings : List Sighted = source_sightings config.files given names in
     let wanted : Terms = asking limits config.except.items config.order config.explain in
@@ -66,12 +67,12 @@ judged known config given limits names was lent new now before between after end
       cause = cause;
       ran = ran;
       same = same;
-      has_failed = has_failed;
+      fault = fault;
       flushed = flushed;
       noted = noted_of_all words new noted_endings faults;
       of_names = names_noted words known new noted_endings faults ∙ ran.names ∙ names_of_sightings (bytes_known config.files given) names;
       are_noted = are_noted words new noted_endings faults;
       are_faulty = are_faulty words new noted_endings faults;
-      ends = subst (λ l. Ends (noted_of_all words l noted_endings faults) (end_of_run config.fail_open cause counts has_failed) told told_after status) is_new
+      ends = subst (λ l. Ends (noted_of_all words l noted_endings faults) (end_of_run config.fail_open cause counts fault) told told_after status) is_new
           (subst (λ e. Ends (noted_of_all words now noted_endings faults) e told told_after status) ended ends);
     }

@@ -1,4 +1,6 @@
+mod Faulting
 mod Fronts
+mod Helping
 mod Interruptions
 mod Judged
 mod Names

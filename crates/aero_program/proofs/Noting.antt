@@ -1,5 +1,5 @@
 -- What was noted of the sources, one after another.
-use Rattle.std.proofs.Common.{◌≡◌, ◌∙◌, ℕ, zero, suc, Bool, false, true, List, [], ◌∷◌, ◌++◌, length, get_or, nat_lt, Option, None, Some, Result, inl, inr, ap, sym, subst, refl}
+use Rattle.std.proofs.Common.{◌≡◌, ◌∙◌, ℕ, zero, suc, Bool, false, List, [], ◌∷◌, ◌++◌, length, get_or, nat_lt, Option, None, Some, Result, inl, inr, ap, sym, subst, refl}
 use Rattle.std.specs.Borrow.{Bor}
 use Rattle.std.specs.Option.{option_copied}
 use Rattle.std.specs.Prelude.{slice_get, is_some, IfSome, IfOk}

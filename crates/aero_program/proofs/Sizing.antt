@@ -1,5 +1,5 @@
 -- One file more.
-use Rattle.std.proofs.Common.{◌≡◌, ◌∙◌, ◌+◌, ℕ, List, [], ◌∷◌, ◌++◌, ap, refl, arith}
+use Rattle.std.proofs.Common.{◌+◌, ℕ, List, [], ◌∷◌, ◌++◌, refl, arith}
 use Rattle.aero_program.specs.Sizes.{AreSizes}
 
 pub one_more : (has_size : List ℕ → ℕ → Type 0) (files : List (List ℕ)) (file : List ℕ) (whole size : ℕ) → AreSizes has_size files whole → has_size file size

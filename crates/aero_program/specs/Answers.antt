@@ -1,5 +1,6 @@
 -- What the program does with what its words ask for: what goes out on standard output and standard error, and the exit status.
-use Rattle.std.specs.Prelude.{◌≡◌, ◌⊎◌, ℕ, Bool, if◌then◌else◌, List, [], ◌++◌, map, Option, Result, Ok, Err, string_bytes}
+use Rattle.std.specs.Prelude.{◌≡◌, ◌⊎◌, ℕ, if◌then◌else◌, List, [], ◌++◌, map, Option, Result, Ok, Err, string_bytes}
+use Rattle.std.specs.declared.io.ErrorKind.{ErrorKind}
 use Rattle.aero_model.specs.declared.limits.Limits.{Limits}
 use Rattle.aero_model.specs.declared.verdict.Counts.{Counts}
 use Rattle.aero_model.specs.declared.verdict.Ending.{Ending}
@@ -17,11 +18,11 @@ use Rattle.aero_program.specs.declared.failure.Failure.TheVariants as failure
 use Rattle.aero_program.specs.declared.listing.Unlisted.{Unlisted}
 use Rattle.aero_program.specs.declared.listing.Unlisted.TheVariants as unlisted
 use Rattle.aero_program.specs.Command.{AreLimitsFor, are_words, list_path}
-use Rattle.aero_program.specs.Failure.{failure_of, failure_status, line_of}
+use Rattle.aero_program.specs.Failure.{cut_failure, failure_of, failure_status, line_of}
 use Rattle.aero_program.specs.Notes.{AreFaulty, AreNoted, Noted, note_line, notes}
 use Rattle.aero_program.specs.Reasons.{reason_words}
 use Rattle.aero_program.specs.Sightings.{AreNames, AreUnlisted, source_sightings}
-use Rattle.aero_program.specs.Status.{end_of_run}
+use Rattle.aero_program.specs.Status.{end_of_help, end_of_run}
 use Rattle.aero_program.specs.Streams.{IsTold, Shown, WasCut, WasFlushed}
 
 -- a failure is told on standard error, and has its status
@@ -37,17 +38,20 @@ EndsAs (Err why) told told_after status = Fails why told told_after status
 -- the help went out whole, and then a flush decides
 pub record WasHelped (text : List ℕ) (shown shown_after : Shown) (told told_after : Seen) (status : ℕ) : Type 0 where
   pub between : Shown
-  pub has_failed : Bool
+  pub fault : Option ErrorKind
   pub took : Took shown.writer between.writer text
   pub same : between.unflushed ≡ shown.unflushed
-  pub flushed : WasFlushed between shown_after has_failed
-  pub ends : EndsAs (if has_failed then Err failure.Write else Ok 0) told told_after status
+  pub flushed : WasFlushed between shown_after fault
+  pub ends : EndsAs (end_of_help fault) told told_after status
 
--- or a write failed
+-- or a write failed, and then a flush
 pub record HelpWasCut (text : List ℕ) (shown shown_after : Shown) (told told_after : Seen) (status : ℕ) : Type 0 where
-  pub cut : WasCut shown.writer shown_after.writer text
-  pub same : shown_after.unflushed ≡ shown.unflushed
-  pub fails : Fails failure.Write told told_after status
+  pub between : Shown
+  pub fault : Option ErrorKind
+  pub cut : WasCut shown.writer between.writer text
+  pub same : between.unflushed ≡ shown.unflushed
+  pub flushed : WasFlushed between shown_after fault
+  pub fails : Fails (cut_failure fault) told told_after status
 
 -- the help goes out on standard output, and standard error hears only of a write or a flush that fails
 abbrev pub Helps : List ℕ → Shown → Shown → Seen → Seen → ℕ → Type 0
@@ -86,13 +90,13 @@ pub record WasJudged (config : Config) (given : Option (List ℕ)) (shown shown_
   pub cause : Option Cause
   pub ran : WasRun (asking limits config.except.items config.order config.explain) config.form (source_sightings config.files given names) sources shown.writer between.writer endings faults counts cause
   pub same : between.unflushed ≡ shown.unflushed
-  pub has_failed : Bool
-  pub flushed : WasFlushed between shown_after has_failed
+  pub fault : Option ErrorKind
+  pub flushed : WasFlushed between shown_after fault
   pub noted : List Noted
   pub of_names : map (λ n. n.name) noted ≡ names
   pub are_noted : AreNoted (are_words config.files) (if config.long then [] else endings) noted
   pub are_faulty : AreFaulty faults noted
-  pub ends : Ends noted (end_of_run config.fail_open cause counts has_failed) told told_after status
+  pub ends : Ends noted (end_of_run config.fail_open cause counts fault) told told_after status
 
 -- how it is told that there are no sources, since the list with their names, at this path, can't be had
 abbrev pub TellsUnlisted : (path : List ℕ) → Unlisted → Seen → Seen → ℕ → Type 0

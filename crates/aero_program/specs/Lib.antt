@@ -1,10 +1,11 @@
--- To be believed: Answers (what goes out, and the exit status), with Failure, Status, Streams and Notes. Also Command
--- (the limits and the line on progress), Inputs (files and standard input), Sightings and Listing (the names of the
--- sources), Retries and Calls (calls that were interrupted), Starts, Reasons and Sizes. Nothing here serves proofs alone.
+-- To be believed: Answers (what goes out, and the exit status), with Failure, Status, Streams, Faults and Notes. Also
+-- Command (the limits and the line on progress), Inputs (files and standard input), Sightings and Listing (the names of
+-- the sources), Retries and Calls (calls that were interrupted), Starts, Reasons and Sizes. Nothing here serves proofs alone.
 pub mod Answers
 pub mod Calls
 pub mod Command
 pub mod Failure
+pub mod Faults
 pub mod Inputs
 pub mod Listing
 pub mod Notes

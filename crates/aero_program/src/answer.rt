@@ -13,6 +13,7 @@ use crate::command::{Config, Refused, Stop};
 use crate::failure::Failure;
 use crate::files::Opener;
 use crate::input::Input;
+use crate::lasting::flush_fault;
 use crate::listing::Unlisted;
 use crate::notes::{notes_of, reason_note};
 use crate::output::Output;
@@ -186,13 +187,15 @@ fn tell_help<O: Write, E: Write>(text: &str, output: &mut Output<O>, errors: &mu
     ensures { Helps text.now (shown_by O.contents output.old) (shown_by O.contents output.new)
         (seen_by E.contents errors.old) (seen_by E.contents errors.new) result }
 {
-    if tell(&mut output.writer, text.as_bytes()).is_err() {
-        return fail(Failure::Write, errors);
+    let told = tell(&mut output.writer, text.as_bytes());
+    let fault = flush_fault(&output.flush());
+    if told.is_err() {
+        return fail(Failure::of_cut(fault), errors);
     }
-    if output.flush().is_err() {
-        return fail(Failure::Write, errors);
+    match fault {
+        Some(kind) => fail(Failure::of_write(kind), errors),
+        None => 0,
     }
-    0
 }
 
 // Tells why the program fails, and gives its status.

@@ -1,17 +1,20 @@
 //! Why the program stops without a whole report, apart from what the words' reader says itself.
 ghost use Rattle.std.specs.Prelude.{◌≡◌};
-ghost use Rattle.aero_program.specs.Failure.{line_of, failure_status};
+ghost use Rattle.aero_program.specs.Failure.{cut_failure, failure_status, line_of, write_failure};
 
 use crate::arguments::Unread;
 use std::alloc::AllocError;
+use std::io::ErrorKind;
 
-/// Why the program stops without a whole report. For each it writes one line to standard error.
+/// Why the program stops without a whole report. For each but `Closed` it writes one line to standard error.
 #[derive(Clone, Copy, Debug, PartialEq, Eq)]
 pub enum Failure {
     /// Memory was refused.
     Memory,
     /// A write to standard output failed or took nothing, or the flush failed.
     Write,
+    /// Standard output is a pipe whose reader has gone.
+    Closed,
     /// The command line names more than 65,536 files.
     TooManyFiles,
     /// The command line gives as a label what is none.
@@ -23,13 +26,34 @@ pub enum Failure {
 }
 
 impl Failure {
-    /// The line on standard error, with its line end.
+    /// Why a write or a flush of standard output that failed so stops the program.
+    pub fn of_write(kind: ErrorKind) -> Failure
+        ensures { result ≡ write_failure kind }
+    {
+        match kind {
+            ErrorKind::BrokenPipe => Failure::Closed,
+            _ => Failure::Write,
+        }
+    }
+
+    /// Why a write that failed does, where this is how the flush after it did.
+    pub fn of_cut(flush: Option<ErrorKind>) -> Failure
+        ensures { result ≡ cut_failure flush }
+    {
+        match flush {
+            Some(kind) => Failure::of_write(kind),
+            None => Failure::Write,
+        }
+    }
+
+    /// The line on standard error, with its line end; nothing of `Closed`.
     pub fn line(self) -> &'static str
         ensures { result.now ≡ line_of self }
     {
         match self {
             Failure::Memory => "aerodrome: out of memory\n",
             Failure::Write => "aerodrome: write failed\n",
+            Failure::Closed => "",
             Failure::TooManyFiles => "aerodrome: more than 65536 files\n",
             Failure::BadLabel => "aerodrome: not a label\n",
             Failure::TooManyLabels => "aerodrome: more than 64 labels\n",
@@ -44,7 +68,7 @@ impl Failure {
         match self {
             Failure::TooManyFiles | Failure::BadLabel | Failure::TooManyLabels | Failure::NotUtf8 =>
                 3,
-            Failure::Memory | Failure::Write => 4,
+            Failure::Memory | Failure::Write | Failure::Closed => 4,
         }
     }
 }

@@ -29,6 +29,8 @@
 //! - A file is opened at its first read, by any `Opener`. It has bytes or an end only where an open can have worked, and
 //!   after a failed open each read fails: `Input::path`, `read`, `steps`.
 //! - An input notes its first three bytes and its first failure: `Input::read`, `start`, `reason`.
+//! - Where the flush of standard output fails as that of a pipe whose reader has gone, no line says so: `answer`,
+//!   `status_after`, `Failure::of_write`, `of_cut`.
 //! - The whole size of files is the sum of theirs, where each is known: `whole_size`.
 //! - A call through `Retrying` is done exactly where one call of the stream was done, and once. It fails exactly where
 //!   one failed otherwise than by an interruption, or after 2^64 - 1 interruptions: `Retrying`: `read`, `write`,
@@ -49,6 +51,7 @@ pub mod command;
 pub mod failure;
 pub mod files;
 pub mod input;
+mod lasting;
 pub mod listing;
 pub mod notes;
 pub mod output;

@@ -1,8 +1,11 @@
 //! The exit status of a run.
-ghost use Rattle.std.specs.Prelude.{◌≡◌, is_err};
+ghost use Rattle.std.specs.Prelude.{◌≡◌};
+ghost use Rattle.std.specs.IoError.{error_kind};
+ghost use Rattle.aero_program.specs.Faults.{fault_of};
 ghost use Rattle.aero_program.specs.Status.{status_of, end_of_run};
 
 use crate::failure::Failure;
+use crate::lasting::flush_fault;
 use aero_batch::outcome::{Cause, Outcome};
 use std::io;
 
@@ -24,22 +27,23 @@ pub fn status(outcome: &Outcome, fail_open: bool) -> u8
 }
 
 /// How the program ends after a run: its exit status, where the report was written and the flush of
-/// standard output, whose result this is, didn't fail.
+/// standard output, whose result this is, didn't fail. A flush after a failed write fails as that did.
 ///
 /// # Errors
 ///
-/// `Memory` or `Write` where the run stopped for that; `Write` where the flush failed.
+/// `Memory` where the run stopped for that; `Write` where a write or the flush failed, or `Closed` where it did with
+/// `ErrorKind::BrokenPipe`.
 pub fn status_after(
     outcome: &Outcome,
     flushed: &io::Result<()>,
     fail_open: bool,
 ) -> Result<u8, Failure>
-    ensures { result ≡ end_of_run fail_open outcome.now.cause outcome.now.counts (is_err flushed.now) }
+    ensures { result ≡ end_of_run fail_open outcome.now.cause outcome.now.counts (fault_of error_kind flushed.now) }
 {
-    match outcome.cause {
-        Some(Cause::Memory) => Err(Failure::Memory),
-        Some(Cause::Write) => Err(Failure::Write),
-        None if flushed.is_err() => Err(Failure::Write),
-        None => Ok(status(outcome, fail_open)),
+    match (outcome.cause, flush_fault(flushed)) {
+        (Some(Cause::Memory), _) => Err(Failure::Memory),
+        (Some(Cause::Write), fault) => Err(Failure::of_cut(fault)),
+        (None, Some(kind)) => Err(Failure::of_write(kind)),
+        (None, None) => Ok(status(outcome, fail_open)),
     }
 }

@@ -1,3 +1,5 @@
+mod named;
+mod pipes;
 pub(crate) mod sources;
 pub(crate) mod streams;
 
@@ -82,6 +84,7 @@ fn each_end_has_its_status(rt: HostRuntime) {
     let failures = [
         (Failure::Memory, "aerodrome: out of memory\n", 4),
         (Failure::Write, "aerodrome: write failed\n", 4),
+        (Failure::Closed, "", 4),
         (
             Failure::TooManyFiles,
             "aerodrome: more than 65536 files\n",
@@ -98,6 +101,23 @@ fn each_end_has_its_status(rt: HostRuntime) {
     for (failure, line, expected) in failures {
         assert!(rt; failure.line() == line);
         assert_eq!(rt; failure.status(), expected);
+    }
+}
+
+// A failed write ends a run as its kind says, which the flush tells.
+#[test]
+fn a_failed_write_ends_a_run_as_its_kind_says(rt: HostRuntime) {
+    let rows = [
+        (None, ErrorKind::StorageFull, Failure::Write),
+        (None, ErrorKind::BrokenPipe, Failure::Closed),
+        (Some(Cause::Write), ErrorKind::StorageFull, Failure::Write),
+        (Some(Cause::Write), ErrorKind::BrokenPipe, Failure::Closed),
+        (Some(Cause::Memory), ErrorKind::BrokenPipe, Failure::Memory),
+    ];
+    for (cause, kind, expected) in rows {
+        let outcome = outcome_of(rt.alloc(), [1, 0, 0, 0], cause);
+        let end = status_after(&outcome, &Err(io::Error::from(kind)), false);
+        assert!(rt; end == Err(expected));
     }
 }
 
@@ -181,7 +201,7 @@ fn inputs_fail_at_each_read_or_are_read_to_their_ends(rt: HostRuntime) -> Result
 
 // How often calls fail, and how often each call of a stream or a file is interrupted before it is heeded:
 // reads of standard input once its text has come, writes to standard output and standard error once they
-// have taken so many bytes, and flushes of standard output.
+// have taken so many bytes, and flushes of standard output. Writes fail with one kind, and flushes with one.
 #[derive(Clone, Copy)]
 struct Damage {
     reads: u32,
@@ -191,6 +211,8 @@ struct Damage {
     error_room: usize,
     error_writes: u32,
     times: u32,
+    kind: ErrorKind,
+    flush_kind: ErrorKind,
 }
 
 const SOUND: Damage = Damage {
@@ -201,6 +223,15 @@ const SOUND: Damage = Damage {
     error_room: 200,
     error_writes: 0,
     times: 0,
+    kind: ErrorKind::StorageFull,
+    flush_kind: ErrorKind::StorageFull,
+};
+
+// The reader of standard output has gone.
+const LEFT: Damage = Damage {
+    kind: ErrorKind::BrokenPipe,
+    flush_kind: ErrorKind::BrokenPipe,
+    ..SOUND
 };
 
 // What one call is to answer: what goes out on standard output and standard error, and the status.
@@ -211,7 +242,9 @@ fn output_of(alloc: Global, damage: &Damage) -> Interrupted<Narrow> {
         taken: Vec::new(alloc),
         room: damage.room,
         failures: damage.writes,
+        kind: damage.kind,
         flush_failures: damage.flushes,
+        flush_kind: damage.flush_kind,
     };
     Interrupted::new(narrow, damage.times)
 }
@@ -221,7 +254,9 @@ fn errors_of(alloc: Global, damage: &Damage) -> Interrupted<Narrow> {
         taken: Vec::new(alloc),
         room: damage.error_room,
         failures: damage.error_writes,
+        kind: damage.kind,
         flush_failures: 0,
+        flush_kind: damage.flush_kind,
     };
     Interrupted::new(narrow, damage.times)
 }
@@ -754,152 +789,6 @@ fn a_file_is_opened_and_read_as_standard_input_is(rt: HostRuntime) -> Result<(),
         let config = config_of(rt.alloc(), Some("f"), false)?;
         let shelf = Shelf::new(WRITE, times, open_failures, read_failures);
         assert!(rt; is_answered(rt, &shelf, Ok(config), b"", &SOUND, wanted));
-    }
-    Ok(())
-}
-
-// What is judged, what standard input has, how it fails, how many opens do, and what is answered, where open
-// blocks make the status 1.
-type Named = (&'static str, &'static [u8], Damage, u32, Wanted);
-
-fn is_named_so<R: AllocGlobal + Threads + Wait + Copy + Drop + Send + 'static>(
-    rt: R,
-    sources: Sources,
-    row: &Named,
-) -> bool
-    requires { count_named sources ≤ 2 ^ 16 }
-{
-    let config = config_for(rt.alloc(), sources, false, true);
-    let shelf = Shelf::new(WRITE, row.2.times, row.3, 0);
-    is_answered(rt, &shelf, Ok(config), row.1, &row.2, row.4)
-}
-
-// Standard input under another name than `-`, also where it is a file's or nothing.
-#[test]
-fn standard_input_has_the_name_that_is_given(rt: HostRuntime) -> Result<(), Fail> {
-    let rows: [Named; 3] = [
-        (
-            "big.std",
-            WRITE,
-            SOUND,
-            0,
-            (
-                b"big.std: serializable (1 events, 0 blocks)\n\
-                    traces 1: serializable 1, open 0, violations 0, faults 0\n",
-                b"",
-                0,
-            ),
-        ),
-        (
-            "",
-            WRITE,
-            Damage { reads: 1, ..SOUND },
-            0,
-            (
-                b": broken after 8 bytes\n\
-                    traces 1: serializable 0, open 0, violations 0, faults 1\n",
-                b"aerodrome: : Input/output error\n",
-                2,
-            ),
-        ),
-        (
-            "f",
-            b"T1|begin\n",
-            SOUND,
-            0,
-            (
-                b"f: no violation, 1 blocks open (1 events, 1 blocks)\n\
-                    traces 1: serializable 0, open 1, violations 0, faults 0\n",
-                b"",
-                1,
-            ),
-        ),
-    ];
-    for row in rows {
-        let name = String::from_str(rt.alloc(), row.0)?;
-        assert!(rt; is_named_so(rt, Sources::Standard(Some(name)), &row));
-    }
-    Ok(())
-}
-
-// The files whose names stand in a list, which is standard input or a file. Where it can't be had nothing is
-// judged, and the status is 3.
-#[test]
-fn the_files_of_a_list_are_judged(rt: HostRuntime) -> Result<(), Fail> {
-    let both: Wanted = (
-        b"f: serializable (1 events, 0 blocks)\ng: serializable (1 events, 0 blocks)\n\
-            traces 2: serializable 2, open 0, violations 0, faults 0\n",
-        b"",
-        0,
-    );
-    let interrupted = Damage { times: 3, ..SOUND };
-    let rows: [Named; 8] = [
-        ("-", b"f\0g\0", SOUND, 0, both),
-        ("-", b"f\0g", interrupted, 0, both),
-        (
-            "-",
-            b"",
-            SOUND,
-            0,
-            (
-                b"traces 0: serializable 0, open 0, violations 0, faults 0\n",
-                b"",
-                0,
-            ),
-        ),
-        (
-            "-",
-            b"\xff\0f\0",
-            SOUND,
-            0,
-            (
-                b"\xff: broken after 0 bytes\nf: serializable (1 events, 0 blocks)\n\
-                    traces 2: serializable 1, open 0, violations 0, faults 1\n",
-                b"aerodrome: \xff: the name isn't UTF-8\n",
-                2,
-            ),
-        ),
-        (
-            "-",
-            b"f\0",
-            Damage { reads: 1, ..SOUND },
-            0,
-            (b"", b"aerodrome: -: Input/output error\n", 3),
-        ),
-        (
-            "list",
-            b"f\0",
-            SOUND,
-            0,
-            (
-                b"T1|w(x)\n: serializable (1 events, 0 blocks)\n\
-                    traces 1: serializable 1, open 0, violations 0, faults 0\n",
-                b"",
-                0,
-            ),
-        ),
-        (
-            "list",
-            b"f\0",
-            interrupted,
-            1,
-            (b"", b"aerodrome: list: Permission denied\n", 3),
-        ),
-        (
-            "list",
-            b"",
-            Damage {
-                error_room: 0,
-                error_writes: EVER,
-                ..SOUND
-            },
-            1,
-            (b"", b"", 3),
-        ),
-    ];
-    for row in rows {
-        let path = String::from_str(rt.alloc(), row.0)?;
-        assert!(rt; is_named_so(rt, Sources::Listed(path), &row));
     }
     Ok(())
 }

@@ -256,7 +256,9 @@ fn narrow(alloc: Global, room: usize, failures: u32) -> Narrow {
         taken: Vec::new(alloc),
         room,
         failures,
+        kind: ErrorKind::BrokenPipe,
         flush_failures: 0,
+        flush_kind: ErrorKind::BrokenPipe,
     }
 }
 

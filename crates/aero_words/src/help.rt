@@ -190,4 +190,4 @@ The exit status, the highest that applies, so that 2 hides 1:
   3  the command line was refused, a word isn't UTF-8, or a list of names can't
      be read: what is wrong stands on standard error
   4  memory ran out, or the report couldn't be written: the last line on
-     standard error says which";
+     standard error says which, unless a pipe's reader has gone";

@@ -29,20 +29,22 @@ impl Read for Text {
 }
 
 // A writer that takes so many bytes, after which so many writes fail, and then takes all. So many flushes
-// fail.
+// fail. Writes fail with one kind, and flushes with one.
 #[derive(Drop)]
 pub(crate) struct Narrow {
     pub(crate) taken: Vec<u8>,
     pub(crate) room: usize,
     pub(crate) failures: u32,
+    pub(crate) kind: ErrorKind,
     pub(crate) flush_failures: u32,
+    pub(crate) flush_kind: ErrorKind,
 }
 
 impl Write for Narrow {
     fn write(&mut self, buf: &[u8]) -> io::Result<usize> {
         if self.room == 0 && self.failures > 0 {
             self.failures -= 1;
-            return Err(io::Error::from(ErrorKind::BrokenPipe));
+            return Err(io::Error::from(self.kind));
         }
         let count = if self.room == 0 {
             buf.len()
@@ -57,7 +59,7 @@ impl Write for Narrow {
     fn flush(&mut self) -> io::Result<()> {
         if self.flush_failures > 0 {
             self.flush_failures -= 1;
-            return Err(io::Error::from(ErrorKind::BrokenPipe));
+            return Err(io::Error::from(self.flush_kind));
         }
         Ok(())
     }

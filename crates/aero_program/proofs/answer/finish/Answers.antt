@@ -1,6 +1,6 @@
-use Rattle.std.proofs.Common.{◌≡◌, ◌∙◌, List, Result, Ok, subst}
+use Rattle.std.proofs.Common.{◌≡◌, ◌∙◌, subst}
 use Rattle.std.specs.Prelude.{IfOk}
-use Rattle.aero_program.specs.Notes.{Noted, notes}
+use Rattle.aero_program.specs.Notes.{notes}
 use Rattle.aero_program.proofs.Tells.{is_told, ends_well, ends_failing, ends_cut, fails_unnoted}
 use Rattle.aero_program.proofs.answer.finish.Goals as goal
 

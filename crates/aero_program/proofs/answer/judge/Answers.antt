@@ -1,9 +1,9 @@
-use Rattle.std.proofs.Common.{◌≡◌, ◌≤◌, ◌^◌, ◌∙◌, ap, sym, subst, inl, inr, map, length, arith, refl, is_err, if◌then◌else◌, [], List, ℕ}
+use Rattle.std.proofs.Common.{◌≡◌, ◌≤◌, ◌^◌, ◌∙◌, ◌+◌, ap, sym, subst, inl, inr, map, length, arith, refl, if◌then◌else◌, [], List, ℕ}
 use Rattle.std.proofs.lemmas.List.{with_items_is}
 use Rattle.aero_model.specs.CallCounts.{seen_by}
+use Rattle.std.specs.IoError.{error_kind}
 use Rattle.aero_verdict.specs.Finding.{asking}
 use Rattle.aero_intake.specs.PlanTerms.{terms_of}
-use Rattle.aero_batch.specs.Founds.{sighted}
 use Rattle.aero_program.specs.declared.command.Sources.{Sources}
 use Rattle.aero_program.specs.Answers.{TellsUnlisted}
 use Rattle.aero_program.specs.Command.{are_words, count_named, list_path}
@@ -11,8 +11,9 @@ use Rattle.aero_program.specs.Inputs.{bytes_left, standing_of}
 use Rattle.aero_program.specs.Sightings.{AreNames, AreUnlisted, source_sightings}
 use Rattle.aero_program.specs.Notes.{noted_of_all}
 use Rattle.aero_program.proofs.Noting.{noted_as}
-use Rattle.aero_program.specs.Retries.{tried_by}
-use Rattle.aero_program.specs.Streams.{shown_by}
+use Rattle.aero_program.specs.Faults.{fault_of}
+use Rattle.aero_program.specs.Streams.{shown_by, written_by}
+use Rattle.aero_program.proofs.Faulting.{is_fault}
 use Rattle.aero_program.proofs.Judged.{judged}
 use Rattle.aero_program.proofs.answer.judge.Goals as goal
 
@@ -29,14 +30,21 @@ returns g c =
     inl (judged (λ input. bytes_left (standing_of g.S.Read.remaining input)) config given
     c.in-Ok-into_plan.plan.limits names c.in-Ok-sources_of.sources.items c.deref_mut.result.now c.run-outcome.new.sources _
     (shown_by g.O.Write.contents c.args.output.now)
-    (record { writer = seen_by (λ w. g.O.Write.contents (tried_by w)) c.run-outcome.new.writer; unflushed = c.args.output.now.unflushed.number })
+    (record {
+      writer = seen_by (λ w. g.O.Write.contents (written_by w)) c.run-outcome.new.writer;
+      unflushed = c.args.output.now.unflushed.number;
+    })
     (shown_by g.O.Write.contents c.flush-flushed.new.self)
-    c.run-outcome.result.endings.items c.run-outcome.result.faults.items c.run-outcome.result.counts c.run-outcome.result.cause (is_err c.flush-flushed.result) c.status_after-end.result _ _ c.finish.result (terms_of c.in-Ok-into_plan.plan) c.in-Ok-into_plan.plan.form
+    c.run-outcome.result.endings.items c.run-outcome.result.faults.items c.run-outcome.result.counts c.run-outcome.result.cause (fault_of error_kind c.flush-flushed.result) c.status_after-end.result _ _ c.finish.result (terms_of c.in-Ok-into_plan.plan) c.in-Ok-into_plan.plan.form
     (λ i. asking c.in-Ok-into_plan.plan.limits (c.in-Ok-into_plan.ensures.except i) (c.in-Ok-into_plan.ensures.order i) (c.in-Ok-into_plan.ensures.explain i)) c.in-Ok-into_plan.ensures.form c.in-Ok-into_plan.ensures.limits
     named seen
     c.deref_mut.ensures.value (with_items_is c.in-Ok-sources_of.sources c.run-outcome.new.sources kept)
     c.run-outcome.ensures.ran refl
-    (record { bytes = c.flush-flushed.ensures.bytes; faults = c.flush-flushed.ensures.faults; unflushed = c.flush-flushed.ensures.unflushed })
+    (record {
+      bytes = c.flush-flushed.ensures.bytes;
+      faults = c.flush-flushed.ensures.faults;
+      unflushed = c.flush-flushed.ensures.unflushed ∙ ap (λ b. c.args.output.now.unflushed.number + (if b then 1 else 0)) (is_fault error_kind c.flush-flushed.result);
+    })
     c.status_after-end.ensures (c.finish.ensures (noted_of_all (are_words config.files) _ (if config.long then [] else c.run-outcome.result.endings.items) c.run-outcome.result.faults.items)
     (noted_as (λ text. text.items) c.are_words.result (are_words config.files) _ c.noted-endings.result.now (if config.long then [] else c.run-outcome.result.endings.items) c.deref-2.result.now c.run-outcome.result.faults.items
     words_are (c.noted-endings.ensures ∙ ap (λ l. if config.long then [] else l) c.deref.ensures.value) c.deref-2.ensures.value c.notes_of-notes.result c.notes_of-notes.ensures)))

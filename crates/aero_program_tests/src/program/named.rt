@@ -1,0 +1,156 @@
+// Standard input under a name, and the files of a list.
+ghost use Rattle.std.specs.Prelude.{◌≤◌, ◌^◌};
+ghost use Rattle.aero_program.specs.Command.{count_named};
+
+use crate::program::streams::{EVER, Shelf};
+use crate::program::{Damage, SOUND, WRITE, Wanted, config_for, is_answered};
+use aero_program::command::Sources;
+use std::sync::Wait;
+use std::test::Fail;
+use std::thread::Threads;
+
+// What is judged, what standard input has, how it fails, how many opens do, and what is answered, where open
+// blocks make the status 1.
+type Named = (&'static str, &'static [u8], Damage, u32, Wanted);
+
+fn is_named_so<R: AllocGlobal + Threads + Wait + Copy + Drop + Send + 'static>(
+    rt: R,
+    sources: Sources,
+    row: &Named,
+) -> bool
+    requires { count_named sources ≤ 2 ^ 16 }
+{
+    let config = config_for(rt.alloc(), sources, false, true);
+    let shelf = Shelf::new(WRITE, row.2.times, row.3, 0);
+    is_answered(rt, &shelf, Ok(config), row.1, &row.2, row.4)
+}
+
+// Standard input under another name than `-`, also where it is a file's or nothing.
+#[test]
+fn standard_input_has_the_name_that_is_given(rt: HostRuntime) -> Result<(), Fail> {
+    let rows: [Named; 3] = [
+        (
+            "big.std",
+            WRITE,
+            SOUND,
+            0,
+            (
+                b"big.std: serializable (1 events, 0 blocks)\n\
+                    traces 1: serializable 1, open 0, violations 0, faults 0\n",
+                b"",
+                0,
+            ),
+        ),
+        (
+            "",
+            WRITE,
+            Damage { reads: 1, ..SOUND },
+            0,
+            (
+                b": broken after 8 bytes\n\
+                    traces 1: serializable 0, open 0, violations 0, faults 1\n",
+                b"aerodrome: : Input/output error\n",
+                2,
+            ),
+        ),
+        (
+            "f",
+            b"T1|begin\n",
+            SOUND,
+            0,
+            (
+                b"f: no violation, 1 blocks open (1 events, 1 blocks)\n\
+                    traces 1: serializable 0, open 1, violations 0, faults 0\n",
+                b"",
+                1,
+            ),
+        ),
+    ];
+    for row in rows {
+        let name = String::from_str(rt.alloc(), row.0)?;
+        assert!(rt; is_named_so(rt, Sources::Standard(Some(name)), &row));
+    }
+    Ok(())
+}
+
+// The files whose names stand in a list, which is standard input or a file. Where it can't be had nothing is
+// judged, and the status is 3.
+#[test]
+fn the_files_of_a_list_are_judged(rt: HostRuntime) -> Result<(), Fail> {
+    let both: Wanted = (
+        b"f: serializable (1 events, 0 blocks)\ng: serializable (1 events, 0 blocks)\n\
+            traces 2: serializable 2, open 0, violations 0, faults 0\n",
+        b"",
+        0,
+    );
+    let interrupted = Damage { times: 3, ..SOUND };
+    let rows: [Named; 8] = [
+        ("-", b"f\0g\0", SOUND, 0, both),
+        ("-", b"f\0g", interrupted, 0, both),
+        (
+            "-",
+            b"",
+            SOUND,
+            0,
+            (
+                b"traces 0: serializable 0, open 0, violations 0, faults 0\n",
+                b"",
+                0,
+            ),
+        ),
+        (
+            "-",
+            b"\xff\0f\0",
+            SOUND,
+            0,
+            (
+                b"\xff: broken after 0 bytes\nf: serializable (1 events, 0 blocks)\n\
+                    traces 2: serializable 1, open 0, violations 0, faults 1\n",
+                b"aerodrome: \xff: the name isn't UTF-8\n",
+                2,
+            ),
+        ),
+        (
+            "-",
+            b"f\0",
+            Damage { reads: 1, ..SOUND },
+            0,
+            (b"", b"aerodrome: -: Input/output error\n", 3),
+        ),
+        (
+            "list",
+            b"f\0",
+            SOUND,
+            0,
+            (
+                b"T1|w(x)\n: serializable (1 events, 0 blocks)\n\
+                    traces 1: serializable 1, open 0, violations 0, faults 0\n",
+                b"",
+                0,
+            ),
+        ),
+        (
+            "list",
+            b"f\0",
+            interrupted,
+            1,
+            (b"", b"aerodrome: list: Permission denied\n", 3),
+        ),
+        (
+            "list",
+            b"",
+            Damage {
+                error_room: 0,
+                error_writes: EVER,
+                ..SOUND
+            },
+            1,
+            (b"", b"", 3),
+        ),
+    ];
+    for row in rows {
+        let path = String::from_str(rt.alloc(), row.0)?;
+        assert!(rt; is_named_so(rt, Sources::Listed(path), &row));
+    }
+    Ok(())
+}
