@@ -3,7 +3,7 @@ mod pipes;
 pub(crate) mod sources;
 pub(crate) mod streams;
 
-ghost use Rattle.std.specs.Prelude.{◌≤◌, ◌^◌};
+ghost use Rattle.std.specs.Prelude.{◌≡◌, ◌≤◌, ◌^◌, IfOk, vec_len};
 ghost use Rattle.aero_program.specs.Command.{count_named};
 
 use crate::program::streams::{EVER, Flushes, Interrupted, Narrow, Shelf, Text, never_flushed};
@@ -293,14 +293,16 @@ fn is_answered<R: AllocGlobal + Threads + Wait + Copy + Drop + Send + 'static, F
 
 // Asks for a file, or for standard input where there is none.
 fn config_of(alloc: Global, file: Option<&str>, order: bool) -> Result<Config, Fail> {
-    let sources = match file {
-        Some(file) => Sources::Files(one_file(alloc, file)?),
-        None => Sources::Standard(None),
+    let Some(file) = file else {
+        return Ok(config_for(alloc, Sources::Standard(None), order, false));
     };
-    Ok(config_for(alloc, sources, order, false))
+    let files = one_file(alloc, file)?;
+    Ok(config_for(alloc, Sources::Files(files), order, false))
 }
 
-fn one_file(alloc: Global, file: &str) -> Result<Vec<String>, AllocError> {
+fn one_file(alloc: Global, file: &str) -> Result<Vec<String>, AllocError>
+    ensures { IfOk result (λ files. vec_len files ≡ 1) }
+{
     let mut files = Vec::new(alloc);
     files.push(String::from_str(alloc, file)?)?;
     Ok(files)
