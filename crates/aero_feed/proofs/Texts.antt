@@ -185,3 +185,8 @@ on_ok (Err e) P b is off on = absurd (true≢false (sym is ∙ off))
 pub if_ok : {A E : Type 0} (r : Result A E) (P Q : A → Type 0) → ((x : A) → P x → Q x) → IfOk r P → IfOk r Q
 if_ok (Ok x) P Q weaker is = weaker x is
 if_ok (Err e) P Q weaker is = is
+
+-- what was certain stays so over two steps
+pub stays_twice : (first second third : Option Verdict) → IfSome first (λ verdict. second ≡ first) → IfSome second (λ verdict. third ≡ second) → IfSome first (λ verdict. third ≡ first)
+stays_twice None second third one other = tt
+stays_twice (Some verdict) second third one other = subst (λ o. IfSome o (λ v. third ≡ second)) one other ∙ one

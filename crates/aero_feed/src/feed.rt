@@ -60,6 +60,7 @@ impl Feed {
         ensures rules { self.new.rules ≡ self.old.rules }
         ensures stays { IfSome self.old.certain (λ verdict. self.new.certain ≡ self.old.certain) }
         ensures spent { OnErr result (self.new.is_spent ≡ true) }
+        ensures was_unspent { OnOk result (self.old.is_spent ≡ false) }
         ensures stays_spent { self.old.is_spent ≡ true → self.new.is_spent ≡ true }
     {
         let mut rest = piece;
@@ -86,6 +87,7 @@ impl Feed {
         ensures going_on { IfOk result (λ is_certain. is_certain ≡ false → EndsLine self.new.text → IsOpenText self.new.text self.new.rules) }
         ensures stays { IfSome self.old.certain (λ verdict. self.new.certain ≡ self.old.certain) }
         ensures spent { OnErr result (self.new.is_spent ≡ true) }
+        ensures was_unspent { OnOk result (self.old.is_spent ≡ false) }
         ensures stays_spent { self.old.is_spent ≡ true → self.new.is_spent ≡ true }
     {
         judge_held(&mut self.monitor, &mut self.held)?;
@@ -100,11 +102,20 @@ impl Feed {
     pub fn finish(self) -> Result<Verdict, AllocError>
         ensures verdict { IfOk result (IsTextVerdict self.text self.rules) }
         ensures own_fault { IfOk result HasOwnFault }
+        ensures was_unspent { OnOk result (self.is_spent ≡ false) }
     {
         let Feed { monitor, held } = self;
         let mut monitor = monitor;
         monitor.take(&held)?;
         monitor.finish()
+    }
+
+    /// Memory was refused to whoever brings the text, so that some of it is missing: each later call answers an
+    /// `AllocError`.
+    pub fn spend(&mut self)
+        ensures { self.new ≡ record self.old { is_spent = true } }
+    {
+        self.monitor.spend();
     }
 
     // Holds a short piece, and judges what is held once it is long.
@@ -114,8 +125,12 @@ impl Feed {
         ensures rules { self.new.rules ≡ self.old.rules }
         ensures stays { IfSome self.old.certain (λ verdict. self.new.certain ≡ self.old.certain) }
         ensures spent { OnErr result (self.new.is_spent ≡ true) }
+        ensures was_unspent { OnOk result (self.old.is_spent ≡ false) }
         ensures stays_spent { self.old.is_spent ≡ true → self.new.is_spent ≡ true }
     {
+        if self.monitor.is_spent() {
+            return Err(AllocError);
+        }
         if self.held.len() >= HELD_BYTES {
             judge_held(&mut self.monitor, &mut self.held)?;
         }
@@ -137,6 +152,7 @@ fn judge_held(monitor: &mut TextMonitor, held: &mut Vec<u8>) -> Result<(), Alloc
     ensures stays { IfSome monitor.old.certain (λ verdict. monitor.new.certain ≡ monitor.old.certain) }
     ensures spent { OnErr result (monitor.new.is_spent ≡ true) }
     ensures unspent { OnOk result (monitor.new.is_spent ≡ false) }
+    ensures was_unspent { OnOk result (monitor.old.is_spent ≡ false) }
     ensures stays_spent { monitor.old.is_spent ≡ true → monitor.new.is_spent ≡ true }
 {
     monitor.take(held.as_slice())?;

@@ -20,6 +20,7 @@
 //! - It is told that the verdict is certain only where it is, whatever bytes come, and stays so: `Feed::is_certain`,
 //!   `certain`, `stays`. Where the bytes end a line and it isn't told, nothing is wrong with them, but maybe that there
 //!   is one line too many: `going_on`.
+//! - Once memory was refused no call answers anything else: `spent`, `stays_spent`, `was_unspent` of each.
 //! - The verdict is that of the text, as one part: `Feed::finish`. So it is what `check_trace` answers of it.
 #![tactic(auto)]
 

@@ -73,6 +73,7 @@ impl TextMonitor {
         ensures stays { IfSome self.old.certain (λ verdict. self.new.certain ≡ self.old.certain) }
         ensures spent { OnErr result (self.new.is_spent ≡ true) }
         ensures unspent { OnOk result (self.new.is_spent ≡ false) }
+        ensures was_unspent { OnOk result (self.old.is_spent ≡ false) }
         ensures stays_spent { self.old.is_spent ≡ true → self.new.is_spent ≡ true }
     {
         self.text = GhostText::with(&self.text, piece);
@@ -102,6 +103,13 @@ impl TextMonitor {
         self.monitor.certain().is_some()
     }
 
+    // Whether memory was refused.
+    pub(crate) fn is_spent(&self) -> bool
+        ensures { result ≡ self.now.is_spent }
+    {
+        self.is_spent
+    }
+
     // Memory was refused elsewhere.
     pub(crate) fn spend(&mut self)
         ensures { self.new ≡ record self.old { is_spent = true } }
@@ -113,6 +121,7 @@ impl TextMonitor {
     pub(crate) fn finish(self) -> Result<Verdict, AllocError>
         ensures verdict { IfOk result (IsTextVerdict self.text self.rules) }
         ensures own_fault { IfOk result HasOwnFault }
+        ensures was_unspent { OnOk result (self.is_spent ≡ false) }
     {
         let TextMonitor {
             alloc,

@@ -66,56 +66,94 @@ fn feed_of(alloc: Global, label: &str) -> Option<Feed> {
     Some(Feed::new(alloc, &limits, except_of(alloc, label)?))
 }
 
+// Whether all pieces of so many bytes are taken.
+fn is_fed(feed: &mut Feed, text: &[u8], size: usize) -> bool
+    requires { 0 < size }
+{
+    for piece in text.chunks(size) {
+        if feed.feed(piece).is_err() {
+            return false;
+        }
+    }
+    true
+}
+
 // The verdict on a text that comes in pieces of so many bytes.
 fn verdict_in_pieces(alloc: Global, feed: Feed, text: &[u8], size: usize) -> Option<String>
     requires { 0 < size }
 {
     let mut feed = feed;
-    for piece in text.chunks(size) {
-        feed.feed(piece).ok()?;
+    let is_fed = is_fed(&mut feed, text, size);
+    verdict_if(alloc, feed, is_fed)
+}
+
+// The verdict, if this is so.
+fn verdict_if(alloc: Global, feed: Feed, is_so: bool) -> Option<String> {
+    match feed.finish() {
+        Ok(verdict) if is_so => words_of(alloc, &verdict),
+        _ => None,
     }
-    words_of(alloc, &feed.finish().ok()?)
 }
 
 // After how many bytes of the text, which come one by one, its verdict is certain.
-fn certain_from(feed: Feed, text: &[u8]) -> Option<usize> {
-    let mut feed = feed;
+fn certain_from(feed: &mut Feed, text: &[u8]) -> Option<usize> {
     for i in 0..text.len() {
-        feed.feed(&text[i..i + 1]).ok()?;
-        if feed.is_certain().ok()? {
+        if is_certain_with(feed, &text[i..i + 1])? {
             return Some(i + 1);
         }
     }
     Some(0)
 }
 
+// Whether the verdict is certain once the piece has come.
+fn is_certain_with(feed: &mut Feed, piece: &[u8]) -> Option<bool> {
+    feed.feed(piece).ok()?;
+    feed.is_certain().ok()
+}
+
+// Whether the row's text, of these bytes, has its verdict in pieces of so many.
+fn has_verdict(alloc: Global, row: Row, bytes: &[u8], size: usize) -> bool
+    requires { 0 < size }
+{
+    match feed_of(alloc, row.0) {
+        Some(feed) => is(verdict_in_pieces(alloc, feed, bytes, size), row.3),
+        None => false,
+    }
+}
+
 // Whether the text has the verdict in pieces of 1, 3 and 7 bytes, and as one.
 fn is_judged_so(alloc: Global, row: Row) -> Option<bool> {
-    let (label, text, _, verdict) = row;
-    let bytes = bytes_of(alloc, text)?;
-    let mut fits = true;
-    for size in [1, 3, 7, 1000] {
-        let feed = feed_of(alloc, label)?;
-        fits &= is(verdict_in_pieces(alloc, feed, &bytes, size), verdict);
-    }
-    Some(fits)
+    let bytes = bytes_of(alloc, row.1)?;
+    Some(
+        has_verdict(alloc, row, &bytes, 1)
+            && has_verdict(alloc, row, &bytes, 3)
+            && has_verdict(alloc, row, &bytes, 7)
+            && has_verdict(alloc, row, &bytes, 1000),
+    )
 }
 
 // Whether the verdict is certain from this byte on, and no sooner.
 fn is_certain_so(alloc: Global, row: Row) -> Option<bool> {
     let (label, text, from, _) = row;
     let bytes = bytes_of(alloc, text)?;
-    Some(certain_from(feed_of(alloc, label)?, &bytes)? == from)
+    let mut feed = feed_of(alloc, label)?;
+    Some(certain_from(&mut feed, &bytes) == Some(from))
 }
 
-// The first row of which this isn't so.
-fn first_wrong(
-    alloc: Global,
-    rows: &[Row],
-    is_so: fn(Global, Row) -> Option<bool>,
-) -> Option<usize> {
+// The first row whose text is judged otherwise.
+fn first_misjudged(alloc: Global, rows: &[Row]) -> Option<usize> {
     for i in 0..rows.len() {
-        if is_so(alloc, rows[i]) != Some(true) {
+        if is_judged_so(alloc, rows[i]) != Some(true) {
+            return Some(i);
+        }
+    }
+    None
+}
+
+// The first row whose verdict is certain sooner, later or where it isn't.
+fn first_mistimed(alloc: Global, rows: &[Row]) -> Option<usize> {
+    for i in 0..rows.len() {
+        if is_certain_so(alloc, rows[i]) != Some(true) {
             return Some(i);
         }
     }
@@ -160,12 +198,12 @@ static ROWS: [Row; 10] = [
 
 #[test]
 fn a_text_is_judged_however_it_is_cut(rt: HostRuntime) {
-    assert_eq!(rt; first_wrong(rt.alloc(), &ROWS, is_judged_so), None);
+    assert_eq!(rt; first_misjudged(rt.alloc(), &ROWS), None);
 }
 
 #[test]
 fn the_verdict_is_certain_once_a_line_that_decides_has_ended(rt: HostRuntime) {
-    assert_eq!(rt; first_wrong(rt.alloc(), &ROWS, is_certain_so), None);
+    assert_eq!(rt; first_mistimed(rt.alloc(), &ROWS), None);
 }
 
 // A text of so many reads of a variable.
@@ -208,13 +246,18 @@ fn a_line_that_is_too_long_decides(rt: HostRuntime) {
 
 fn too_long_verdict(alloc: Global) -> Option<String> {
     let mut feed = feed_of(alloc, "")?;
-    feed.feed(b"T1|r(x)\n").ok()?;
-    for _ in 0..4097 {
-        feed.feed(b"T").ok()?;
+    let is_so = feed.feed(b"T1|r(x)\n").is_ok()
+        && is_certain_from(&mut feed, 4097)
+        && feed.feed(b"\nT1|rel(l)\n").is_ok();
+    verdict_if(alloc, feed, is_so)
+}
+
+// Whether so many bytes make the verdict certain, and one byte less doesn't.
+fn is_certain_from(feed: &mut Feed, count: u32) -> bool {
+    for _ in 1..count {
+        if is_certain_with(feed, b"T") != Some(false) {
+            return false;
+        }
     }
-    if !feed.is_certain().ok()? {
-        return None;
-    }
-    feed.feed(b"\nT1|rel(l)\n").ok()?;
-    words_of(alloc, &feed.finish().ok()?)
+    is_certain_with(feed, b"T") == Some(true)
 }

@@ -1,4 +1,4 @@
-use Rattle.std.proofs.Common.{◌≡◌, true, false, refl, sym, ◌∙◌, ap, subst}
+use Rattle.std.proofs.Common.{◌≡◌, true, false, refl, sym, ◌∙◌, ◌++◌, ap, subst}
 use Rattle.std.specs.Prelude.{is_some}
 use Rattle.aero_verdict.specs.Verdict.{Rules}
 use Rattle.aero_feed.specs.Reads.{StandsAt}
@@ -28,7 +28,7 @@ invariant_of-self-2 c =
       labels = c.self.invariant.labels ∙ sym (ap (λ (r : Rules). r.labels) e.rules);
       stands = λ unspent.
           subst (λ t. StandsAt t c.judge_piece-judged.new.cutter is is.certain) (sym c.with-self-inside.ensures)
-          (subst (λ k. StandsAt _ k is is.certain) (sym (on_ok r _ b value unspent e.cut))
+          (subst (λ k. StandsAt (c.self.inside.text.bytes ++ c.args.piece.now) k is is.certain) (sym (on_ok r _ b value unspent e.cut))
           (stands_more c.self.inside.text.bytes c.args.piece.now c.self.inside.cutter was is is.certain (none_of was.certain off) (c.self.invariant.stands c.if-self.false)
           e.rules (on_ok r _ b value unspent e.parts) e.certain (on_ok r _ b value unspent e.going_on) refl));
     }
