@@ -14,7 +14,7 @@ use Rattle.aero_access.specs.declared.thread.Thread.{Thread}
 use Rattle.aero_access.specs.declared.table.Table.{Table}
 use Rattle.aero_access.specs.Slots.{of_slot}
 use Rattle.aero_access.specs.Takes.{Among, takes_only_own, plain, read, acquire}
-use Rattle.aero_access.specs.Kept.{kept_clock, kept_thread, is_kept, same_slot}
+use Rattle.aero_access.specs.LastClocks.{kept_clock, kept_thread, is_kept, same_slot}
 use Rattle.aero_access.specs.Threads.{thread_clock, HasSameBlock, TakesClock}
 use Rattle.aero_access.specs.TableWords.{kept_of}
 use Rattle.aero_access.specs.States.{State, IsStateOf}

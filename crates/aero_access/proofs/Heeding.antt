@@ -9,7 +9,7 @@ use Rattle.aero_access.specs.declared.slot.Slot.TheVariants.{OfThread, LastWrite
 use Rattle.aero_access.specs.declared.kept.Kept.{Kept}
 use Rattle.aero_access.specs.declared.thread.Thread.{Thread}
 use Rattle.aero_access.specs.declared.table.Table.{Table}
-use Rattle.aero_access.specs.Kept.{kept_clock, same_slot, AreApart}
+use Rattle.aero_access.specs.LastClocks.{kept_clock, same_slot, AreApart}
 use Rattle.aero_access.specs.Threads.{number_in, thread_clock, thread_begin, thread_begins, IsClosedBy, CountIsTest, HasSameBlock, AreSameThreads}
 use Rattle.aero_access.specs.declared.readers.Readers.{Readers}
 use Rattle.aero_access.specs.Table.{readers_in}

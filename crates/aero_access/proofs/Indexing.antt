@@ -11,7 +11,7 @@ use Rattle.aero_access.specs.declared.thread.Thread.{Thread}
 use Rattle.aero_access.specs.declared.table.Table.{Table}
 use Rattle.aero_access.specs.declared.index.Led.{Led}
 use Rattle.aero_access.specs.declared.index.Index.{Index}
-use Rattle.aero_access.specs.Kept.{same_slot, kept_clock}
+use Rattle.aero_access.specs.LastClocks.{same_slot, kept_clock}
 use Rattle.aero_access.specs.Threads.{thread_clock, thread_begin, thread_begins, AreSameThreads}
 use Rattle.aero_access.specs.TableWords.{kept_of, labels_of, place_of, slot_clock, label_clock, JoinsSlot}
 use Rattle.aero_access.specs.StateWords.{clock_in, state_in, slot_in, JoinsClock, HaveSameBlocks}

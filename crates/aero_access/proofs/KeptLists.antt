@@ -12,7 +12,7 @@ use Rattle.aero_access.specs.declared.slot.Slot.TheVariants.{OfThread, LastWrite
 use Rattle.aero_access.specs.declared.kept.Kept.{Kept}
 use Rattle.aero_access.specs.declared.readers.Readers.{Readers}
 use Rattle.aero_access.specs.Table.{readers_in, AreLabelled}
-use Rattle.aero_access.specs.Kept.{kept_thread, is_by, flat, clock_but, greatest_but, same_slot, AreApart}
+use Rattle.aero_access.specs.LastClocks.{kept_thread, is_by, flat, clock_but, greatest_but, same_slot, AreApart}
 
 -- after a write at place i
 pub set_here : {X : Type 0} (xs : List X) (i : ℕ) (v : X) → i < length xs → slice_get (slice_set xs i v) i ≡ Some v

@@ -8,7 +8,7 @@ use Rattle.std.specs.Option.{option_copied}
 use Rattle.aero_access.specs.declared.slot.Slot.{Slot}
 use Rattle.aero_access.specs.declared.kept.Kept.{Kept}
 use Rattle.aero_access.specs.declared.table.Table.{Table}
-use Rattle.aero_access.specs.Kept.{same_slot, kept_clock}
+use Rattle.aero_access.specs.LastClocks.{same_slot, kept_clock}
 use Rattle.aero_access.specs.Table.{AreLabelled, ArePlaced}
 use Rattle.aero_access.specs.TableWords.{kept_of, labels_of, label_or, place_of, slot_clock, label_clock}
 use Rattle.aero_access.proofs.KeptLists.{same_slot_is, same_slot_self, pushed_here, pushed_other, labelled_keep, labelled_same}

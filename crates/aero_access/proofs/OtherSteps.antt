@@ -20,7 +20,7 @@ use Rattle.aero_access.specs.declared.table.Table.{Table}
 use Rattle.aero_access.specs.Slots.{of_slot}
 use Rattle.aero_access.specs.Takes.{Among, here, there, HasActed, Takes, plain, join, idle_join}
 use Rattle.aero_access.specs.Takes as taking
-use Rattle.aero_access.specs.Kept.{is_kept}
+use Rattle.aero_access.specs.LastClocks.{is_kept}
 use Rattle.aero_access.specs.Threads.{number_in, thread_clock, thread_begin, thread_begins, thread_acted, IsClosedBy, HasSameBlock, TakesClock}
 use Rattle.aero_access.specs.States.{State, IsStateOf}
 use Rattle.aero_access.specs.StateWords.{event, clock_in, state_in, acting, Moves, HaveSameBlocks, IsIdle}

@@ -19,7 +19,7 @@ use Rattle.aero_access.specs.Slots.{of_slot, last_event}
 use Rattle.aero_access.specs.Takes.{Among, here, there, Takes, IfForeign, nobodys, its_own, foreign}
 use Rattle.aero_access.specs.Clocks.{greatest}
 use Rattle.aero_access.specs.Judgement.{IsTold}
-use Rattle.aero_access.specs.Kept.{kept_clock, kept_thread, is_kept}
+use Rattle.aero_access.specs.LastClocks.{kept_clock, kept_thread, is_kept}
 use Rattle.aero_access.specs.Threads.{number_in, thread_clock, thread_begin, thread_begins, thread_acted, IsClosedBy, HasSameBlock, TakesClock}
 use Rattle.aero_access.specs.TableWords.{kept_of}
 use Rattle.aero_access.specs.States.{State, IsStateOf, actor_at, thread_of}

@@ -13,7 +13,7 @@ use Rattle.aero_access.specs.declared.kept.Kept.{Kept}
 use Rattle.aero_access.specs.declared.thread.Thread.{Thread}
 use Rattle.aero_access.specs.declared.table.Table.{Table}
 use Rattle.aero_access.specs.declared.clocks.Clocks.{Clocks}
-use Rattle.aero_access.specs.Kept.{kept_clock, kept_thread, same_slot}
+use Rattle.aero_access.specs.LastClocks.{kept_clock, kept_thread, same_slot}
 use Rattle.aero_access.specs.Threads.{number_in, thread_clock, thread_begin, thread_begins, thread_acted, IsClosedBy, TakesClock}
 use Rattle.aero_access.specs.TableWords.{kept_of, labels_of, JoinsSlot}
 use Rattle.aero_access.specs.StateWords.{clock_in, state_in, slot_or, slot_in, JoinsClock}

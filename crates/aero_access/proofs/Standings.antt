@@ -12,7 +12,7 @@ use Rattle.aero_access.specs.declared.thread.Thread.{Thread}
 use Rattle.aero_access.specs.declared.table.Table.{Table}
 use Rattle.aero_access.specs.declared.clocks.Clocks.{Clocks}
 use Rattle.aero_access.specs.Judgement.{IsTold}
-use Rattle.aero_access.specs.Kept.{kept_clock, kept_thread}
+use Rattle.aero_access.specs.LastClocks.{kept_clock, kept_thread}
 use Rattle.aero_access.specs.Threads.{number_in, thread_clock, thread_begin, thread_begins, thread_acted, AreSameThreads}
 use Rattle.aero_access.specs.TableWords.{kept_of}
 use Rattle.aero_access.specs.States.{State, IsStateOf}

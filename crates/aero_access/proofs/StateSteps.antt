@@ -15,7 +15,7 @@ use Rattle.aero_access.specs.Slots.{of_slot, last_event}
 use Rattle.aero_access.specs.Takes.{Among, Takes}
 use Rattle.aero_access.specs.Clocks.{Clock, AreSound, MissNothing, IsBeginClock, greatest, new_clock, new_clocks}
 use Rattle.aero_access.specs.Judgement.{IsJudged, IsTold, IsUntold}
-use Rattle.aero_access.specs.Kept.{is_kept}
+use Rattle.aero_access.specs.LastClocks.{is_kept}
 use Rattle.aero_access.specs.States.{State, IsStateOf, actor_at, thread_of}
 use Rattle.aero_access.proofs.LastEvents.{to_thread, is_last, last_new, last_kept}
 use Rattle.aero_access.proofs.Counts.{quiet_from}

@@ -18,7 +18,7 @@ use Rattle.aero_access.specs.Slots.{of_slot}
 use Rattle.aero_access.specs.Takes.{Among, here, there, Takes, write, AreReaders}
 use Rattle.aero_access.specs.Clocks.{greatest}
 use Rattle.aero_access.specs.Judgement.{IsTold}
-use Rattle.aero_access.specs.Kept.{kept_clock, kept_thread, greatest_but, is_by, AreApart}
+use Rattle.aero_access.specs.LastClocks.{kept_clock, kept_thread, greatest_but, is_by, AreApart}
 use Rattle.aero_access.specs.Threads.{number_in, thread_clock, thread_begin, IsClosedBy, HasSameBlock, TakesClock, ClosesOne, ClosesNone}
 use Rattle.aero_access.specs.Table.{readers_in}
 use Rattle.aero_access.specs.TableWords.{kept_of, readers_of}

@@ -5,7 +5,7 @@ use Rattle.aero_access.specs.declared.table.Table.{Table}
 use Rattle.aero_access.specs.declared.index.Index.{Index}
 use Rattle.aero_access.specs.Threads.{thread_clock, thread_begin, thread_begins}
 use Rattle.aero_access.specs.declared.slot.Slot.{Slot}
-use Rattle.aero_access.specs.Kept.{kept_clock}
+use Rattle.aero_access.specs.LastClocks.{kept_clock}
 use Rattle.aero_access.specs.TableWords.{kept_of, labels_of, label_clock}
 use Rattle.aero_access.specs.StateWords.{last_but}
 use Rattle.aero_access.specs.Led.{leads, times, led_at, block_number, has_thread, places_in}

@@ -7,7 +7,7 @@ use Rattle.aero_access.specs.declared.slot.Slot.TheVariants.{OfThread}
 use Rattle.aero_access.specs.declared.clocks.Clocks.{Clocks}
 use Rattle.aero_access.specs.declared.clocks.Spent.{Spent}
 use Rattle.aero_access.specs.Judgement.{IsTold}
-use Rattle.aero_access.specs.Kept.{same_slot}
+use Rattle.aero_access.specs.LastClocks.{same_slot}
 use Rattle.aero_access.specs.Threads.{AreSameThreads}
 use Rattle.aero_access.specs.TableWords.{labels_of}
 use Rattle.aero_access.specs.Led.{led_at, slots_in}

@@ -13,7 +13,7 @@ use Rattle.aero_access.specs.declared.kept.Kept.{Kept}
 use Rattle.aero_access.specs.declared.thread.Thread.{Thread}
 use Rattle.aero_access.specs.declared.table.Table.{Table}
 use Rattle.aero_access.specs.Judgement.{IsTold}
-use Rattle.aero_access.specs.Kept.{kept_clock, kept_thread, clock_but, same_slot}
+use Rattle.aero_access.specs.LastClocks.{kept_clock, kept_thread, clock_but, same_slot}
 use Rattle.aero_access.specs.Threads.{number_in, thread_clock, thread_begin, thread_begins, thread_acted, IsClosedBy}
 use Rattle.aero_access.specs.TableWords.{kept_of, labels_of}
 use Rattle.aero_access.specs.States.{State, IsStateOf}

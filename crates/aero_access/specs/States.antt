@@ -7,7 +7,7 @@ use Rattle.aero_access.specs.declared.slot.Slot.{Slot}
 use Rattle.aero_access.specs.Slots.{last_event}
 use Rattle.aero_access.specs.Clocks.{IsBeginClock}
 use Rattle.aero_access.specs.Judgement.{IsUntold}
-use Rattle.aero_access.specs.Kept.{is_kept}
+use Rattle.aero_access.specs.LastClocks.{is_kept}
 
 -- What is kept of a trace
 pub record State : Type 0 where

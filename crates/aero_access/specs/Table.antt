@@ -6,7 +6,7 @@ use Rattle.aero_access.specs.declared.slot.Slot.TheVariants.{OfThread, LastWrite
 use Rattle.aero_access.specs.declared.kept.Kept.{Kept}
 use Rattle.aero_access.specs.declared.readers.Readers.{Readers}
 use Rattle.aero_access.specs.declared.entries.Entries.{Entries}
-use Rattle.aero_access.specs.Kept.{is_by, flat, same_slot}
+use Rattle.aero_access.specs.LastClocks.{is_by, flat, same_slot}
 
 abbrev pub readers_in : Option Readers → List Kept
 readers_in None = []

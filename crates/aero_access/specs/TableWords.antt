@@ -3,7 +3,7 @@ use Rattle.std.specs.Prelude.{◌≡◌, ℕ, max, List, length, Option, Some, N
 use Rattle.aero_access.specs.declared.slot.Slot.{Slot}
 use Rattle.aero_access.specs.declared.kept.Kept.{Kept}
 use Rattle.aero_access.specs.declared.table.Table.{Table}
-use Rattle.aero_access.specs.Kept.{same_slot, kept_clock, kept_thread}
+use Rattle.aero_access.specs.LastClocks.{same_slot, kept_clock, kept_thread}
 use Rattle.aero_access.specs.Table.{readers_in, kept_in}
 
 abbrev pub kept_of : Table → Slot → Option Kept

@@ -4,7 +4,7 @@
 ghost use Rattle.std.specs.Prelude.{◌≡◌, ◌≢◌, ◌<◌, ◌≤◌, ◌+◌, ◌↔◌, ◌-◌, ◌^◌, ℕ, true, false, None, Some, length, slice_get, IsTrue, IfOk, OnOk, OnErr, is_some};
 ghost use Rattle.aero_clock.specs.Numbers.{number_at};
 ghost use Rattle.aero_model.specs.declared.numbered.What.TheVariants.{Read, Write, Acquire, Release, Fork, Join, Begin};
-ghost use Rattle.aero_access.specs.Kept.{is_kept, greatest_but, kept_clock};
+ghost use Rattle.aero_access.specs.LastClocks.{is_kept, greatest_but, kept_clock};
 ghost use Rattle.aero_access.specs.Threads.{CountIsTest, HasSameBlock, TakesClock, ClosesOne, ClosesNone, IsClosedBy, thread_clock, thread_acted, thread_begin, thread_begins};
 ghost use Rattle.aero_access.specs.declared.kept.Kept.{Kept};
 ghost use Rattle.aero_access.specs.declared.slot.Slot.{Slot};

@@ -1,7 +1,7 @@
 //! What is kept of last writes, reads and releases, and the labels of these slots, one list for each.
 ghost use Rattle.std.specs.Prelude.{◌≡◌, ◌++◌, ◌∷◌, [], ℕ, true, OnOk, OnErr, if◌then◌else◌};
 ghost use Rattle.aero_access.specs.declared.slot.Slot.{Slot};
-ghost use Rattle.aero_access.specs.Kept.{is_kept};
+ghost use Rattle.aero_access.specs.LastClocks.{is_kept};
 
 use crate::kept::Kept;
 use crate::places::{kept_at, put, put_read};

@@ -15,7 +15,7 @@ pub struct Kept {
 }
 
 impl Kept {
-    ghost use Rattle.aero_access.specs.Kept.{clock_but};
+    ghost use Rattle.aero_access.specs.LastClocks.{clock_but};
     ghost use Rattle.aero_access.specs.Threads.{IsClosedBy, CountIsTest, HasSameBlock, TakesClock};
     ghost use Rattle.aero_access.specs.States.{State};
     ghost use Rattle.aero_access.specs.Heeds.{Heeds};

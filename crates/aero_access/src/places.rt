@@ -2,7 +2,7 @@
 //! and change what is kept at one place.
 ghost use Rattle.std.specs.Prelude.{◌≡◌, ◌==◌, ◌&&◌, ◌<◌, ℕ, Some, slice_get, find, OnOk, OnErr, vec_len, if◌then◌else◌};
 ghost use Rattle.std.specs.Option.{option_copied};
-ghost use Rattle.aero_access.specs.Kept.{flat, is_by};
+ghost use Rattle.aero_access.specs.LastClocks.{flat, is_by};
 ghost use Rattle.aero_access.specs.Table.{readers_in};
 
 use crate::kept::Kept;

@@ -1,6 +1,6 @@
 //! The last reads of a variable, one of each thread that read it. They know of no other variable.
 ghost use Rattle.std.specs.Prelude.{◌≡◌, ◌++◌, ◌∷◌, [], OnOk, OnErr, position};
-ghost use Rattle.aero_access.specs.Kept.{AreApart, is_by};
+ghost use Rattle.aero_access.specs.LastClocks.{AreApart, is_by};
 
 use crate::kept::Kept;
 use crate::thread::Thread;
@@ -17,7 +17,7 @@ pub struct Readers {
 impl Readers {
     ghost use Rattle.std.specs.Prelude.{◌==◌, ◌≤◌, ℕ, true, false, Some, if◌then◌else◌, find, slice_get, IfOk};
     ghost use Rattle.std.specs.Option.{option_copied};
-    ghost use Rattle.aero_access.specs.Kept.{greatest_but};
+    ghost use Rattle.aero_access.specs.LastClocks.{greatest_but};
     ghost use Rattle.aero_access.specs.Threads.{ClosesOne, ClosesNone, CountIsTest, HasSameBlock, TakesClock};
     ghost use Rattle.aero_access.specs.States.{State};
     ghost use Rattle.aero_access.specs.Heeds.{Heeds};

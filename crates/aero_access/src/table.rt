@@ -2,7 +2,7 @@
 //! no index is touched here.
 ghost use Rattle.std.specs.Prelude.{◌≡◌, ◌++◌, ◌∷◌, [], ℕ, true, Some, OnOk, OnErr, if◌then◌else◌};
 ghost use Rattle.aero_access.specs.declared.slot.Slot.{Slot};
-ghost use Rattle.aero_access.specs.Kept.{is_kept};
+ghost use Rattle.aero_access.specs.LastClocks.{is_kept};
 ghost use Rattle.aero_access.specs.Table.{AreLabelled, ArePlaced, kept_in};
 
 use crate::entries::Entries;
@@ -28,7 +28,7 @@ impl Table {
     ghost use Rattle.aero_clock.specs.Numbers.{number_at};
     ghost use Rattle.aero_access.specs.StateWords.{KeepsClock};
     ghost use Rattle.std.specs.Option.{option_copied};
-    ghost use Rattle.aero_access.specs.Kept.{kept_clock};
+    ghost use Rattle.aero_access.specs.LastClocks.{kept_clock};
     ghost use Rattle.aero_access.specs.TableWords.{kept_of, labels_of, place_of, Keeps, JoinsSlot};
 
     /// Nothing is kept.

@@ -19,7 +19,7 @@ use Rattle.aero_access.specs.declared.clocks.Clocks.{Clocks}
 use Rattle.aero_access.specs.Slots.{of_slot, last_event}
 use Rattle.aero_access.specs.Clocks.{AreSound, MissNothing, IsBeginClock, end_clocks}
 use Rattle.aero_access.specs.Judgement.{IsJudgedAtEnd, IsNamedAtEnd, IsUntold}
-use Rattle.aero_access.specs.Kept.{is_kept}
+use Rattle.aero_access.specs.LastClocks.{is_kept}
 use Rattle.aero_access.specs.States.{actor_at, thread_of}
 use Rattle.aero_access.specs.StateWords.{event}
 use Rattle.aero_access.specs.Standing.{state_of, clock_of, begin_clock_of, in_block_at, begins_at, acted_at, slots_of, StandsFor, Tells, IsBehind, ClosesBlock, HaveSameTests}

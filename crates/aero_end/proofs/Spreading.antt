@@ -6,7 +6,7 @@ use Rattle.std.proofs.lemmas.Option.{same_Some, slice_get_within}
 use Rattle.aero_access.specs.declared.slot.Slot.{Slot}
 use Rattle.aero_access.specs.declared.slot.Slot.TheVariants.{OfThread}
 use Rattle.aero_access.specs.declared.clocks.Clocks.{Clocks}
-use Rattle.aero_access.specs.Kept.{same_slot}
+use Rattle.aero_access.specs.LastClocks.{same_slot}
 use Rattle.aero_access.specs.TableWords.{labels_of}
 use Rattle.aero_access.specs.StateWords.{slot_or}
 use Rattle.aero_access.specs.Standing.{clock_of, in_block_at, is_spent, closed_by, slot_at, IsBehind, ClosesBack, AbsorbsClock, Answers, HaveSameTests, slots_of, led_of, AreLed}

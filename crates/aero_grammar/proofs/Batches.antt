@@ -5,7 +5,7 @@ use Rattle.std.proofs.lemmas.List.{append-nil}
 use Rattle.std.proofs.lemmas.List.Elements.{All-nil, All-push, All-weaker, All-head, All-tail}
 use Rattle.aero_model.specs.declared.numbered.Numbered.{Numbered}
 use Rattle.aero_model.specs.Named.{Named}
-use Rattle.aero_names.specs.Numbers.{with_event}
+use Rattle.aero_names.specs.Additions.{with_event}
 use Rattle.aero_grammar.specs.Batched.{most_lines, said_by, IsBatch}
 use Rattle.aero_grammar.specs.Lists.{lists_in, labels_in, labels_after, numbered_in_turn, HasRoom, HasGrown}
 use Rattle.aero_grammar.specs.Meaning.{Blank, Means}

@@ -14,7 +14,7 @@ use Rattle.aero_model.specs.Exempt.{label_of}
 use Rattle.aero_model.specs.Named.{Named, HasItsTarget}
 use Rattle.aero_model.specs.Numbering.{with_name, number_of, thread_target, Tables, tables_of, what_of, numbered}
 use Rattle.std.proofs.lemmas.List.Sums.{fold-append}
-use Rattle.aero_names.specs.Numbers.{number_after, with_actor, with_target, with_event, numbered_after}
+use Rattle.aero_names.specs.Additions.{number_after, with_actor, with_target, with_event, numbered_after}
 use Rattle.aero_names.proofs.Fronts.{Extends, names_joined, names_pushed, number_kept, tables_pushed, tables_extended, numbered_kept}
 use Rattle.aero_names.proofs.Listings.{number_of-place}
 use Rattle.aero_names.proofs.NewNames.{has_name, still_has_name, still_passes, number_stays}

@@ -6,7 +6,7 @@ use Rattle.aero_model.specs.declared.numbered.What.{What}
 use Rattle.aero_model.specs.Exempt.{label_of}
 use Rattle.aero_model.specs.Named.{Named}
 use Rattle.aero_model.specs.Numbering.{with_name, Tables}
-use Rattle.aero_names.specs.Numbers.{number_after, with_actor, what_after}
+use Rattle.aero_names.specs.Additions.{number_after, with_actor, what_after}
 use Rattle.aero_grammar.specs.Tabled.{with_label}
 use Rattle.aero_grammar.specs.declared.tables.Tables.{Tables as Kept}
 

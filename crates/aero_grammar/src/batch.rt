@@ -2,7 +2,7 @@
 ghost use Rattle.std.specs.Prelude.{◌≡◌, ◌↔◌, ◌++◌, ◌∷◌, [], length, option_copied, Some, IsTrue, IfSome, IfNone, OnOk};
 ghost use Rattle.std.specs.List.{list_any};
 ghost use Rattle.aero_model.specs.Names.{is_barred as is_barred_byte};
-ghost use Rattle.aero_names.specs.Numbers.{with_event};
+ghost use Rattle.aero_names.specs.Additions.{with_event};
 ghost use Rattle.aero_grammar.specs.Lists.{lists_in, labels_in, labels_after, numbered_in_turn, HasRoom, HasGrown};
 ghost use Rattle.aero_grammar.specs.Words.{named_of, IsName, IsEvent};
 

@@ -2,7 +2,7 @@
 ghost use Rattle.std.specs.Prelude.{◌≡◌, ◌+◌, ◌<◌, ◌≤◌, ℕ, List, length, true, IfOk, OnOk};
 ghost use Rattle.aero_model.specs.Named.{stands_alone};
 ghost use Rattle.aero_model.specs.Numbering.{Tables as Lists, with_name, what_of};
-ghost use Rattle.aero_names.specs.Numbers.{number_after};
+ghost use Rattle.aero_names.specs.Additions.{number_after};
 
 use crate::words::Words;
 use aero_model::event::Op;
@@ -21,7 +21,7 @@ pub struct Tables {
 impl Tables {
     ghost use Rattle.std.specs.Prelude.{◌≡◌, [], true, is_none, option_copied, Some, IfOk, OnOk};
     ghost use Rattle.aero_model.specs.Named.{stands_alone};
-    ghost use Rattle.aero_names.specs.Numbers.{with_event, with_target};
+    ghost use Rattle.aero_names.specs.Additions.{with_event, with_target};
     ghost use Rattle.aero_grammar.specs.Words.{named_of, IsEvent};
     ghost use Rattle.aero_grammar.specs.Lists.{lists_in, labels_in, labels_after, what_in_turn, numbered_in_turn, HasRoom, HasGrown};
 

@@ -28,7 +28,7 @@ use Rattle.aero_leads.specs.Marks as takes
 use Rattle.aero_leads.specs.Steps.{led_by, gains, lesser, IsNamed, IsNamedAtEnd, IsClosedAtEnd, taken_rows, begin_rows, fork_rows, end_rows}
 use Rattle.aero_leads.specs.Kept.{last, is_below, leads_to_any, TakesAll, TakesRow, IsBack, IsLeastBack}
 use Rattle.aero_leads.specs.States.{State, IsLastOf, AreReadsSince, IsStateOf, acting, Moves}
-use Rattle.aero_leads.specs.Standing.{AreSame, HaveSameBlocks, EndsState}
+use Rattle.aero_leads.specs.Standing.{AreSame, AreSameBlocks, EndsState}
 use Rattle.aero_leads.proofs.ByKind.{first_as, taken_own, taken_other, first_taken, first_begun, first_forked}
 use Rattle.aero_leads.proofs.EndRows.{first_after_end}
 use Rattle.aero_leads.proofs.Marked.{stood}
@@ -132,7 +132,7 @@ pub after_reads : (old new : State) (e : Numbered)
     → ((x : ℕ) → new.write x ≡ (if is_write_of x e.what then last e.thread (suc old.now) else old.write x))
     → ((x : ℕ) → AreReadsAfter old e x (new.reads x))
     → ((l : ℕ) → new.release l ≡ (if is_release_of l e.what then last e.thread (suc old.now) else old.release l))
-    → new.now ≡ old.now → HaveSameBlocks old new → IsAfter old (acting new e.thread) e false false
+    → new.now ≡ old.now → AreSameBlocks old new → IsAfter old (acting new e.thread) e false false
 after_reads old new e write reads release now same = record {
   write = write;
   reads = reads;
@@ -152,7 +152,7 @@ pub after_quiet : (old new : State) (e : Numbered) → ((x : ℕ) → is_read_of
     → ((x : ℕ) → new.write x ≡ (if is_write_of x e.what then last e.thread (suc old.now) else old.write x))
     → ((x : ℕ) → new.reads x ≡ (if is_write_of x e.what then [] else old.reads x))
     → ((l : ℕ) → new.release l ≡ (if is_release_of l e.what then last e.thread (suc old.now) else old.release l))
-    → new.now ≡ old.now → HaveSameBlocks old new → IsAfter old (acting new e.thread) e false false
+    → new.now ≡ old.now → AreSameBlocks old new → IsAfter old (acting new e.thread) e false false
 after_quiet old new e no_read write reads release now same = after_reads old new e write (λ x. inl (no_read x, reads x)) release now same
 
 -- what an event that ends and begins no block takes
@@ -452,7 +452,7 @@ pub idle_moves : (old : State) (t : ℕ) (what : What) (h : List Numbered) → I
 idle_moves old t what h stands ok quiet =
     taken_stands old h (event t what) stands ok [] (taken_idle old t what h stands quiet) refl (no_fork what quiet) (acting old t) (record { rows = (takes_nothing old.rows old.now t [] (λ w. refl)).rows }) (after what quiet)
   where
-    same : HaveSameBlocks old old
+    same : AreSameBlocks old old
     same = record { in_block = λ u. refl; begins = λ u. refl; acted = λ u. refl }
 
     no_fork : (what : What) → IsIdle h t what → (u : ℕ) → is_fork_of u what ≡ false

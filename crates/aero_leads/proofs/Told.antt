@@ -28,7 +28,7 @@ use Rattle.aero_access.proofs.EveryRun.{takes_some, clocks_of_front}
 use Rattle.aero_access.proofs.Rules.{named_told, named_told_at_end, clocked_sound, clocked_complete}
 use Rattle.aero_leads.specs.Leads.{Rows, is_led, AreFirst}
 use Rattle.aero_leads.specs.Marks.{Mark, TakesMarks}
-use Rattle.aero_leads.specs.Steps.{led_by, IsClosed, IsClosedAtEnd}
+use Rattle.aero_leads.specs.Steps.{led_by, LeadsBack, IsClosedAtEnd}
 use Rattle.aero_leads.specs.Steps as rows_say
 use Rattle.aero_leads.proofs.FirstPlaces.{thread_chain, first_some, first_of, led_reaches, reaches_led}
 use Rattle.aero_leads.proofs.Marked.{ReachesOwn, ReachesMark, ReachesPassed, Stood, IsTaken, taken_place, last_place, stood}
@@ -84,7 +84,7 @@ module _ (trace : List Numbered) (ok : IsWellFormed trace) (n : ℕ) (rows : Row
           home = subst (Reach trace n q) (sym place) home;
         })
 
-    judged_closed : IsJudged trace n t clocks ss → IsClosed trace n t rows ms
+    judged_closed : IsJudged trace n t clocks ss → LeadsBack trace n t rows ms
     judged_closed j = (j.is_open, ⊎_elim of_own (⊎_elim of_mark of_passed) (st.all q.0 c.0))
       where
         q : (q : ℕ) × (last_event trace n j.slot ≡ Some q) × Reaches trace n x q
@@ -108,7 +108,7 @@ module _ (trace : List Numbered) (ok : IsWellFormed trace) (n : ℕ) (rows : Row
         of_passed : ReachesPassed trace n q.0 → led_by rows t ms ≡ true
         of_passed w = absurd (w.passed t j.is_open (leads_from_reaches trace n x w.place (reaches_on trace n x q.0 w.place q.2 w.reach)))
 
-    closed_judged : IsClosed trace n t rows ms → IsJudged trace n t clocks ss
+    closed_judged : LeadsBack trace n t rows ms → IsJudged trace n t clocks ss
     closed_judged (d, h) = record {
       is_open = d;
       slot = f.slot;

@@ -24,7 +24,7 @@ state_in k =
     }
 
 -- the tests answer the same
-pub record HaveSameBlocks (old new : State) : Type 0 where
+pub record AreSameBlocks (old new : State) : Type 0 where
   pub in_block : (t : ℕ) → new.in_block t ≡ old.in_block t
   pub begins : (t : ℕ) → new.begins t ≡ old.begins t
   pub acted : (t : ℕ) → new.acted t ≡ old.acted t
@@ -36,7 +36,7 @@ pub record AreSame (old new : State) : Type 0 where
   pub reads : (x : ℕ) → new.reads x ≡ old.reads x
   pub release : (l : ℕ) → new.release l ≡ old.release l
   pub now : new.now ≡ old.now
-  pub blocks : HaveSameBlocks old new
+  pub blocks : AreSameBlocks old new
 
 -- thread t has ended its block, and nothing else has changed
 pub record EndsState (old new : State) (t : ℕ) : Type 0 where

@@ -54,13 +54,13 @@ fork_rows n t u rows o w = if o == u then gains (rows o w) (is_some (rows t w)) 
 
 module _ (trace : List Numbered) (n t : ℕ) (rows : Rows) where
   -- at an event of thread t: t has an open block, which leads to a mark
-  abbrev pub IsClosed : List Mark → Type 0
-  IsClosed ms = (0 < depth trace t n) × (led_by rows t ms ≡ true)
+  abbrev pub LeadsBack : List Mark → Type 0
+  LeadsBack ms = (0 < depth trace t n) × (led_by rows t ms ≡ true)
 
   -- the thread that the rows name
   abbrev pub IsNamed : List Mark → Option ℕ → Type 0
-  IsNamed ms None = ¬ IsClosed ms
-  IsNamed ms (Some u) = (u ≡ t) × IsClosed ms
+  IsNamed ms None = ¬ LeadsBack ms
+  IsNamed ms (Some u) = (u ≡ t) × LeadsBack ms
 
   -- at the end of a block of thread t: another thread's open block leads to t, and t's to that thread
   pub record IsClosedAtEnd (u : ℕ) : Type 0 where

@@ -25,7 +25,7 @@ pub struct Kept {
 
 impl Kept {
     ghost use Rattle.aero_leads.specs.States.{IsStateOf, Moves, acting};
-    ghost use Rattle.aero_leads.specs.Standing.{state_in, AreSame, HaveSameBlocks, EndsState, HasRoom};
+    ghost use Rattle.aero_leads.specs.Standing.{state_in, AreSame, AreSameBlocks, EndsState, HasRoom};
 
     /// No event.
     pub(crate) fn new(alloc: Global) -> Kept
@@ -94,7 +94,7 @@ impl Kept {
     pub(crate) fn read(&mut self, t: u32, x: u32) -> Result<bool, AllocError>
         requires { HasRoom self.old t }
         ensures moves { IfOk result (Moves (state_in self.old) (state_in self.new) (event t (Read x))) }
-        ensures same { HaveSameBlocks (state_in self.old) (state_in self.new) }
+        ensures same { AreSameBlocks (state_in self.old) (state_in self.new) }
         ensures room { HasRoom self.new t }
     {
         let write = last_write(&self.variables, x);
@@ -112,7 +112,7 @@ impl Kept {
     pub(crate) fn write(&mut self, t: u32, x: u32) -> Result<bool, AllocError>
         requires { HasRoom self.old t }
         ensures moves { IfOk result (Moves (state_in self.old) (state_in self.new) (event t (Write x))) }
-        ensures same { HaveSameBlocks (state_in self.old) (state_in self.new) }
+        ensures same { AreSameBlocks (state_in self.old) (state_in self.new) }
         ensures room { HasRoom self.new t }
     {
         let write = last_write(&self.variables, x);
@@ -133,7 +133,7 @@ impl Kept {
     pub(crate) fn acquire(&mut self, t: u32, l: u32) -> Result<bool, AllocError>
         requires { HasRoom self.old t }
         ensures moves { IfOk result (Moves (state_in self.old) (state_in self.new) (event t (Acquire l))) }
-        ensures same { HaveSameBlocks (state_in self.old) (state_in self.new) }
+        ensures same { AreSameBlocks (state_in self.old) (state_in self.new) }
         ensures room { HasRoom self.new t }
     {
         let release = last_release(&self.releases, l);
@@ -145,7 +145,7 @@ impl Kept {
     pub(crate) fn release(&mut self, t: u32, l: u32) -> Result<(), AllocError>
         requires { HasRoom self.old t }
         ensures moves { OnOk result (Moves (state_in self.old) (state_in self.new) (event t (Release l)) false) }
-        ensures same { HaveSameBlocks (state_in self.old) (state_in self.new) }
+        ensures same { AreSameBlocks (state_in self.old) (state_in self.new) }
         ensures room { HasRoom self.new t }
     {
         let event = self.event(t);
@@ -159,7 +159,7 @@ impl Kept {
         requires target { u < vec_len self.old.table.threads }
         requires other { u ≢ t }
         ensures moves { OnOk result (Moves (state_in self.old) (state_in self.new) (event t (Fork u)) false) }
-        ensures same { HaveSameBlocks (state_in self.old) (state_in self.new) }
+        ensures same { AreSameBlocks (state_in self.old) (state_in self.new) }
         ensures room { HasRoom self.new t }
     {
         gain(&mut self.table, u, t, self.events, self.events)?;
@@ -172,7 +172,7 @@ impl Kept {
         requires other { u ≢ t }
         requires acted { (state_in self.old).acted u ≡ true }
         ensures moves { IfOk result (Moves (state_in self.old) (state_in self.new) (event t (Join u))) }
-        ensures same { HaveSameBlocks (state_in self.old) (state_in self.new) }
+        ensures same { AreSameBlocks (state_in self.old) (state_in self.new) }
         ensures room { HasRoom self.new t }
     {
         let last = Last {
@@ -189,7 +189,7 @@ impl Kept {
         requires outside { (state_in self.old).in_block t ≡ false }
         requires count { (state_in self.old).begins t < 2 ^ 32 - 1 }
         ensures moves { OnOk result (Moves (state_in self.old) (state_in self.new) (event t (Begin None)) false) }
-        ensures err { OnErr result (HaveSameBlocks (state_in self.old) (state_in self.new)) }
+        ensures err { OnErr result (AreSameBlocks (state_in self.old) (state_in self.new)) }
         ensures room { HasRoom self.new t }
     {
         table::begin(&mut self.table, t, self.events)?;
@@ -209,7 +209,7 @@ impl Kept {
     pub(crate) fn end(&mut self, t: u32) -> Result<(), AllocError>
         requires { HasRoom self.old t }
         ensures ends { OnOk result (EndsState (state_in self.old) (state_in self.new) t) }
-        ensures err { OnErr result (HaveSameBlocks (state_in self.old) (state_in self.new)) }
+        ensures err { OnErr result (AreSameBlocks (state_in self.old) (state_in self.new)) }
         ensures room { HasRoom self.new t }
     {
         table::end(&mut self.table, t)?;

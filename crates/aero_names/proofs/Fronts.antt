@@ -10,7 +10,7 @@ use Rattle.aero_model.specs.declared.event.Op.{Op}
 use Rattle.aero_model.specs.declared.event.Op.TheVariants as op
 use Rattle.aero_model.specs.Named.{Named, HasItsTarget}
 use Rattle.aero_model.specs.Numbering.{with_name, different_names, number_of, thread_target, threads_named, variables_named, locks_named, Tables, tables_of, what_of, numbered}
-use Rattle.aero_names.specs.Numbers.{with_target, with_event, what_after, numbered_after}
+use Rattle.aero_names.specs.Additions.{with_target, with_event, what_after, numbered_after}
 use Rattle.aero_names.proofs.NewNames.{has_name, still_has_name, number_stays}
 
 pub names_joined : (named : Named → List (List ℕ)) (xs ys : List Named) → different_names (flat_map named (xs ++ ys)) ≡ fold with_name (different_names (flat_map named xs)) (flat_map named ys)

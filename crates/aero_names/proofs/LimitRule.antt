@@ -18,7 +18,7 @@ use Rattle.aero_model.specs.Blocks.{depth}
 use Rattle.aero_model.specs.Named.{Named, HasItsTarget}
 use Rattle.aero_model.specs.Numbering.{with_name, number_of, thread_target, variable_target, lock_target, Tables, tables_of, numbered, trace_of}
 use Rattle.aero_model.specs.Shape.{held, is_held_by_other, was_joined, has_started, deed_fault, shape_fault, target_limit_fault, limit_fault, fault_at, IsLawful}
-use Rattle.aero_names.specs.Numbers.{number_after, with_actor, with_target, with_event, what_after, numbered_after}
+use Rattle.aero_names.specs.Additions.{number_after, with_actor, with_target, with_event, what_after, numbered_after}
 use Rattle.aero_names.specs.Laws.{TooManyThreadsMeans, TooManyNamesMeans, IsOneTooMany, HasOneTooMany, NamesThreadTooMany, NamesTargetTooMany}
 use Rattle.aero_names.proofs.Fronts.{Extends, tables_pushed, tables_extended, numbered_kept}
 use Rattle.aero_names.proofs.Listings.{number_of-place}

@@ -7,7 +7,7 @@ use Rattle.std.proofs.lemmas.List.{append_assoc, append-nil}
 use Rattle.std.proofs.lemmas.List.Folds.{list_any-append}
 use Rattle.std.proofs.lemmas.Slice.Eq.{bytes_eq-Decides}
 use Rattle.aero_model.specs.Numbering.{with_name, number_of}
-use Rattle.aero_names.specs.Numbers.{number_after}
+use Rattle.aero_names.specs.Additions.{number_after}
 
 equal_itself : (name : List ℕ) → bytes_eq name name ≡ true
 equal_itself name = (bytes_eq-Decides name name).1 refl

@@ -1,10 +1,10 @@
 -- To be believed: Listing (different names, no more than a limit) and Laws (when an event has too many names).
--- For proofs alone: Numbers (what one more name or event adds, also for private functions of other crates), Hash,
+-- For proofs alone: Additions (what one more name or event adds, also for private functions of other crates), Hash,
 -- Indexed, Keys. Ends tells how the view of NameList reads its one text.
 pub mod Ends
 pub mod Hash
 pub mod Indexed
 pub mod Keys
 pub mod Listing
-pub mod Numbers
+pub mod Additions
 pub mod Laws

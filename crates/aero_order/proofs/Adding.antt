@@ -13,9 +13,9 @@ use Rattle.aero_model.proofs.Begins.{blocks_rise, last_in_open}
 use Rattle.aero_access.specs.declared.slot.Slot.{Slot}
 use Rattle.aero_access.specs.Slots.{of_slot, last_of}
 use Rattle.aero_access.proofs.LastEvents.{is_last, last_covers}
-use Rattle.aero_order.specs.Kept.{IsKept, AreReadsAfter, is_looked_at, Keeps, looked_back, AreLinked}
+use Rattle.aero_order.specs.LastNumbers.{IsKept, AreReadsAfter, is_looked_at, Keeps, looked_back, AreLinked}
 use Rattle.aero_order.specs.Numbering.{IsNumbered}
-use Rattle.aero_order.specs.Numbers.{AreFirsts, HasNumber, AreEdges}
+use Rattle.aero_order.specs.TransactionNumbers.{AreFirsts, HasNumber, AreEdges}
 use Rattle.aero_order.proofs.Growing.{firsts_begun, firsts_kept, number_more, number_kept, number_new, edges_more}
 use Rattle.aero_order.proofs.Keeping.{are_sources, keeps_step}
 

@@ -14,7 +14,7 @@ use Rattle.aero_model.proofs.Places.{cases_transaction}
 use Rattle.aero_model.proofs.Ready.{one_first, place_of}
 use Rattle.aero_model.proofs.SerialOrders.{Sound, sound_nil, sound_next}
 use Rattle.aero_order.specs.Near.{Near, Chain, one, further}
-use Rattle.aero_order.specs.Numbers.{AreFirsts, HasNumber, AreEdges}
+use Rattle.aero_order.specs.TransactionNumbers.{AreFirsts, HasNumber, AreEdges}
 use Rattle.aero_order.specs.Order.{IsFree, IsLeastFree, GoesOnWith, IsOrder}
 use Rattle.aero_order.proofs.Chains.{near_conflict, conflict_chain}
 

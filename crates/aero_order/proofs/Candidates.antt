@@ -13,9 +13,9 @@ use Rattle.aero_access.specs.declared.slot.Slot.{Slot}
 use Rattle.aero_access.specs.declared.slot.Slot.TheVariants.{OfThread, LastWrite, LastRelease}
 use Rattle.aero_access.specs.Slots.{of_slot, last_of, last_event}
 use Rattle.aero_access.proofs.LastEvents.{last_same}
-use Rattle.aero_order.specs.Kept.{IsKept, is_looked_at, Keeps, looked_at}
+use Rattle.aero_order.specs.LastNumbers.{IsKept, is_looked_at, Keeps, looked_at}
 use Rattle.aero_order.specs.Near.{NoWriteBetween, Near, own, read, write, write_after_read, acquire, join}
-use Rattle.aero_order.specs.Numbers.{HasNumber}
+use Rattle.aero_order.specs.TransactionNumbers.{HasNumber}
 
 kept_some : (trace : List Numbered) (firsts : List ℕ) (i : ℕ) (o : Option ℕ) → IsKept trace firsts (Some i) o → (u : ℕ) × HasNumber trace firsts (transaction trace i) u × Contains (option_to_list o) u
 kept_some trace firsts i None k = absurd k

@@ -14,9 +14,9 @@ use Rattle.aero_model.proofs.SerialOrders.{at_push}
 use Rattle.aero_access.specs.declared.slot.Slot.TheVariants.{OfThread, LastWrite, LastRelease}
 use Rattle.aero_access.specs.Slots.{of_slot, last_of}
 use Rattle.aero_access.proofs.LastEvents.{last_same}
-use Rattle.aero_order.specs.Kept.{AreLinked}
+use Rattle.aero_order.specs.LastNumbers.{AreLinked}
 use Rattle.aero_order.specs.Near.{Near, own, read, write, write_after_read, acquire, join}
-use Rattle.aero_order.specs.Numbers.{AreFirsts, HasNumber, AreEdges}
+use Rattle.aero_order.specs.TransactionNumbers.{AreFirsts, HasNumber, AreEdges}
 use Rattle.aero_order.proofs.Chains.{near_conflict}
 
 at_push_front : (xs : List ℕ) (y i x : ℕ) → slice_get xs i ≡ Some x → slice_get (xs ++ y ∷ []) i ≡ Some x

@@ -10,7 +10,7 @@ use Rattle.aero_model.specs.Serial.{Stands, IsComplete}
 use Rattle.aero_model.specs.Shape.{IsWellFormed}
 use Rattle.aero_model.proofs.Distinct.{few}
 use Rattle.aero_model.proofs.Ready.{first_of_place}
-use Rattle.aero_order.specs.Numbers.{AreFirsts, AreEdges}
+use Rattle.aero_order.specs.TransactionNumbers.{AreFirsts, AreEdges}
 use Rattle.aero_order.specs.Order.{GoesOnWith, IsOrder}
 use Rattle.aero_order.specs.Waiting.{Pair, is_in}
 use Rattle.aero_order.proofs.Counts.{in_from, from_in}

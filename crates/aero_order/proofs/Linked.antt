@@ -1,7 +1,7 @@
 -- Which edges there are once some have been added.
 use Rattle.std.proofs.Common.{ℕ, List, [], ◌++◌, inl, inr, arith}
 use Rattle.std.proofs.lemmas.List.Elements.{Contains-append_left, Contains-append_right, Contains-append_cases}
-use Rattle.aero_order.specs.Kept.{AreLinked}
+use Rattle.aero_order.specs.LastNumbers.{AreLinked}
 use Rattle.aero_order.specs.Waiting.{Pair}
 
 -- from no number

@@ -11,7 +11,7 @@ use Rattle.aero_model.specs.Shape.{IsWellFormed}
 use Rattle.aero_model.proofs.Completeness.{complete_where_serializable}
 use Rattle.aero_model.proofs.Distinct.{few}
 use Rattle.aero_model.proofs.SerialOrders.{sound_order, no_cycle}
-use Rattle.aero_order.specs.Numbers.{AreFirsts, AreEdges}
+use Rattle.aero_order.specs.TransactionNumbers.{AreFirsts, AreEdges}
 use Rattle.aero_order.specs.Order.{IsOrder}
 use Rattle.aero_order.specs.Waiting.{Pair}
 use Rattle.aero_order.proofs.ByNumbers.{places_of, serial_from_order}

@@ -5,7 +5,7 @@ use Rattle.aero_model.specs.Graph.{Conflict}
 use Rattle.aero_model.specs.Serial.{IsSerialOrder, IsComplete}
 use Rattle.aero_model.specs.Shape.{IsWellFormed}
 use Rattle.aero_order.specs.Near.{Near, Chain}
-use Rattle.aero_order.specs.Numbers.{AreFirsts, AreEdges}
+use Rattle.aero_order.specs.TransactionNumbers.{AreFirsts, AreEdges}
 use Rattle.aero_order.specs.Order.{IsOrder}
 
 abbrev pub NearIsConflict : Type 0

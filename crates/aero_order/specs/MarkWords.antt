@@ -3,16 +3,16 @@ use Rattle.std.specs.Prelude.{ℕ, List, [], Option, Some, None, slice_get, slic
 use Rattle.aero_access.specs.declared.slot.Slot.{Slot}
 use Rattle.aero_access.specs.declared.slot.Slot.TheVariants.{OfThread, LastWrite, LastRead, LastRelease}
 use Rattle.aero_order.specs.declared.marks.Marks.{Marks}
-use Rattle.aero_order.specs.declared.marks.Readings.{Readings}
+use Rattle.aero_order.specs.declared.marks.Readers.{Readers}
 
 abbrev pub mark_at : List (Option ℕ) → ℕ → Option ℕ
 mark_at marks place = slice_index_or marks place None
 
-abbrev pub numbers_in : Option Readings → List ℕ
+abbrev pub numbers_in : Option Readers → List ℕ
 numbers_in None = []
 numbers_in (Some r) = r.numbers.items
 
-abbrev pub reads_at : List Readings → ℕ → List ℕ
+abbrev pub reads_at : List Readers → ℕ → List ℕ
 reads_at reads x = numbers_in (slice_get reads x)
 
 -- of the slots, but for reads

@@ -3,9 +3,9 @@ use Rattle.std.specs.Prelude.{◌≡◌, ℕ, List, length}
 use Rattle.aero_model.specs.declared.numbered.Numbered.{Numbered}
 use Rattle.aero_order.specs.declared.transactions.Transactions.{Transactions}
 use Rattle.aero_order.specs.Came.{Came, places_in, AreOf}
-use Rattle.aero_order.specs.Kept.{Keeps}
+use Rattle.aero_order.specs.LastNumbers.{Keeps}
 use Rattle.aero_order.specs.MarkWords.{kept_of, reads_of, own_of}
-use Rattle.aero_order.specs.Numbers.{AreFirsts, AreEdges}
+use Rattle.aero_order.specs.TransactionNumbers.{AreFirsts, AreEdges}
 
 -- the events are those of the trace: its transactions' numbers, the edges between them, and what is kept
 pub record StandsFor (s : Transactions) (trace : List Numbered) : Type 0 where

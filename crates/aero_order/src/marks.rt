@@ -5,7 +5,7 @@ ghost use Rattle.std.specs.Option.{option_to_list};
 ghost use Rattle.aero_access.specs.declared.slot.Slot.TheVariants.{OfThread};
 ghost use Rattle.aero_access.specs.Slots.{is_write_of, of_slot};
 ghost use Rattle.aero_model.specs.Shape.{is_release_of};
-ghost use Rattle.aero_order.specs.Kept.{AreReadersWith, AreReadsAfter, AreLinked};
+ghost use Rattle.aero_order.specs.LastNumbers.{AreReadersWith, AreReadsAfter, AreLinked};
 ghost use Rattle.aero_order.specs.MarkWords.{mark_at, reads_at};
 
 use aero_model::numbered::{Numbered, What};
@@ -13,11 +13,11 @@ use std::alloc::{AllocError, Global};
 
 /// The numbers of the transactions that read a variable since its last write.
 #[derive(Drop)]
-pub struct Readings {
+pub struct Readers {
     pub numbers: Vec<u32>,
 }
 
-impl Readings {
+impl Readers {
     fn ends_with(&self, number: u32) -> bool
         ensures { IsTrue result ↔ (slice_get self.now.numbers.items (length self.now.numbers.items - 1) ≡ Some number) }
     {
@@ -51,14 +51,14 @@ pub struct Marks {
     last: Vec<Option<u32>>,
     own: Vec<Option<u32>>,
     writes: Vec<Option<u32>>,
-    reads: Vec<Readings>,
+    reads: Vec<Readers>,
     releases: Vec<Option<u32>>,
 }
 
 impl Marks {
     ghost use Rattle.std.specs.Prelude.{true};
     ghost use Rattle.aero_access.specs.declared.slot.Slot.{Slot};
-    ghost use Rattle.aero_order.specs.Kept.{is_looked_at, looked_back};
+    ghost use Rattle.aero_order.specs.LastNumbers.{is_looked_at, looked_back};
     ghost use Rattle.aero_order.specs.MarkWords.{kept_of, reads_of, own_of};
 
     /// Nothing is kept.
@@ -145,7 +145,7 @@ fn put(marks: &mut Vec<Option<u32>>, place: u32, number: u32) -> Result<(), Allo
 }
 
 // The reads of the variable since its last write.
-fn numbers_at(reads: &[Readings], x: u32) -> &[u32]
+fn numbers_at(reads: &[Readers], x: u32) -> &[u32]
     ensures { result.now ≡ reads_at reads.now x }
 {
     match reads.get(x as usize) {
@@ -155,19 +155,19 @@ fn numbers_at(reads: &[Readings], x: u32) -> &[u32]
 }
 
 // Makes a place for the variable.
-fn reach(reads: &mut Vec<Readings>, x: u32) -> Result<(), AllocError>
+fn reach(reads: &mut Vec<Readers>, x: u32) -> Result<(), AllocError>
     ensures room { OnOk result (x < vec_len reads.new) }
     ensures same { (y : ℕ) → reads_at reads.new.items y ≡ reads_at reads.old.items y }
 {
     let at = x as usize;
     while reads.len() <= at {
         let numbers = Vec::new(*reads.allocator());
-        reads.push(Readings { numbers })?;
+        reads.push(Readers { numbers })?;
     }
     Ok(())
 }
 
-fn add_read(reads: &mut Vec<Readings>, x: u32, number: u32) -> Result<(), AllocError>
+fn add_read(reads: &mut Vec<Readers>, x: u32, number: u32) -> Result<(), AllocError>
     ensures one { OnOk result (AreReadersWith (reads_at reads.old.items x) number (reads_at reads.new.items x)) }
     ensures others { OnOk result ((y : ℕ) → y ≢ x → reads_at reads.new.items y ≡ reads_at reads.old.items y) }
 {
@@ -175,7 +175,7 @@ fn add_read(reads: &mut Vec<Readings>, x: u32, number: u32) -> Result<(), AllocE
     reads[x as usize].add(number)
 }
 
-fn forget_reads(reads: &mut [Readings], x: u32)
+fn forget_reads(reads: &mut [Readers], x: u32)
     ensures one { reads_at reads.new x ≡ [] }
     ensures others { (y : ℕ) → y ≢ x → reads_at reads.new y ≡ reads_at reads.old y }
 {
@@ -214,7 +214,7 @@ fn note_release(releases: &mut Vec<Option<u32>>, what: What, number: u32) -> Res
     }
 }
 
-fn note_reads(reads: &mut Vec<Readings>, what: What, number: u32) -> Result<(), AllocError>
+fn note_reads(reads: &mut Vec<Readers>, what: What, number: u32) -> Result<(), AllocError>
     ensures { OnOk result (AreReadsAfter what number (reads_at reads.old.items) (reads_at reads.new.items)) }
 {
     match what {

@@ -6,7 +6,7 @@ ghost use Rattle.aero_model.specs.Serial.{IsSerialOrder};
 ghost use Rattle.aero_model.specs.Shape.{IsWellFormed};
 ghost use Rattle.aero_order.specs.Came.{Came, places_in, IsOf, AreOf};
 ghost use Rattle.aero_order.specs.Numbering.{IsNumbered};
-ghost use Rattle.aero_order.specs.Numbers.{AreFirsts, AreEdges};
+ghost use Rattle.aero_order.specs.TransactionNumbers.{AreFirsts, AreEdges};
 
 use crate::first::First;
 use crate::lookup::look_up;

@@ -5,7 +5,7 @@ use Rattle.std.specs.List.{AllByRecursion}
 use Rattle.std.proofs.lemmas.List.{append_assoc}
 use Rattle.std.proofs.lemmas.List.Elements.{All-from_recursion}
 use Rattle.std.proofs.lemmas.List.Sums.{sum_by-cons, sum_by-append}
-use Rattle.aero_pieces.specs.Kept.{IsSubsequence, done, same, other, times, HasEachJob}
+use Rattle.aero_pieces.specs.Invariants.{IsSubsequence, done, same, other, times, HasEachJob}
 use Rattle.aero_pieces.specs.Schedule.{World, Step, Ask, Post, Take, Back, Answers, Miss, Settle, Entry, Happens, Runs, start, with_question, after_settling, taken_by, taken_back}
 use Rattle.aero_pieces.specs.declared.answer.Value.{Value}
 

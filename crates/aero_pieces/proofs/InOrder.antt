@@ -5,7 +5,7 @@ use Rattle.std.specs.List.{AllZip, AllByRecursion}
 use Rattle.std.proofs.lemmas.List.{map-append, append_assoc}
 use Rattle.aero_pieces.specs.declared.question.Question.{Question}
 use Rattle.aero_pieces.specs.declared.answer.Value.{Value}
-use Rattle.aero_pieces.specs.Kept.{IsInOrder}
+use Rattle.aero_pieces.specs.Invariants.{IsInOrder}
 use Rattle.aero_pieces.specs.Schedule.{World, Entry, Step, Ask, Post, Take, Back, Answers, Miss, Settle, TakesAnswer, Happens, Runs, start, fresh, with_question, noted, with_note, after_settling, settled_value, IsWorkedOut, MaySettle, taken_by, taken_back}
 use Rattle.aero_pieces.specs.Values.{IsValueOf}
 

@@ -1,6 +1,6 @@
 -- What holds whatever happens to questions, jobs and answers.
 use Rattle.std.specs.Prelude.{ℕ, List}
-use Rattle.aero_pieces.specs.Kept.{IsInOrder, HasEachJob}
+use Rattle.aero_pieces.specs.Invariants.{IsInOrder, HasEachJob}
 use Rattle.aero_pieces.specs.Schedule.{World, Step, Runs, start}
 
 -- Over every schedule the values are given in the order in which they were asked for, and none is skipped or given twice.

@@ -32,7 +32,7 @@ use Rattle.aero_verdict.specs.declared.recorder.Recorder.{Recorder}
 use Rattle.aero_verdict.specs.Actors.{named_on}
 use Rattle.aero_verdict.specs.Explained.{has_cycle, visit_places, round_places, IsCycleStep, IsExplained}
 use Rattle.aero_verdict.specs.Given.{Given, words_of}
-use Rattle.aero_verdict.specs.Kept.{AreGiven}
+use Rattle.aero_verdict.specs.Standing.{AreGiven}
 use Rattle.aero_verdict.specs.Parts.{KeepsAt}
 use Rattle.aero_verdict.specs.Recorded.{HasRecorded, StandsForLeads}
 use Rattle.aero_verdict.specs.Monitored.{TellsFed}

@@ -17,7 +17,7 @@ use Rattle.aero_verdict.specs.declared.checker.Checker.{Checker}
 use Rattle.aero_verdict.specs.declared.monitor.State.{State}
 use Rattle.aero_verdict.specs.declared.monitor.State.TheVariants.{Undecided, Decided, Spent}
 use Rattle.aero_verdict.specs.Given.{Words}
-use Rattle.aero_verdict.specs.Kept.{KeepsFirst, StandsFor, up_to}
+use Rattle.aero_verdict.specs.Standing.{KeepsFirst, StandsFor, up_to}
 use Rattle.aero_verdict.specs.Fed.{IsCertain, IsOpen}
 use Rattle.aero_verdict.specs.Monitored.{FedSo, certain_of, TellsFed}
 use Rattle.aero_verdict.specs.Ordered.{is_faultless}

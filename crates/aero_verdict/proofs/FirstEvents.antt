@@ -14,7 +14,7 @@ use Rattle.aero_order.specs.Came.{Came, places_in, IsOf}
 use Rattle.aero_verdict.specs.declared.numbering.Numbering.{Numbering}
 use Rattle.aero_verdict.specs.Given.{Given}
 use Rattle.aero_verdict.specs.InOrder.{came_of, step_in}
-use Rattle.aero_verdict.specs.Kept.{AreGiven, HasNamedActor}
+use Rattle.aero_verdict.specs.Standing.{AreGiven, HasNamedActor}
 use Rattle.aero_verdict.specs.Limited.{names_in, IsNamedThread}
 use Rattle.aero_verdict.specs.Ordered.{line_at, step_of, step_at}
 use Rattle.aero_verdict.specs.Parts.{NamesAll}

@@ -20,7 +20,7 @@ use Rattle.aero_verdict.specs.declared.in_order.InOrder.{InOrder}
 use Rattle.aero_verdict.specs.declared.numbering.Numbering.{Numbering}
 use Rattle.aero_verdict.specs.Given.{words_of}
 use Rattle.aero_verdict.specs.InOrder.{StandsForBoth, came_of, KeepsFirsts, KeepsInOrder, AreGathered, AreFirstsInOrder, step_in}
-use Rattle.aero_verdict.specs.Kept.{KeepsFirst}
+use Rattle.aero_verdict.specs.Standing.{KeepsFirst}
 use Rattle.aero_verdict.specs.Limited.{IsNamedThread}
 use Rattle.aero_verdict.specs.Monitored.{TellsFed}
 use Rattle.aero_verdict.specs.Ordered.{is_faultless, has_order, AreLinesInOrder, TellsInOrder}

@@ -4,7 +4,7 @@ use Rattle.std.specs.Prelude.{slice_get}
 use Rattle.std.proofs.lemmas.Option.{same_Some}
 use Rattle.aero_model.specs.Named.{Named}
 use Rattle.aero_verdict.specs.Given.{Given}
-use Rattle.aero_verdict.specs.Kept.{IsGiven, AreGiven, KeepsFirst}
+use Rattle.aero_verdict.specs.Standing.{IsGiven, AreGiven, KeepsFirst}
 use Rattle.aero_verdict.specs.Verdict.{Rules}
 
 -- what stands in a list with one item more stood there, or is that item

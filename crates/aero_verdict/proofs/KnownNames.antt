@@ -14,7 +14,7 @@ use Rattle.aero_names.proofs.Listings.{number_of-place}
 use Rattle.aero_names.proofs.NewNames.{has_name, still_passes, number_stays}
 use Rattle.aero_grammar.specs.Tabled.{name_at, op_of, target_in}
 use Rattle.aero_verdict.specs.Known.{IsKnown, AreKnown, is_told_exempt, HasLabel}
-use Rattle.aero_verdict.specs.Numbers.{NumbersName}
+use Rattle.aero_verdict.specs.Naming.{NumbersName}
 
 -- of no name yet
 pub none_known : (trace block : List (List ℕ)) (numbers : List ℕ) → numbers ≡ [] → AreKnown trace block numbers

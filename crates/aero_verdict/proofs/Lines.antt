@@ -15,7 +15,7 @@ use Rattle.aero_access.specs.Judgement.{IsTold}
 use Rattle.aero_verdict.specs.declared.checker.Checker.{Checker}
 use Rattle.aero_verdict.specs.declared.checker.Stop.TheVariants.{Refused, Closed}
 use Rattle.aero_verdict.specs.Given.{Words}
-use Rattle.aero_verdict.specs.Kept.{trace_in, judged_in, KeepsFirst, StandsFor, IsNext, IsExpected, Refuses, Judged, up_to, AreNext, AreExpected, StopsIn}
+use Rattle.aero_verdict.specs.Standing.{trace_in, judged_in, KeepsFirst, StandsFor, IsNext, IsExpected, Refuses, Judged, up_to, AreNext, AreExpected, StopsIn}
 use Rattle.aero_verdict.specs.Known.{AreMarked}
 use Rattle.aero_verdict.specs.Verdict.{Rules}
 use Rattle.aero_verdict.proofs.Steps.{take_pushed, front_and_rest}

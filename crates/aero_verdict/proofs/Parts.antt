@@ -16,7 +16,7 @@ use Rattle.aero_grammar.specs.Reading.{Reading, after_lines, whole_reading, IsRe
 use Rattle.aero_verdict.specs.declared.checker.Checker.{Checker}
 use Rattle.aero_verdict.specs.declared.checker.Stop.{Stop}
 use Rattle.aero_verdict.specs.Given.{Words}
-use Rattle.aero_verdict.specs.Kept.{StandsFor, KeepsFirst, HasNamedActor, CanBeTold, up_to, AreNext, AreExpected, StopsIn, TellsStop}
+use Rattle.aero_verdict.specs.Standing.{StandsFor, KeepsFirst, HasNamedActor, CanBeTold, up_to, AreNext, AreExpected, StopsIn, TellsStop}
 use Rattle.aero_verdict.specs.Known.{AreMarked}
 use Rattle.aero_verdict.specs.Parts.{AreBefore, greatest_number, Stands, KeepsAt, NamesAll, ComesNext}
 use Rattle.aero_verdict.specs.Verdict.{Rules, counted_events, events_of, read_trace, checked_trace, IsClean, IsVerdict, IsMalformed, IsFaultless}

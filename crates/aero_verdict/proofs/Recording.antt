@@ -17,7 +17,7 @@ use Rattle.aero_shape.specs.declared.admission.Admitted.TheVariants.{Plain, Oute
 use Rattle.aero_shape.specs.Admission.{admitted_as, deed_as}
 use Rattle.aero_witness.specs.Trail.{is_deed, IsRecorded, IsTrail}
 use Rattle.aero_verdict.specs.Given.{Given}
-use Rattle.aero_verdict.specs.Kept.{names_of, marked_in, judged_in, AreGiven, IsGiven}
+use Rattle.aero_verdict.specs.Standing.{names_of, marked_in, judged_in, AreGiven, IsGiven}
 use Rattle.aero_verdict.specs.Recorded.{inner_what, recorded_what, recorded}
 use Rattle.aero_verdict.specs.Verdict.{Rules}
 use Rattle.aero_verdict.proofs.Steps.{judged_as}

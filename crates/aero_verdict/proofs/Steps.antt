@@ -37,10 +37,10 @@ use Rattle.aero_verdict.specs.Begun.{begin_line, begins_block, ends_block, Count
 use Rattle.aero_model.specs.Exempt.{IsBare, IsJudgedWhat, IsJudgedAs}
 use Rattle.aero_verdict.specs.Given.{Given, Words}
 use Rattle.aero_verdict.specs.Judging.{ComesAfter, IsAdmitted, Tells}
-use Rattle.aero_verdict.specs.Kept.{names_of, trace_in, marked_in, judged_in, LastBegins, IsGiven, KeepsFirst, Counts, StandsFor, IsNext, Refuses, Judged}
+use Rattle.aero_verdict.specs.Standing.{names_of, trace_in, marked_in, judged_in, LastBegins, IsGiven, KeepsFirst, Counts, StandsFor, IsNext, Refuses, Judged}
 use Rattle.aero_verdict.specs.Limited.{names_in, IsLimited, NumbersEvent, RefusesEvent}
 use Rattle.aero_verdict.specs.Verdict.{Rules}
-use Rattle.aero_names.specs.Numbers.{with_event, numbered_after}
+use Rattle.aero_names.specs.Additions.{with_event, numbered_after}
 use Rattle.aero_verdict.proofs.Givens.{keeps_more}
 use Rattle.aero_verdict.proofs.Judged.{read_so_far}
 use Rattle.aero_verdict.proofs.Judging.{begins_as, ends_as}

@@ -15,7 +15,7 @@ use Rattle.aero_verdict.specs.declared.checker.Stop.{Stop}
 use Rattle.aero_verdict.specs.declared.checker.Stop.TheVariants.{Refused, Closed}
 use Rattle.aero_verdict.specs.Begun.{begin_line}
 use Rattle.aero_verdict.specs.Given.{Words}
-use Rattle.aero_verdict.specs.Kept.{LastBegins, StopsIn, TellsStop}
+use Rattle.aero_verdict.specs.Standing.{LastBegins, StopsIn, TellsStop}
 use Rattle.aero_verdict.specs.Limited.{names_in}
 use Rattle.aero_verdict.specs.Parts.{KeepsAt}
 use Rattle.aero_verdict.specs.Verdict.{Rules, IsVerdict, IsViolation, counted_events, events_of, read_trace, checked_trace}

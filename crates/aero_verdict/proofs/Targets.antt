@@ -13,8 +13,8 @@ use Rattle.aero_model.specs.Shape.{target_limit_fault}
 use Rattle.aero_names.specs.Listing.{Listing}
 use Rattle.aero_verdict.specs.declared.numbering.Numbering.{Numbering}
 use Rattle.aero_verdict.specs.Limited.{names_in, IsLimited, NumbersTarget, RefusesTarget, NumbersEvent, RefusesEvent}
-use Rattle.aero_names.specs.Numbers.{number_after, with_actor, with_target, what_after, numbered_after}
-use Rattle.aero_verdict.specs.Numbers.{NumbersName, RefusesName}
+use Rattle.aero_names.specs.Additions.{number_after, with_actor, with_target, what_after, numbered_after}
+use Rattle.aero_verdict.specs.Naming.{NumbersName, RefusesName}
 use Rattle.aero_names.proofs.NewNames.{has_name, number_stays}
 
 -- the target, by operation

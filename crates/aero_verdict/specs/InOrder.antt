@@ -14,7 +14,7 @@ use Rattle.aero_order.specs.declared.transactions.Transactions.{Transactions}
 use Rattle.aero_verdict.specs.declared.in_order.InOrder.{InOrder}
 use Rattle.aero_verdict.specs.declared.numbering.Numbering.{Numbering}
 use Rattle.aero_verdict.specs.Given.{Given}
-use Rattle.aero_verdict.specs.Kept.{KeepsFirst}
+use Rattle.aero_verdict.specs.Standing.{KeepsFirst}
 use Rattle.aero_verdict.specs.Limited.{names_in}
 use Rattle.aero_verdict.specs.Parts.{NamesAll}
 use Rattle.aero_verdict.specs.Verdict.{Rules, counted_events, checked_trace}

@@ -12,8 +12,8 @@ use Rattle.aero_model.specs.Numbering.{Tables}
 use Rattle.aero_model.specs.Shape.{target_limit_fault, limit_fault}
 use Rattle.aero_grammar.specs.Words.{IsName}
 use Rattle.aero_verdict.specs.declared.numbering.Numbering.{Numbering}
-use Rattle.aero_names.specs.Numbers.{with_target, with_event, what_after, numbered_after}
-use Rattle.aero_verdict.specs.Numbers.{IsWithin}
+use Rattle.aero_names.specs.Additions.{with_target, with_event, what_after, numbered_after}
+use Rattle.aero_verdict.specs.Naming.{IsWithin}
 
 abbrev pub names_in : Numbering → Tables
 names_in n = record { threads = n.threads.names; variables = n.variables.names; locks = n.locks.names }

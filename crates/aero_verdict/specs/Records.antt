@@ -8,7 +8,7 @@ use Rattle.aero_verdict.specs.declared.recorder.Recorder.{Recorder}
 use Rattle.aero_verdict.specs.Actors.{named_on}
 use Rattle.aero_verdict.specs.Explained.{round_places}
 use Rattle.aero_verdict.specs.Given.{Given}
-use Rattle.aero_verdict.specs.Kept.{AreGiven}
+use Rattle.aero_verdict.specs.Standing.{AreGiven}
 use Rattle.aero_verdict.specs.Recorded.{HasRecorded}
 use Rattle.aero_verdict.specs.Verdict.{Rules, counted_events, IsViolation}
 

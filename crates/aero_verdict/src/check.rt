@@ -3,7 +3,7 @@ ghost use Rattle.std.specs.Prelude.{◌≡◌, ◌≢◌, ◌-◌, ℕ, true, fa
 ghost use Rattle.aero_model.specs.Verdicts.{HasOwnFault};
 ghost use Rattle.aero_grammar.specs.Reading.{Reading, fault_within, is_own_fault};
 ghost use Rattle.aero_verdict.specs.Verdict.{Rules, under, IsVerdict, IsFaultless};
-ghost use Rattle.aero_verdict.specs.Kept.{CanBeTold, TellsStop};
+ghost use Rattle.aero_verdict.specs.Standing.{CanBeTold, TellsStop};
 ghost use Rattle.aero_verdict.specs.Ordered.{is_faultless};
 ghost use Rattle.aero_verdict.specs.Given.{words_of};
 ghost use Rattle.aero_verdict.specs.Parts.{IsPartExpected, ComesNext, TellsPart};

@@ -40,7 +40,7 @@ impl<E: Engine> Checker<E> {
     ghost use Rattle.aero_grammar.specs.Words.{IsName};
     ghost use Rattle.aero_verdict.specs.Begun.{begin_line};
     ghost use Rattle.aero_verdict.specs.Given.{words_of};
-    ghost use Rattle.aero_verdict.specs.Kept.{StandsFor, IsNext, IsExpected, Refuses, Judged, up_to, AreNext, AreExpected, StopsIn};
+    ghost use Rattle.aero_verdict.specs.Standing.{StandsFor, IsNext, IsExpected, Refuses, Judged, up_to, AreNext, AreExpected, StopsIn};
     ghost use Rattle.aero_grammar.specs.Tabled.{named_in, lines_in};
     ghost use Rattle.aero_verdict.specs.Known.{tables_in, Knows, is_told_exempt, HasLabel};
     ghost use Rattle.aero_verdict.specs.Verdict.{Rules, under};

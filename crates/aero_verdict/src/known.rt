@@ -3,7 +3,7 @@ ghost use Rattle.std.specs.Prelude.{◌≡◌, ◌<◌, ◌==◌, ◌++◌, ◌�
 ghost use Rattle.std.specs.List.{list_any};
 ghost use Rattle.aero_grammar.specs.Tabled.{name_at};
 ghost use Rattle.aero_verdict.specs.Known.{AreKnown};
-ghost use Rattle.aero_verdict.specs.Numbers.{NumbersName, RefusesName};
+ghost use Rattle.aero_verdict.specs.Naming.{NumbersName, RefusesName};
 
 use aero_model::except::Except;
 use aero_model::numbered::What;

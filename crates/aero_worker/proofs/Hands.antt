@@ -5,7 +5,7 @@ use Rattle.std.proofs.lemmas.List.Sums.{sum_by-cons}
 use Rattle.std.proofs.lemmas.List.Elements.{All-nil, All-cons, All-head, All-tail, All-same}
 use Rattle.std.specs.Prelude.{sum_by}
 use lib.ListN.{length-append, length-map}
-use Rattle.aero_pieces.specs.Kept.{IsSubsequence, done, same, other, times}
+use Rattle.aero_pieces.specs.Invariants.{IsSubsequence, done, same, other, times}
 use Rattle.aero_stage.specs.declared.job.Job.{Job}
 use Rattle.aero_stage.specs.declared.job.Slip.{Slip}
 use Rattle.aero_stage.specs.declared.job.Slip.TheVariants.{Work, Stop}

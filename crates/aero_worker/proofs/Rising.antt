@@ -1,7 +1,7 @@
 -- A part of a list that rises.
 use Rattle.std.proofs.Common.{ℕ, ◌<◌, List, All}
 use Rattle.std.proofs.lemmas.List.Elements.{All-cons, All-head, All-tail}
-use Rattle.aero_pieces.specs.Kept.{IsSubsequence, done, same, other}
+use Rattle.aero_pieces.specs.Invariants.{IsSubsequence, done, same, other}
 use Rattle.aero_worker.specs.Laws.{Rises}
 
 all_part : (P : ℕ → Type 0) (xs ys : List ℕ) → IsSubsequence xs ys → All P ys → All P xs

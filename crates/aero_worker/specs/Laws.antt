@@ -1,6 +1,6 @@
 -- What holds of every crew's report.
 use Rattle.std.specs.Prelude.{ℕ, ◌<◌, List, [], ◌∷◌, All, ⊤}
-use Rattle.aero_pieces.specs.Kept.{IsSubsequence}
+use Rattle.aero_pieces.specs.Invariants.{IsSubsequence}
 
 -- each number is below all that stand behind it
 abbrev pub Rises : List ℕ → Type 0

@@ -1,6 +1,6 @@
 //! The crew: its start, its jobs and replies, and its close.
 ghost use Rattle.std.specs.Prelude.{◌≡◌, ℕ, ◌+◌, ◌-◌, ◌≤◌, IfOk, OnOk, IfErr, OnErr, All, [], ◌∷◌, ◌++◌, length, map, sum_by, vec_len, vec_capacity};
-ghost use Rattle.aero_pieces.specs.Kept.{IsSubsequence, times};
+ghost use Rattle.aero_pieces.specs.Invariants.{IsSubsequence, times};
 ghost use Rattle.aero_stage.specs.Ends.{IsSettled, IsStage};
 ghost use Rattle.aero_worker.specs.Shifts.{lists_of, number_of, Tells};
 

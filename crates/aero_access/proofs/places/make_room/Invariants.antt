@@ -1,6 +1,6 @@
 use Rattle.std.proofs.Common.{◌≡◌, ◌+◌, ◌-◌, ℕ, vec_len}
 use Rattle.std.specs.Prelude.{slice_get}
-use Rattle.aero_access.specs.Kept.{flat}
+use Rattle.aero_access.specs.LastClocks.{flat}
 use Rattle.aero_access.proofs.places.make_room.Given as goal
 
 abbrev pub invariant-loop-kept : goal.invariant-loop-kept

@@ -1,5 +1,5 @@
 use Rattle.std.proofs.Common.{◌≡◌, ◌+◌, ◌*◌, ◌-◌, ◌^◌, ◌++◌, ◌∷◌, [], ◌==◌, true, length, None, Ok, sym, ◌∙◌, ap, subst, arith}
-use Rattle.aero_names.specs.Numbers.{with_event}
+use Rattle.aero_names.specs.Additions.{with_event}
 use Rattle.aero_grammar.specs.Lists.{lists_in, labels_in, labels_after}
 use Rattle.aero_grammar.specs.Meaning.{Means, meaning}
 use Rattle.aero_grammar.specs.Reading.{IsReading, followed_by, reading_of}

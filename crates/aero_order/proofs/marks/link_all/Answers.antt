@@ -1,6 +1,6 @@
 use Rattle.std.proofs.Common.{[], ◌∷◌, take, get_or, sym, subst}
 use Rattle.std.proofs.lemmas.List.{take_more}
-use Rattle.aero_order.specs.Kept.{AreLinked}
+use Rattle.aero_order.specs.LastNumbers.{AreLinked}
 use Rattle.aero_order.proofs.Linked.{linked_none, linked_append}
 use Rattle.aero_order.proofs.marks.link_all.Goals as goal
 

@@ -1,5 +1,5 @@
 use Rattle.std.proofs.Common.{take}
-use Rattle.aero_order.specs.Kept.{AreLinked}
+use Rattle.aero_order.specs.LastNumbers.{AreLinked}
 use Rattle.aero_order.proofs.marks.link_all.Given as goal
 
 abbrev pub invariant-loop-u : goal.invariant-loop-u

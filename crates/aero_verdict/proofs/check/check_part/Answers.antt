@@ -6,7 +6,7 @@ use Rattle.aero_model.specs.Numbering.{Tables}
 use Rattle.aero_model.specs.declared.numbered.Numbered.{Numbered}
 use Rattle.aero_verdict.specs.Given.{words_of}
 use Rattle.aero_verdict.specs.Known.{HasLabel}
-use Rattle.aero_verdict.specs.Kept.{HasNamedActor}
+use Rattle.aero_verdict.specs.Standing.{HasNamedActor}
 use Rattle.aero_verdict.specs.Verdict.{under}
 use Rattle.aero_verdict.proofs.KnownLabels.{labels_known}
 use Rattle.aero_verdict.proofs.Parts.{part_expected, part_can_be_told, part_stopped, part_malformed, part_passed}

@@ -1,7 +1,7 @@
 use Rattle.std.proofs.Common.{◌≡◌, [], ap, subst}
 use Rattle.std.specs.Prelude.{unwrap_or}
 use Rattle.aero_grammar.specs.Tabled.{name_at}
-use Rattle.aero_verdict.specs.Numbers.{NumbersName}
+use Rattle.aero_verdict.specs.Naming.{NumbersName}
 use Rattle.aero_verdict.proofs.KnownNames.{known_pushed}
 use Rattle.aero_verdict.proofs.known.number_first.Goals as goal
 

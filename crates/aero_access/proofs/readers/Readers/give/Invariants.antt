@@ -2,7 +2,7 @@ use Rattle.std.proofs.Common.{◌≡◌, ◌<◌, ℕ, max, take, Some}
 use Rattle.std.specs.Prelude.{◌≢◌, slice_get}
 use Rattle.aero_clock.specs.Numbers.{number_at}
 use Rattle.aero_access.specs.declared.kept.Kept.{Kept}
-use Rattle.aero_access.specs.Kept.{greatest_but}
+use Rattle.aero_access.specs.LastClocks.{greatest_but}
 use Rattle.aero_access.specs.Threads.{IsClosedBy, HasSameBlock}
 use Rattle.aero_access.specs.States.{State}
 use Rattle.aero_access.specs.Heeds.{Heeds}

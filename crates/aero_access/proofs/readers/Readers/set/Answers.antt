@@ -1,6 +1,6 @@
 use Rattle.std.proofs.Common.{◌≡◌, sym, ◌∙◌, ap, ⊎_elim, Some, None}
 use Rattle.std.specs.Prelude.{position}
-use Rattle.aero_access.specs.Kept.{is_by}
+use Rattle.aero_access.specs.LastClocks.{is_by}
 use Rattle.aero_access.proofs.KeptLists.{position_at, position_none, apart_set, find-set, apart_push, find-push}
 use Rattle.aero_access.proofs.Outcomes.{either}
 use Rattle.aero_access.proofs.readers.Readers.set.Goals as goal

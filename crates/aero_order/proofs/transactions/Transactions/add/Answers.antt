@@ -4,7 +4,7 @@ use Rattle.std.proofs.lemmas.Bool.{cond-true, cond-false}
 use Rattle.std.proofs.lemmas.List.{length_push}
 use Rattle.aero_model.specs.Blocks.{depth}
 use Rattle.aero_order.specs.Came.{places_in}
-use Rattle.aero_order.specs.Kept.{AreLinked}
+use Rattle.aero_order.specs.LastNumbers.{AreLinked}
 use Rattle.aero_order.specs.MarkWords.{kept_of, reads_of, own_of}
 use Rattle.aero_order.specs.Numbering.{IsNumbered}
 use Rattle.aero_order.proofs.Adding.{is_inside, add_event, keeps_as}

@@ -9,7 +9,7 @@ use Rattle.aero_access.specs.declared.slot.Slot.{Slot}
 use Rattle.aero_access.specs.declared.slot.Slot.TheVariants.{OfThread, LastWrite, LastRead, LastRelease}
 use Rattle.aero_access.specs.Slots.{last_of, last_event}
 use Rattle.aero_order.specs.Near.{NoWriteBetween}
-use Rattle.aero_order.specs.Numbers.{HasNumber}
+use Rattle.aero_order.specs.TransactionNumbers.{HasNumber}
 
 -- a number is kept of the last event, if there is one
 abbrev pub IsKept : List Numbered → List ℕ → Option ℕ → Option ℕ → Type 0

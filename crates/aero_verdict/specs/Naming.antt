@@ -4,7 +4,7 @@ use Rattle.aero_model.specs.declared.verdict.ShapeFault.{ShapeFault}
 use Rattle.aero_model.specs.declared.verdict.ShapeFault.TheVariants.{Memory}
 use Rattle.aero_model.specs.Numbering.{with_name}
 use Rattle.aero_names.specs.Listing.{Listing}
-use Rattle.aero_names.specs.Numbers.{number_after}
+use Rattle.aero_names.specs.Additions.{number_after}
 
 -- the list has this limit, and keeps to it
 pub record IsWithin (limit : ℕ) (l : Listing) : Type 0 where
