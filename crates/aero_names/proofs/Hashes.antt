@@ -5,7 +5,7 @@ use Rattle.std.specs.Int.{w64, w128, from_le_bytes}
 use Rattle.sha2.specs.Sha256.{sha256}
 use Rattle.aero_names.specs.declared.key.Key.{Key}
 use Rattle.aero_names.specs.Keys.{key_of}
-use Rattle.aero_names.specs.Hash.{mixed, short_word, hash_from, mixed_again, hash_of_key, hash_of_long, hash_of, print_of_key, print_of_long, print_of}
+use Rattle.aero_names.specs.Hash.{mixed, short_word, hash_from, mixed_again, hash_of_key, hash_of_long, hash_of, second_start, second_hash_of_key, second_hash_of_long, second_hash_of, print_of_key, print_of_long, print_of}
 
 -- one word more
 pub one_word : (hash : ℕ) (bytes : List ℕ) → 8 ≤ length bytes → hash_from (mixed hash (from_le_bytes w64 (take 8 bytes))) (drop 8 bytes) ≡ hash_from hash bytes
@@ -33,9 +33,13 @@ last_word hash (a ∷ b ∷ c ∷ d ∷ e ∷ f ∷ []) short = refl
 last_word hash (a ∷ b ∷ c ∷ d ∷ e ∷ f ∷ g ∷ []) short = refl
 last_word hash (a ∷ b ∷ c ∷ d ∷ e ∷ f ∷ g ∷ h ∷ rest) short = absurd (omega (arith, short))
 
-pub long_hash : (last : ℕ) (name : List ℕ) → last ≡ hash_from (length name) name → mixed_again last ≡ hash_of_long name
+pub long_hash : (hash : ℕ) (name : List ℕ) → hash ≡ mixed_again (hash_from (length name) name) → hash ≡ hash_of_long name
 unfolding hash_of_long
-long_hash last name is = ap mixed_again is
+long_hash hash name is = is
+
+pub second_long_hash : (hash : ℕ) (name : List ℕ) → hash ≡ mixed_again (hash_from (second_start (length name)) name) → hash ≡ second_hash_of_long name
+unfolding second_hash_of_long
+second_long_hash hash name is = is
 
 -- the hash of a name is that of its key, where it has one
 pub hash_with_key : (name : List ℕ) (key : Key) → key_of name ≡ Some key → hash_of_key key ≡ hash_of name
@@ -45,6 +49,15 @@ hash_with_key name key is = ap (λ k. unwrap_or (option_map hash_of_key k) (hash
 pub hash_without_key : (name : List ℕ) → key_of name ≡ None → hash_of_long name ≡ hash_of name
 unfolding hash_of
 hash_without_key name is = ap (λ k. unwrap_or (option_map hash_of_key k) (hash_of_long name)) (sym is)
+
+-- and so is the second
+pub second_with_key : (name : List ℕ) (key : Key) → key_of name ≡ Some key → second_hash_of_key key ≡ second_hash_of name
+unfolding second_hash_of
+second_with_key name key is = ap (λ k. unwrap_or (option_map second_hash_of_key k) (second_hash_of_long name)) (sym is)
+
+pub second_without_key : (name : List ℕ) → key_of name ≡ None → second_hash_of_long name ≡ second_hash_of name
+unfolding second_hash_of
+second_without_key name is = ap (λ k. unwrap_or (option_map second_hash_of_key k) (second_hash_of_long name)) (sym is)
 
 -- the print of a name with its key
 pub print_with_key : (name : List ℕ) (key : Key) → key_of name ≡ Some key → print_of_key key ≡ print_of name

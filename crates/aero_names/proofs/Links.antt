@@ -66,13 +66,3 @@ module _ (of : List ℕ → ℕ) (names : List (List ℕ)) (next after : ℕ →
         behind = behind_now;
         long = ap length rows ∙ (length-append before (next hash ∷ []) ∙ ap (λ n. n + 1) indexed.long);
       }
-
--- where a table leads to the same, the same is found
-pub indexed_same : (of : List ℕ → ℕ) (names : List (List ℕ)) (count : ℕ) (next after : ℕ → ℕ) (before more : List ℕ) → ((h : ℕ) → after h ≡ next h) → more ≡ before → IsIndexed of names count next before → IsIndexed of names count after more
-indexed_same of names count next after before more same rows indexed =
-    subst (IsIndexed of names count after) (sym rows)
-    (record {
-      at_hashes = λ h. subst (IsLatest of names h count) (sym (same h)) (indexed.at_hashes h);
-      behind = indexed.behind;
-      long = indexed.long;
-    })

@@ -5,13 +5,15 @@ use Rattle.std.proofs.lemmas.List.Sums.{fold-append}
 use Rattle.std.proofs.lemmas.Option.{same_Some, unwrap_or-slice_get}
 use Rattle.std.proofs.Math.ListN.{get_or-append}
 use Rattle.std.proofs.lemmas.Slice.Eq.{bytes_eq-Decides}
-use Rattle.std.specs.Prelude.{bytes_eq, slice_get, slice_index, unwrap_or, Result, Ok, Err, IfOk, IfSome, OnOk}
+use Rattle.std.specs.Prelude.{bytes_eq, slice_get, slice_index, unwrap_or, Result, Ok, Err, IfOk, IfSome, OnOk, OnErr, IsErrOf, ◌↔◌}
 use Rattle.std.specs.List.{list_any}
 use Rattle.aero_model.specs.Numbering.{with_name, different_names, number_of}
 use Rattle.aero_names.specs.declared.key.Key.{Key}
 use Rattle.aero_names.specs.Keys.{AreKeys}
 use Rattle.aero_names.specs.Indexed.{name_in, IsLatest, IsIndexed, AreDistinct, AreFound}
-use Rattle.aero_names.specs.Listing.{Listing, IsListing, is_listed}
+use Rattle.aero_names.specs.Listing.{Listing, IsListing, IsNumbered, is_listed}
+use Rattle.aero_names.specs.declared.names.NamesFault.{NamesFault}
+use Rattle.aero_names.specs.declared.names.NamesFault.TheVariants.{Full}
 
 -- a new name goes last, and gets the next number
 with_name-known : (names : List (List ℕ)) (name : List ℕ) → list_any (bytes_eq name) names ≡ true → with_name names name ≡ names
@@ -37,7 +39,7 @@ different-with_name names name are = go (cases_Bool (list_any (bytes_eq name) na
         ap different_names (with_name-new names name new)
         ∙ (fold-append with_name [] names (name ∷ []) ∙ ap (λ before. with_name before name) are)
 
-pub known_stays : (l : Listing) (name : List ℕ) → is_listed l name ≡ true → l ≡ record l { names = with_name l.names name }
+known_stays : (l : Listing) (name : List ℕ) → is_listed l name ≡ true → l ≡ record l { names = with_name l.names name }
 known_stays l name known = ap (λ names. record l { names = names }) (sym (with_name-known l.names name known))
 
 -- a listed name stands at its number
@@ -63,10 +65,10 @@ pub at_hint : (hint : Option ℕ) (n : ℕ) (names : List (List ℕ)) (name : Li
 at_hint hint n names name is at = subst (λ h. IfSome h (λ k. slice_get names k ≡ Some name)) is at
 
 -- a name that is found has its number
-pub number_found : (l : Listing) (name : List ℕ) (n : ℕ) → AreDistinct l.names → slice_get l.names n ≡ Some name → n ≡ number_of l.names name
+number_found : (l : Listing) (name : List ℕ) (n : ℕ) → AreDistinct l.names → slice_get l.names n ≡ Some name → n ≡ number_of l.names name
 number_found l name n distinct at = distinct n (number_of l.names name) name at (number_of-place l.names name (listed_at l.names name n at))
 
-pub listed_found : (l : Listing) (name : List ℕ) (n : ℕ) → slice_get l.names n ≡ Some name → is_listed l name ≡ true
+listed_found : (l : Listing) (name : List ℕ) (n : ℕ) → slice_get l.names n ≡ Some name → is_listed l name ≡ true
 listed_found l name n at = listed_at l.names name n at
 
 -- one more that is new leaves all found
@@ -144,10 +146,42 @@ found_pushed of of' l name after next next' before before' keys keys' found new 
     }
 
 -- the number that a new name got, and what stands there
-pub new_number : {E : Type 0} → (r : Result ℕ E) (l after : Listing) (name : List ℕ) → is_listed l name ≡ false → IfOk r (λ n. n ≡ length l.names) → OnOk r (after ≡ record l { names = l.names ++ name ∷ [] }) → IfOk r (λ n. n ≡ number_of after.names name)
+new_number : {E : Type 0} → (r : Result ℕ E) (l after : Listing) (name : List ℕ) → is_listed l name ≡ false → IfOk r (λ n. n ≡ length l.names) → OnOk r (after ≡ record l { names = l.names ++ name ∷ [] }) → IfOk r (λ n. n ≡ number_of after.names name)
 new_number (Ok n) l after name new is names = is ∙ (sym (number_of-last l.names name new) ∙ sym (ap (λ (a : Listing). number_of a.names name) names))
 new_number (Err e) l after name new is names = tt
 
-pub new_place : {E : Type 0} → (r : Result ℕ E) (l after : Listing) (name : List ℕ) → is_listed l name ≡ false → IfOk r (λ n. n ≡ length l.names) → OnOk r (after ≡ record l { names = l.names ++ name ∷ [] }) → IfOk r (λ n. slice_get after.names n ≡ Some name)
+new_place : {E : Type 0} → (r : Result ℕ E) (l after : Listing) (name : List ℕ) → is_listed l name ≡ false → IfOk r (λ n. n ≡ length l.names) → OnOk r (after ≡ record l { names = l.names ++ name ∷ [] }) → IfOk r (λ n. slice_get after.names n ≡ Some name)
 new_place (Ok n) l after name new is names = ap (slice_get after.names) is ∙ (ap (λ (a : Listing). slice_get a.names (length l.names)) names ∙ last_place l.names name)
 new_place (Err e) l after name new is names = tt
+
+new_names : {E : Type 0} → (r : Result ℕ E) (l after : Listing) (name : List ℕ) → is_listed l name ≡ false → OnOk r (after ≡ record l { names = l.names ++ name ∷ [] }) → OnOk r (after ≡ record l { names = with_name l.names name })
+new_names (Ok n) l after name new names = names ∙ ap (λ (ns : List (List ℕ)). record l { names = ns }) (sym (with_name-new l.names name new))
+new_names (Err e) l after name new names = tt
+
+-- a name that stands in the list has its number there, and the list stays
+pub numbered_known : (l : Listing) (name : List ℕ) (n : ℕ) → IsListing l → AreDistinct l.names → slice_get l.names n ≡ Some name → IsNumbered l l name (Ok n)
+numbered_known l name n listing distinct at =
+    let known : is_listed l name ≡ true = listed_found l name n at in
+    record {
+      number = number_found l name n distinct at;
+      place = at;
+      names = known_stays l name known;
+      known = λ _. refl;
+      full = (λ full. cc, λ room. absurd (let no : true ≡ false = sym known ∙ room.0 in cc));
+      err = tt;
+      listing = listing;
+    }
+
+-- a new one gets the next number, where it gets one
+pub numbered_new : (r : Result ℕ NamesFault) (l after : Listing) (name : List ℕ) → is_listed l name ≡ false → IfOk r (λ n. n ≡ length l.names) → OnOk r (after ≡ record l { names = l.names ++ name ∷ [] }) →
+    (IsErrOf r Full ↔ (l.limit ≤ length l.names)) → OnErr r (after ≡ l) → IsListing after → IsNumbered l after name r
+numbered_new r l after name new number names full err listing =
+    record {
+      number = new_number r l after name new number names;
+      place = new_place r l after name new number names;
+      names = new_names r l after name new names;
+      known = λ known. absurd (both_ways (is_listed l name) new known);
+      full = (λ is. (new, full.0 is), λ room. full.1 room.1);
+      err = err;
+      listing = listing;
+    }

@@ -3,6 +3,8 @@ use Rattle.std.specs.Prelude.{ℕ, ◌+◌, ◌*◌, ◌/◌, ◌%◌, ◌^◌, 
 use Rattle.std.specs.Int.{w64, w128, from_le_bytes, rotate_left}
 use Rattle.std.specs.Int.Bits.{bit_xor}
 use Rattle.sha2.specs.Sha256.{sha256}
+use Rattle.aero_names.specs.declared.hash.Hashing.{Hashing}
+use Rattle.aero_names.specs.declared.hash.Hashing.TheVariants.{First, Second}
 use Rattle.aero_names.specs.declared.key.Key.{Key}
 use Rattle.aero_names.specs.Keys.{key_of}
 
@@ -32,6 +34,25 @@ hash_of_long name = mixed_again (hash_from (length name) name)
 -- that of its key, where it has one
 unfoldable pub hash_of : List ℕ → ℕ
 hash_of name = unwrap_or (option_map hash_of_key (key_of name)) (hash_of_long name)
+
+-- what another one starts from, beside the name's length
+abbrev pub second_start : ℕ → ℕ
+second_start long = bit_xor long 11400714819323198485
+
+unfoldable pub second_hash_of_key : Key → ℕ
+second_hash_of_key key = mixed_again (mixed (mixed (second_start key.length) key.first) key.last)
+
+unfoldable pub second_hash_of_long : List ℕ → ℕ
+second_hash_of_long name = mixed_again (hash_from (second_start (length name)) name)
+
+-- that of its key, where it has one
+unfoldable pub second_hash_of : List ℕ → ℕ
+second_hash_of name = unwrap_or (option_map second_hash_of_key (key_of name)) (second_hash_of_long name)
+
+-- the one that names are found by
+abbrev pub hash_by : Hashing → List ℕ → ℕ
+hash_by First name = hash_of name
+hash_by Second name = second_hash_of name
 
 -- the last bytes of the name and its first as one number
 unfoldable pub print_of_key : Key → ℕ

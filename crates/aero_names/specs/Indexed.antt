@@ -4,7 +4,8 @@ use Rattle.std.specs.Ordering.{nat_cmp}
 use Rattle.std.specs.BTreeMap.{BTreeMap, ContainsKey, get}
 use Rattle.aero_names.specs.declared.latest.Latest.{Latest}
 use Rattle.aero_names.specs.declared.key.Key.{Key}
-use Rattle.aero_names.specs.Hash.{hash_of, print_of}
+use Rattle.aero_names.specs.declared.hash.Hashing.{Hashing}
+use Rattle.aero_names.specs.Hash.{hash_by, print_of}
 use Rattle.aero_names.specs.Keys.{AreKeys}
 use Rattle.aero_names.specs.Listing.{Listing, IsListing}
 
@@ -16,13 +17,13 @@ name_in names n = unwrap_or (slice_get names n) []
 abbrev pub place_in : ℕ → ℕ → ℕ
 place_in places hash = bit_and (hash / 2 ^ 32) (places - 1)
 
--- whether the names are looked for by their prints, and by how many heads they are where they aren't
-abbrev pub marks_of : Latest → Bool × ℕ
-marks_of latest = (latest.is_spread, length latest.heads.items)
+-- whether the names are looked for by their prints, and by which hash and by how many heads they are where they aren't
+abbrev pub marks_of : Latest → Bool × Hashing × ℕ
+marks_of latest = (latest.is_spread, latest.hashing, length latest.heads.items)
 
 -- what a name is looked for by
-abbrev pub mark_of : Bool × ℕ → List ℕ → ℕ
-mark_of marks name = if marks.0 then print_of name else place_in marks.1 (hash_of name)
+abbrev pub mark_of : Bool × Hashing × ℕ → List ℕ → ℕ
+mark_of marks name = if marks.0 then print_of name else place_in marks.2 (hash_by marks.1 name)
 
 -- where the table leads from this mark: 0 where it has none
 abbrev pub next_print : BTreeMap ℕ ℕ → ℕ → ℕ
@@ -39,7 +40,7 @@ HasHeads latest = latest.is_spread ≡ false → 0 < length latest.heads.items
 abbrev pub IsWithin : Latest → ℕ → Type 0
 IsWithin latest mark = latest.is_spread ≡ false → mark < length latest.heads.items
 
--- the next name with this mark takes no memory
+-- where the table leads from the mark can be changed without memory
 pub record HasRoom (latest : Latest) (mark : ℕ) : Type 0 where
   pub print : latest.is_spread ≡ true → ContainsKey nat_cmp latest.prints mark
   pub head : IsWithin latest mark

@@ -5,10 +5,10 @@
 ghost use Rattle.std.specs.Prelude.{◌≡◌, ◌+◌, ◌<◌, ◌↔◌, ◌++◌, ◌∷◌, [], ℕ, IsTrue, false, length, slice_get, Some, IfSome, IfNone, IfOk, OnOk, bytes_eq, nat_eq, if◌then◌else◌, vec_capacity, vec_len};
 ghost use Rattle.std.specs.List.{list_any};
 ghost use Rattle.aero_names.specs.Hash.{hash_of as hash_in, hash_of_long as long_hash};
-ghost use Rattle.aero_names.specs.Indexed.{IsIndexed, mark_of as mark_in, marks_of, next_at, HasHeads, HasRoom, IsWithin};
+ghost use Rattle.aero_names.specs.Indexed.{IsIndexed, mark_of as mark_in, marks_of, next_at, HasHeads, IsWithin};
 ghost use Rattle.aero_names.specs.Keys.{AreKeys, key_of as key_in};
 
-use crate::hash::{hash_of, hash_of_key, hash_of_long};
+use crate::hash::{Hashing, hash_of, hash_of_key, hash_of_long};
 use crate::key::{Key, key_of};
 use crate::latest::{Latest, place_of};
 use crate::list::NameList;
@@ -142,43 +142,20 @@ pub(crate) fn find(
     (None, passed)
 }
 
-// Room for one name more in the tables and among the keys, so that `link` and a push need no memory.
-pub(crate) fn make_room(
-    latest: &mut Latest,
-    before: &mut Vec<u32>,
-    keys: &mut Vec<Key>,
-    mark: u128,
-) -> Result<(), AllocError>
-    requires { IsWithin latest.old mark }
-    ensures marks { marks_of latest.new ≡ marks_of latest.old }
-    ensures same { (m : ℕ) → next_at latest.new m ≡ next_at latest.old m }
+// Room for one name more behind the others and among the keys, so that a push needs no memory.
+pub(crate) fn make_room(before: &mut Vec<u32>, keys: &mut Vec<Key>) -> Result<(), AllocError>
     ensures rows { before.new.items ≡ before.old.items }
     ensures keys { keys.new.items ≡ keys.old.items }
-    ensures spare { OnOk result (HasRoom latest.new mark) }
     ensures room { OnOk result (vec_len before.new < vec_capacity before.new) }
     ensures key { OnOk result (vec_len keys.new < vec_capacity keys.new) }
 {
     keys.reserve(1)?;
     before.reserve(1)?;
-    latest.make_room(mark)?;
     Ok(())
 }
 
-// The next name, whose number and mark these are, is found too.
-pub(crate) fn link(latest: &mut Latest, before: &mut Vec<u32>, number: u32, mark: u128)
-    requires fits { number < u32.MAX }
-    requires spare { HasRoom latest.old mark }
-    requires room { vec_len before.old < vec_capacity before.old }
-    ensures marks { marks_of latest.new ≡ marks_of latest.old }
-    ensures latest { (m : ℕ) → next_at latest.new m ≡ (if nat_eq mark m then number + 1 else next_at latest.old m) }
-    ensures rows { before.new.items ≡ before.old.items ++ next_at latest.old mark ∷ [] }
-{
-    let next = latest.put(mark, number + 1);
-    before.push(next).unwrap();
-}
-
 // The next name, whose number and mark these are, is found too, where memory isn't refused.
-fn link_with_room(
+fn link(
     latest: &mut Latest,
     before: &mut Vec<u32>,
     number: u32,
@@ -191,8 +168,8 @@ fn link_with_room(
     ensures rows { OnOk result (before.new.items ≡ before.old.items ++ next_at latest.old mark ∷ []) }
 {
     before.reserve(1)?;
-    latest.make_room(mark)?;
-    link(latest, before, number, mark);
+    let next = latest.put(mark, number + 1)?;
+    before.push_reserved(next);
     Ok(())
 }
 
@@ -213,16 +190,27 @@ fn tables_from(
             unreachable!()
         };
         let mark = latest.mark_of(name, hash_of(name));
-        link_with_room(&mut latest, &mut before, number, mark)?;
+        link(&mut latest, &mut before, number, mark)?;
     }
     Ok((latest, before))
 }
 
-// Tables that find the names by their prints.
-pub(crate) fn spread(alloc: Global, names: &NameList) -> Result<(Latest, Vec<u32>), AllocError>
+// Tables that find the names in another way: by their second hash, or, where they were found by that, by their prints.
+pub(crate) fn spread(
+    alloc: Global,
+    latest: &Latest,
+    names: &NameList,
+) -> Result<(Latest, Vec<u32>), AllocError>
     ensures { IfOk result (λ tables. IsIndexed (mark_in (marks_of tables.0)) names.now (length names.now) (next_at tables.0) tables.1.items) }
 {
-    tables_from(Latest::new(alloc, true), alloc, names)
+    let spread = match latest.hashing {
+        Hashing::First => {
+            let places = latest.heads.len().max(FEWEST_HEADS);
+            Latest::with_heads(alloc, Hashing::Second, places)?
+        }
+        Hashing::Second => Latest::new(alloc, true),
+    };
+    tables_from(spread, alloc, names)
 }
 
 // Where the names are found by heads, there are more than twice as many as names. Where memory is refused nothing changes.
@@ -241,7 +229,7 @@ pub(crate) fn grow(
         return Ok(());
     }
     let more = places.saturating_mul(2).max(FEWEST_HEADS);
-    let grown = Latest::with_heads(alloc, more)?;
+    let grown = Latest::with_heads(alloc, latest.hashing, more)?;
     let (grown, linked) = tables_from(grown, alloc, names)?;
     *latest = grown;
     *before = linked;

@@ -1,12 +1,14 @@
 //! Where the names with a mark are found: the table leads from a mark to one more than the number of the latest
-//! name that has it, and to 0 where there is none. The mark of a name is the place of its hash among the heads. Once
-//! many names were found at one place, the table is spread, and the mark is the name's print.
-ghost use Rattle.std.specs.Prelude.{◌≡◌, ◌<◌, ℕ, Bool, true, false, length, slice_index, IfOk, OnOk, nat_eq, if◌then◌else◌};
+//! name that has it, and to 0 where there is none. The mark of a name is the place of one of its hashes among the
+//! heads, or, where the table is spread, the name's print.
+ghost use Rattle.std.specs.Prelude.{◌≡◌, ◌<◌, ℕ, Bool, true, false, length, slice_index, IfOk, OnOk, OnErr, nat_eq, if◌then◌else◌};
 ghost use Rattle.std.specs.Ordering.{nat_cmp};
 ghost use Rattle.std.specs.BTreeMap.{ContainsKey};
+ghost use Rattle.aero_names.specs.declared.hash.Hashing.TheVariants.{First as ByFirst};
 ghost use Rattle.aero_names.specs.Hash.{hash_of as hash_in};
 ghost use Rattle.aero_names.specs.Indexed.{mark_of as mark_in, marks_of, place_in, next_at, next_print, HasHeads, HasRoom, IsWithin};
 
+use crate::hash::{Hashing, hash_by};
 use crate::print::print_of;
 use std::alloc::{AllocError, Global};
 use std::collections::BTreeMap;
@@ -16,30 +18,37 @@ pub(crate) struct Latest {
     pub(crate) heads: Vec<u32>,
     pub(crate) prints: BTreeMap<u128, u32>,
     pub(crate) is_spread: bool,
+    pub(crate) hashing: Hashing,
 }
 
 impl Latest {
     // A table without heads, which leads nowhere.
     pub(crate) fn new(alloc: Global, is_spread: bool) -> Latest
-        ensures marks { marks_of result ≡ (is_spread, 0) }
+        ensures marks { marks_of result ≡ (is_spread, ByFirst, 0) }
         ensures none { (mark : ℕ) → next_at result mark ≡ 0 }
     {
         Latest {
             heads: Vec::new(alloc),
             prints: BTreeMap::new(alloc),
             is_spread,
+            hashing: Hashing::First,
         }
     }
 
-    // A table with so many heads, which leads nowhere.
-    pub(crate) fn with_heads(alloc: Global, places: usize) -> Result<Latest, AllocError>
-        ensures marks { IfOk result (λ latest. marks_of latest ≡ (false, places)) }
+    // A table with so many heads, for names that are found by this hash. It leads nowhere.
+    pub(crate) fn with_heads(
+        alloc: Global,
+        hashing: Hashing,
+        places: usize,
+    ) -> Result<Latest, AllocError>
+        ensures marks { IfOk result (λ latest. marks_of latest ≡ (false, hashing, places)) }
         ensures none { IfOk result (λ latest. (mark : ℕ) → next_at latest mark ≡ 0) }
     {
         Ok(Latest {
             heads: vec![in alloc; 0u32; places]?,
             prints: BTreeMap::new(alloc),
             is_spread: false,
+            hashing,
         })
     }
 
@@ -53,7 +62,7 @@ impl Latest {
         if self.is_spread {
             print_of(name)
         } else {
-            place_of(hash, self.heads.len()) as u128
+            place_of(hash_by(self.hashing, name, hash), self.heads.len()) as u128
         }
     }
 
@@ -69,30 +78,33 @@ impl Latest {
         }
     }
 
-    // Room for the mark, so that `put` needs no memory.
-    pub(crate) fn make_room(&mut self, mark: u128) -> Result<(), AllocError>
+    // From now on the table leads from the mark to this, and here is where it led before. Where memory is refused it
+    // leads as before.
+    pub(crate) fn put(&mut self, mark: u128, next: u32) -> Result<u32, AllocError>
         requires { IsWithin self.old mark }
         ensures marks { marks_of self.new ≡ marks_of self.old }
-        ensures same { (m : ℕ) → next_at self.new m ≡ next_at self.old m }
+        ensures before { IfOk result (λ before. before ≡ next_at self.old mark) }
+        ensures latest { OnOk result ((m : ℕ) → next_at self.new m ≡ (if nat_eq mark m then next else next_at self.old m)) }
         ensures room { OnOk result (HasRoom self.new mark) }
-    {
-        if self.is_spread {
-            return make_print(&mut self.prints, mark);
-        }
-        Ok(())
-    }
-
-    // From now on the table leads from the mark to this, and here is where it led before.
-    pub(crate) fn put(&mut self, mark: u128, next: u32) -> u32
-        requires { HasRoom self.old mark }
-        ensures marks { marks_of self.new ≡ marks_of self.old }
-        ensures before { result ≡ next_at self.old mark }
-        ensures latest { (m : ℕ) → next_at self.new m ≡ (if nat_eq mark m then next else next_at self.old m) }
+        ensures err { OnErr result ((m : ℕ) → next_at self.new m ≡ next_at self.old m) }
     {
         if self.is_spread {
             put_print(&mut self.prints, mark, next)
         } else {
-            put_head(&mut self.heads, mark, next)
+            Ok(put_head(&mut self.heads, mark, next))
+        }
+    }
+
+    // The same for a mark that was put before, which takes no memory.
+    pub(crate) fn put_back(&mut self, mark: u128, next: u32)
+        requires { HasRoom self.old mark }
+        ensures marks { marks_of self.new ≡ marks_of self.old }
+        ensures latest { (m : ℕ) → next_at self.new m ≡ (if nat_eq mark m then next else next_at self.old m) }
+    {
+        if self.is_spread {
+            put_print_back(&mut self.prints, mark, next);
+        } else {
+            put_head(&mut self.heads, mark, next);
         }
     }
 }
@@ -125,19 +137,6 @@ fn latest_print(prints: &BTreeMap<u128, u32>, mark: u128) -> u32
     }
 }
 
-fn make_print(prints: &mut BTreeMap<u128, u32>, mark: u128) -> Result<(), AllocError>
-    ensures same { (m : ℕ) → next_print prints.new m ≡ next_print prints.old m }
-    ensures room { OnOk result (ContainsKey nat_cmp prints.new mark) }
-{
-    if prints.contains_key(&mark) {
-        return Ok(());
-    }
-    match prints.insert(mark, 0) {
-        Ok(_) => Ok(()),
-        Err(_) => Err(AllocError),
-    }
-}
-
 fn put_head(heads: &mut [u32], mark: u128, next: u32) -> u32
     requires { mark < length heads.old }
     ensures before { result ≡ slice_index heads.old mark }
@@ -150,13 +149,23 @@ fn put_head(heads: &mut [u32], mark: u128, next: u32) -> u32
     before
 }
 
-fn put_print(prints: &mut BTreeMap<u128, u32>, mark: u128, next: u32) -> u32
-    requires { ContainsKey nat_cmp prints.old mark }
-    ensures before { result ≡ next_print prints.old mark }
-    ensures latest { (m : ℕ) → next_print prints.new m ≡ (if nat_eq mark m then next else next_print prints.old m) }
+fn put_print(prints: &mut BTreeMap<u128, u32>, mark: u128, next: u32) -> Result<u32, AllocError>
+    ensures before { IfOk result (λ before. before ≡ next_print prints.old mark) }
+    ensures latest { OnOk result ((m : ℕ) → next_print prints.new m ≡ (if nat_eq mark m then next else next_print prints.old m)) }
+    ensures room { OnOk result (ContainsKey nat_cmp prints.new mark) }
+    ensures err { OnErr result ((m : ℕ) → next_print prints.new m ≡ next_print prints.old m) }
 {
-    let Ok(previous) = prints.insert(mark, next) else {
+    match prints.insert(mark, next) {
+        Ok(before) => Ok(before.unwrap_or(0)),
+        Err(_) => Err(AllocError),
+    }
+}
+
+fn put_print_back(prints: &mut BTreeMap<u128, u32>, mark: u128, next: u32)
+    requires { ContainsKey nat_cmp prints.old mark }
+    ensures { (m : ℕ) → next_print prints.new m ≡ (if nat_eq mark m then next else next_print prints.old m) }
+{
+    let Ok(_) = prints.insert(mark, next) else {
         unreachable!()
     };
-    previous.unwrap_or(0)
 }

@@ -1,5 +1,5 @@
 //! A list of different names, numbered in order of first appearance.
-use crate::index::{find, found_at_head, grow, link, make_room, spread};
+use crate::index::{find, found_at_head, grow, make_room, spread};
 use crate::key::{Key, kept_key};
 use crate::latest::Latest;
 use crate::list::NameList;
@@ -46,10 +46,9 @@ impl Model for Names {
 }
 
 impl Names {
-    ghost use Rattle.std.specs.Prelude.{◌≡◌, ◌↔◌, ◌≤◌, ◌<◌, ◌++◌, ◌∷◌, [], true, false, length, slice_get, option_copied, Some, IfOk, OnOk, OnErr, IsOk, IsErrOf, IsTrue};
-    ghost use Rattle.aero_model.specs.Numbering.{with_name, number_of};
+    ghost use Rattle.std.specs.Prelude.{◌≡◌, ◌↔◌, ◌≤◌, ◌<◌, ◌++◌, ◌∷◌, [], false, length, slice_get, option_copied, IfOk, OnOk, OnErr, IsErrOf, IsTrue};
     ghost use Rattle.aero_names.specs.Hash.{hash_of as hash_in};
-    ghost use Rattle.aero_names.specs.Listing.{is_listed, HasNoRoom, IsListing};
+    ghost use Rattle.aero_names.specs.Listing.{is_listed, IsListing, IsNumbered};
 
     /// No names yet, and at most `limit` names to come. It takes no memory.
     pub fn new(alloc: Global, limit: u32) -> Names
@@ -74,13 +73,7 @@ impl Names {
     /// `NamesFault::Memory` where memory runs out, or where the names have over 2^32 - 1 bytes in
     /// all. Both change nothing.
     pub fn number(&mut self, name: &Name) -> Result<u32, NamesFault>
-        ensures number { IfOk result (λ number. number ≡ number_of self.new.names name.now) }
-        ensures place { IfOk result (λ number. slice_get self.new.names number ≡ Some name.now) }
-        ensures names { OnOk result (self.new ≡ record self.old { names = with_name self.old.names name.now }) }
-        ensures known { is_listed self.old name.now ≡ true → IsOk result }
-        ensures full { IsErrOf result NamesFault.Full ↔ HasNoRoom self.old name.now }
-        ensures err { OnErr result (self.new ≡ self.old) }
-        ensures listing { IsListing self.new }
+        ensures { IsNumbered self.old self.new name.now result }
     {
         self.number_of_bytes(name.bytes())
     }
@@ -88,13 +81,7 @@ impl Names {
     /// The same of the name with these bytes: only where the name is new is it copied.
     #[inline(always)]
     pub fn number_of_bytes(&mut self, bytes: &[u8]) -> Result<u32, NamesFault>
-        ensures number { IfOk result (λ number. number ≡ number_of self.new.names bytes.now) }
-        ensures place { IfOk result (λ number. slice_get self.new.names number ≡ Some bytes.now) }
-        ensures names { OnOk result (self.new ≡ record self.old { names = with_name self.old.names bytes.now }) }
-        ensures known { is_listed self.old bytes.now ≡ true → IsOk result }
-        ensures full { IsErrOf result NamesFault.Full ↔ HasNoRoom self.old bytes.now }
-        ensures err { OnErr result (self.new ≡ self.old) }
-        ensures listing { IsListing self.new }
+        ensures { IsNumbered self.old self.new bytes.now result }
     {
         let (hash, found) = found_at_head(&self.latest.heads, &self.keys, &self.list, bytes);
         match found {
@@ -106,13 +93,7 @@ impl Names {
     // The same, where the name, whose hash this is, is looked for along all with its mark.
     fn number_along(&mut self, name: &[u8], hash: u64) -> Result<u32, NamesFault>
         requires { hash ≡ hash_in name.now }
-        ensures number { IfOk result (λ number. number ≡ number_of self.new.names name.now) }
-        ensures place { IfOk result (λ number. slice_get self.new.names number ≡ Some name.now) }
-        ensures names { OnOk result (self.new ≡ record self.old { names = with_name self.old.names name.now }) }
-        ensures known { is_listed self.old name.now ≡ true → IsOk result }
-        ensures full { IsErrOf result NamesFault.Full ↔ HasNoRoom self.old name.now }
-        ensures err { OnErr result (self.new ≡ self.old) }
-        ensures listing { IsListing self.new }
+        ensures { IsNumbered self.old self.new name.now result }
     {
         let mark = self.latest.mark_of(name, hash);
         let (found, passed) = find(
@@ -154,7 +135,7 @@ impl Names {
         }
     }
 
-    // The names are found by their prints from now on, where memory isn't refused.
+    // The names are found in another way from now on, where there is one left and memory isn't refused.
     fn spread(&mut self)
         ensures same { self.new ≡ self.old }
         ensures listing { IsListing self.new }
@@ -162,7 +143,7 @@ impl Names {
         if self.latest.is_spread {
             return;
         }
-        if let Ok((latest, before)) = spread(self.alloc, &self.list) {
+        if let Ok((latest, before)) = spread(self.alloc, &self.latest, &self.list) {
             self.latest = latest;
             self.before = before;
         }
@@ -180,10 +161,14 @@ impl Names {
         let number = self.list.len();
         grow(self.alloc, &mut self.latest, &mut self.before, &self.list)?;
         let mark = self.latest.mark_of(name, hash);
-        make_room(&mut self.latest, &mut self.before, &mut self.keys, mark)?;
-        self.list.push(name)?;
+        make_room(&mut self.before, &mut self.keys)?;
+        let next = self.latest.put(mark, number + 1)?;
+        if let Err(refused) = self.list.push(name) {
+            self.latest.put_back(mark, next);
+            return Err(refused);
+        }
         self.keys.push_reserved(kept_key(name));
-        link(&mut self.latest, &mut self.before, number, mark);
+        self.before.push_reserved(next);
         Ok(())
     }
 
