@@ -2,6 +2,7 @@
 ghost use Rattle.std.specs.Prelude.{◌≡◌, ◌==◌, ◌<◌, ◌++◌, ◌∷◌, [], ℕ, Some, OnOk, OnErr, vec_len, length, slice_get, if◌then◌else◌};
 ghost use Rattle.aero_leads.specs.Listed.{followers, followers_in};
 
+use crate::index::{Index, no_row};
 use std::alloc::{AllocError, Global};
 
 /// A thread to which a block leads. In the thread's row the block stands at this place, unless a lead was moved: a hint alone.
@@ -18,10 +19,11 @@ pub struct Followers {
     pub hints: Vec<u32>,
 }
 
-/// Those of the open block of each thread, by the thread's number.
+/// Those of the open block of each thread, by the thread's number. The index is room to work in, while a row is changed.
 #[derive(Drop)]
 pub struct Led {
     pub lists: Vec<Followers>,
+    pub index: Index,
 }
 
 /// No block.
@@ -30,6 +32,7 @@ pub(crate) fn no_block(alloc: Global) -> Led
 {
     Led {
         lists: Vec::new(alloc),
+        index: no_row(alloc),
     }
 }
 
@@ -76,6 +79,7 @@ fn hint_at(led: &Led, t: u32, i: usize) -> u32 {
 pub(crate) fn note(led: &mut Led, w: u32, o: u32, at: usize) -> Result<(), AllocError>
     ensures noted { OnOk result ((v : ℕ) → followers led.new v ≡ (if v == w then followers led.old v ++ o ∷ [] else followers led.old v)) }
     ensures err { OnErr result ((v : ℕ) → followers led.new v ≡ followers led.old v) }
+    ensures index { led.new.index ≡ led.old.index }
 {
     reach(&mut led.lists, w)?;
     let hint = (at % MOST_PLACES) as u32;

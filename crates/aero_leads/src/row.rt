@@ -64,6 +64,14 @@ pub struct Brought {
     pub news: bool,
 }
 
+/// What a thread takes from the row of another: what leads to an event below a place of that one's. It leads to an event at
+/// the other place, and on.
+#[derive(Clone, Copy)]
+pub(crate) struct Taking {
+    pub(crate) below: u32,
+    pub(crate) place: u32,
+}
+
 /// What an event below this place of the other row's thread brings thread `t`, which has this row. A row that is
 /// long isn't looked through.
 #[inline(always)]
@@ -151,9 +159,8 @@ fn add(
     opener: u32,
     place: u32,
     led: &mut Led,
-    index: &mut Index,
 ) -> Result<(), AllocError>
-    ensures indexed { OnOk result (IsIndexed row.old.items index.old → IsIndexed row.new.items index.new) }
+    ensures indexed { OnOk result (IsIndexed row.old.items led.old.index → IsIndexed row.new.items led.new.index) }
     ensures row { OnOk result ((w : ℕ) → least_in row.new.items w ≡ (if opener == w then lesser (least_in row.old.items w) (Some place) else least_in row.old.items w)) }
     ensures single { is_some (least_in row.old.items opener) ≡ false → IsSingle row.old.items → IsSingle row.new.items }
     ensures listed { IsListedRow row.old.items led.old o → IsListedRow row.new.items led.new o }
@@ -161,7 +168,7 @@ fn add(
     ensures others { (v : ℕ) → v ≢ opener → followers led.new v ≡ followers led.old v }
 {
     note(led, opener, o, row.len())?;
-    enter(index, opener, row.len())?;
+    enter(&mut led.index, opener, row.len())?;
     row.push(Lead { opener, place })?;
     Ok(())
 }
@@ -173,63 +180,57 @@ fn gain(
     opener: u32,
     place: u32,
     led: &mut Led,
-    index: &mut Index,
 ) -> Result<(), AllocError>
-    requires { IsIndexed row.old.items index.old }
-    ensures indexed { OnOk result (IsIndexed row.new.items index.new) }
+    requires { IsIndexed row.old.items led.old.index }
+    ensures indexed { OnOk result (IsIndexed row.new.items led.new.index) }
     ensures gains { OnOk result ((w : ℕ) → least_in row.new.items w ≡ gains (least_in row.old.items w) (opener == w) place) }
     ensures single { IsSingle row.old.items → IsSingle row.new.items }
     ensures listed { IsListedRow row.old.items led.old o → IsListedRow row.new.items led.new o }
     ensures grows { Grows led.old led.new }
 {
-    if find(row, index, opener).is_some() {
+    if find(row, &led.index, opener).is_some() {
         return Ok(());
     }
-    add(row, o, opener, place, led, index)
+    add(row, o, opener, place, led)
 }
 
-// The same where the lead has a place below this one.
+// The same of a lead of another row, where it is taken.
 fn gain_below(
     row: &mut Vec<Lead>,
     o: u32,
     lead: Lead,
-    below: u32,
-    place: u32,
+    taking: Taking,
     led: &mut Led,
-    index: &mut Index,
 ) -> Result<(), AllocError>
-    requires { IsIndexed row.old.items index.old }
-    ensures indexed { OnOk result (IsIndexed row.new.items index.new) }
-    ensures gains { OnOk result ((w : ℕ) → least_in row.new.items w ≡ gains (least_in row.old.items w) (if lead.opener == w then nat_lt lead.place below else false) place) }
+    requires { IsIndexed row.old.items led.old.index }
+    ensures indexed { OnOk result (IsIndexed row.new.items led.new.index) }
+    ensures gains { OnOk result ((w : ℕ) → least_in row.new.items w ≡ gains (least_in row.old.items w) (if lead.opener == w then nat_lt lead.place taking.below else false) taking.place) }
     ensures single { IsSingle row.old.items → IsSingle row.new.items }
     ensures listed { IsListedRow row.old.items led.old o → IsListedRow row.new.items led.new o }
     ensures grows { Grows led.old led.new }
 {
-    if lead.place < below {
-        return gain(row, o, lead.opener, place, led, index);
+    if lead.place < taking.below {
+        return gain(row, o, lead.opener, taking.place, led);
     }
     Ok(())
 }
 
-/// What leads to an event of the other row's thread below a place leads to thread `o`, whose row
-/// this is, from this place on, unless it did before.
+/// What is taken leads to thread `o`, whose row this is, unless it did before.
 pub(crate) fn gain_all(
     row: &mut Vec<Lead>,
     o: u32,
     other: &[Lead],
-    below: u32,
-    place: u32,
+    taking: Taking,
     led: &mut Led,
-    index: &mut Index,
 ) -> Result<(), AllocError>
-    ensures gains { OnOk result ((w : ℕ) → least_in row.new.items w ≡ gains (least_in row.old.items w) (is_below (least_in other.now w) below) place) }
+    ensures gains { OnOk result ((w : ℕ) → least_in row.new.items w ≡ gains (least_in row.old.items w) (is_below (least_in other.now w) taking.below) taking.place) }
     ensures single { IsSingle row.old.items → IsSingle row.new.items }
     ensures listed { IsListedRow row.old.items led.old o → IsListedRow row.new.items led.new o }
     ensures grows { Grows led.old led.new }
 {
-    enter_all(row, index)?;
+    enter_all(row, &mut led.index)?;
     for lead in other.iter() {
-        gain_below(row, o, *lead, below, place, led, index)?;
+        gain_below(row, o, *lead, taking, led)?;
     }
     Ok(())
 }
@@ -253,18 +254,17 @@ fn lower(
     opener: u32,
     place: u32,
     led: &mut Led,
-    index: &mut Index,
 ) -> Result<(), AllocError>
-    requires { IsIndexed row.old.items index.old }
-    ensures indexed { OnOk result (IsIndexed row.new.items index.new) }
+    requires { IsIndexed row.old.items led.old.index }
+    ensures indexed { OnOk result (IsIndexed row.new.items led.new.index) }
     ensures lowers { OnOk result ((w : ℕ) → least_in row.new.items w ≡ (if opener == w then lesser (least_in row.old.items w) (Some place) else least_in row.old.items w)) }
     ensures single { IsSingle row.old.items → IsSingle row.new.items }
     ensures listed { IsListedRow row.old.items led.old o → IsListedRow row.new.items led.new o }
     ensures grows { Grows led.old led.new }
     ensures others { (v : ℕ) → v ≢ opener → followers led.new v ≡ followers led.old v }
 {
-    let Some(at) = find(row, index, opener) else {
-        return add(row, o, opener, place, led, index);
+    let Some(at) = find(row, &led.index, opener) else {
+        return add(row, o, opener, place, led);
     };
     lower_at(row, at, opener, place);
     Ok(())
@@ -276,7 +276,6 @@ fn lower_all(
     other: &[Lead],
     place: u32,
     led: &mut Led,
-    index: &mut Index,
 ) -> Result<(), AllocError>
     ensures lowers { OnOk result ((w : ℕ) → least_in row.new.items w ≡ (if is_some (least_in other.now w) then lesser (least_in row.old.items w) (Some place) else least_in row.old.items w)) }
     ensures single { IsSingle row.old.items → IsSingle row.new.items }
@@ -284,9 +283,9 @@ fn lower_all(
     ensures grows { Grows led.old led.new }
     ensures others { (v : ℕ) → is_some (least_in other.now v) ≡ false → followers led.new v ≡ followers led.old v }
 {
-    enter_all(row, index)?;
+    enter_all(row, &mut led.index)?;
     for lead in other.iter() {
-        lower(row, o, lead.opener, place, led, index)?;
+        lower(row, o, lead.opener, place, led)?;
     }
     Ok(())
 }
@@ -376,7 +375,6 @@ pub(crate) fn absorb(
     ended: &[Lead],
     t: u32,
     led: &mut Led,
-    index: &mut Index,
 ) -> Result<(), AllocError>
     requires { IsSingle row.old.items }
     ensures absorbs { OnOk result ((w : ℕ) → least_in row.new.items w ≡ absorbed (least_in ended.now) (least_in row.old.items) t w) }
@@ -393,7 +391,7 @@ pub(crate) fn absorb(
     let Some(place) = first(row, t) else {
         return Ok(());
     };
-    lower_all(row, entry.thread, ended, place, led, index)?;
+    lower_all(row, entry.thread, ended, place, led)?;
     drop_opener(row, t, hint);
     Ok(())
 }

@@ -7,26 +7,24 @@ ghost use Rattle.aero_leads.specs.Passed.{ArePassed, leads_since, passed_of};
 ghost use Rattle.aero_leads.specs.Seen.{AreSeen};
 ghost use Rattle.aero_leads.specs.Single.{AreSingle};
 
-use crate::index::{Index, no_row};
 use crate::last::Last;
 use crate::led::{Led, forget, no_block};
 use crate::lows::{Lows, forget_lows, is_low, lower, no_low, raise_all};
 use crate::passed::{
     Passed, forget_places, lower_place, no_place, note_begin, note_gain, passed_before, since,
 };
-use crate::row::{Brought, Lead, brought_by, gain_all, settle};
+use crate::row::{Brought, Lead, Taking, brought_by, gain_all, settle};
 use crate::seen::{Seen, forget_all, has_seen, nothing_seen, see_all, unsee_all};
 use crate::thread;
 use crate::thread::{Thread, leave, put_row, row_of, spread, take_row};
 use std::alloc::{AllocError, Global};
 
 /// The threads, by their numbers. With each open block the other threads are listed to whose events
-/// it leads. The index is room to work in. What is seen, what is low and what was passed on are parts of what the rows say.
+/// it leads. What is seen, what is low and what was passed on are parts of what the rows say.
 #[derive(Drop)]
 pub struct Table {
     pub threads: Vec<Thread>,
     pub led: Led,
-    pub index: Index,
     pub seen: Seen,
     pub lows: Lows,
     pub passed: Passed,
@@ -44,7 +42,6 @@ pub(crate) fn no_thread(alloc: Global) -> Table
     Table {
         threads: Vec::new(alloc),
         led: no_block(alloc),
-        index: no_row(alloc),
         seen: nothing_seen(alloc),
         lows: no_low(alloc),
         passed: no_place(alloc),
@@ -80,8 +77,8 @@ pub(crate) fn gain(
     }
     let mut row = take_row(&mut table.threads, t);
     let other = row_of(&table.threads, o);
-    let (led, index) = (&mut table.led, &mut table.index);
-    let Ok(()) = gain_all(&mut row, t, other, below, place, led, index) else {
+    let taking = Taking { below, place };
+    let Ok(()) = gain_all(&mut row, t, other, taking, &mut table.led) else {
         forget_all(&mut table.seen);
         forget_lows(&mut table.lows);
         forget_places(&mut table.passed);
@@ -113,27 +110,26 @@ fn brings(table: &Table, t: u32, o: u32, below: u32) -> Brought
     brought_by(row, other, t, below)
 }
 
-// Thread t gains what an event brings, where that may be news.
+// Thread t gains what the event, of another thread, brings, where that may be news.
 #[inline(always)]
 fn gain_news(
     table: &mut Table,
     t: u32,
-    o: u32,
-    below: u32,
+    last: Last,
     place: u32,
     news: bool,
 ) -> Result<(), AllocError>
     requires actor { t < vec_len table.old.threads }
-    requires other { o ≢ t }
-    requires known { news ≡ false → (w : ℕ) → is_below (rows_in table.old.threads.items o w) below ≡ true → is_some (rows_in table.old.threads.items t w) ≡ true }
-    ensures gains { OnOk result (TakesRow (rows_in table.old.threads.items) (rows_in table.new.threads.items) place t o below) }
+    requires other { last.thread ≢ t }
+    requires known { news ≡ false → (w : ℕ) → is_below (rows_in table.old.threads.items last.thread w) last.count ≡ true → is_some (rows_in table.old.threads.items t w) ≡ true }
+    ensures gains { OnOk result (TakesRow (rows_in table.old.threads.items) (rows_in table.new.threads.items) place t last.thread last.count) }
     ensures same { HaveSameBlocks table.old.threads.items table.new.threads.items }
     ensures room { vec_len table.new.threads ≡ vec_len table.old.threads }
 {
     if !news {
         return Ok(());
     }
-    gain(table, t, o, below, place)?;
+    gain(table, t, last.thread, last.count, place)?;
     Ok(())
 }
 
@@ -174,7 +170,7 @@ pub(crate) fn take(table: &mut Table, t: u32, last: Last, place: u32) -> Result<
     if brought.closes {
         return Ok(true);
     }
-    gain_news(table, t, last.thread, last.count, place, brought.news)?;
+    gain_news(table, t, last, place, brought.news)?;
     Ok(false)
 }
 
@@ -239,8 +235,7 @@ pub(crate) fn least_back(table: &mut Table, t: u32) -> Result<Option<u32>, Alloc
     ensures least { IfOk result (IsLeastBack (rows_in table.new.threads.items) t) }
     ensures same { table.new.threads ≡ table.old.threads }
 {
-    let (led, index) = (&table.led, &mut table.index);
-    thread::least_back(&table.threads, t, led, index)
+    thread::least_back(&table.threads, t, &mut table.led)
 }
 
 /// Thread `t` ends its block: what leads to the block leads to all that the block led to.
@@ -253,8 +248,7 @@ pub(crate) fn end(table: &mut Table, t: u32) -> Result<(), AllocError>
     let later = not_passed(table, t)?;
     let mut row = take_row(&mut table.threads, t);
     settle(&mut row, t);
-    let (led, index) = (&mut table.led, &mut table.index);
-    let Ok(()) = spread(&mut table.threads, &later, t, led, index) else {
+    let Ok(()) = spread(&mut table.threads, &later, t, &mut table.led) else {
         forget_all(&mut table.seen);
         forget_lows(&mut table.lows);
         forget_places(&mut table.passed);

@@ -92,29 +92,29 @@ pub(crate) fn begin(threads: &mut Vec<Thread>, t: u32, place: u32) -> Result<(),
 pub(crate) fn least_back(
     threads: &[Thread],
     t: u32,
-    led: &Led,
-    index: &mut Index,
+    led: &mut Led,
 ) -> Result<Option<u32>, AllocError>
-    requires { AreListed threads.now led.now }
-    ensures { IfOk result (IsLeastBack (rows_in threads.now) t) }
+    requires { AreListed threads.now led.old }
+    ensures least { IfOk result (IsLeastBack (rows_in threads.now) t) }
+    ensures lists { led.new.lists ≡ led.old.lists }
 {
     if count(led, t) == 0 {
         return Ok(None);
     }
-    enter_all(row_of(threads, t), index)?;
-    Ok(least_listed(threads, t, led, index))
+    enter_all(row_of(threads, t), &mut led.index)?;
+    Ok(least_listed(threads, t, led))
 }
 
-fn least_listed(threads: &[Thread], t: u32, led: &Led, index: &Index) -> Option<u32>
+fn least_listed(threads: &[Thread], t: u32, led: &Led) -> Option<u32>
     requires listed { AreListed threads.now led.now }
-    requires indexed { IsIndexed (thread_row (slice_get threads.now t)) index.now }
+    requires indexed { IsIndexed (thread_row (slice_get threads.now t)) led.now.index }
     ensures { IsLeastBack (rows_in threads.now) t result }
 {
     let mut least = None;
     let listed = count(led, t);
     for i in 0..listed {
         let u = follower(led, t, i);
-        if is_back(threads, t, u, index) {
+        if is_back(threads, t, u, &led.index) {
             least = Some(least_of(least, u));
         }
     }
@@ -162,7 +162,6 @@ fn visit(
     ended: &[Lead],
     t: u32,
     led: &mut Led,
-    index: &mut Index,
 ) -> Result<(), AllocError>
     requires { AreSingle threads.old.items }
     ensures rows { OnOk result ((v w : ℕ) → rows_in threads.new.items v w ≡ (if entry.thread == v then absorbed (least_in ended.now) (rows_in threads.old.items v) t w else rows_in threads.old.items v w)) }
@@ -175,7 +174,7 @@ fn visit(
 {
     let o = entry.thread;
     if (o as usize) < threads.len() {
-        return absorb(&mut threads[o as usize].row, entry, ended, t, led, index);
+        return absorb(&mut threads[o as usize].row, entry, ended, t, led);
     }
     Ok(())
 }
@@ -187,7 +186,6 @@ pub(crate) fn spread(
     ended: &[Lead],
     t: u32,
     led: &mut Led,
-    index: &mut Index,
 ) -> Result<(), AllocError>
     requires own { is_some (least_in ended.now t) ≡ false }
     requires single { AreSingle threads.old.items }
@@ -200,7 +198,7 @@ pub(crate) fn spread(
 {
     let listed = count(led, t);
     for i in 0..listed {
-        visit(threads, listed_at(led, t, i), ended, t, led, index)?;
+        visit(threads, listed_at(led, t, i), ended, t, led)?;
     }
     Ok(())
 }

@@ -1,4 +1,5 @@
-use Rattle.std.proofs.Common.{◌∙◌, ap, sym, subst, arith}
+use Rattle.std.proofs.Common.{◌∙◌, ◌==◌, ap, sym, subst, arith, if◌then◌else◌}
+use Rattle.aero_leads.specs.declared.index.Index.{Index}
 use Rattle.aero_leads.specs.Indexed.{place_of}
 use Rattle.aero_leads.specs.Kept.{least_in}
 use Rattle.aero_leads.specs.Single.{IsSingle}
@@ -19,8 +20,9 @@ returns-clause-listed c =
 
 pub returns-clause-indexed : goal.returns-clause-indexed
 returns-clause-indexed c =
-    indexed_added c.args.row.now.items c.push.new.self.items (lead c.args.opener c.args.place) c.len-2.result (place_of c.args.index.now) (place_of c.enter.new.index)
-    c.in_ok-push.ensures.items (omega (arith, c.len-2.ensures, c.args.row.now.ok.0)) c.in_ok-enter.ensures
+    indexed_added c.args.row.now.items c.push.new.self.items (lead c.args.opener c.args.place) c.len-2.result (place_of c.args.led.now.index) (place_of c.enter.new.index)
+    c.in_ok-push.ensures.items (omega (arith, c.len-2.ensures, c.args.row.now.ok.0))
+    (λ v. c.in_ok-enter.ensures v ∙ ap (λ (index : Index). if v == c.args.opener then c.len-2.result else place_of index v) c.note.ensures.index)
 
 pub returns-clause-single : goal.returns-clause-single
 returns-clause-single c = λ none single. subst IsSingle (sym c.in_ok-push.ensures.items) (single_pushed c.args.row.now.items (lead c.args.opener c.args.place) none single)

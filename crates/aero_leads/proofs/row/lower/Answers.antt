@@ -13,5 +13,5 @@ returns-clause-listed c =
 
 pub returns-clause-indexed : goal.returns-clause-indexed
 returns-clause-indexed c =
-    indexed_lowered c.args.row.now.items c.lower_at.new.row.items (place_of c.args.index.now) c.args.opener c.args.place
+    indexed_lowered c.args.row.now.items c.lower_at.new.row.items (place_of c.args.led.now.index) c.args.opener c.args.place
     (ap (λ xs. is_some (least_in xs c.args.opener)) (sym c.deref.ensures.value) ∙ found_some c.deref.result.now c.args.opener c.find.result c.find.ensures (ap is_some c.in-Some.is)) c.lower_at.ensures.lowers c.lower_at.ensures.openers c.requires
