@@ -9,7 +9,13 @@ pub mod Listings
 pub mod Takings
 pub mod StateSteps
 pub mod Lasts
+pub mod Placed
 pub mod Moving
+pub mod MovingTaken
+pub mod MovingIdle
+pub mod MovingFork
+pub mod MovingBegin
+pub mod MovingEnd
 pub mod Readings
 pub mod Standings
 pub mod ThreadSteps

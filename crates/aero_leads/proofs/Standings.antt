@@ -13,7 +13,8 @@ use Rattle.aero_model.specs.Blocks.{closes}
 use Rattle.aero_leads.specs.Kept.{IsLeastBack}
 use Rattle.aero_leads.specs.States.{acting, Moves}
 use Rattle.aero_leads.specs.Standing.{state_of, closed_by, StandsFor, Tells, EndsState, IsStarted, IsFinished}
-use Rattle.aero_leads.proofs.Moving.{state_same, idle_moves, end_told, end_stands}
+use Rattle.aero_leads.proofs.MovingIdle.{state_same, idle_moves}
+use Rattle.aero_leads.proofs.MovingEnd.{end_told, end_stands}
 
 -- the event as it was moved by, and the call as it ended
 pub follows : (old mid done new : Leads) (m : ℕ) (e : Numbered) (o : Option ℕ) (closes : Bool)

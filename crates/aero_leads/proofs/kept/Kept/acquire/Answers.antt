@@ -4,7 +4,8 @@ use Rattle.aero_model.specs.declared.numbered.What.TheVariants.{Acquire}
 use Rattle.aero_access.specs.StateWords.{event}
 use Rattle.aero_leads.specs.Kept.{last_or_none}
 use Rattle.aero_leads.specs.Standing.{state_in}
-use Rattle.aero_leads.proofs.Moving.{IsTaken, taken_acquire, moves_taking, or_false, after_quiet}
+use Rattle.aero_leads.proofs.Moving.{IsTaken, moves_taking, or_false, after_quiet}
+use Rattle.aero_leads.proofs.MovingTaken.{taken_acquire}
 use Rattle.aero_leads.proofs.kept.Kept.acquire.Goals as goal
 
 pub returns-clause-moves : goal.returns-clause-moves

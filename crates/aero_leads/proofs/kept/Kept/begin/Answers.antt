@@ -1,6 +1,6 @@
 use Rattle.std.proofs.Common.{refl}
 use Rattle.aero_leads.specs.Standing.{state_in}
-use Rattle.aero_leads.proofs.Moving.{moves_begin, after_begin}
+use Rattle.aero_leads.proofs.MovingBegin.{moves_begin, after_begin}
 use Rattle.aero_leads.proofs.kept.Kept.begin.Goals as goal
 
 pub returns-clause-moves : goal.returns-clause-moves

@@ -3,7 +3,8 @@ use Rattle.aero_model.specs.declared.numbered.What.TheVariants.{Join}
 use Rattle.aero_access.specs.StateWords.{event}
 use Rattle.aero_leads.specs.Kept.{last}
 use Rattle.aero_leads.specs.Standing.{state_in}
-use Rattle.aero_leads.proofs.Moving.{taken_join, moves_taking, or_false, after_quiet}
+use Rattle.aero_leads.proofs.Moving.{moves_taking, or_false, after_quiet}
+use Rattle.aero_leads.proofs.MovingTaken.{taken_join}
 use Rattle.aero_leads.proofs.kept.Kept.join.Goals as goal
 
 pub returns-clause-moves : goal.returns-clause-moves

@@ -5,7 +5,8 @@ use Rattle.aero_access.specs.StateWords.{event}
 use Rattle.aero_leads.specs.declared.last.Last.{Last}
 use Rattle.aero_leads.specs.Kept.{variable_write, latest_read_in, other_reads_in, is_below, AreKept}
 use Rattle.aero_leads.specs.Standing.{state_in}
-use Rattle.aero_leads.proofs.Moving.{IsTaken, taken_read, moves_closing, moves_passing, after_reads}
+use Rattle.aero_leads.proofs.Moving.{IsTaken, moves_closing, moves_passing, after_reads}
+use Rattle.aero_leads.proofs.MovingTaken.{taken_read}
 use Rattle.aero_leads.proofs.Readings.{read_noted}
 use Rattle.aero_leads.proofs.kept.Kept.read.Goals as goal
 

@@ -4,7 +4,8 @@ use Rattle.aero_model.specs.declared.numbered.What.TheVariants.{Release}
 use Rattle.aero_access.specs.StateWords.{event}
 use Rattle.aero_leads.specs.Standing.{state_in}
 use Rattle.aero_leads.proofs.Takings.{takes_nothing}
-use Rattle.aero_leads.proofs.Moving.{taken_release, moves_passing, after_quiet}
+use Rattle.aero_leads.proofs.Moving.{moves_passing, after_quiet}
+use Rattle.aero_leads.proofs.MovingTaken.{taken_release}
 use Rattle.aero_leads.proofs.kept.Kept.release.Goals as goal
 
 pub returns-clause-moves : goal.returns-clause-moves

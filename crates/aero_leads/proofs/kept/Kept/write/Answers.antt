@@ -6,7 +6,8 @@ use Rattle.aero_access.specs.StateWords.{event}
 use Rattle.aero_leads.specs.Kept.{rows_in, if_any, variable_write, latest_read_in, other_reads_in, leads_to, leads_to_any, TakesAll}
 use Rattle.aero_leads.specs.Standing.{state_in}
 use Rattle.aero_leads.proofs.Takings.{any_still, takes_then}
-use Rattle.aero_leads.proofs.Moving.{IsTaken, taken_write, moves_closing, moves_passing, or_false, after_quiet}
+use Rattle.aero_leads.proofs.Moving.{IsTaken, moves_closing, moves_passing, or_false, after_quiet}
+use Rattle.aero_leads.proofs.MovingTaken.{taken_write}
 use Rattle.aero_leads.proofs.kept.Kept.write.Goals as goal
 
 pub returns-then-branch-clause-moves : goal.returns-then-branch-clause-moves
