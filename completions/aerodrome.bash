@@ -10,10 +10,10 @@ _aerodrome() {
     case $before in
         --workers) COMPREPLY=($(compgen -W '1 2 4 8 16' -- "$word")) ;;
         --format) COMPREPLY=($(compgen -W 'text json' -- "$word")) ;;
-        --piece | --except | --files0-from | --label) ;;
+        --piece | --except | --only | --files0-from | --label) ;;
         *)
             case $word in
-                -*) COMPREPLY=($(compgen -W '--workers --piece --except --order --explain --long --format --progress --quiet
+                -*) COMPREPLY=($(compgen -W '--workers --piece --except --only --order --explain --long --format --progress --quiet
                     --files0-from --label --fail-open --help --version' -- "$word")) ;;
             esac
             ;;

@@ -11,6 +11,7 @@ use Rattle.aero_model.specs.declared.limits.Limits.{Limits}
 use Rattle.aero_model.specs.declared.verdict.Ending.TheVariants as endings
 use Rattle.aero_model.specs.declared.verdict.Finding.{Finding}
 use Rattle.aero_model.specs.declared.verdict.Finding.TheVariants as findings
+use Rattle.aero_model.specs.Exempt.{Listed}
 use Rattle.aero_grammar.specs.Reading.{Reading, reading_of}
 use Rattle.aero_lines.specs.Cutting.{nothing_yet, blocks_from}
 use Rattle.aero_pieces.specs.declared.question.Question.{Question}
@@ -37,7 +38,7 @@ pub own_block-other : (s : ℕ) (q : Question) → (trace_of q ≡ s → ⊥) �
 own_block-other s (Parse trace number bytes) other = ap (λ b. if b then bytes ∷ [] else []) (ne_eqb trace s other)
 own_block-other s (Check trace parts limits labels order explain) other = refl
 
-own_check-same : (s trace : ℕ) (parts : List Reading) (limits : Limits) (labels : List (List ℕ)) (order explain : Bool) → trace ≡ s → own_check s (Check trace parts limits labels order explain) ≡ record { parts = parts; terms = asking limits labels order explain } ∷ []
+own_check-same : (s trace : ℕ) (parts : List Reading) (limits : Limits) (labels : Listed) (order explain : Bool) → trace ≡ s → own_check s (Check trace parts limits labels order explain) ≡ record { parts = parts; terms = asking limits labels order explain } ∷ []
 own_check-same s trace parts limits labels order explain same = ap (λ b. if b then record { parts = parts; terms = asking limits labels order explain } ∷ [] else []) (eq-eqb trace s same)
 
 pub own_check-other : (s : ℕ) (q : Question) → (trace_of q ≡ s → ⊥) → own_check s q ≡ []
@@ -166,7 +167,7 @@ trace_found terms story bytes parts asked f same has known =
     ∥∥₁_elim there squash₁ (λ found. merely (same_finding terms (map reading_of all) (reading_of (concat story.pieces) ∷ []) f alike (enough_found terms story.blocks all f has.enough found)))
 
 -- what is known of the source whose trace was checked
-settled_check : (terms : Terms) (trace : ℕ) (parts : List Reading) (limits : Limits) (labels : List (List ℕ)) (order explain : Bool) (rest : List Question) (s : ℕ) (story : Story) (t : Track) (f : Finding) →
+settled_check : (terms : Terms) (trace : ℕ) (parts : List Reading) (limits : Limits) (labels : Listed) (order explain : Bool) (rest : List Question) (s : ℕ) (story : Story) (t : Track) (f : Finding) →
     trace ≡ s → ∥ IsTraceFinding parts (asking limits labels order explain) f ∥₁ → IsTracked terms (Check trace parts limits labels order explain ∷ rest) s story t → IsTracked terms rest s story (with_finding t f)
 settled_check terms trace parts limits labels order explain rest s story (Arriving k) f same known is =
     (record { on = is.0.on; all = is.0.all }, nil_right (own_check s (Check trace parts limits labels order explain)) (checks_asked s rest) is.1, is.2)

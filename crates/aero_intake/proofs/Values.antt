@@ -7,6 +7,7 @@ use Rattle.aero_model.specs.declared.limits.Limits.{Limits}
 use Rattle.aero_model.specs.declared.verdict.Cycle.{Cycle}
 use Rattle.aero_model.specs.declared.verdict.Step.{Step}
 use Rattle.aero_model.specs.declared.verdict.Verdict.{Verdict}
+use Rattle.aero_model.specs.Exempt.{Listed}
 use Rattle.aero_grammar.specs.Reading.{Reading, reading_of}
 use Rattle.aero_pieces.specs.declared.question.Question.TheVariants.{Parse, Check}
 use Rattle.aero_pieces.specs.declared.answer.Value.TheVariants.{Parsed, Judged, Ordered, Explained}
@@ -29,5 +30,5 @@ pub not_explained : (trace number : ℕ) (bytes : List ℕ) (verdict : Verdict) 
 not_explained trace number bytes verdict cycle is = ∥∥₁_elim is (λ x y. absurd x) (λ e. e)
 
 -- and the question on a trace by a verdict
-pub not_parsed : (trace : ℕ) (parts : List Reading) (limits : Limits) (labels : List (List ℕ)) (order explain : Bool) (parsed : Reading) → IsValueOf (Check trace parts limits labels order explain) (Parsed parsed) → ⊥
+pub not_parsed : (trace : ℕ) (parts : List Reading) (limits : Limits) (labels : Listed) (order explain : Bool) (parsed : Reading) → IsValueOf (Check trace parts limits labels order explain) (Parsed parsed) → ⊥
 not_parsed trace parts limits labels order explain parsed is = ∥∥₁_elim is (λ x y. absurd x) (λ e. e)

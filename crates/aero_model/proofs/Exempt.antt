@@ -16,7 +16,7 @@ use Rattle.aero_model.specs.Numbering.{Tables, tables_of, numbered, trace_of}
 use Rattle.aero_model.specs.Blocks.{is_begin, is_end, by_thread, depth}
 use Rattle.aero_model.specs.BlockCounts.{count_below}
 use Rattle.aero_model.specs.Shape.{is_acquire_of, is_release_of, is_fork_of, is_join_of, held, is_held_by_other, has_acted, was_forked, was_joined, has_started, deed_fault, shape_fault, IsWellFormed}
-use Rattle.aero_model.specs.Exempt.{Marked, read_events, nest, is_marked, is_latest_exempt, ends_exempt, judged_what, judged, judged_after, judged_trace, marked, marked_trace}
+use Rattle.aero_model.specs.Exempt.{Listed, Marked, read_events, nest, is_marked, is_latest_exempt, ends_exempt, judged_what, judged, judged_after, judged_trace, marked, marked_trace}
 use Rattle.aero_model.specs.Laws.{without_label, unlabelled}
 use Rattle.aero_model.proofs.WellFormed.{slice_get-take, length-take_at}
 
@@ -499,9 +499,9 @@ pub judged_none_exempt : (h : List Marked) → list_any (λ m. m.exempt) h ≡ f
 judged_none_exempt h none = after_plainly [] h refl none
 
 -- the marks leave the events as they are
-marked_events : (labels : List (List ℕ)) (tables : Tables) (events : List Named) → read_events (map (marked labels tables) events) ≡ map (numbered tables) events
-marked_events labels tables [] = refl
-marked_events labels tables (e ∷ events) = ap (λ more. numbered tables e ∷ more) (marked_events labels tables events)
+marked_events : (listed : Listed) (tables : Tables) (events : List Named) → read_events (map (marked listed tables) events) ≡ map (numbered tables) events
+marked_events listed tables [] = refl
+marked_events listed tables (e ∷ events) = ap (λ more. numbered tables e ∷ more) (marked_events listed tables events)
 
-pub read_marked : (labels : List (List ℕ)) (events : List Named) → read_events (marked_trace labels events) ≡ trace_of events
-read_marked labels events = marked_events labels (tables_of events) events
+pub read_marked : (listed : Listed) (events : List Named) → read_events (marked_trace listed events) ≡ trace_of events
+read_marked listed events = marked_events listed (tables_of events) events

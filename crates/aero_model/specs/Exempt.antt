@@ -1,5 +1,5 @@
 -- Blocks that are no transactions. A begin can be exempt. It and the end that matches it are then judged as events of their thread, and nothing more.
-use Rattle.std.specs.Prelude.{◌≡◌, ℕ, zero, suc, ◌-◌, ◌==◌, ◌&&◌, nat_lt, Bool, false, if◌then◌else◌, List, [], ◌∷◌, ◌++◌, length, map, bytes_eq, slice_get, Option, Some, None}
+use Rattle.std.specs.Prelude.{◌≡◌, ℕ, zero, suc, ◌-◌, ◌==◌, ◌&&◌, nat_lt, not, Bool, true, false, if◌then◌else◌, List, [], ◌∷◌, ◌++◌, length, map, bytes_eq, slice_get, Option, Some, None}
 use Rattle.std.specs.List.{list_any}
 use Rattle.aero_model.specs.declared.numbered.Numbered.{Numbered}
 use Rattle.aero_model.specs.declared.numbered.What.{What}
@@ -83,13 +83,34 @@ abbrev pub is_listed : List (List ℕ) → Option (List ℕ) → Bool
 is_listed labels None = false
 is_listed labels (Some label) = list_any (bytes_eq label) labels
 
--- whether the event is a begin with one of these labels
-abbrev pub is_exempt : List (List ℕ) → Named → Bool
-is_exempt labels e = is_listed labels (label_of e.op e.target)
+-- The labels that are listed: of blocks that are no transactions, or of the only blocks that are
+pub record Listed : Type 0 where
+  pub labels : List (List ℕ)
+  pub only : Bool
 
-abbrev pub marked : List (List ℕ) → Tables → Named → Marked
-marked labels tables e = record { event = numbered tables e; exempt = is_exempt labels e }
+-- just the blocks with these labels are no transactions
+abbrev pub these : List (List ℕ) → Listed
+these labels = record { labels = labels; only = false }
 
--- the events by their numbers, in which the begins are exempt that have one of these labels
-abbrev pub marked_trace : List (List ℕ) → List Named → List Marked
-marked_trace labels events = map (marked labels (tables_of events)) events
+-- all blocks but those with these labels are no transactions
+abbrev pub all_but : List (List ℕ) → Listed
+all_but labels = record { labels = labels; only = true }
+
+-- whether a block that begins with this label, if it has one, is no transaction
+abbrev pub leaves_out : Listed → Option (List ℕ) → Bool
+leaves_out listed label = if listed.only then not (is_listed listed.labels label) else is_listed listed.labels label
+
+abbrev pub begins_exempt : Listed → Op → Option (List ℕ) → Bool
+begins_exempt listed op.Begin target = leaves_out listed target
+begins_exempt listed _ target = false
+
+-- whether the event is the begin of a block that is no transaction
+abbrev pub is_exempt : Listed → Named → Bool
+is_exempt listed e = begins_exempt listed e.op e.target
+
+abbrev pub marked : Listed → Tables → Named → Marked
+marked listed tables e = record { event = numbered tables e; exempt = is_exempt listed e }
+
+-- the events by their numbers, in which the begins are exempt of blocks that are no transactions
+abbrev pub marked_trace : Listed → List Named → List Marked
+marked_trace listed events = map (marked listed (tables_of events)) events

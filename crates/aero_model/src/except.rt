@@ -9,58 +9,96 @@ use std::sync::Arc;
 /// How many labels are listed at most.
 pub const MOST_LABELS: usize = 64;
 
-/// A list of labels, at most 64. A block that begins with one of them is no transaction.
+/// A list of labels, at most 64. A block that begins with one of them is no transaction, or, of a list
+/// of `all_but`, one that begins with none of them or without a label.
 #[derive(Drop)]
 pub struct Except {
     labels: Vec<Name>,
+    only: bool,
 }
 
 impl Model for Except {
-    ghost use Rattle.std.specs.Prelude.{◌≤◌, ℕ, List, length};
+    ghost use Rattle.std.specs.Prelude.{◌≤◌, length};
     ghost use Rattle.aero_model.specs.Excepts.{most_labels};
+    ghost use Rattle.aero_model.specs.Exempt.{Listed};
 
-    ghost Value = { List (List ℕ) };
+    ghost Value = { Listed };
 
-    ghost view = { λ except. except.labels.items };
+    ghost view = { λ except. record { labels = except.labels.items; only = except.only } };
 
     ghost invariant = { λ except. length except.labels.items ≤ most_labels };
 }
 
 impl Except {
-    ghost use Rattle.std.specs.Prelude.{◌≡◌, ◌≤◌, ◌↔◌, length, bytes_eq, vec_len, IsSome, IsTrue, IfSome};
+    ghost use Rattle.std.specs.Prelude.{◌≡◌, ◌≤◌, ◌↔◌, length, bytes_eq, vec_len, Some, None, IsSome, IsTrue, IfSome};
     ghost use Rattle.std.specs.List.{list_any};
     ghost use Rattle.aero_model.specs.Excepts.{most_labels};
+    ghost use Rattle.aero_model.specs.Exempt.{these, all_but, leaves_out};
 
-    /// These labels, or `None` where there are more than 64.
+    /// Just the blocks with these labels are no transactions. `None` where there are more than 64.
     pub fn new(labels: Vec<Name>) -> Option<Except>
         ensures few { IsSome result ↔ (vec_len labels ≤ most_labels) }
-        ensures labels { IfSome result (λ except. except ≡ labels.items) }
+        ensures labels { IfSome result (λ except. except ≡ these labels.items) }
+    {
+        Except::listing(labels, false)
+    }
+
+    /// The blocks with these labels are the only transactions, beside events outside of them. `None`
+    /// where there are more than 64.
+    pub fn all_but(labels: Vec<Name>) -> Option<Except>
+        ensures few { IsSome result ↔ (vec_len labels ≤ most_labels) }
+        ensures labels { IfSome result (λ except. except ≡ all_but labels.items) }
+    {
+        Except::listing(labels, true)
+    }
+
+    fn listing(labels: Vec<Name>, only: bool) -> Option<Except>
+        ensures few { IsSome result ↔ (vec_len labels ≤ most_labels) }
+        ensures labels { IfSome result (λ except. except ≡ record { labels = labels.items; only = only }) }
     {
         if labels.len() > MOST_LABELS {
             return None;
         }
-        Some(Except { labels })
+        Some(Except { labels, only })
     }
 
     /// Whether the label is listed.
     pub fn has(&self, label: &Name) -> bool
-        ensures { result ≡ list_any (bytes_eq label.now) self.now }
+        ensures { result ≡ list_any (bytes_eq label.now) self.now.labels }
     {
         self.has_bytes(label.bytes())
     }
 
     /// Whether a label of these bytes is listed.
     pub fn has_bytes(&self, label: &[u8]) -> bool
-        ensures { result ≡ list_any (bytes_eq label.now) self.now }
+        ensures { result ≡ list_any (bytes_eq label.now) self.now.labels }
     {
         self.labels.iter().any(|listed| listed.bytes() == label)
     }
 
-    /// Whether both list the same labels, in the same order.
-    pub fn has_same_labels(&self, other: &Except) -> bool
+    /// Whether a block that begins with a label of these bytes is no transaction.
+    pub fn leaves_out(&self, label: &[u8]) -> bool
+        ensures { result ≡ leaves_out self.now (Some label.now) }
+    {
+        if self.only {
+            !self.has_bytes(label)
+        } else {
+            self.has_bytes(label)
+        }
+    }
+
+    /// Whether a block that begins without a label is no transaction.
+    pub fn leaves_out_unlabelled(&self) -> bool
+        ensures { result ≡ leaves_out self.now None }
+    {
+        self.only
+    }
+
+    /// Whether both leave out the same blocks by the same labels, in the same order.
+    pub fn is_same(&self, other: &Except) -> bool
         ensures { IsTrue result ↔ (self.now ≡ other.now) }
     {
-        are_same_names(&self.labels, &other.labels)
+        self.only == other.only && are_same_names(&self.labels, &other.labels)
     }
 }
 
@@ -91,10 +129,10 @@ pub struct SharedExcept {
 }
 
 impl Model for SharedExcept {
-    ghost use Rattle.std.specs.Prelude.{ℕ, List};
     ghost use Rattle.std.specs.Arc.{arc_value};
+    ghost use Rattle.aero_model.specs.Exempt.{Listed};
 
-    ghost Value = { List (List ℕ) };
+    ghost Value = { Listed };
 
     ghost view = { λ shared. arc_value shared.except };
 }

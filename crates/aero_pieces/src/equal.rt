@@ -48,7 +48,7 @@ pub fn same(a: &Question, b: &Question) -> bool
                     && *order == *other_order
                     && *explain == *other_explain
                     && are_same_limits(limits, other_limits)
-                    && except.get().has_same_labels(other_except.get())
+                    && except.get().is_same(other_except.get())
                     && are_same_parts(parsed.get(), other_parsed.get())
             }
             Question::Parse { .. } => false,

@@ -15,7 +15,7 @@ use Rattle.aero_program.specs.declared.command.Config.{Config}
 use Rattle.aero_program.specs.declared.failure.Failure.{Failure}
 use Rattle.aero_program.specs.declared.input.Input.{Input}
 use Rattle.aero_program.specs.Answers.{Ends, WasJudged}
-use Rattle.aero_program.specs.Command.{AreLimitsFor, are_words}
+use Rattle.aero_program.specs.Command.{AreLimitsFor, are_words, listed_by}
 use Rattle.aero_program.specs.Notes.{noted_of_all}
 use Rattle.aero_program.proofs.Noting.{are_faulty, are_noted}
 use Rattle.aero_program.specs.Sightings.{AreNames, bytes_known, sighting, source_sightings}
@@ -37,7 +37,7 @@ names_noted words known (source ∷ more) (ending ∷ rest) (fault ∷ faults) =
 pub judged : {S O F : Type 0} (known : Input S O F → Option (List ℕ)) (config : Config) (given : Option (List ℕ)) (limits : Limits) (names : List (List ℕ))
     (was lent new now : List (Source (Input S O F))) (before between after : Shown) (endings : List (ℕ × Ending)) (faults : List (Option FaultyLine)) (counts : Counts) (cause : Option Cause)
     (fault : Option ErrorKind) (end : Result ℕ Failure) (told told_after : Seen) (status : ℕ) (terms : Terms) (made : Form)
-    → terms ≡ asking limits config.except.items config.order config.explain → made ≡ config.form → AreLimitsFor config.long limits
+    → terms ≡ asking limits (listed_by config.except.items config.only.items) config.order config.explain → made ≡ config.form → AreLimitsFor config.long limits
     → AreNames config.files given names → map (sighted known) was ≡ source_sightings config.files given names → lent ≡ was → now ≡ new
     → WasRun terms made (map (sighted known) lent) (map (sighted known) new) before.writer between.writer endings faults counts cause
     → between.unflushed ≡ before.unflushed → WasFlushed between after fault → end ≡ end_of_run config.fail_open cause counts fault
@@ -46,7 +46,7 @@ pub judged : {S O F : Type 0} (known : Input S O F → Option (List ℕ)) (confi
 judged known config given limits names was lent new now before between after endings faults counts cause fault end told told_after status terms made
     on_terms in_form are named seen is_was is_new run same flushed ended ends =
     let sightings : List Sighted = source_sightings config.files given names in
-    let wanted : Terms = asking limits config.except.items config.order config.explain in
+    let wanted : Terms = asking limits (listed_by config.except.items config.only.items) config.order config.explain in
     let words : Bool = are_words config.files in
     let seen_lent : map (sighted known) lent ≡ sightings = ap (map (sighted known)) is_was ∙ seen in
     let ran : WasRun wanted config.form sightings (map (sighted known) new) before.writer between.writer endings faults counts cause =

@@ -17,7 +17,7 @@ use Rattle.aero_program.specs.declared.failure.Failure.{Failure}
 use Rattle.aero_program.specs.declared.failure.Failure.TheVariants as failure
 use Rattle.aero_program.specs.declared.listing.Unlisted.{Unlisted}
 use Rattle.aero_program.specs.declared.listing.Unlisted.TheVariants as unlisted
-use Rattle.aero_program.specs.Command.{AreLimitsFor, are_words, list_path}
+use Rattle.aero_program.specs.Command.{AreLimitsFor, are_words, list_path, listed_by}
 use Rattle.aero_program.specs.Failure.{cut_failure, failure_of, failure_status, line_of}
 use Rattle.aero_program.specs.Notes.{AreFaulty, AreNoted, Noted, note_line, notes}
 use Rattle.aero_program.specs.Reasons.{reason_words}
@@ -76,7 +76,7 @@ Ends noted (Ok wanted) told told_after status =
 Ends noted (Err why) told told_after status =
     (IsTold told told_after (notes noted ++ line_of why) × (status ≡ failure_status why)) ⊎ Fails why told told_after status
 
--- What the configuration asks for was judged: its sources, under the limits that it asks for, blocks with its labels as no transactions. The report in its form went out on standard output, as every run's does, and a flush and the ends of the run decide.
+-- What the configuration asks for was judged: its sources, under the limits that it asks for, blocks that its labels leave out as no transactions. The report in its form went out on standard output, as every run's does, and a flush and the ends of the run decide.
 pub record WasJudged (config : Config) (given : Option (List ℕ)) (shown shown_after : Shown) (told told_after : Seen) (status : ℕ) : Type 0 where
   pub limits : Limits
   pub limits_are : AreLimitsFor config.long limits
@@ -88,7 +88,7 @@ pub record WasJudged (config : Config) (given : Option (List ℕ)) (shown shown_
   pub faults : List (Option FaultyLine)
   pub counts : Counts
   pub cause : Option Cause
-  pub ran : WasRun (asking limits config.except.items config.order config.explain) config.form (source_sightings config.files given names) sources shown.writer between.writer endings faults counts cause
+  pub ran : WasRun (asking limits (listed_by config.except.items config.only.items) config.order config.explain) config.form (source_sightings config.files given names) sources shown.writer between.writer endings faults counts cause
   pub same : between.unflushed ≡ shown.unflushed
   pub fault : Option ErrorKind
   pub flushed : WasFlushed between shown_after fault

@@ -1,6 +1,7 @@
 -- What is to be judged, the limits under which the program runs, and when it shows the line on progress.
-use Rattle.std.specs.Prelude.{◌≡◌, ◌^◌, ℕ, Bool, false, true, List, [], map, Option, Some, None, string_bytes, vec_len}
+use Rattle.std.specs.Prelude.{◌≡◌, ◌^◌, ◌==◌, if◌then◌else◌, ℕ, Bool, false, true, List, [], length, map, Option, Some, None, string_bytes, vec_len}
 use Rattle.aero_model.specs.declared.limits.Limits.{Limits}
+use Rattle.aero_model.specs.Exempt.{Listed, these, all_but}
 use Rattle.aero_program.specs.declared.command.Progress.{Progress}
 use Rattle.aero_program.specs.declared.command.Progress.TheVariants.{Auto, Always, Never}
 use Rattle.aero_program.specs.declared.command.Sources.{Sources}
@@ -35,6 +36,10 @@ abbrev pub list_path : Sources → List ℕ
 list_path (sources.Standard name) = []
 list_path (sources.Files words) = []
 list_path (sources.Listed path) = string_bytes path
+
+-- just the blocks with these labels are no transactions, or, where labels of the only transactions are given, all blocks without one of those
+abbrev pub listed_by : (except : List (List ℕ)) → (only : List (List ℕ)) → Listed
+listed_by except only = if length only == 0 then these except else all_but only
 
 -- the greatest limits: 2^30 bytes and 2^28 lines of a source, 65,536 threads, 2^26 variables and locks
 abbrev pub AreGreatest : Limits → Type 0

@@ -1,6 +1,6 @@
 //! What a command line asks for, or why nothing is judged.
-ghost use Rattle.std.specs.Prelude.{◌≡◌, ◌<◌, ◌≤◌, ◌^◌, ◌&&◌, false, IfOk, length, map, string_bytes, vec_len};
-ghost use Rattle.aero_program.specs.Command.{AreLimitsFor, are_counted, are_words, count_named, files_named, list_path, shown_after};
+ghost use Rattle.std.specs.Prelude.{◌≡◌, ◌<◌, ◌≤◌, ◌^◌, ◌&&◌, false, IfOk, length, map, nat_lt, string_bytes, vec_len};
+ghost use Rattle.aero_program.specs.Command.{AreLimitsFor, are_counted, are_words, count_named, files_named, list_path, listed_by, shown_after};
 
 use crate::arguments::Unread;
 use aero_batch::plan::Plan;
@@ -20,8 +20,8 @@ pub const MOST_FILES: usize = 65_536;
 const LONG_RUN: u64 = 2_000;
 
 /// What a command line asks for: 1 to 16 workers, reads of 1 to 1,048,576 bytes, the sources, of which
-/// it names 65,536 files at most, and at most 64 labels of blocks that are no transactions, both in the
-/// order of the words, whether the serial order is asked for, whether violations are to be explained,
+/// it names 65,536 files at most, and at most 64 labels of blocks that are no transactions or, in their
+/// place, of the only blocks that are, both in the order of the words, whether the serial order is asked for, whether violations are to be explained,
 /// whether long sources are to be judged, the form of the report, and when the line on progress is shown.
 /// The serial orders of long sources aren't to be had: each source is kept for its order.
 #[derive(Drop)]
@@ -30,6 +30,7 @@ pub struct Config {
     pub piece: u32,
     pub files: Sources,
     pub except: Vec<Name>,
+    pub only: Vec<Name>,
     pub order: bool,
     pub explain: bool,
     pub long: bool,
@@ -44,6 +45,8 @@ pub struct Config {
     ghost most_piece: { piece ≤ 2 ^ 20 },
     ghost most_files: { count_named files ≤ 2 ^ 16 },
     ghost most_labels: { vec_len except ≤ 64 },
+    ghost most_only: { vec_len only ≤ 64 },
+    ghost one_list: { (nat_lt 0 (vec_len except) && nat_lt 0 (vec_len only)) ≡ false },
     ghost no_long_order: { (long && order) ≡ false },
 }
 
@@ -127,13 +130,13 @@ impl Config {
         ensures workers { IfOk result (λ made. made.0.workers ≡ self.workers) }
         ensures piece { IfOk result (λ made. made.0.piece ≡ self.piece) }
         ensures limits { IfOk result (λ made. AreLimitsFor self.long made.0.limits) }
-        ensures except { IfOk result (λ made. made.0.except ≡ self.except.items) }
+        ensures except { IfOk result (λ made. made.0.except ≡ listed_by self.except.items self.only.items) }
         ensures order { IfOk result (λ made. made.0.order ≡ self.order) }
         ensures explain { IfOk result (λ made. made.0.explain ≡ self.explain) }
         ensures form { IfOk result (λ made. made.0.form ≡ self.form) }
         ensures files { IfOk result (λ made. made.1 ≡ self.files) }
     {
-        let except = Except::new(self.except).unwrap();
+        let except = except_of(self.except, self.only);
         let shared = SharedExcept::new(alloc, except)?;
         let limits = limits_for(self.long);
         let plan = Plan::new(self.workers, self.piece, limits, shared, self.order).unwrap();
@@ -143,6 +146,19 @@ impl Config {
             plan
         };
         Ok((plan.with_form(self.form), self.files))
+    }
+}
+
+// What the labels leave out: the blocks with those of `except`, or all blocks but those with one of `only`.
+fn except_of(except: Vec<Name>, only: Vec<Name>) -> Except
+    requires except { vec_len except ≤ 64 }
+    requires only { vec_len only ≤ 64 }
+    ensures { result ≡ listed_by except.items only.items }
+{
+    if only.is_empty() {
+        Except::new(except).unwrap()
+    } else {
+        Except::all_but(only).unwrap()
     }
 }
 

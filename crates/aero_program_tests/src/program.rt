@@ -315,6 +315,7 @@ fn config_for(alloc: Global, sources: Sources, order: bool, fail_open: bool) -> 
         workers: 2,
         piece: 1,
         except: Vec::new(alloc),
+        only: Vec::new(alloc),
         files: sources,
         order,
         explain: false,

@@ -192,7 +192,7 @@ fn first_not_refused(alloc: Global, rows: &[Wrong]) -> Option<usize> {
     None
 }
 
-static REFUSED: [Wrong; 39] = [
+static REFUSED: [Wrong; 42] = [
     (
         &["--workers", "0"],
         "invalid value '0' for '--workers <N>': 0 is not in 1..=16\n",
@@ -241,6 +241,18 @@ static REFUSED: [Wrong; 39] = [
     (
         &["--except", "a", "--except"],
         "a value is required for '--except <LABEL>' but none was supplied\n",
+    ),
+    (
+        &["--only"],
+        "a value is required for '--only <LABEL>' but none was supplied\n",
+    ),
+    (
+        &["--only", "a", "--except", "b"],
+        "the argument '--only <LABEL>' cannot be used with '--except <LABEL>'\n",
+    ),
+    (
+        &["--except", "", "a", "--only", "b"],
+        "the argument '--only <LABEL>' cannot be used with '--except <LABEL>'\n",
     ),
     (
         &["--order", "--order"],
@@ -347,7 +359,7 @@ fn the_words_that_are_refused(rt: HostRuntime) {
     assert_eq!(rt; first_not_refused(rt.alloc(), &REFUSED), None);
 }
 
-static PHRASES: [&str; 37] = [
+static PHRASES: [&str; 38] = [
     "atomic block",
     "RAPID",
     "STD",
@@ -360,6 +372,7 @@ static PHRASES: [&str; 37] = [
     "1 to 1048576",
     "[default: 65536]",
     "--except <LABEL>",
+    "--only <LABEL>",
     "64 labels",
     "--order",
     "--long",
@@ -621,7 +634,15 @@ fn are_labels(labels: &[Name], wanted: &[&str]) -> bool {
 // Whether words ask for these labels, in this order.
 fn is_labelled_so(alloc: Global, words: &[&str], wanted: &[&str]) -> bool {
     match settled(alloc, words) {
-        Ok(config) => are_labels(&config.except, wanted),
+        Ok(config) => are_labels(&config.except, wanted) && config.only.is_empty(),
+        Err(_) => false,
+    }
+}
+
+// The same of labels of the only transactions.
+fn is_named_so(alloc: Global, words: &[&str], wanted: &[&str]) -> bool {
+    match settled(alloc, words) {
+        Ok(config) => are_labels(&config.only, wanted) && config.except.is_empty(),
         Err(_) => false,
     }
 }
@@ -644,16 +665,18 @@ static LABELLED: [(Words, Words); 5] = [
     (&["--except", "a b)", "--except", "a"], &["a b)", "a"]),
 ];
 
-static BAD_LABELS: [Counted; 4] = [
+static BAD_LABELS: [Counted; 5] = [
     ("--except", 1, &["a", "--except", ""], "bad label", 0),
     ("--except", 1, &["a", "--except", "a|b"], "bad label", 0),
     ("--except", 1, &["a", "--except", "a\n"], "bad label", 0),
     ("--except", 1, &["a", "--except", "\u{7f}"], "bad label", 0),
+    ("--only", 1, &["a", "--only", "a|b"], "bad label", 0),
 ];
 
 #[test]
 fn labels_are_read_in_order(rt: HostRuntime) {
     assert_eq!(rt; first_mislabelled(rt.alloc(), &LABELLED), None);
+    assert!(rt; is_named_so(rt.alloc(), &["--only", "b", "n", "--only=a"], &["b", "a"]));
     assert_eq!(rt; first_miscounted(rt.alloc(), &BAD_LABELS), None);
 }
 
@@ -678,10 +701,12 @@ fn is_measured(alloc: Global, count: usize, wanted: &str) -> bool {
     told_of(&settled_label(alloc, count)).0 == wanted
 }
 
-static LABELS: [Counted; 3] = [
+static LABELS: [Counted; 5] = [
     ("--except=a", 64, &["n"], "taken", 1),
     ("--except=a", 64, &["--except=a"], "too many labels", 0),
     ("--except=a", 65, &["--except="], "bad label", 0),
+    ("--only=a", 64, &["n"], "taken", 1),
+    ("--only=a", 64, &["--only=a"], "too many labels", 0),
 ];
 
 #[test]

@@ -101,15 +101,23 @@ fn push_label(alloc: Global, labels: &mut Vec<Name>, label: &str) -> Option<()> 
     labels.push(Name::read(alloc, label.as_bytes()).ok()?).ok()
 }
 
-// The list of a text's labels, which stand between its spaces. `None` where memory is refused.
-pub(crate) fn except_of(alloc: Global, text: &str) -> Option<Except> {
+// A text's labels, which stand between its spaces. `None` where memory is refused.
+fn labels_of(alloc: Global, text: &str) -> Option<Vec<Name>> {
     let mut labels = Vec::new(alloc);
     for label in text.split(' ') {
         if !label.is_empty() {
             push_label(alloc, &mut labels, label)?;
         }
     }
-    Except::new(labels)
+    Some(labels)
+}
+
+// The list of a text's labels, which behind `only: ` are those of the only transactions.
+pub(crate) fn except_of(alloc: Global, text: &str) -> Option<Except> {
+    match text.strip_prefix("only: ") {
+        Some(labels) => Except::all_but(labels_of(alloc, labels)?),
+        None => Except::new(labels_of(alloc, text)?),
+    }
 }
 
 // Whether a list of so many labels is made.
@@ -130,6 +138,23 @@ fn up_to_64_labels_are_listed(rt: HostRuntime) {
         is_listed(alloc, 65),
     ];
     assert!(rt; listed == [Some(true), Some(true), Some(false)]);
+}
+
+// Whether the list leaves out the label `f`, `h`, and a begin without one.
+fn left_out(alloc: Global, text: &str) -> Option<(bool, bool, bool)> {
+    let except = except_of(alloc, text)?;
+    Some((
+        except.leaves_out(b"f"),
+        except.leaves_out(b"h"),
+        except.leaves_out_unlabelled(),
+    ))
+}
+
+#[test]
+fn a_list_leaves_out_its_labels_or_all_but_these(rt: HostRuntime) {
+    let alloc = rt.alloc();
+    let found = [left_out(alloc, "f g"), left_out(alloc, "only: f g")];
+    assert!(rt; found == [Some((true, false, false)), Some((false, true, true))]);
 }
 
 // Whether the list has the label or not as wanted, as a name and as bytes alike.
@@ -176,7 +201,7 @@ fn a_list_has_the_labels_that_are_listed(rt: HostRuntime) {
 fn are_same_as_wanted(alloc: Global, row: &(&str, &str, bool)) -> Option<bool> {
     let a = except_of(alloc, row.0)?;
     let b = except_of(alloc, row.1)?;
-    Some(a.has_same_labels(&b) == row.2 && b.has_same_labels(&a) == row.2)
+    Some(a.is_same(&b) == row.2 && b.is_same(&a) == row.2)
 }
 
 // The first row that doesn't hold.
@@ -189,13 +214,15 @@ fn first_miscompared(alloc: Global, rows: &[(&str, &str, bool)]) -> Option<usize
     None
 }
 
-static LISTS: [(&str, &str, bool); 6] = [
+static LISTS: [(&str, &str, bool); 8] = [
     ("", "", true),
     ("ab c", "ab c", true),
     ("ab c", "c ab", false),
     ("ab c", "a bc", false),
     ("ab c", "ab", false),
     ("ab", "ab ab", false),
+    ("only: ab c", "only: ab c", true),
+    ("only: ab", "ab", false),
 ];
 
 #[test]
@@ -207,14 +234,14 @@ fn lists_of_labels_are_the_same_in_their_order(rt: HostRuntime) {
 fn is_shared(alloc: Global, labels: &str) -> Option<bool> {
     let except = except_of(alloc, labels)?;
     let (is_first, second) = shared_twice(alloc, labels, &except)?;
-    Some(is_first && second.get().has_same_labels(&except))
+    Some(is_first && second.get().is_same(&except))
 }
 
 // Whether the first of two that share the list has the labels, and the second, once the first is gone.
 fn shared_twice(alloc: Global, labels: &str, except: &Except) -> Option<(bool, SharedExcept)> {
     let first = SharedExcept::new(alloc, except_of(alloc, labels)?).ok()?;
     let second = first.share().ok()?;
-    Some((first.get().has_same_labels(except), second))
+    Some((first.get().is_same(except), second))
 }
 
 #[test]

@@ -497,7 +497,7 @@ fn limits_on_threads_and_names(rt: HostRuntime) {
     );
 }
 
-static OPEN_AND_CLOSE_NO_BLOCK: [Labelled; 14] = [
+static OPEN_AND_CLOSE_NO_BLOCK: [Labelled; 20] = [
     (
         "a",
         "T1|begin(a)/T2|begin/T1|w(x)/T2|r(x)/T2|w(y)/T1|r(y)/+",
@@ -557,6 +557,37 @@ static OPEN_AND_CLOSE_NO_BLOCK: [Labelled; 14] = [
         "ill-formed 3 EndWithoutBegin",
     ),
     ("a", "T1|begin(a)/T2|end/+", "ill-formed 2 EndWithoutBegin"),
+    // All but the blocks with the label open and close none.
+    (
+        "only: b",
+        "T1|begin(a)/T1|begin(b)/T1|w(x)/T2|r(x)/T2|w(y)/T1|r(y)/T1|end/T1|end/+",
+        "violation 6 T1 2",
+    ),
+    (
+        "only: a",
+        "T1|begin(a)/T1|begin(b)/T1|w(x)/T2|r(x)/T2|w(y)/T1|r(y)/T1|end/T1|end/+",
+        "violation 6 T1 1",
+    ),
+    (
+        "only: c",
+        "T1|begin(a)/T1|begin(b)/T1|w(x)/T2|r(x)/T2|w(y)/T1|r(y)/T1|end/T1|end/+",
+        "serializable 8 0",
+    ),
+    (
+        "only: b",
+        "T1|begin(a)/T1|begin(b)/T1|w(x)/T1|end/T2|w(x)/T1|r(x)/T1|end/+",
+        "serializable 7 1",
+    ),
+    (
+        "only: a",
+        "T1|begin/T1|begin(a)/T1|end/T1|w(x)/T2|w(x)/T1|r(x)/+",
+        "serializable 6 1",
+    ),
+    (
+        "only: a",
+        "T1|begin/T1|end/T1|end/+",
+        "ill-formed 3 EndWithoutBegin",
+    ),
 ];
 
 static WHICH_LABELS_AND_OVER_PARTS: [Labelled; 12] = [

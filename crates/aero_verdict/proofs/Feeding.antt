@@ -207,7 +207,7 @@ right_part words rules fed part lines checker new told after is tells lines_are 
     (subst (TellsPart words rules (fed ++ part ∷ rest) (length fed) lines new part) is (tells (fed ++ part ∷ rest) (length fed) (next_fed fed part words rules lines checker so rest))))
 
 -- it stands in the monitor's fields, with the labels that contracts see
-pub fed_part : {E : Type 0} (words : Words E) (limits : Limits) (before after except : List (List ℕ)) (parts more : List Reading) (part : Reading) (lines : ℕ) (checker : Checker E) (state : State) (lines_after : ℕ) (new : Checker E) (state_after : State) →
+pub fed_part : {E : Type 0} (words : Words E) (limits : Limits) (before after except : Listed) (parts more : List Reading) (part : Reading) (lines : ℕ) (checker : Checker E) (state : State) (lines_after : ℕ) (new : Checker E) (state_after : State) →
     state ≡ Undecided → before ≡ except → after ≡ before → more ≡ parts ++ part ∷ [] → FedSo words (under limits before) parts lines checker state →
     ((fed : List Reading) → FedSo words (under limits except) fed lines checker Undecided → FedSo words (under limits except) (fed ++ part ∷ []) lines_after new state_after) →
     FedSo words (under limits after) more lines_after new state_after
@@ -216,7 +216,7 @@ fed_part words limits before after except parts more part lines checker state li
     (subst (λ ls. FedSo words (under limits ls) (parts ++ part ∷ []) lines_after new state_after) (sym (kept ∙ same))
     (judged parts (subst (λ ls. FedSo words (under limits ls) parts lines checker Undecided) same (subst (FedSo words (under limits before) parts lines checker) undecided so))))
 
-pub expected_part : {E : Type 0} (words : Words E) (limits : Limits) (before except : List (List ℕ)) (parts : List Reading) (part : Reading) (lines : ℕ) (checker : Checker E) (state : State) →
+pub expected_part : {E : Type 0} (words : Words E) (limits : Limits) (before except : Listed) (parts : List Reading) (part : Reading) (lines : ℕ) (checker : Checker E) (state : State) →
     state ≡ Undecided → before ≡ except → FedSo words (under limits before) parts lines checker state → IsPartExpected words (under limits except) lines checker part
 expected_part words limits before except parts part lines checker state undecided same so =
     next_expected parts part words (under limits except) lines checker

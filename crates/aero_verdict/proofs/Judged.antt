@@ -6,7 +6,7 @@ use Rattle.aero_model.specs.Numbering.{trace_of}
 use Rattle.aero_model.specs.Shape.{IsWellFormed}
 use Rattle.aero_model.proofs.Exempt.{judged_taken, judged_well_formed, read_taken, read_marked}
 
-module _ (labels : List (List ℕ)) (events : List Named) (n : ℕ) where
+module _ (labels : Listed) (events : List Named) (n : ℕ) where
   abbrev all : List Marked
   all = marked_trace labels events
 

@@ -6,14 +6,15 @@ use Rattle.std.proofs.lemmas.Bool.{cases_Bool, cond-true, cond-false, eqb-true, 
 use Rattle.std.proofs.lemmas.Option.{slice_get_within, same_Some}
 use Rattle.aero_model.specs.declared.numbered.What.{What}
 use Rattle.aero_model.specs.declared.numbered.What.TheVariants.{Read, Write, Acquire, Release, Fork, Join, Begin, End, Exempt}
-use Rattle.aero_model.specs.Exempt.{label_of, is_listed}
+use Rattle.aero_model.specs.Exempt.{Listed, leaves_out, begins_exempt}
 use Rattle.aero_model.specs.Numbering.{with_name, number_of, Tables}
 use Rattle.aero_access.proofs.KeptLists.{slice_get-pushed}
 use Rattle.aero_names.specs.Listing.{Listing}
 use Rattle.aero_names.proofs.Listings.{number_of-place}
 use Rattle.aero_names.proofs.NewNames.{has_name, still_passes, number_stays}
 use Rattle.aero_grammar.specs.Tabled.{name_at, op_of, target_in}
-use Rattle.aero_verdict.specs.Known.{IsKnown, AreKnown, is_told_exempt, HasLabel}
+use Rattle.aero_verdict.specs.declared.known.Exemptions.{Exemptions}
+use Rattle.aero_verdict.specs.Known.{IsKnown, AreKnown, AreMarked, is_told_exempt, HasLabel}
 use Rattle.aero_verdict.specs.Naming.{NumbersName}
 
 -- of no name yet
@@ -77,19 +78,19 @@ told_at f [] n less = absurd (omega (arith, less))
 told_at f (name ∷ names) zero less = refl
 told_at f (name ∷ names) (suc n) less = told_at f names n (omega (arith, less))
 
-pub told_exempt : (tables : Tables) (block labels : List (List ℕ)) (exempt : List Bool) (w : What) → HasLabel block w → exempt ≡ map (λ label. list_any (bytes_eq label) labels) block →
-    is_told_exempt exempt w ≡ is_listed labels (label_of (op_of w) (target_in tables block w))
-told_exempt tables block labels exempt (Begin (Some label)) has marked =
-    ap (λ flags. slice_index_or flags label false) marked ∙ told_at (λ name. list_any (bytes_eq name) labels) block label has
-told_exempt tables block labels exempt (Begin None) has marked = refl
-told_exempt tables block labels exempt End has marked = refl
-told_exempt tables block labels exempt Exempt has marked = refl
-told_exempt tables block labels exempt (Read x) has marked = refl
-told_exempt tables block labels exempt (Write x) has marked = refl
-told_exempt tables block labels exempt (Acquire l) has marked = refl
-told_exempt tables block labels exempt (Release l) has marked = refl
-told_exempt tables block labels exempt (Fork u) has marked = refl
-told_exempt tables block labels exempt (Join u) has marked = refl
+pub told_exempt : (tables : Tables) (block : List (List ℕ)) (listed : Listed) (exempt : Exemptions) (w : What) → HasLabel block w → AreMarked listed block exempt →
+    is_told_exempt exempt w ≡ begins_exempt listed (op_of w) (target_in tables block w)
+told_exempt tables block listed exempt (Begin (Some label)) has marked =
+    ap (λ flags. slice_index_or flags label false) marked.0 ∙ told_at (λ name. leaves_out listed (Some name)) block label has
+told_exempt tables block listed exempt (Begin None) has marked = marked.1
+told_exempt tables block listed exempt End has marked = refl
+told_exempt tables block listed exempt Exempt has marked = refl
+told_exempt tables block listed exempt (Read x) has marked = refl
+told_exempt tables block listed exempt (Write x) has marked = refl
+told_exempt tables block listed exempt (Acquire l) has marked = refl
+told_exempt tables block listed exempt (Release l) has marked = refl
+told_exempt tables block listed exempt (Fork u) has marked = refl
+told_exempt tables block listed exempt (Join u) has marked = refl
 
 -- one label more
 pub told_next : (f : List ℕ → Bool) (names : List (List ℕ)) (n : ℕ) → n < length names → map f (take (suc n) names) ≡ map f (take n names) ++ f (name_at names n) ∷ []

@@ -7,7 +7,7 @@ use Rattle.std.proofs.lemmas.List.Elements.{filter-append}
 use Rattle.std.proofs.lemmas.Option.{slice_get_read, slice_get_within}
 use Rattle.aero_model.specs.declared.verdict.ShapeFault.{ShapeFault}
 use Rattle.aero_model.specs.Cycle.{HasTellingCycle}
-use Rattle.aero_model.specs.Exempt.{is_exempt}
+use Rattle.aero_model.specs.Exempt.{Listed, is_exempt}
 use Rattle.aero_model.specs.Named.{Named}
 use Rattle.aero_model.specs.Shape.{IsLawful, fault_at}
 use Rattle.aero_grammar.specs.Reading.{after_lines}
@@ -16,12 +16,13 @@ use Rattle.aero_verdict.specs.declared.checker.Checker.{Checker}
 use Rattle.aero_verdict.specs.declared.checker.Stop.TheVariants.{Refused, Closed}
 use Rattle.aero_verdict.specs.Given.{Words}
 use Rattle.aero_verdict.specs.Standing.{trace_in, judged_in, KeepsFirst, StandsFor, IsNext, IsExpected, Refuses, Judged, up_to, AreNext, AreExpected, StopsIn}
+use Rattle.aero_verdict.specs.declared.known.Exemptions.{Exemptions}
 use Rattle.aero_verdict.specs.Known.{AreMarked}
 use Rattle.aero_verdict.specs.Verdict.{Rules}
 use Rattle.aero_verdict.proofs.Steps.{take_pushed, front_and_rest}
 
 -- after the first i of these events: what was kept of those before them is kept of these too
-pub record Admits {E : Type 0} (words : Words E) (start : Checker E) (block : List (List ℕ)) (flags : List Bool) (events : List (ℕ × Named)) (before most i : ℕ) (now : Checker E) : Type 0 where
+pub record Admits {E : Type 0} (words : Words E) (start : Checker E) (block : List (List ℕ)) (flags : Exemptions) (events : List (ℕ × Named)) (before most i : ℕ) (now : Checker E) : Type 0 where
   pub count_is : now.shape.admitted ≡ start.shape.admitted + length (up_to most (take i events))
   pub keeps : (rules : Rules) (all : List (ℕ × Named)) → AreNext words rules start all block flags before (up_to most events) → StandsFor words rules now all
 
@@ -29,10 +30,10 @@ slice_get_seam : {A : Type 0} (xs : List A) (y : A) (ys : List A) → slice_get 
 slice_get_seam [] y ys = refl
 slice_get_seam (x ∷ xs) y ys = slice_get_seam xs y ys
 
-pub nothing_admitted : {E : Type 0} (words : Words E) (start : Checker E) (block : List (List ℕ)) (flags : List Bool) (events : List (ℕ × Named)) (before most : ℕ) → Admits words start block flags events before most 0 start
+pub nothing_admitted : {E : Type 0} (words : Words E) (start : Checker E) (block : List (List ℕ)) (flags : Exemptions) (events : List (ℕ × Named)) (before most : ℕ) → Admits words start block flags events before most 0 start
 nothing_admitted words start block flags events before most = record { count_is = omega arith; keeps = λ rules all next. next.0 }
 
-module _ {E : Type 0} (words : Words E) (start now : Checker E) (block : List (List ℕ)) (flags : List Bool) (events : List (ℕ × Named)) (before most i : ℕ) (so_far : Admits words start block flags events before most i now) (less : i < length events) (item : ℕ × Named) (is : item ≡ get_or events i item) where
+module _ {E : Type 0} (words : Words E) (start now : Checker E) (block : List (List ℕ)) (flags : Exemptions) (events : List (ℕ × Named)) (before most i : ℕ) (so_far : Admits words start block flags events before most i now) (less : i < length events) (item : ℕ × Named) (is : item ≡ get_or events i item) where
   item_at : slice_get events i ≡ Some item
   item_at = slice_get_read events (length events) i item refl less is
 
@@ -49,7 +50,7 @@ module _ {E : Type 0} (words : Words E) (start now : Checker E) (block : List (L
       let count = ap length same in
       record { count_is = omega (arith, so_far.count_is, count, length-append (up_to most (take i events)) []); keeps = so_far.keeps }
 
-  module _ (within : item.0 ≤ most) (exempt : Bool) (told_exempt : (labels : List (List ℕ)) → AreMarked labels block flags → exempt ≡ is_exempt labels item.1) where
+  module _ (within : item.0 ≤ most) (exempt : Bool) (told_exempt : (labels : Listed) → AreMarked labels block flags → exempt ≡ is_exempt labels item.1) where
     counted : up_to most (take (i + 1) events) ≡ up_to most (take i events) ++ item ∷ []
     counted =
         ap (up_to most) front_next
@@ -136,6 +137,6 @@ module _ {E : Type 0} (words : Words E) (start now : Checker E) (block : List (L
         }
 
 -- after all of them
-pub all_admitted : {E : Type 0} (words : Words E) (start now : Checker E) (block : List (List ℕ)) (flags : List Bool) (events : List (ℕ × Named)) (before most i : ℕ) → Admits words start block flags events before most i now → length events ≤ i → now.shape.admitted ≡ start.shape.admitted + length (up_to most events)
+pub all_admitted : {E : Type 0} (words : Words E) (start now : Checker E) (block : List (List ℕ)) (flags : Exemptions) (events : List (ℕ × Named)) (before most i : ℕ) → Admits words start block flags events before most i now → length events ≤ i → now.shape.admitted ≡ start.shape.admitted + length (up_to most events)
 all_admitted words start now block flags events before most i so_far done =
     so_far.count_is ∙ ap (λ es. start.shape.admitted + length (up_to most es)) (take_all i events done)

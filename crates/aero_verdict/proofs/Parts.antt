@@ -17,6 +17,7 @@ use Rattle.aero_verdict.specs.declared.checker.Checker.{Checker}
 use Rattle.aero_verdict.specs.declared.checker.Stop.{Stop}
 use Rattle.aero_verdict.specs.Given.{Words}
 use Rattle.aero_verdict.specs.Standing.{StandsFor, KeepsFirst, HasNamedActor, CanBeTold, up_to, AreNext, AreExpected, StopsIn, TellsStop}
+use Rattle.aero_verdict.specs.declared.known.Exemptions.{Exemptions}
 use Rattle.aero_verdict.specs.Known.{AreMarked}
 use Rattle.aero_verdict.specs.Parts.{AreBefore, greatest_number, Stands, KeepsAt, NamesAll, ComesNext}
 use Rattle.aero_verdict.specs.Verdict.{Rules, counted_events, events_of, read_trace, checked_trace, IsClean, IsVerdict, IsMalformed, IsFaultless}
@@ -57,7 +58,7 @@ module _ (rules : Rules) (parts rest : List Reading) (p : Reading) (events : Lis
       let shorter = up_to_shorter most p.events in
       omega (arith, few, all, shorter)
 
-  module _ {E : Type 0} (words : Words E) (checker : Checker E) (lines : ℕ) (k : ℕ) (count_is : checker.shape.admitted ≡ length front) (kept : (later : List (ℕ × Named)) → StandsFor words rules checker (front ++ later)) (lines_are : lines ≡ min total greatest_number) (block : List (List ℕ)) (flags : List Bool) (marked : AreMarked rules.labels block flags) where
+  module _ {E : Type 0} (words : Words E) (checker : Checker E) (lines : ℕ) (k : ℕ) (count_is : checker.shape.admitted ≡ length front) (kept : (later : List (ℕ × Named)) → StandsFor words rules checker (front ++ later)) (lines_are : lines ≡ min total greatest_number) (block : List (List ℕ)) (flags : Exemptions) (marked : AreMarked rules.labels block flags) where
     -- where an event counts, the lines before it can be told
     lines_told : 0 < length more → total ≡ lines
     lines_told some =
@@ -254,7 +255,7 @@ module _ {E : Type 0} (words : Words E) (rules : Rules) (parts : List Reading) (
 
 -- the next part
 
-module _ {E : Type 0} (words : Words E) (rules : Rules) (parts : List Reading) (k lines : ℕ) (checker : Checker E) (part : Reading) (next : ComesNext words rules parts k lines checker part) (p : Reading) (view : p ≡ part) (reading : IsReading p) (most : ℕ) (most_is : most ≡ rules.limits.lines - lines) (es : List (ℕ × Named)) (es_are : es ≡ p.events) (block : List (List ℕ)) (flags : List Bool) (marked : AreMarked rules.labels block flags) where
+module _ {E : Type 0} (words : Words E) (rules : Rules) (parts : List Reading) (k lines : ℕ) (checker : Checker E) (part : Reading) (next : ComesNext words rules parts k lines checker part) (p : Reading) (view : p ≡ part) (reading : IsReading p) (most : ℕ) (most_is : most ≡ rules.limits.lines - lines) (es : List (ℕ × Named)) (es_are : es ≡ p.events) (block : List (List ℕ)) (flags : Exemptions) (marked : AreMarked rules.labels block flags) where
   abbrev stands : Stands words rules parts k lines checker
   stands = next.so_far
 

@@ -9,6 +9,7 @@ use Rattle.aero_model.specs.declared.numbered.Numbered.{Numbered}
 use Rattle.aero_model.specs.declared.numbered.What.TheVariants.{Begin, Read, Write}
 use Rattle.aero_access.specs.StateWords.{event}
 use Rattle.aero_model.specs.Blocks.{Transaction, Block, Unary, transaction}
+use Rattle.aero_model.specs.Exempt.{these, all_but}
 use Rattle.aero_model.specs.Cycle.{HasTellingCycle}
 use Rattle.aero_model.specs.Graph.{Conflicts, same_thread, write_read, read_write, write_write, release_acquire, forks, joined, Conflict, last_visit}
 use Rattle.aero_model.proofs.Telling.{closing_from}
@@ -34,16 +35,16 @@ greatest_limits =
     }
 
 abbrev greatest : Rules
-greatest = under greatest_limits []
+greatest = under greatest_limits (these [])
 
 abbrev two_lines : Rules
-two_lines = under (record greatest_limits { lines = 2; some_lines = lit< tt; most_lines = lit≤ tt }) []
+two_lines = under (record greatest_limits { lines = 2; some_lines = lit< tt; most_lines = lit≤ tt }) (these [])
 
 abbrev two_threads : Rules
-two_threads = under (record greatest_limits { threads = 2; some_threads = lit< tt; most_threads = lit≤ tt }) []
+two_threads = under (record greatest_limits { threads = 2; some_threads = lit< tt; most_threads = lit≤ tt }) (these [])
 
 abbrev one_name : Rules
-one_name = under (record greatest_limits { names = 1; some_names = lit< tt; most_names = lit≤ tt }) []
+one_name = under (record greatest_limits { names = 1; some_names = lit< tt; most_names = lit≤ tt }) (these [])
 
 -- what holds at each place below a number holds at the next one too
 pub below_suc : (P : ℕ → Type 0) (n : ℕ) → ((i : ℕ) → i < n → P i) → P n → (i : ℕ) → i < suc n → P i
@@ -164,13 +165,23 @@ inner_begins_do_not_count =
 
 -- a block that is no transaction
 
-exempt_block : IsVerdict (reading_of (text (codes "T1|begin(a)" ∷ codes "T1|end" ∷ [])) ∷ []) (under greatest_limits (codes "a" ∷ [])) (Serializable 2 0)
+exempt_block : IsVerdict (reading_of (text (codes "T1|begin(a)" ∷ codes "T1|end" ∷ [])) ∷ []) (under greatest_limits (these (codes "a" ∷ []))) (Serializable 2 0)
 exempt_block = record { clean = record { lawful = below_suc _ 1 (below_suc _ 0 (none_below _) refl) refl; no_cycle = none_of_two _ _ (lit≤ tt) }; no_fault = refl; events_are = refl; blocks_are = refl; open_are = refl }
 
-other_label : IsVerdict (reading_of (codes "T1|begin(a)") ∷ []) (under greatest_limits (codes "b" ∷ [])) (Pending 1 1 1)
+other_label : IsVerdict (reading_of (codes "T1|begin(a)") ∷ []) (under greatest_limits (these (codes "b" ∷ []))) (Pending 1 1 1)
 other_label = (lit< tt, record { clean = record { lawful = below_suc _ 0 (none_below _) refl; no_cycle = none_of_two _ _ (lit≤ tt) }; no_fault = refl; events_are = refl; blocks_are = refl; open_are = refl })
 
-one_end_too_many : IsVerdict (reading_of (text (codes "T1|begin(a)" ∷ codes "T1|end" ∷ codes "T1|end" ∷ [])) ∷ []) (under greatest_limits (codes "a" ∷ [])) (IllFormed 3 EndWithoutBegin)
+-- all but the listed blocks are no transactions
+but_listed : IsVerdict (reading_of (codes "T1|begin(a)") ∷ []) (under greatest_limits (all_but (codes "a" ∷ []))) (Pending 1 1 1)
+but_listed = (lit< tt, record { clean = record { lawful = below_suc _ 0 (none_below _) refl; no_cycle = none_of_two _ _ (lit≤ tt) }; no_fault = refl; events_are = refl; blocks_are = refl; open_are = refl })
+
+but_other : IsVerdict (reading_of (text (codes "T1|begin(a)" ∷ codes "T1|end" ∷ [])) ∷ []) (under greatest_limits (all_but (codes "b" ∷ []))) (Serializable 2 0)
+but_other = record { clean = record { lawful = below_suc _ 1 (below_suc _ 0 (none_below _) refl) refl; no_cycle = none_of_two _ _ (lit≤ tt) }; no_fault = refl; events_are = refl; blocks_are = refl; open_are = refl }
+
+but_no_label : IsVerdict (reading_of (text (codes "T1|begin" ∷ codes "T1|end" ∷ [])) ∷ []) (under greatest_limits (all_but (codes "b" ∷ []))) (Serializable 2 0)
+but_no_label = record { clean = record { lawful = below_suc _ 1 (below_suc _ 0 (none_below _) refl) refl; no_cycle = none_of_two _ _ (lit≤ tt) }; no_fault = refl; events_are = refl; blocks_are = refl; open_are = refl }
+
+one_end_too_many : IsVerdict (reading_of (text (codes "T1|begin(a)" ∷ codes "T1|end" ∷ codes "T1|end" ∷ [])) ∷ []) (under greatest_limits (these (codes "a" ∷ []))) (IllFormed 3 EndWithoutBegin)
 one_end_too_many = record { place = 2; clean = record { lawful = below_suc _ 1 (below_suc _ 0 (none_below _) refl) refl; no_cycle = none_of_two _ _ (lit≤ tt) }; cause = refl; line_of = refl }
 
 -- a violation

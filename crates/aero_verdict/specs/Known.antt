@@ -1,12 +1,14 @@
 -- What is known of a block's names: the numbers of the first of them in the trace.
-use Rattle.std.specs.Prelude.{◌≡◌, ◌<◌, ℕ, Bool, true, false, List, length, map, bytes_eq, slice_get, slice_index_or, Some}
+use Rattle.std.specs.Prelude.{◌≡◌, ◌<◌, ℕ, Bool, true, false, List, length, map, bytes_eq, slice_get, slice_index_or, Some, None}
 use Rattle.std.specs.List.{list_any}
 use Rattle.aero_model.specs.declared.numbered.What.{What}
 use Rattle.aero_model.specs.declared.numbered.What.TheVariants.{Begin}
+use Rattle.aero_model.specs.Exempt.{Listed, leaves_out}
 use Rattle.aero_model.specs.Numbering.{number_of, Tables}
 use Rattle.aero_grammar.specs.Tabled.{name_at}
 use Rattle.aero_verdict.specs.declared.numbering.Numbering.{Numbering}
 use Rattle.aero_verdict.specs.declared.known.BlockNames.{BlockNames}
+use Rattle.aero_verdict.specs.declared.known.Exemptions.{Exemptions}
 use Rattle.aero_verdict.specs.declared.known.Known.{Known}
 
 -- the block's tables
@@ -28,13 +30,14 @@ pub record Knows (numbering : Numbering) (tables : Tables) (known : Known) : Typ
   pub variables : AreKnown numbering.variables.names tables.variables known.variables.items
   pub locks : AreKnown numbering.locks.names tables.locks known.locks.items
 
--- of each label of a block it is told whether it is one of these
-abbrev pub AreMarked : List (List ℕ) → List (List ℕ) → List Bool → Type 0
-AreMarked labels block exempt = exempt ≡ map (λ label. list_any (bytes_eq label) labels) block
+-- of each label of a block, and of none, it is told whether a block that begins so is no transaction
+abbrev pub AreMarked : Listed → List (List ℕ) → Exemptions → Type 0
+AreMarked listed block exempt = (exempt.labels.items ≡ map (λ label. leaves_out listed (Some label)) block) × (exempt.unlabelled ≡ leaves_out listed None)
 
 -- whether it is told that the begin is exempt
-abbrev pub is_told_exempt : List Bool → What → Bool
-is_told_exempt exempt (Begin (Some label)) = slice_index_or exempt label false
+abbrev pub is_told_exempt : Exemptions → What → Bool
+is_told_exempt exempt (Begin (Some label)) = slice_index_or exempt.labels.items label false
+is_told_exempt exempt (Begin None) = exempt.unlabelled
 is_told_exempt exempt _ = false
 
 -- the label of the begin, if it has one, is in the block's table

@@ -22,6 +22,7 @@ use Rattle.aero_verdict.specs.declared.checker.Stop.{Stop}
 use Rattle.aero_verdict.specs.declared.checker.Stop.TheVariants.{Refused, Closed}
 use Rattle.aero_verdict.specs.Begun.{begin_line}
 use Rattle.aero_verdict.specs.Given.{Given, Words}
+use Rattle.aero_verdict.specs.declared.known.Exemptions.{Exemptions}
 use Rattle.aero_verdict.specs.Known.{AreMarked}
 use Rattle.aero_verdict.specs.Limited.{names_in, IsLimited, IsNamedThread}
 use Rattle.aero_verdict.specs.Verdict.{Rules}
@@ -110,12 +111,12 @@ abbrev pub GoesOn : List (ℕ × Named) → ℕ → ℕ → List (ℕ × Named) 
 GoesOn events n before more = (i : ℕ) → i < length more → slice_get events (n + i) ≡ option_map (after_lines before) (slice_get more i)
 
 -- it stands for events of the list, and these are the events after them, from a block of whose labels it is told which are exempt
-abbrev pub AreNext : {E : Type 0} → Words E → Rules → Checker E → List (ℕ × Named) → List (List ℕ) → List Bool → ℕ → List (ℕ × Named) → Type 0
+abbrev pub AreNext : {E : Type 0} → Words E → Rules → Checker E → List (ℕ × Named) → List (List ℕ) → Exemptions → ℕ → List (ℕ × Named) → Type 0
 AreNext words rules checker events block exempt before more =
     StandsFor words rules checker events × GoesOn events checker.shape.admitted before more × AreMarked rules.labels block exempt
 
 -- these are the events after them, for some list of fewer than 2^32 events
-abbrev pub AreExpected : {E : Type 0} → Words E → Checker E → List (List ℕ) → List Bool → ℕ → List (ℕ × Named) → Type 0
+abbrev pub AreExpected : {E : Type 0} → Words E → Checker E → List (List ℕ) → Exemptions → ℕ → List (ℕ × Named) → Type 0
 AreExpected words checker block exempt before more =
     (rules : Rules) × (events : List (ℕ × Named)) × (length events < 2 ^ 32) × AreNext words rules checker events block exempt before more
 

@@ -10,7 +10,7 @@ ghost use Rattle.aero_verdict.specs.Parts.{IsPartExpected, ComesNext, TellsPart}
 
 use crate::checker::{Checker, Stop};
 use crate::engine::Engine;
-use crate::known::{BlockNames, exempt_labels};
+use crate::known::{BlockNames, exemptions};
 use crate::monitor::{Monitor, feed_all};
 use aero_grammar::parsed::Parsed;
 use aero_leads::leads::Leads;
@@ -86,13 +86,13 @@ pub(crate) fn check_part<E: Engine>(
     ensures wrong { IfOk result (λ told. IfSome told (λ verdict. is_faultless verdict ≡ false)) }
 {
     let most = limits.lines.saturating_sub(lines);
-    let exempt = exempt_labels(alloc, &part.labels, except)?;
+    let exempt = exemptions(alloc, &part.labels, except)?;
     let block = BlockNames {
         threads: &part.threads,
         variables: &part.variables,
         locks: &part.locks,
         labels: &part.labels,
-        exempt: exempt.as_slice(),
+        exempt: &exempt,
     };
     if let Err((line, stop)) = checker.admit_all(alloc, block, &part.events, lines, most) {
         let verdict = stopped_at(alloc, checker, line, stop)?;

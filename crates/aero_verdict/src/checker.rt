@@ -49,7 +49,7 @@ impl<E: Engine> Checker<E> {
     // No event was admitted yet.
     pub(crate) fn new(alloc: Global, limits: &Limits) -> Checker<E>
         ensures none { result.shape.admitted ≡ 0 }
-        ensures kept { (labels : List (List ℕ)) (events : List (ℕ × Named)) → StandsFor (words_of E.stands_for E.keeps) (under limits.now labels) result events }
+        ensures kept { (labels : Listed) (events : List (ℕ × Named)) → StandsFor (words_of E.stands_for E.keeps) (under limits.now labels) result events }
     {
         Checker {
             numbering: Numbering::new(alloc, limits),

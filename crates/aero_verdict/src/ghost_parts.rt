@@ -1,6 +1,7 @@
 //! The parts of a trace, for contracts alone.
-ghost use Rattle.std.specs.Prelude.{◌≡◌, ℕ, List, [], ◌∷◌, ◌++◌};
+ghost use Rattle.std.specs.Prelude.{◌≡◌, List, [], ◌∷◌, ◌++◌};
 ghost use Rattle.std.specs.Borrow.{ftrue};
+ghost use Rattle.aero_model.specs.Exempt.{Listed};
 ghost use Rattle.aero_grammar.specs.Reading.{Reading};
 
 use aero_grammar::parsed::Parsed;
@@ -10,7 +11,7 @@ use std::marker::Model;
 // Some labels and some parts that contracts alone see. They take no bytes, and the calls do nothing when they run.
 #[derive(Drop)]
 pub(crate) struct GhostParts {
-    pub ghost labels: { List (List ℕ) },
+    pub ghost labels: { Listed },
     pub ghost parts: { List Reading },
 }
 

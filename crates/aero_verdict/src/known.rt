@@ -1,8 +1,8 @@
 //! The numbers of a block's names in the trace, each looked up at the event that first has it.
-ghost use Rattle.std.specs.Prelude.{◌≡◌, ◌<◌, ◌==◌, ◌++◌, ◌∷◌, [], length, map, bytes_eq, if◌then◌else◌, IfOk, IfErr, OnOk};
-ghost use Rattle.std.specs.List.{list_any};
+ghost use Rattle.std.specs.Prelude.{◌≡◌, ◌<◌, ◌==◌, ◌++◌, ◌∷◌, [], length, map, Some, if◌then◌else◌, IfOk, IfErr, OnOk};
+ghost use Rattle.aero_model.specs.Exempt.{leaves_out};
 ghost use Rattle.aero_grammar.specs.Tabled.{name_at};
-ghost use Rattle.aero_verdict.specs.Known.{AreKnown};
+ghost use Rattle.aero_verdict.specs.Known.{AreKnown, AreMarked};
 ghost use Rattle.aero_verdict.specs.Naming.{NumbersName, RefusesName};
 
 use aero_model::except::Except;
@@ -12,14 +12,22 @@ use aero_names::list::NameList;
 use aero_names::names::{Names, NamesFault};
 use std::alloc::{AllocError, Global};
 
-// The tables of a block, and of each of its labels whether a block with it is no transaction.
+// Whether a block is no transaction: of each label of a block of lines, where it begins with that, and
+// where it begins without one.
+#[derive(Drop)]
+pub(crate) struct Exemptions {
+    pub labels: Vec<bool>,
+    pub unlabelled: bool,
+}
+
+// The tables of a block of lines, and what its begins say by their labels.
 #[derive(Clone, Copy)]
 pub(crate) struct BlockNames<'a> {
     pub threads: &'a NameList,
     pub variables: &'a NameList,
     pub locks: &'a NameList,
     pub labels: &'a NameList,
-    pub exempt: &'a [bool],
+    pub exempt: &'a Exemptions,
 }
 
 impl BlockNames<'_> {
@@ -32,35 +40,46 @@ impl BlockNames<'_> {
         ensures { result ≡ is_told_exempt self.entry.exempt.now what }
     {
         match what {
-            What::Begin(Some(label)) => self.exempt.get(label as usize) == Some(&true),
+            What::Begin(Some(label)) => self.exempt.labels.get(label as usize) == Some(&true),
+            What::Begin(None) => self.exempt.unlabelled,
             _ => false,
         }
     }
 }
 
-// Of each of the labels whether it is listed. An `AllocError` says that memory was refused, which
-// is asked for where there is a label.
-pub(crate) fn exempt_labels(
+// What the labels of a block of lines say. An `AllocError` says that memory was refused, which is asked
+// for where there is a label.
+pub(crate) fn exemptions(
     alloc: Global,
     labels: &NameList,
     except: &Except,
-) -> Result<Vec<bool>, AllocError>
-    ensures { IfOk result (λ exempt. exempt.items ≡ map (λ label. list_any (bytes_eq label) except.now) labels.now) }
+) -> Result<Exemptions, AllocError>
+    ensures { IfOk result (AreMarked except.now labels.now) }
+{
+    Ok(Exemptions {
+        labels: exempt_labels(alloc, labels, except)?,
+        unlabelled: except.leaves_out_unlabelled(),
+    })
+}
+
+// Of each of the labels whether it is that of blocks that are no transactions.
+fn exempt_labels(alloc: Global, labels: &NameList, except: &Except) -> Result<Vec<bool>, AllocError>
+    ensures { IfOk result (λ exempt. exempt.items ≡ map (λ label. leaves_out except.now (Some label)) labels.now) }
 {
     let mut exempt = Vec::new(alloc);
     for n in 0..labels.len() {
-        exempt.push(is_listed(labels, n, except))?;
+        exempt.push(is_left_out(labels, n, except))?;
     }
     Ok(exempt)
 }
 
-// Whether the label with this number is listed.
-fn is_listed(labels: &NameList, n: u32, except: &Except) -> bool
+// Whether the label with this number is that of blocks that are no transactions.
+fn is_left_out(labels: &NameList, n: u32, except: &Except) -> bool
     requires { n < length labels.now }
-    ensures { result ≡ list_any (bytes_eq (name_at labels.now n)) except.now }
+    ensures { result ≡ leaves_out except.now (Some (name_at labels.now n)) }
 {
     match labels.name(n) {
-        Some(label) => except.has_bytes(label),
+        Some(label) => except.leaves_out(label),
         None => unreachable!(),
     }
 }

@@ -263,7 +263,7 @@ fn verdict_of<E: Engine>(
     limits: &Limits,
     state: State,
 ) -> Result<Verdict, AllocError>
-    ensures tells { (labels : List (List ℕ)) (fed : List Reading) → FedSo (words_of E.stands_for E.keeps) (under limits.now labels) fed lines checker.now state →
+    ensures tells { (labels : Listed) (fed : List Reading) → FedSo (words_of E.stands_for E.keeps) (under limits.now labels) fed lines checker.now state →
         IfOk result (TellsFed (words_of E.stands_for E.keeps) (under limits.now labels) fed checker.now) }
     ensures spent { OnErr result (is_spent state ≡ true) }
 {
@@ -276,7 +276,7 @@ fn verdict_of<E: Engine>(
 
 // The verdict after all parts, where nothing was wrong with any.
 fn at_end<E: Engine>(checker: &Checker<E>, lines: u32, limits: &Limits) -> Verdict
-    ensures { (labels : List (List ℕ)) (fed : List Reading) → FedSo (words_of E.stands_for E.keeps) (under limits.now labels) fed lines checker.now Undecided → TellsFed (words_of E.stands_for E.keeps) (under limits.now labels) fed checker.now result }
+    ensures { (labels : Listed) (fed : List Reading) → FedSo (words_of E.stands_for E.keeps) (under limits.now labels) fed lines checker.now Undecided → TellsFed (words_of E.stands_for E.keeps) (under limits.now labels) fed checker.now result }
 {
     if lines > limits.lines {
         return too_many_lines(limits);

@@ -25,9 +25,9 @@ number_rule name most default = record (new_rule name) {
   parser = Some (vp.Signed (pos 1) (pos most));
 }
 
--- the labels, each by an option of its own
-abbrev pub label_rule : Rule
-label_rule = record (new_rule (codes "except")) { long = Some (codes "except"); action = Some Append; value_names = 1 }
+-- labels, each by an option of its own
+abbrev pub label_rule : Text → Rule
+label_rule name = record (new_rule name) { long = Some name; action = Some Append; value_names = 1 }
 
 -- an option with a text of its own
 abbrev pub text_rule : Text → Rule
@@ -56,10 +56,10 @@ no_rules = record (new_app (codes "aerodrome")) {
 }
 
 abbrev pub program : App
-program = with_rule (with_rule (with_rule (with_rule (with_rule (with_rule (with_rule (with_rule (with_rule (with_rule (with_rule (with_rule (with_rule no_rules
+program = with_rule (with_rule (with_rule (with_rule (with_rule (with_rule (with_rule (with_rule (with_rule (with_rule (with_rule (with_rule (with_rule (with_rule no_rules
     (number_rule (codes "workers") 16 (codes "4")))
     (number_rule (codes "piece") (2 ^ 20) (codes "65536")))
-    label_rule) (flag_rule (codes "order"))) (flag_rule (codes "explain"))) (flag_rule (codes "long"))) format_rule) (flag_rule (codes "progress"))) (flag_rule (codes "quiet")))
+    (label_rule (codes "except"))) (label_rule (codes "only"))) (flag_rule (codes "order"))) (flag_rule (codes "explain"))) (flag_rule (codes "long"))) format_rule) (flag_rule (codes "progress"))) (flag_rule (codes "quiet")))
     (text_rule (codes "files0-from"))) (text_rule (codes "label"))) (flag_rule (codes "fail-open"))) files_rule
 
 -- what each option has of these words, its default included
@@ -104,6 +104,7 @@ pub record AsksFor (config : Config) (rows : List Row) : Type 0 where
   pub workers : config.workers ≡ number_told 4 (one_of (codes "workers") rows)
   pub piece : config.piece ≡ number_told 65536 (one_of (codes "piece") rows)
   pub except : config.except.items ≡ texts_told (all_of (codes "except") rows)
+  pub only : config.only.items ≡ texts_told (all_of (codes "only") rows)
   pub order : config.order ≡ is_told (one_of (codes "order") rows)
   pub explain : config.explain ≡ is_told (one_of (codes "explain") rows)
   pub long : config.long ≡ is_told (one_of (codes "long") rows)

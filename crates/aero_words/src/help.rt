@@ -18,7 +18,8 @@ THREAD|OPERATION(TARGET)|LOCATION. The operations:
   fork(u), join(u)  it starts thread u, waits for the end of thread u
   begin, end        an atomic block begins, ends; blocks may lie in blocks;
                     begin(label) gives it a label of 1 to 255 bytes, which
-                    --except can name; what follows an end says nothing
+                    --except and --only can name; what follows an end says
+                    nothing
 The location may be missing and isn't examined. Spaces and tabs round the
 thread and the operation don't count. Blank lines are skipped, and count as
 lines. One byte 13 at a line's end is dropped; a byte 0 to 8, 10 to 31 or 127
@@ -34,7 +35,8 @@ another, by conflicts, be it through further blocks and events.
 A block that isn't meant to behave so, as a main loop that takes a lock again
 and again between begin(main) and end, can be left out by --except main: its
 begin and its end then count as events of their thread alone, and blocks within
-it as blocks of their own.";
+it as blocks of their own. Where few of a log's blocks are meant to be atomic,
+--only names these.";
 
 pub const WORKERS: &str = "How many threads work, 1 to 16";
 
@@ -51,6 +53,16 @@ pub const EXCEPT: &str = "Label of blocks that are no transactions";
 pub const LONG_EXCEPT: &str = "Blocks that begin with begin(LABEL) are no transactions. May be given
 for up to 64 labels, each 1 to 255 bytes without `|` and control
 characters; a label that begins with - as --except=LABEL";
+
+pub const ONLY: &str = "Label of the only blocks that are transactions";
+
+pub const LONG_ONLY: &str =
+    "Blocks that begin with begin(LABEL) are transactions, and no others are:
+neither those with another label nor those without one. May be given
+for up to 64 labels. Not with --except";
+
+pub const ONLY_WITH_EXCEPT: &str =
+    "the argument '--only <LABEL>' cannot be used with '--except <LABEL>'";
 
 pub const ORDER: &str = "A serial order under each serializable trace";
 

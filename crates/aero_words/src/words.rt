@@ -1,5 +1,5 @@
 //! The words of the command line, and what they ask for.
-ghost use Rattle.std.specs.Prelude.{◌≡◌, ◌<◌, ◌≤◌, ◌++◌, ◌∷◌, ◌&&◌, ◌^◌, [], IfErr, IfOk, None, OnOk, Some, codes, false, length, map, option_map, pos, string_bytes, true, vec_len};
+ghost use Rattle.std.specs.Prelude.{◌≡◌, ◌<◌, ◌≤◌, ◌++◌, ◌∷◌, ◌&&◌, ◌^◌, [], IfErr, IfOk, None, OnOk, Some, codes, false, length, map, nat_lt, option_map, pos, string_bytes, true, vec_len};
 ghost use Rattle.clap.specs.Words.{all_of, app_of, first_of, found_of, one_of, rows_of, rule_of};
 ghost use Rattle.clap.specs.declared.builder.value_parser.ValueParser.TheVariants as vp;
 ghost use Rattle.std.specs.List.{list_any};
@@ -61,7 +61,8 @@ fn command_line<'a>(alloc: Global) -> Result<Command<'a>, AllocError>
     bare_line(alloc)
         .arg(number_option(alloc, "workers", MOST_WORKERS, "4", WORKERS))?
         .arg(number_option(alloc, "piece", MOST_PIECE, "65536", PIECE))?
-        .arg(label_option(alloc))?
+        .arg(label_option(alloc, "except", help::EXCEPT, help::LONG_EXCEPT))?
+        .arg(label_option(alloc, "only", help::ONLY, help::LONG_ONLY))?
         .arg(flag(alloc, "order", help::ORDER, help::LONG_ORDER))?
         .arg(flag(alloc, "explain", help::EXPLAIN, help::LONG_EXPLAIN))?
         .arg(flag(alloc, "long", help::LONG, help::LONG_LONG))?
@@ -114,17 +115,17 @@ fn number_option<'a>(
         .long_help(texts.long)
 }
 
-// The option with a label, which may be used more than once.
-fn label_option<'a>(alloc: Global) -> Arg<'a>
-    ensures rule { rule_of result ≡ label_rule }
+// An option with a label, which may be used more than once.
+fn label_option<'a>(alloc: Global, name: &'a str, text: &'a str, long_text: &'a str) -> Arg<'a>
+    ensures rule { rule_of result ≡ label_rule name.entry.now }
     ensures local { result.global ≡ false }
 {
-    Arg::new(alloc, "except")
-        .long("except")
+    Arg::new(alloc, name)
+        .long(name)
         .value_name("LABEL")
         .action(ArgAction::Append)
-        .help(help::EXCEPT)
-        .long_help(help::LONG_EXCEPT)
+        .help(text)
+        .long_help(long_text)
 }
 
 // An option with a text of its own, which is called so in the help.
@@ -219,13 +220,13 @@ fn settle(alloc: Global, matches: &ArgMatches<'_>) -> Result<Config, Refused>
     let workers = number_in(matches, "workers", MOST_WORKERS, DEFAULT_WORKERS);
     let piece = number_in(matches, "piece", MOST_PIECE, DEFAULT_PIECE);
     let sources = sources_in(alloc, matches)?;
-    let labels = matches.get_strs("except").unwrap_or(&[]);
-    let except = labels_of(alloc, labels)?;
+    let (except, only) = labels_in(alloc, matches)?;
     Ok(Config {
         workers,
         piece,
         files: sources,
         except,
+        only,
         order,
         explain: flag_in(matches, "explain"),
         long,
@@ -235,11 +236,33 @@ fn settle(alloc: Global, matches: &ArgMatches<'_>) -> Result<Config, Refused>
     })
 }
 
+// The labels of blocks that are no transactions, and those of the only ones that are: not both.
+fn labels_in(alloc: Global, matches: &ArgMatches<'_>) -> Result<(Vec<Name>, Vec<Name>), Refused>
+    ensures except { IfOk result (λ both. both.0.items ≡ texts_told (all_of (codes "except") (rows_of (found_of matches.now)))) }
+    ensures only { IfOk result (λ both. both.1.items ≡ texts_told (all_of (codes "only") (rows_of (found_of matches.now)))) }
+    ensures few { IfOk result (λ both. (vec_len both.0 ≤ 64) × (vec_len both.1 ≤ 64)) }
+    ensures apart { IfOk result (λ both. (nat_lt 0 (vec_len both.0) && nat_lt 0 (vec_len both.1)) ≡ false) }
+{
+    let except = matches.get_strs("except").unwrap_or(&[]);
+    let only = matches.get_strs("only").unwrap_or(&[]);
+    if are_both_given(except, only) {
+        return Err(conflict(alloc, help::ONLY_WITH_EXCEPT));
+    }
+    Ok((labels_of(alloc, except)?, labels_of(alloc, only)?))
+}
+
+fn are_both_given(except: &[&str], only: &[&str]) -> bool
+    ensures { result ≡ (nat_lt 0 (length except.now) && nat_lt 0 (length only.now)) }
+{
+    !except.is_empty() && !only.is_empty()
+}
+
 // The labels that the texts are, in their order. That one is none is told first, then that there are
 // too many, and only then that memory is refused.
 fn labels_of(alloc: Global, labels: &[&str]) -> Result<Vec<Name>, Refused>
     ensures same { IfOk result (λ all. all.items ≡ map (λ text. text.now) labels.now) }
     ensures few { IfOk result (λ all. vec_len all ≤ 64) }
+    ensures len { IfOk result (λ all. vec_len all ≡ length labels.now) }
     ensures refused { IfErr result (AreRefused (map (λ text. text.now) labels.now)) }
 {
     if has_bad_label(alloc, labels) {

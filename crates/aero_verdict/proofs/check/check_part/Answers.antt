@@ -18,7 +18,7 @@ admit_all-requires-clause-next g c =
     let t : Tables = record { threads = c.part.inside.threads; variables = c.part.inside.variables; locks = c.part.inside.locks } in
     let p : Reading = record { events = lines_in t c.part.inside.labels c.part.inside.events.items; lines = c.part.inside.lines; fault = c.part.inside.fault } in
     part_expected (words_of g.E.Engine.stands_for g.E.Engine.keeps) (under c.args.limits.now c.args.except.now) c.requires.0 c.requires.1 c.args.lines c.args.checker.now c.args.part.now c.requires.2 p c.part.view_is
-    c.part.invariant.reading c.saturating_sub-most.result c.saturating_sub-most.ensures (lines_in t c.part.inside.labels c.deref.result.now) (ap (lines_in t c.part.inside.labels) c.deref.ensures.value) c.part.inside.labels c.as_slice.result.now (c.as_slice.ensures.value ∙ c.in_ok-exempt.ensures)
+    c.part.invariant.reading c.saturating_sub-most.result c.saturating_sub-most.ensures (lines_in t c.part.inside.labels c.deref.result.now) (ap (lines_in t c.part.inside.labels) c.deref.ensures.value) c.part.inside.labels c.in_ok-exempt.exempt c.in_ok-exempt.ensures
 
 pub admit_all-requires-clause-labelled : goal.admit_all-requires-clause-labelled
 admit_all-requires-clause-labelled g c =
@@ -30,7 +30,7 @@ stopped_at-requires g c =
     let t : Tables = record { threads = c.part.inside.threads; variables = c.part.inside.variables; locks = c.part.inside.locks } in
     let p : Reading = record { events = lines_in t c.part.inside.labels c.part.inside.events.items; lines = c.part.inside.lines; fault = c.part.inside.fault } in
     part_can_be_told (words_of g.E.Engine.stands_for g.E.Engine.keeps) (under c.args.limits.now c.args.except.now) c.requires.0 c.requires.1 c.args.lines c.args.checker.now c.args.part.now c.requires.2 p c.part.view_is
-    c.part.invariant.reading c.saturating_sub-most.result c.saturating_sub-most.ensures (lines_in t c.part.inside.labels c.deref.result.now) (ap (lines_in t c.part.inside.labels) c.deref.ensures.value) c.part.inside.labels c.as_slice.result.now (c.as_slice.ensures.value ∙ c.in_ok-exempt.ensures)
+    c.part.invariant.reading c.saturating_sub-most.result c.saturating_sub-most.ensures (lines_in t c.part.inside.labels c.deref.result.now) (ap (lines_in t c.part.inside.labels) c.deref.ensures.value) c.part.inside.labels c.in_ok-exempt.exempt c.in_ok-exempt.ensures
     (subst (λ items. All HasNamedActor (lines_in t c.part.inside.labels items)) (sym c.deref.ensures.value) (actors_named t c.part.inside.labels c.part.inside.events.items c.part.invariant.tabled c.part.invariant.names.threads))
     c.admit_all.new.self c.in-Err.line c.in-Err.stop (c.in-Err.ensures.stopped (under c.args.limits.now c.args.except.now))
 
@@ -39,7 +39,7 @@ returns-in-Err-clause-told g c = λ parts k next.
     let t : Tables = record { threads = c.part.inside.threads; variables = c.part.inside.variables; locks = c.part.inside.locks } in
     let p : Reading = record { events = lines_in t c.part.inside.labels c.part.inside.events.items; lines = c.part.inside.lines; fault = c.part.inside.fault } in
     part_stopped (words_of g.E.Engine.stands_for g.E.Engine.keeps) (under c.args.limits.now c.args.except.now) parts k c.args.lines c.args.checker.now c.args.part.now next p c.part.view_is
-    c.part.invariant.reading c.saturating_sub-most.result c.saturating_sub-most.ensures (lines_in t c.part.inside.labels c.deref.result.now) (ap (lines_in t c.part.inside.labels) c.deref.ensures.value) c.part.inside.labels c.as_slice.result.now (c.as_slice.ensures.value ∙ c.in_ok-exempt.ensures)
+    c.part.invariant.reading c.saturating_sub-most.result c.saturating_sub-most.ensures (lines_in t c.part.inside.labels c.deref.result.now) (ap (lines_in t c.part.inside.labels) c.deref.ensures.value) c.part.inside.labels c.in_ok-exempt.exempt c.in_ok-exempt.ensures
     c.admit_all.new.self c.in-Err.line c.in-Err.stop (c.in-Err.ensures.stopped (under c.args.limits.now c.args.except.now)) c.in_ok-verdict.verdict c.in_ok-verdict.ensures.told
 
 pub returns-in_default-fault-clause-told : goal.returns-in_default-fault-clause-told
@@ -47,7 +47,7 @@ returns-in_default-fault-clause-told g c = λ parts k next.
     let t : Tables = record { threads = c.part.inside.threads; variables = c.part.inside.variables; locks = c.part.inside.locks } in
     let p : Reading = record { events = lines_in t c.part.inside.labels c.part.inside.events.items; lines = c.part.inside.lines; fault = c.part.inside.fault } in
     part_passed (words_of g.E.Engine.stands_for g.E.Engine.keeps) (under c.args.limits.now c.args.except.now) parts k c.args.lines c.args.checker.now c.args.part.now next p c.part.view_is
-    c.part.invariant.reading c.saturating_sub-most.result c.saturating_sub-most.ensures (lines_in t c.part.inside.labels c.deref.result.now) (ap (lines_in t c.part.inside.labels) c.deref.ensures.value) c.part.inside.labels c.as_slice.result.now (c.as_slice.ensures.value ∙ c.in_ok-exempt.ensures)
+    c.part.invariant.reading c.saturating_sub-most.result c.saturating_sub-most.ensures (lines_in t c.part.inside.labels c.deref.result.now) (ap (lines_in t c.part.inside.labels) c.deref.ensures.value) c.part.inside.labels c.in_ok-exempt.exempt c.in_ok-exempt.ensures
     c.admit_all.new.self c.in_default.ensures.counted (c.in_default.ensures.kept (under c.args.limits.now c.args.except.now))
     (subst (λ items. All HasNamedActor (lines_in t c.part.inside.labels items)) (sym c.deref.ensures.value) (actors_named t c.part.inside.labels c.part.inside.events.items c.part.invariant.tabled c.part.invariant.names.threads)) c.in_default-fault.is
 
@@ -56,7 +56,7 @@ returns-clause-told g c = λ parts k next.
     let t : Tables = record { threads = c.part.inside.threads; variables = c.part.inside.variables; locks = c.part.inside.locks } in
     let p : Reading = record { events = lines_in t c.part.inside.labels c.part.inside.events.items; lines = c.part.inside.lines; fault = c.part.inside.fault } in (
       part_malformed (words_of g.E.Engine.stands_for g.E.Engine.keeps) (under c.args.limits.now c.args.except.now) parts k c.args.lines c.args.checker.now c.args.part.now next p c.part.view_is
-          c.part.invariant.reading c.saturating_sub-most.result c.saturating_sub-most.ensures (lines_in t c.part.inside.labels c.deref.result.now) (ap (lines_in t c.part.inside.labels) c.deref.ensures.value) c.part.inside.labels c.as_slice.result.now (c.as_slice.ensures.value ∙ c.in_ok-exempt.ensures)
+          c.part.invariant.reading c.saturating_sub-most.result c.saturating_sub-most.ensures (lines_in t c.part.inside.labels c.deref.result.now) (ap (lines_in t c.part.inside.labels) c.deref.ensures.value) c.part.inside.labels c.in_ok-exempt.exempt c.in_ok-exempt.ensures
           c.admit_all.new.self c.in_default.ensures.counted (c.in_default.ensures.kept (under c.args.limits.now c.args.except.now))
           c.in-Some.line c.in-Some.fault c.in-Some.is c.malformed_line-line.result
           (λ all_lines. ap (λ n. fault_within c.args.limits.now.lines all_lines (Some (n, c.in-Some.fault))) (sym c.saturating_add.ensures) ∙ c.malformed_line-line.ensures.told all_lines),

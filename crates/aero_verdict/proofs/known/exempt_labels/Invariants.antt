@@ -1,7 +1,7 @@
 use Rattle.std.proofs.Common.{◌≡◌, take, map}
-use Rattle.std.specs.Prelude.{bytes_eq}
-use Rattle.std.specs.List.{list_any}
+use Rattle.std.specs.Prelude.{Some}
+use Rattle.aero_model.specs.Exempt.{leaves_out}
 use Rattle.aero_verdict.proofs.known.exempt_labels.Given as goal
 
 abbrev pub invariant-loop-n : goal.invariant-loop-n
-invariant-loop-n l = l.exempt.items ≡ map (λ label. list_any (bytes_eq label) l.except) (take l.n l.labels)
+invariant-loop-n l = l.exempt.items ≡ map (λ label. leaves_out l.except (Some label)) (take l.n l.labels)

@@ -1,14 +1,12 @@
-use Rattle.std.proofs.Common.{◌∙◌, refl, codes}
-use Rattle.clap.specs.Words.{found_of}
-use Rattle.aero_words.proofs.Told.{texts_read}
+use Rattle.std.proofs.Common.{refl}
 use Rattle.aero_words.proofs.words.settle.Goals as goal
 
 pub returns : goal.returns
 returns c = record {
   workers = c.number_in-workers.ensures.told;
   piece = c.number_in-piece.ensures.told;
-  except = c.in_ok-except.ensures.same
-      ∙ texts_read (found_of c.args.matches.now) (codes "except") c.get_strs.result c.unwrap_or-labels.result _ c.get_strs.ensures c.unwrap_or-labels.ensures refl;
+  except = c.in_ok-except.ensures.except;
+  only = c.in_ok-except.ensures.only;
   order = c.in_ok-order.ensures.order;
   explain = c.flag_in.ensures;
   long = c.in_ok-order.ensures.long;

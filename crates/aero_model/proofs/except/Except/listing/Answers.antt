@@ -1,5 +1,5 @@
 use Rattle.std.proofs.Common.{rules}
-use Rattle.aero_model.proofs.except.Except.new.Goals as goal
+use Rattle.aero_model.proofs.except.Except.listing.Goals as goal
 
 pub invariant_of-result : goal.invariant_of-result
 invariant_of-result c = search rules
