@@ -33,7 +33,7 @@ use aero_progress::metered::Metered;
 use aero_progress::reached::Work;
 use aero_progress::ticker::{Pace, Ticker};
 use aero_words::words::settle_words;
-use std::alloc::Global;
+use std::alloc::{AllocError, Global};
 use std::io::{IsTerminal, Read, Write};
 use std::process::ExitCode;
 use std::rt::{Files, Runtime};
@@ -41,7 +41,11 @@ use std::sync::Wait;
 use std::thread::Threads;
 use std::time::Clock;
 
+// How many bytes `keep_freed_memory` takes.
+const ROOM: usize = 16 << 20;
+
 fn main(rt: HostRuntime) -> ExitCode {
+    keep_freed_memory(rt.alloc());
     // Only main can ask for the three streams: what is generic over the runtime is handed them.
     let streams = Streams {
         input: rt.stdin(),
@@ -61,6 +65,13 @@ fn main(rt: HostRuntime) -> ExitCode {
         ticker.stop(&rt);
     }
     ExitCode::from(status)
+}
+
+// Takes a large piece of memory and frees it. From then on the C library keeps what is freed in pieces of up to that
+// size, where it would else give each back to the system, and new pages take as long as the work on them. If it is
+// refused nothing changes.
+fn keep_freed_memory(alloc: Global) {
+    let _room: Result<Vec<u8>, AllocError> = Vec::with_capacity(alloc, ROOM);
 }
 
 // What the words of the command line ask for.
