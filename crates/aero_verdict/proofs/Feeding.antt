@@ -10,6 +10,7 @@ use Rattle.aero_model.specs.declared.verdict.LineFault.{LineFault}
 use Rattle.aero_model.specs.declared.verdict.LineFault.TheVariants.{TooManyLines}
 use Rattle.aero_model.specs.declared.verdict.Verdict.{Verdict}
 use Rattle.aero_model.specs.declared.verdict.Verdict.TheVariants.{Serializable, Pending, Violation, Malformed, IllFormed}
+use Rattle.aero_model.specs.Exempt.{Listed}
 use Rattle.aero_model.specs.Named.{Named}
 use Rattle.aero_model.specs.Verdicts.{HasOwnFault}
 use Rattle.aero_grammar.specs.Reading.{Reading, after_lines, whole_reading, fault_within}
@@ -223,7 +224,7 @@ expected_part words limits before except parts part lines checker state undecide
     (subst (λ ls. FedSo words (under limits ls) parts lines checker Undecided) same (subst (FedSo words (under limits before) parts lines checker) undecided so))
 
 -- where a verdict was certain it is so with the part
-pub stays_part : {E : Type 0} (words : Words E) (limits : Limits) (before after : List (List ℕ)) (parts more : List Reading) (part : Reading) (lines : ℕ) (checker : Checker E) (state : State) →
+pub stays_part : {E : Type 0} (words : Words E) (limits : Limits) (before after : Listed) (parts more : List Reading) (part : Reading) (lines : ℕ) (checker : Checker E) (state : State) →
     (state ≡ Undecided → ⊥) → after ≡ before → more ≡ parts ++ part ∷ [] → FedSo words (under limits before) parts lines checker state → FedSo words (under limits after) more lines checker state
 stays_part words limits before after parts more part lines checker state not kept more_are so =
     subst (λ ps. FedSo words (under limits after) ps lines checker state) (sym more_are)

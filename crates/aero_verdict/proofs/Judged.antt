@@ -1,6 +1,6 @@
 -- The front of a trace, as it is read and as it is judged.
 use Rattle.std.proofs.Common.{◌≡◌, ℕ, List, take, sym, ◌∙◌, ap, subst}
-use Rattle.aero_model.specs.Exempt.{Marked, read_events, judged_trace, marked_trace}
+use Rattle.aero_model.specs.Exempt.{Listed, Marked, read_events, judged_trace, marked_trace}
 use Rattle.aero_model.specs.Named.{Named}
 use Rattle.aero_model.specs.Numbering.{trace_of}
 use Rattle.aero_model.specs.Shape.{IsWellFormed}

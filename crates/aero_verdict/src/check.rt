@@ -10,7 +10,7 @@ ghost use Rattle.aero_verdict.specs.Parts.{IsPartExpected, ComesNext, TellsPart}
 
 use crate::checker::{Checker, Stop};
 use crate::engine::Engine;
-use crate::known::{BlockNames, exemptions};
+use crate::known::{BlockNames, told_exemptions};
 use crate::monitor::{Monitor, feed_all};
 use aero_grammar::parsed::Parsed;
 use aero_leads::leads::Leads;
@@ -86,7 +86,7 @@ pub(crate) fn check_part<E: Engine>(
     ensures wrong { IfOk result (λ told. IfSome told (λ verdict. is_faultless verdict ≡ false)) }
 {
     let most = limits.lines.saturating_sub(lines);
-    let exempt = exemptions(alloc, &part.labels, except)?;
+    let exempt = told_exemptions(alloc, &part.labels, except)?;
     let block = BlockNames {
         threads: &part.threads,
         variables: &part.variables,

@@ -35,6 +35,7 @@ pub(crate) struct Checker<E: Engine> {
 
 impl<E: Engine> Checker<E> {
     ghost use Rattle.std.specs.Prelude.{◌≡◌, ◌+◌, ◌-◌, ◌≤◌, ◌<◌, ◌^◌, ℕ, List, length, slice_get, All, Some, IsOk, OnOk, OnErr, IfOk, IfErr};
+    ghost use Rattle.aero_model.specs.Exempt.{Listed};
     ghost use Rattle.aero_model.specs.Named.{Named};
     ghost use Rattle.aero_model.specs.Names.{most_inline_bytes};
     ghost use Rattle.aero_grammar.specs.Words.{IsName};

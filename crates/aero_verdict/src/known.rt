@@ -49,7 +49,7 @@ impl BlockNames<'_> {
 
 // What the labels of a block of lines say. An `AllocError` says that memory was refused, which is asked
 // for where there is a label.
-pub(crate) fn exemptions(
+pub(crate) fn told_exemptions(
     alloc: Global,
     labels: &NameList,
     except: &Except,

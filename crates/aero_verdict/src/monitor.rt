@@ -49,6 +49,7 @@
 //! let verdict = monitor.finish()?;
 //! ```
 ghost use Rattle.std.specs.Prelude.{◌≡◌, ◌+◌, ◌++◌, ◌∷◌, [], ◌<◌, ◌↔◌, ℕ, List, true, false, is_some, Some, Ok, IsTrue, IfOk, IfSome, OnErr, option_map};
+ghost use Rattle.aero_model.specs.Exempt.{Listed};
 ghost use Rattle.aero_grammar.specs.Reading.{Reading};
 ghost use Rattle.aero_model.specs.Verdicts.{HasOwnFault};
 ghost use Rattle.aero_verdict.specs.declared.monitor.State.TheVariants.{Undecided};
