@@ -173,7 +173,7 @@ fn link(
     Ok(())
 }
 
-// The tables that find the names, of which the first is this one, which leads nowhere yet.
+// The tables that find the names, of which the first is this one, which leads nowhere yet, with room for as many more.
 fn tables_from(
     mut latest: Latest,
     alloc: Global,
@@ -184,7 +184,8 @@ fn tables_from(
     ensures marks { IfOk result (λ tables. marks_of tables.0 ≡ marks_of latest) }
     ensures indexed { IfOk result (λ tables. IsIndexed (mark_in (marks_of tables.0)) names.now (length names.now) (next_at tables.0) tables.1.items) }
 {
-    let mut before = Vec::new(alloc);
+    let room = (names.len() as usize).saturating_mul(2);
+    let mut before = Vec::with_capacity(alloc, room)?;
     for number in 0..names.len() {
         let Some(name) = names.name(number) else {
             unreachable!()
