@@ -12,15 +12,14 @@ use Rattle.aero_model.proofs.Stability.{agree_front}
 use Rattle.aero_model.proofs.Depths.{closing_at}
 use Rattle.std.specs.List.{list_any}
 use Rattle.std.proofs.lemmas.Option.{same_Some}
-use Rattle.aero_access.specs.declared.slot.Slot.TheVariants.{OfThread, LastWrite, LastRelease}
-use Rattle.aero_access.specs.Slots.{of_slot, is_read_of, is_write_of, last_event}
-use Rattle.aero_access.specs.Takes.{Among, HasActed}
-use Rattle.aero_access.specs.Judgement.{IsTold}
-use Rattle.aero_access.specs.StateWords.{event, IsIdle}
-use Rattle.aero_access.specs.StateWords as idle
-use Rattle.aero_access.proofs.LastEvents.{last_covers, to_thread}
-use Rattle.aero_access.proofs.LongerTraces.{slice_get-push}
-use Rattle.aero_access.proofs.OwnSteps.{no_end, no_begin}
+use Rattle.aero_engine.specs.declared.slot.Slot.TheVariants.{OfThread, LastWrite, LastRelease}
+use Rattle.aero_engine.specs.Slots.{of_slot, is_read_of, is_write_of, last_event}
+use Rattle.aero_engine.specs.Takes.{Among, HasActed}
+use Rattle.aero_engine.specs.Judgement.{IsTold}
+use Rattle.aero_engine.specs.Events.{event, IsIdle}
+use Rattle.aero_engine.specs.Events as idle
+use Rattle.aero_engine.proofs.LastEvents.{last_covers, to_thread}
+use Rattle.aero_engine.proofs.LongerTraces.{slice_get-push, no_end, no_begin}
 use Rattle.aero_leads.specs.declared.last.Last.{Last}
 use Rattle.aero_leads.specs.Leads.{Rows, is_led, IsUnled, AreFirst, IsPlaceOf, IsFirst}
 use Rattle.aero_leads.specs.Marks.{Mark, mark, TakesMarks}
