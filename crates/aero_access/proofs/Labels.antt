@@ -1,17 +1,17 @@
 -- The places of labels.
-use Rattle.std.proofs.Common.{◌≡◌, ◌≢◌, ⊎_elim, ℕ, List, [], ◌∷◌, ◌++◌, length, max, Option, Some, None, refl, sym, ap, ◌∙◌, arith}
+use Rattle.std.proofs.Common.{◌≡◌, ◌≢◌, ⊎_elim, ℕ, List, [], ◌∷◌, ◌++◌, length, max, Option, Some, None, refl, sym, ap, ◌∙◌, arith, le_refl, Bor}
 use Rattle.std.specs.Prelude.{◌==◌, Bool, true, false, if◌then◌else◌, slice_get, is_some, is_none, not, Result, Ok, Err, OnOk, OnErr}
 use Rattle.std.proofs.lemmas.Bool.{cases_Bool, cases_eq, both_ways, cond-true, cond-false, eq-eqb, ne_eqb}
 use Rattle.std.proofs.lemmas.Option.{slice_get_within, slice_get_past, same_Some}
-use Rattle.std.proofs.Common.{le_refl, Bor}
 use Rattle.std.specs.Option.{option_copied}
-use Rattle.aero_access.specs.declared.slot.Slot.{Slot}
+use Rattle.aero_engine.specs.declared.slot.Slot.{Slot}
+use Rattle.aero_engine.proofs.Written.{pushed_here, pushed_other}
 use Rattle.aero_access.specs.declared.kept.Kept.{Kept}
 use Rattle.aero_access.specs.declared.table.Table.{Table}
 use Rattle.aero_access.specs.LastClocks.{same_slot, kept_clock}
 use Rattle.aero_access.specs.Table.{AreLabelled, ArePlaced}
 use Rattle.aero_access.specs.TableWords.{kept_of, labels_of, label_or, place_of, slot_clock, label_clock}
-use Rattle.aero_access.proofs.KeptLists.{same_slot_is, same_slot_self, pushed_here, pushed_other, labelled_keep, labelled_same}
+use Rattle.aero_access.proofs.KeptLists.{same_slot_is, same_slot_self, labelled_keep, labelled_same}
 use Rattle.aero_access.proofs.SlotNumbers.{labelled_at, label_kept}
 
 module _ (old new : Slot → Option Kept) (before after : List Slot) (slot : Slot) (kept : Kept) (labelled : AreLabelled old before) (placed : ArePlaced old before) (keeps : (s : Slot) → new s ≡ (if same_slot s slot then Some kept else old s)) where

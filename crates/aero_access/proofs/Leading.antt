@@ -5,7 +5,7 @@ use Rattle.std.proofs.lemmas.Bool.{cases_Bool, cases_eq, cases_lt, both_ways, co
 use Rattle.std.proofs.lemmas.Option.{slice_get_within, same_Some}
 use Rattle.aero_clock.specs.Numbers.{number_at}
 use Rattle.aero_clock.proofs.Lists.{number_some, number_found}
-use Rattle.aero_access.specs.declared.slot.Slot.{Slot}
+use Rattle.aero_engine.specs.declared.slot.Slot.{Slot}
 use Rattle.aero_access.specs.declared.thread.Thread.{Thread}
 use Rattle.aero_access.specs.declared.index.Led.{Led}
 use Rattle.aero_access.specs.declared.clocks.Clocks.{Clocks}

@@ -13,25 +13,26 @@ use Rattle.aero_model.specs.Blocks.{is_begin, is_end, by_thread, depth, opens, c
 use Rattle.aero_model.specs.Shape.{is_fork_of, has_acted, IsWellFormed}
 use Rattle.aero_model.proofs.Stability.{agree_front, depth_same}
 use Rattle.aero_model.proofs.WellFormed.{well_formed_front}
-use Rattle.aero_access.specs.declared.slot.Slot.{Slot}
-use Rattle.aero_access.specs.declared.slot.Slot.TheVariants.{OfThread, LastWrite, LastRead, LastRelease}
+use Rattle.aero_engine.specs.declared.slot.Slot.{Slot}
+use Rattle.aero_engine.specs.declared.slot.Slot.TheVariants.{OfThread, LastWrite, LastRead, LastRelease}
+use Rattle.aero_engine.specs.Slots.{of_slot}
+use Rattle.aero_engine.specs.Takes.{Among, here, there, HasActed, Takes, plain, join, idle_join}
+use Rattle.aero_engine.specs.Takes as taking
+use Rattle.aero_engine.specs.Events.{event, IsIdle}
+use Rattle.aero_engine.proofs.Taken.{among_first}
+use Rattle.aero_engine.proofs.ThreadSlots.{forked_none}
+use Rattle.aero_engine.proofs.LongerTraces.{slice_get-push, last_event_same, no_end, no_begin}
+use Rattle.aero_engine.proofs.Rules.{own_count}
+use Rattle.aero_engine.specs.Events as idle
 use Rattle.aero_access.specs.declared.thread.Thread.{Thread}
 use Rattle.aero_access.specs.declared.table.Table.{Table}
-use Rattle.aero_access.specs.Slots.{of_slot}
-use Rattle.aero_access.specs.Takes.{Among, here, there, HasActed, Takes, plain, join, idle_join}
-use Rattle.aero_access.specs.Takes as taking
 use Rattle.aero_access.specs.LastClocks.{is_kept}
 use Rattle.aero_access.specs.Threads.{number_in, thread_clock, thread_begin, thread_begins, thread_acted, IsClosedBy, HasSameBlock, TakesClock}
 use Rattle.aero_access.specs.States.{State, IsStateOf}
-use Rattle.aero_access.specs.StateWords.{event, clock_in, state_in, acting, Moves, HaveSameBlocks, IsIdle}
-use Rattle.aero_access.specs.StateWords as idle
-use Rattle.aero_access.proofs.Taken.{among_first}
-use Rattle.aero_access.proofs.ThreadSlots.{forked_none}
-use Rattle.aero_access.proofs.LongerTraces.{slice_get-push, last_event_same}
-use Rattle.aero_access.proofs.Rules.{own_count}
+use Rattle.aero_access.specs.StateWords.{clock_in, state_in, acting, Moves}
 use Rattle.aero_access.proofs.Outcomes.{not_true}
 use Rattle.aero_access.proofs.StateSteps.{IsStep, closing_told, none_judged, stands_after}
-use Rattle.aero_access.proofs.OwnSteps.{written, same_blocks_set, own_step, no_end, no_begin, closed_from, closed_to}
+use Rattle.aero_access.proofs.OwnSteps.{written, same_blocks_set, own_step, closed_from, closed_to}
 use Rattle.aero_access.proofs.Events.{own_clock, same_clock, same_clocks, same_actors, plain_none, plain_moves}
 
 -- such an event is the last one of no slot that is kept

@@ -1,33 +1,34 @@
 -- Steps of threads and a table, by what the code does to one thread and one slot.
 use Rattle.std.proofs.Common.{◌≡◌, ◌≢◌, ◌⊎◌, inl, inr, ⊎_elim, ℕ, ◌≤◌, List, [], ◌∷◌, ◌++◌, length, Option, Some, None, refl, sym, ap, ◌∙◌, subst, le_refl, arith}
 use Rattle.std.specs.Prelude.{◌==◌, ◌&&◌, Bool, true, false, if◌then◌else◌, slice_get, slice_set, is_some}
-use Rattle.std.proofs.lemmas.Bool.{cases_eq, both_ways, eqb-true, eq-eqb, ne_eqb, cond-true, cond-false, and_left, and_right}
+use Rattle.std.proofs.lemmas.Bool.{cases_eq, both_ways, eqb-true, eq-eqb, ne_eqb, cond-true, cond-false, and_right}
 use Rattle.std.proofs.lemmas.Option.{slice_get_within, same_Some}
 use Rattle.aero_clock.specs.declared.clock.Clock.{Clock}
 use Rattle.aero_clock.specs.Numbers.{number_at}
 use Rattle.aero_model.specs.declared.numbered.Numbered.{Numbered}
 use Rattle.aero_model.specs.declared.numbered.What.{What}
-use Rattle.aero_model.specs.Blocks.{is_begin, is_end, by_thread, depth, opens, closes}
+use Rattle.aero_model.specs.Blocks.{is_begin, is_end, closes}
 use Rattle.aero_model.specs.Shape.{IsWellFormed}
 use Rattle.aero_model.proofs.Stability.{Agree, agree_front}
-use Rattle.aero_access.specs.declared.slot.Slot.{Slot}
-use Rattle.aero_access.specs.declared.slot.Slot.TheVariants.{OfThread, LastWrite, LastRead, LastRelease}
+use Rattle.aero_engine.specs.declared.slot.Slot.{Slot}
+use Rattle.aero_engine.specs.declared.slot.Slot.TheVariants.{OfThread, LastWrite, LastRead, LastRelease}
+use Rattle.aero_engine.specs.Slots.{of_slot, last_event}
+use Rattle.aero_engine.specs.Takes.{Among, here, there, Takes, IfForeign, nobodys, its_own, foreign}
+use Rattle.aero_engine.specs.Clocks.{greatest}
+use Rattle.aero_engine.specs.Judgement.{IsTold}
+use Rattle.aero_engine.specs.Events.{actor_at, thread_of, event}
+use Rattle.aero_engine.proofs.LastEvents.{is_last}
+use Rattle.aero_engine.proofs.LongerTraces.{last_event_same, no_end, no_begin}
+use Rattle.aero_engine.proofs.Written.{slice_get-set}
+use Rattle.aero_engine.proofs.Taken.{among_first}
 use Rattle.aero_access.specs.declared.kept.Kept.{Kept}
 use Rattle.aero_access.specs.declared.thread.Thread.{Thread}
 use Rattle.aero_access.specs.declared.table.Table.{Table}
-use Rattle.aero_access.specs.Slots.{of_slot, last_event}
-use Rattle.aero_access.specs.Takes.{Among, here, there, Takes, IfForeign, nobodys, its_own, foreign}
-use Rattle.aero_access.specs.Clocks.{greatest}
-use Rattle.aero_access.specs.Judgement.{IsTold}
 use Rattle.aero_access.specs.LastClocks.{kept_clock, kept_thread, is_kept}
 use Rattle.aero_access.specs.Threads.{number_in, thread_clock, thread_begin, thread_begins, thread_acted, IsClosedBy, HasSameBlock, TakesClock}
 use Rattle.aero_access.specs.TableWords.{kept_of}
-use Rattle.aero_access.specs.States.{State, IsStateOf, actor_at, thread_of}
-use Rattle.aero_access.specs.StateWords.{event, clock_in, state_in, acting, Moves, HaveSameBlocks, ClosesLast, last_but}
-use Rattle.aero_access.proofs.LastEvents.{is_last}
-use Rattle.aero_access.proofs.LongerTraces.{slice_get-push, last_event_same}
-use Rattle.aero_access.proofs.KeptLists.{slice_get-set}
-use Rattle.aero_access.proofs.Taken.{among_first}
+use Rattle.aero_access.specs.States.{State, IsStateOf}
+use Rattle.aero_access.specs.StateWords.{clock_in, state_in, acting, Moves, HaveSameBlocks, ClosesLast, last_but}
 use Rattle.aero_access.proofs.StateSteps.{IsStep, closing_told, none_judged, stands_after}
 
 -- one thread is written
@@ -58,17 +59,6 @@ module _ (threads : List Thread) (t : ℕ) (th new : Thread) (at : slice_get thr
     begins = λ u. unwritten thread_begins u same.begins;
     acted = λ u. unwritten thread_acted u same.acted;
   }
-
--- the event ends and begins no block
-pub no_end : (h : List Numbered) (t : ℕ) (what : What) → is_end what ≡ false → closes (h ++ event t what ∷ []) t (length h) ≡ false
-no_end h t what other =
-    ap (λ a. by_thread t is_end a && (depth (h ++ event t what ∷ []) t (length h) == 1)) (slice_get-push h (event t what))
-    ∙ and_left _ _ (and_right (t == t) (is_end what) other)
-
-pub no_begin : (h : List Numbered) (t : ℕ) (what : What) → is_begin what ≡ false → opens (h ++ event t what ∷ []) t (length h) ≡ false
-no_begin h t what other =
-    ap (λ a. by_thread t is_begin a && (depth (h ++ event t what ∷ []) t (length h) == 0)) (slice_get-push h (event t what))
-    ∙ and_left _ _ (and_right (t == t) (is_begin what) other)
 
 -- an event that begins no block gives its thread the clock K, and a slot at most
 pub own_step : (threads after : List Thread) (table new : Table) (t : ℕ) (what : What) (K : ℕ → ℕ)

@@ -6,21 +6,22 @@ use Rattle.std.specs.Prelude.{Ok, IsSome, Bool, true, false, slice_get, is_some}
 use Rattle.aero_model.specs.declared.numbered.Numbered.{Numbered}
 use Rattle.aero_model.specs.declared.numbered.What.{What}
 use Rattle.aero_model.specs.Shape.{IsWellFormed}
-use Rattle.aero_access.specs.declared.slot.Slot.{Slot}
-use Rattle.aero_access.specs.declared.slot.Slot.TheVariants.{OfThread, LastWrite, LastRead, LastRelease}
+use Rattle.aero_engine.specs.declared.slot.Slot.{Slot}
+use Rattle.aero_engine.specs.declared.slot.Slot.TheVariants.{OfThread, LastWrite, LastRead, LastRelease}
+use Rattle.aero_engine.specs.Judgement.{IsTold}
+use Rattle.aero_engine.specs.Events.{event, IsIdle}
+use Rattle.aero_engine.proofs.LongerTraces.{sound_less, complete_greater}
+use Rattle.aero_engine.proofs.Pushes.{untold_start}
 use Rattle.aero_access.specs.declared.thread.Thread.{Thread}
 use Rattle.aero_access.specs.declared.table.Table.{Table}
 use Rattle.aero_access.specs.declared.clocks.Clocks.{Clocks}
-use Rattle.aero_access.specs.Judgement.{IsTold}
 use Rattle.aero_access.specs.LastClocks.{kept_clock, kept_thread}
 use Rattle.aero_access.specs.Threads.{number_in, thread_clock, thread_begin, thread_begins, thread_acted, AreSameThreads}
 use Rattle.aero_access.specs.TableWords.{kept_of}
 use Rattle.aero_access.specs.States.{State, IsStateOf}
-use Rattle.aero_access.specs.StateWords.{event, clock_in, state_in, acting, Moves, HaveSameBlocks, IsIdle}
+use Rattle.aero_access.specs.StateWords.{clock_in, state_in, acting, Moves, HaveSameBlocks}
 use Rattle.aero_access.specs.Standing.{state_of, closed_by, is_spent, StandsFor, Tells, HaveSameTests, Answers, IsStarted, IsFinished, IsClosed}
-use Rattle.aero_access.proofs.LongerTraces.{sound_less, complete_greater}
 use Rattle.aero_access.proofs.OtherSteps.{idle_moves}
-use Rattle.aero_access.proofs.Pushes.{untold_start}
 use Rattle.aero_access.proofs.StateSteps.{begin_clock_eq}
 
 -- two states with the same in each place

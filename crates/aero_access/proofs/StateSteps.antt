@@ -9,20 +9,21 @@ use Rattle.aero_model.specs.Shape.{IsWellFormed, has_acted}
 use Rattle.aero_model.proofs.Stability.{Agree, agree_front, depth_same, blocks_same}
 use Rattle.aero_model.proofs.Depths.{step, AtOpening, AtClosing, AtOther, opening_at}
 use Rattle.aero_model.proofs.Begins.{open_number}
-use Rattle.aero_access.specs.declared.slot.Slot.{Slot}
-use Rattle.aero_access.specs.declared.slot.Slot.TheVariants.{OfThread}
-use Rattle.aero_access.specs.Slots.{of_slot, last_event}
-use Rattle.aero_access.specs.Takes.{Among, Takes}
-use Rattle.aero_access.specs.Clocks.{Clock, AreSound, MissNothing, IsBeginClock, greatest, new_clock, new_clocks}
-use Rattle.aero_access.specs.Judgement.{IsJudged, IsTold, IsUntold}
+use Rattle.aero_engine.specs.declared.slot.Slot.{Slot}
+use Rattle.aero_engine.specs.declared.slot.Slot.TheVariants.{OfThread}
+use Rattle.aero_engine.specs.Slots.{of_slot, last_event}
+use Rattle.aero_engine.specs.Takes.{Among, Takes}
+use Rattle.aero_engine.specs.Clocks.{Clock, AreSound, MissNothing, IsBeginClock, greatest, new_clock, new_clocks}
+use Rattle.aero_engine.specs.Judgement.{IsJudged, IsTold, IsUntold}
+use Rattle.aero_engine.specs.Events.{actor_at, thread_of}
+use Rattle.aero_engine.proofs.LastEvents.{to_thread, is_last, last_new, last_kept}
+use Rattle.aero_engine.proofs.Counts.{quiet_from}
+use Rattle.aero_engine.proofs.LongerTraces.{slice_get-push, last_event_same, begin_clock_same, sound_front, complete_front, sound_less, complete_greater}
+use Rattle.aero_engine.proofs.Rules.{begin_clock_at_most, begin_clock_event}
+use Rattle.aero_engine.proofs.BeginClocks.{begin_clock_kept}
+use Rattle.aero_engine.proofs.Pushes.{told_push, untold_push}
 use Rattle.aero_access.specs.LastClocks.{is_kept}
-use Rattle.aero_access.specs.States.{State, IsStateOf, actor_at, thread_of}
-use Rattle.aero_access.proofs.LastEvents.{to_thread, is_last, last_new, last_kept}
-use Rattle.aero_access.proofs.Counts.{quiet_from}
-use Rattle.aero_access.proofs.LongerTraces.{slice_get-push, last_event_same, begin_clock_same, sound_front, complete_front, sound_less, complete_greater}
-use Rattle.aero_access.proofs.Rules.{begin_clock_at_most, begin_clock_event}
-use Rattle.aero_access.proofs.BeginClocks.{begin_clock_kept}
-use Rattle.aero_access.proofs.Pushes.{told_push, untold_push}
+use Rattle.aero_access.specs.States.{State, IsStateOf}
 
 -- a clock with 1 more at t where a block opens
 abbrev pub opened : Bool → ℕ → (ℕ → ℕ) → ℕ → ℕ

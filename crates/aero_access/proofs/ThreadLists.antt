@@ -4,9 +4,9 @@ use Rattle.std.specs.Prelude.{false, slice_get}
 use Rattle.std.proofs.lemmas.Bool.{cases_eq}
 use Rattle.std.proofs.lemmas.Option.{slice_get_past}
 use Rattle.aero_clock.specs.Numbers.{IsZero}
+use Rattle.aero_engine.proofs.Written.{pushed_here, pushed_other}
 use Rattle.aero_access.specs.declared.thread.Thread.{Thread}
 use Rattle.aero_access.specs.Threads.{thread_clock, thread_begin, thread_begins, thread_acted, HasSameBlock, AreSameThreads}
-use Rattle.aero_access.proofs.KeptLists.{pushed_here, pushed_other}
 
 pub same_threads_then : (a b c : List Thread) → AreSameThreads a b → AreSameThreads b c → AreSameThreads a c
 same_threads_then a b c h g = record {

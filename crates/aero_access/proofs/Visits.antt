@@ -6,9 +6,9 @@ use Rattle.std.proofs.lemmas.Option.{slice_get_within, slice_get_past, same_Some
 use Rattle.std.proofs.lemmas.List.{append-nil, length-map}
 use Rattle.aero_clock.specs.declared.clock.Clock.{Clock}
 use Rattle.aero_clock.specs.Numbers.{number_at, Lists}
+use Rattle.aero_engine.proofs.Written.{pushed_here, pushed_other}
 use Rattle.aero_access.specs.declared.index.Led.{Led}
 use Rattle.aero_access.specs.Led.{leads, times, block_number, has_thread, places_in, slots_in, ListsSame, GainsThread, GainsLabel, DropsLabel, MovesLabel}
-use Rattle.aero_access.proofs.KeptLists.{pushed_here, pushed_other}
 use Rattle.aero_access.proofs.PairLists.{lent}
 
 -- the entries of the threads of the first i pairs are done, and the others as at first

@@ -8,28 +8,29 @@ use Rattle.aero_model.specs.declared.numbered.Numbered.{Numbered}
 use Rattle.aero_model.specs.declared.numbered.What.TheVariants.{Read, Write}
 use Rattle.aero_model.specs.Shape.{IsWellFormed}
 use Rattle.aero_model.proofs.Stability.{Agree, agree_front}
-use Rattle.aero_access.specs.declared.slot.Slot.{Slot}
-use Rattle.aero_access.specs.declared.slot.Slot.TheVariants.{OfThread, LastWrite, LastRead}
+use Rattle.aero_engine.specs.declared.slot.Slot.{Slot}
+use Rattle.aero_engine.specs.declared.slot.Slot.TheVariants.{OfThread, LastWrite, LastRead}
+use Rattle.aero_engine.specs.Slots.{of_slot}
+use Rattle.aero_engine.specs.Takes.{Among, here, there, Takes, write, AreReaders}
+use Rattle.aero_engine.specs.Clocks.{greatest}
+use Rattle.aero_engine.specs.Judgement.{IsTold}
+use Rattle.aero_engine.specs.Events.{actor_at, thread_of, event}
+use Rattle.aero_engine.proofs.LastEvents.{is_last, to_read, last_covers}
+use Rattle.aero_engine.proofs.LongerTraces.{last_event_same, no_end, no_begin}
+use Rattle.aero_engine.proofs.Taken.{among_first, among_left, among_right, among_map, among_parts, among_of_map}
 use Rattle.aero_access.specs.declared.kept.Kept.{Kept}
 use Rattle.aero_access.specs.declared.readers.Readers.{Readers}
 use Rattle.aero_access.specs.declared.thread.Thread.{Thread}
 use Rattle.aero_access.specs.declared.table.Table.{Table}
-use Rattle.aero_access.specs.Slots.{of_slot}
-use Rattle.aero_access.specs.Takes.{Among, here, there, Takes, write, AreReaders}
-use Rattle.aero_access.specs.Clocks.{greatest}
-use Rattle.aero_access.specs.Judgement.{IsTold}
 use Rattle.aero_access.specs.LastClocks.{kept_clock, kept_thread, greatest_but, is_by, AreApart}
 use Rattle.aero_access.specs.Threads.{number_in, thread_clock, thread_begin, IsClosedBy, HasSameBlock, TakesClock, ClosesOne, ClosesNone}
 use Rattle.aero_access.specs.Table.{readers_in}
 use Rattle.aero_access.specs.TableWords.{kept_of, readers_of}
-use Rattle.aero_access.specs.States.{State, IsStateOf, actor_at, thread_of}
-use Rattle.aero_access.specs.StateWords.{event, state_in, acting, Moves, ClosesLast, last_but, KeepsClock}
-use Rattle.aero_access.proofs.LastEvents.{is_last, to_read, last_covers}
-use Rattle.aero_access.proofs.LongerTraces.{last_event_same}
+use Rattle.aero_access.specs.States.{State, IsStateOf}
+use Rattle.aero_access.specs.StateWords.{state_in, acting, Moves, ClosesLast, last_but, KeepsClock}
 use Rattle.aero_access.proofs.KeptLists.{find_kept, find_by}
-use Rattle.aero_access.proofs.Taken.{among_first, among_left, among_right, among_map, among_parts, among_of_map}
 use Rattle.aero_access.proofs.StateSteps.{closing_told, none_judged, stands_after}
-use Rattle.aero_access.proofs.OwnSteps.{same_blocks_set, own_step, no_end, no_begin, foreign_slot, if_foreign, greatest-foreign, among_foreign, closed_from, closed_to}
+use Rattle.aero_access.proofs.OwnSteps.{same_blocks_set, own_step, foreign_slot, if_foreign, greatest-foreign, among_foreign, closed_from, closed_to}
 use Rattle.aero_access.proofs.Events.{own_clock, kept_clocks, kept_actors, of_write}
 
 -- the threads of some that are kept, but for t

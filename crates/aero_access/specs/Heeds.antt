@@ -1,7 +1,7 @@
 -- What makes one number a test in the place of a whole clock.
 use Rattle.std.specs.Prelude.{◌≡◌, ℕ, ◌<◌, ◌≤◌, true}
-use Rattle.aero_access.specs.declared.slot.Slot.{Slot}
-use Rattle.aero_access.specs.declared.slot.Slot.TheVariants.{OfThread}
+use Rattle.aero_engine.specs.declared.slot.Slot.{Slot}
+use Rattle.aero_engine.specs.declared.slot.Slot.TheVariants.{OfThread}
 use Rattle.aero_access.specs.States.{State}
 
 -- The clock counts no begin that wasn't made. Where it counts a thread's last begin, and the thread has an open block, it is at least the thread's begin clock.

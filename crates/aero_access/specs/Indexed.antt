@@ -1,10 +1,10 @@
 -- The index of threads and a table.
 use Rattle.std.specs.Prelude.{◌≡◌, ◌≢◌, ℕ, ◌+◌, ◌-◌, ◌≤◌, true, if◌then◌else◌, List, length, Option, Some, slice_get, is_some}
+use Rattle.aero_engine.specs.declared.slot.Slot.{Slot}
 use Rattle.aero_access.specs.declared.thread.Thread.{Thread}
 use Rattle.aero_access.specs.declared.table.Table.{Table}
 use Rattle.aero_access.specs.declared.index.Index.{Index}
 use Rattle.aero_access.specs.Threads.{thread_clock, thread_begin, thread_begins}
-use Rattle.aero_access.specs.declared.slot.Slot.{Slot}
 use Rattle.aero_access.specs.LastClocks.{kept_clock}
 use Rattle.aero_access.specs.TableWords.{kept_of, labels_of, label_clock}
 use Rattle.aero_access.specs.StateWords.{last_but}

@@ -1,8 +1,8 @@
 -- What contracts see of what the code keeps: of a thread, and of the last events that are no thread's own.
 use Rattle.std.specs.Prelude.{◌≡◌, ℕ, ◌==◌, ◌&&◌, Bool, true, false, if◌then◌else◌, max, List, [], ◌∷◌, Option, Some, None, slice_get}
 use Rattle.aero_clock.specs.Numbers.{number_at}
-use Rattle.aero_access.specs.declared.slot.Slot.{Slot}
-use Rattle.aero_access.specs.declared.slot.Slot.TheVariants.{OfThread, LastWrite, LastRead, LastRelease}
+use Rattle.aero_engine.specs.declared.slot.Slot.{Slot}
+use Rattle.aero_engine.specs.declared.slot.Slot.TheVariants.{OfThread, LastWrite, LastRead, LastRelease}
 use Rattle.aero_access.specs.declared.kept.Kept.{Kept}
 
 -- the clock that is kept, zero where there is none

@@ -1,26 +1,19 @@
 -- What is kept by a list of threads and a table.
-use Rattle.std.specs.Prelude.{◌≡◌, ◌≢◌, ℕ, ◌-◌, nat_lt, ◌==◌, ◌<◌, max, Bool, true, false, if◌then◌else◌, List, [], ◌∷◌, ◌++◌, length, Option, Some, None, slice_get, is_some}
+use Rattle.std.specs.Prelude.{◌≡◌, ◌≢◌, ℕ, ◌-◌, nat_lt, ◌==◌, max, Bool, true, false, if◌then◌else◌, List, [], ◌∷◌, ◌++◌, length, Option, Some, None, slice_get, is_some}
 use Rattle.aero_clock.specs.declared.clock.Clock.{Clock}
 use Rattle.aero_clock.specs.Numbers.{number_at}
 use Rattle.aero_model.specs.declared.numbered.Numbered.{Numbered}
-use Rattle.aero_model.specs.declared.numbered.What.{What}
-use Rattle.aero_model.specs.declared.numbered.What.TheVariants.{Begin, End, Exempt, Join}
-use Rattle.aero_model.specs.Blocks.{depth}
-use Rattle.aero_model.specs.Shape.{has_acted, IsWellFormed}
-use Rattle.aero_access.specs.declared.slot.Slot.{Slot}
-use Rattle.aero_access.specs.declared.slot.Slot.TheVariants.{OfThread, LastWrite, LastRead, LastRelease}
+use Rattle.aero_model.specs.Shape.{IsWellFormed}
+use Rattle.aero_engine.specs.declared.slot.Slot.{Slot}
+use Rattle.aero_engine.specs.declared.slot.Slot.TheVariants.{OfThread, LastWrite, LastRead, LastRelease}
+use Rattle.aero_engine.specs.Judgement.{IsTold}
 use Rattle.aero_access.specs.declared.kept.Kept.{Kept}
 use Rattle.aero_access.specs.declared.thread.Thread.{Thread}
 use Rattle.aero_access.specs.declared.table.Table.{Table}
-use Rattle.aero_access.specs.Judgement.{IsTold}
 use Rattle.aero_access.specs.LastClocks.{kept_clock, kept_thread, clock_but, same_slot}
 use Rattle.aero_access.specs.Threads.{number_in, thread_clock, thread_begin, thread_begins, thread_acted, IsClosedBy}
 use Rattle.aero_access.specs.TableWords.{kept_of, labels_of}
 use Rattle.aero_access.specs.States.{State, IsStateOf}
-
--- an event of thread t
-abbrev pub event : ℕ → What → Numbered
-event t what = record { thread = t; what = what }
 
 abbrev pub clock_in : List Thread → Table → Slot → ℕ → ℕ
 clock_in threads table (OfThread t) u = thread_clock (slice_get threads t) u
@@ -67,13 +60,6 @@ last_but t (Some k) u = clock_but t k u
 pub record KeepsClock (old new : Table) (slot : Slot) (t : ℕ) (K : ℕ → ℕ) : Type 0 where
   pub clock : (s : Slot) (u : ℕ) → kept_clock (kept_of new s) u ≡ (if same_slot s slot then K u else kept_clock (kept_of old s) u)
   pub actor : (s : Slot) → kept_thread (kept_of new s) ≡ (if same_slot s slot then Some t else kept_thread (kept_of old s))
-
--- an event of thread t that no clock rule speaks of: an exempt begin or end, a begin or an end within a block, or a join of a thread that has made no event
-pub data IsIdle (h : List Numbered) (t : ℕ) : What → Type 0 where
-  exempt : IsIdle h t Exempt
-  inner_begin : 0 < depth h t (length h) → IsIdle h t (Begin None)
-  inner_end : 1 < depth h t (length h) → IsIdle h t End
-  idle_join : (u : ℕ) → has_acted h u ≡ false → IsIdle h t (Join u)
 
 -- Slots by numbers: first the threads, then those that have a label
 

@@ -1,12 +1,13 @@
 -- What a trace says of the clocks that are kept of it.
-use Rattle.std.specs.Prelude.{◌≡◌, ℕ, nat_lt, Bool, true, List, length, Option, Some, None, slice_get}
+use Rattle.std.specs.Prelude.{◌≡◌, ℕ, nat_lt, Bool, true, List, length, Option}
 use Rattle.aero_model.specs.declared.numbered.Numbered.{Numbered}
 use Rattle.aero_model.specs.Blocks.{depth, blocks}
 use Rattle.aero_model.specs.Shape.{has_acted}
-use Rattle.aero_access.specs.declared.slot.Slot.{Slot}
-use Rattle.aero_access.specs.Slots.{last_event}
-use Rattle.aero_access.specs.Clocks.{IsBeginClock}
-use Rattle.aero_access.specs.Judgement.{IsUntold}
+use Rattle.aero_engine.specs.declared.slot.Slot.{Slot}
+use Rattle.aero_engine.specs.Slots.{last_event}
+use Rattle.aero_engine.specs.Events.{actor_at}
+use Rattle.aero_engine.specs.Clocks.{IsBeginClock}
+use Rattle.aero_engine.specs.Judgement.{IsUntold}
 use Rattle.aero_access.specs.LastClocks.{is_kept}
 
 -- What is kept of a trace
@@ -20,15 +21,6 @@ pub record State : Type 0 where
   pub begins : ℕ → ℕ
   pub in_block : ℕ → Bool
   pub begin_clock : ℕ → ℕ → ℕ
-
-abbrev pub thread_of : Option Numbered → Option ℕ
-thread_of None = None
-thread_of (Some e) = Some e.thread
-
--- by which thread the event at a place is
-abbrev pub actor_at : List Numbered → Option ℕ → Option ℕ
-actor_at trace None = None
-actor_at trace (Some place) = thread_of (slice_get trace place)
 
 -- the state agrees with the trace, its clocks are sound and miss nothing, and there is no telling cycle
 pub record IsStateOf (w : State) (trace : List Numbered) : Type 0 where

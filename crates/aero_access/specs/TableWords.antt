@@ -1,6 +1,6 @@
 -- What contracts see of a table as a whole.
 use Rattle.std.specs.Prelude.{◌≡◌, ℕ, max, List, length, Option, Some, None, slice_get, if◌then◌else◌}
-use Rattle.aero_access.specs.declared.slot.Slot.{Slot}
+use Rattle.aero_engine.specs.declared.slot.Slot.{Slot}
 use Rattle.aero_access.specs.declared.kept.Kept.{Kept}
 use Rattle.aero_access.specs.declared.table.Table.{Table}
 use Rattle.aero_access.specs.LastClocks.{same_slot, kept_clock, kept_thread}

@@ -3,20 +3,21 @@
 //! the index may be wrong.
 ghost use Rattle.std.specs.Prelude.{◌≡◌, ◌≢◌, ◌<◌, ◌≤◌, ◌+◌, ◌↔◌, ◌-◌, ◌^◌, ◌||◌, ℕ, true, false, None, Some, length, slice_get, IsTrue, IfOk, OnOk, OnErr, vec_len, max};
 ghost use Rattle.aero_model.specs.declared.numbered.What.TheVariants.{Read, Write, Acquire, Fork, Join, Begin};
-ghost use Rattle.aero_access.specs.declared.slot.Slot.{Slot};
+ghost use Rattle.aero_engine.specs.declared.slot.Slot.{Slot};
+ghost use Rattle.aero_engine.specs.Events.{event};
 ghost use Rattle.aero_access.specs.Threads.{AreSameThreads, IsClosedBy, thread_clock, thread_acted, thread_begin, thread_begins};
 ghost use Rattle.aero_access.specs.declared.table.Table.{Table};
 ghost use Rattle.aero_access.specs.TableWords.{labels_of, label_clock};
 ghost use Rattle.aero_access.specs.Heeds.{AreHeeded};
 ghost use Rattle.aero_access.specs.Led.{leads, led_at, block_number, GainsThread, GainsLabel};
 ghost use Rattle.aero_access.specs.Indexed.{IsIndex, IsPast, HasNoNews};
-ghost use Rattle.aero_access.specs.StateWords.{event, clock_in, state_in, slot_in, JoinsClock, Moves, HaveSameBlocks};
+ghost use Rattle.aero_access.specs.StateWords.{clock_in, state_in, slot_in, JoinsClock, Moves, HaveSameBlocks};
 
 use crate::clock_rules;
 use crate::index::Index;
-use crate::slot::Slot;
 use crate::table::Table;
 use crate::thread::{self, Thread};
+use aero_engine::slot::Slot;
 use std::alloc::AllocError;
 
 /// Makes room for thread `t`.

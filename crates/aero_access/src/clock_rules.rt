@@ -4,22 +4,23 @@
 ghost use Rattle.std.specs.Prelude.{◌≡◌, ◌≢◌, ◌<◌, ◌≤◌, ◌+◌, ◌↔◌, ◌-◌, ◌^◌, ℕ, true, false, None, Some, length, slice_get, IsTrue, IfOk, OnOk, OnErr, is_some};
 ghost use Rattle.aero_clock.specs.Numbers.{number_at};
 ghost use Rattle.aero_model.specs.declared.numbered.What.TheVariants.{Read, Write, Acquire, Release, Fork, Join, Begin};
+ghost use Rattle.aero_engine.specs.declared.slot.Slot.{Slot};
+ghost use Rattle.aero_engine.specs.Events.{event};
 ghost use Rattle.aero_access.specs.LastClocks.{is_kept, greatest_but, kept_clock};
 ghost use Rattle.aero_access.specs.Threads.{CountIsTest, HasSameBlock, TakesClock, ClosesOne, ClosesNone, IsClosedBy, thread_clock, thread_acted, thread_begin, thread_begins};
 ghost use Rattle.aero_access.specs.declared.kept.Kept.{Kept};
-ghost use Rattle.aero_access.specs.declared.slot.Slot.{Slot};
 ghost use Rattle.aero_access.specs.TableWords.{kept_of, readers_of, labels_of, JoinsSlot};
 ghost use Rattle.aero_access.specs.States.{State};
 ghost use Rattle.aero_access.specs.Heeds.{Heeds, AreHeeded};
 ghost use Rattle.aero_access.specs.Led.{led_at, MovesLabel};
 ghost use Rattle.aero_access.specs.Indexed.{TakesOnly, KeepsLabels, OpensBlock, HasNoNews, KeepsItsClock};
-ghost use Rattle.aero_access.specs.StateWords.{event, clock_in, state_in, slot_in, JoinsClock, Moves, HaveSameBlocks, ClosesLast, last_but, KeepsClock};
+ghost use Rattle.aero_access.specs.StateWords.{clock_in, state_in, slot_in, JoinsClock, Moves, HaveSameBlocks, ClosesLast, last_but, KeepsClock};
 
 use crate::index::Index;
-use crate::slot::Slot;
 use crate::table::Table;
 use crate::thread::Thread;
 use aero_clock::clock::Clock;
+use aero_engine::slot::Slot;
 use std::alloc::AllocError;
 
 /// Thread `t` reads variable `x`.

@@ -4,8 +4,9 @@ ghost use Rattle.aero_model.specs.declared.numbered.Numbered.{Numbered};
 ghost use Rattle.aero_model.specs.declared.numbered.What.{What};
 ghost use Rattle.aero_model.specs.declared.numbered.What.TheVariants.{Read, Write, Acquire, Release, Fork, Join, Begin};
 ghost use Rattle.aero_model.specs.Shape.{IsWellFormed};
-ghost use Rattle.aero_access.specs.declared.slot.Slot.{Slot};
-ghost use Rattle.aero_access.specs.StateWords.{event, state_in, IsIdle};
+ghost use Rattle.aero_engine.specs.declared.slot.Slot.{Slot};
+ghost use Rattle.aero_engine.specs.Events.{event, IsIdle};
+ghost use Rattle.aero_access.specs.StateWords.{state_in};
 ghost use Rattle.aero_access.specs.Heeds.{AreHeeded};
 ghost use Rattle.aero_access.specs.Indexed.{IsIndex};
 
@@ -13,17 +14,8 @@ use crate::index::Index;
 use crate::table::Table;
 use crate::thread::Thread;
 use crate::{changes, clock_rules};
-use std::alloc::{AllocError, Global};
-
-/// Memory was refused. From then on each call that can answer this does.
-#[derive(Clone, Copy, Debug, PartialEq, Eq)]
-pub struct Spent;
-
-impl From<AllocError> for Spent {
-    fn from(_e: AllocError) -> Spent {
-        Spent
-    }
-}
+pub use aero_engine::spent::Spent;
+use std::alloc::Global;
 
 /// The clocks of the events so far. Threads, variables and locks go by numbers from 0.
 ///
@@ -45,7 +37,8 @@ pub struct Clocks {
 }
 
 impl Clocks {
-    ghost use Rattle.aero_access.specs.Standing.{in_block_at, begins_at, acted_at, closed_by, is_spent, StandsFor, Answers, Follows, Tells, quiet, IsStarted, IsRefused, IsFinished, IsClosed, HaveSameTests, clock_of, threads_of, slots_of, slot_at, IsBehind, ClosesBack, AbsorbsClock, ClosesBlock, led_of, AreLed};
+    ghost use Rattle.aero_engine.specs.Protocol.{quiet};
+    ghost use Rattle.aero_access.specs.Standing.{in_block_at, begins_at, acted_at, closed_by, is_spent, StandsFor, Answers, Follows, Tells, IsStarted, IsRefused, IsFinished, IsClosed, HaveSameTests, clock_of, threads_of, slots_of, slot_at, IsBehind, ClosesBack, AbsorbsClock, ClosesBlock, led_of, AreLed};
 
     /// The clocks of no event.
     pub fn new(alloc: Global) -> Clocks

@@ -1,12 +1,12 @@
 //! What is kept of last writes, reads and releases, and the labels of these slots, one list for each.
 ghost use Rattle.std.specs.Prelude.{◌≡◌, ◌++◌, ◌∷◌, [], ℕ, true, OnOk, OnErr, if◌then◌else◌};
-ghost use Rattle.aero_access.specs.declared.slot.Slot.{Slot};
+ghost use Rattle.aero_engine.specs.declared.slot.Slot.{Slot};
 ghost use Rattle.aero_access.specs.LastClocks.{is_kept};
 
 use crate::kept::Kept;
 use crate::places::{kept_at, put, put_read};
 use crate::readers::Readers;
-use crate::slot::Slot;
+use aero_engine::slot::Slot;
 use std::alloc::{AllocError, Global};
 
 /// The lists of a `Table`, whose type keeps that they fit each other. Variables and locks are

@@ -14,7 +14,7 @@
 //! are kept while events come, so that the end of a block has to look at nothing else.
 //!
 //! The contracts speak of the trace of the events so far: what is answered is what is to be told,
-//! so `None` is answered exactly where the trace has no telling cycle. `laws` has the laws of
+//! so `None` is answered exactly where the trace has no telling cycle. `aero_engine::laws` has the laws of
 //! such clocks, whatever keeps them.
 //!
 //! ```text
@@ -41,8 +41,6 @@
 //!   and rising: `led`, `led_slot`.
 //! - For the end of a block: a slot takes the clock of the block's thread, or the thread whose block closes is
 //!   answered, and the block is closed. By `absorb`, `told` and `absorbed`; `close_block`, `closes`.
-//! - Laws of the rules over whole runs. Clocks exist, count exactly the blocks that lead to an event, miss nothing, and
-//!   name the opener. What is judged begins a telling cycle, and a begin clock is a test: `laws`.
 #![tactic(auto)]
 
 mod changes;
@@ -51,9 +49,9 @@ pub mod clocks;
 mod entries;
 mod index;
 mod kept;
-pub mod laws;
 mod places;
 mod readers;
-pub mod slot;
 mod table;
 mod thread;
+
+pub use aero_engine::slot;

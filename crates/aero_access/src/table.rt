@@ -1,15 +1,15 @@
 //! The clocks of last writes, reads and releases, with a label for each of these slots. No thread and
 //! no index is touched here.
 ghost use Rattle.std.specs.Prelude.{◌≡◌, ◌++◌, ◌∷◌, [], ℕ, true, Some, OnOk, OnErr, if◌then◌else◌};
-ghost use Rattle.aero_access.specs.declared.slot.Slot.{Slot};
+ghost use Rattle.aero_engine.specs.declared.slot.Slot.{Slot};
 ghost use Rattle.aero_access.specs.LastClocks.{is_kept};
 ghost use Rattle.aero_access.specs.Table.{AreLabelled, ArePlaced, kept_in};
 
 use crate::entries::Entries;
 use crate::kept::Kept;
 use crate::readers::Readers;
-use crate::slot::Slot;
 use aero_clock::clock::Clock;
+use aero_engine::slot::Slot;
 use std::alloc::{AllocError, Global};
 use std::mem;
 

@@ -13,23 +13,22 @@ use Rattle.aero_model.proofs.Stability.{Agree, agree_front, depth_same, blocks_s
 use Rattle.aero_model.proofs.Depths.{step, AtOpening, AtClosing, AtOther, closing_at}
 use Rattle.aero_model.proofs.Ends.{is_by}
 use Rattle.aero_model.proofs.Begins.{open_number}
-use Rattle.aero_access.specs.declared.slot.Slot.{Slot}
-use Rattle.aero_access.specs.declared.slot.Slot.TheVariants.{OfThread, LastWrite, LastRead, LastRelease}
+use Rattle.aero_engine.specs.declared.slot.Slot.{Slot}
+use Rattle.aero_engine.specs.declared.slot.Slot.TheVariants.{OfThread, LastWrite, LastRead, LastRelease}
+use Rattle.aero_engine.specs.Slots.{of_slot, last_event}
+use Rattle.aero_engine.specs.Clocks.{AreSound, MissNothing, IsBeginClock, end_clocks}
+use Rattle.aero_engine.specs.Judgement.{IsJudgedAtEnd, IsNamedAtEnd, IsUntold}
+use Rattle.aero_engine.specs.Events.{actor_at, thread_of, event}
+use Rattle.aero_engine.proofs.LastEvents.{is_last, last_kept}
+use Rattle.aero_engine.proofs.LongerTraces.{slice_get-push, last_event_same, begin_clock_same, sound_front, complete_front, sound_less, complete_greater}
+use Rattle.aero_engine.proofs.Rules.{begin_clock_at_most}
+use Rattle.aero_engine.proofs.BeginClocks.{begin_clock_kept}
+use Rattle.aero_engine.proofs.Pushes.{told_push_end, untold_push_end}
 use Rattle.aero_access.specs.declared.clocks.Clocks.{Clocks}
-use Rattle.aero_access.specs.Slots.{of_slot, last_event}
-use Rattle.aero_access.specs.Clocks.{AreSound, MissNothing, IsBeginClock, end_clocks}
-use Rattle.aero_access.specs.Judgement.{IsJudgedAtEnd, IsNamedAtEnd, IsUntold}
 use Rattle.aero_access.specs.LastClocks.{is_kept}
-use Rattle.aero_access.specs.States.{actor_at, thread_of}
-use Rattle.aero_access.specs.StateWords.{event}
 use Rattle.aero_access.specs.Standing.{state_of, clock_of, begin_clock_of, in_block_at, begins_at, acted_at, slots_of, StandsFor, Tells, IsBehind, ClosesBlock, HaveSameTests}
-use Rattle.aero_access.proofs.LastEvents.{is_last, last_kept}
-use Rattle.aero_access.proofs.LongerTraces.{slice_get-push, last_event_same, begin_clock_same, sound_front, complete_front, sound_less, complete_greater}
-use Rattle.aero_access.proofs.Rules.{begin_clock_at_most}
-use Rattle.aero_access.proofs.BeginClocks.{begin_clock_kept}
 use Rattle.aero_access.proofs.StateSteps.{begin_clock_eq}
 use Rattle.aero_access.proofs.SlotNumbers.{numbered, inside_within}
-use Rattle.aero_access.proofs.Pushes.{told_push_end, untold_push_end}
 use Rattle.aero_end.specs.Ends.{ClosesAtEnd, IsFirst, Joins, Spreads}
 
 module _ (c : Clocks) (before : List Numbered) (t : ℕ) (stands : StandsFor c before) (ok : IsWellFormed (before ++ event t End ∷ [])) (closing : closes (before ++ event t End ∷ []) t (length before) ≡ true) where

@@ -6,8 +6,8 @@ use Rattle.aero_model.specs.declared.numbered.Numbered.{Numbered}
 use Rattle.aero_model.specs.declared.numbered.What.TheVariants.{End}
 use Rattle.aero_model.specs.Blocks.{closes}
 use Rattle.aero_model.specs.Shape.{IsWellFormed}
+use Rattle.aero_engine.specs.Events.{event}
 use Rattle.aero_access.specs.declared.clocks.Clocks.{Clocks}
-use Rattle.aero_access.specs.StateWords.{event}
 use Rattle.aero_access.specs.Standing.{is_spent, StandsFor, Answers, Tells, HaveSameTests, ClosesBlock}
 use Rattle.aero_end.specs.Ends.{IsFirst, SpreadsToAll}
 use Rattle.aero_end.proofs.AfterEnds.{tells_first, tells_none}

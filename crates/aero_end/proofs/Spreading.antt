@@ -3,8 +3,8 @@ use Rattle.std.proofs.Common.{◌≡◌, ◌≢◌, ◌⊎◌, inl, inr, ⊎_eli
 use Rattle.std.specs.Prelude.{◌↔◌, Ok, nat_lt, true, false, slice_get, is_some}
 use Rattle.std.proofs.lemmas.Bool.{cases_Bool, cases_lt, le-ltb, cond-true, cond-false}
 use Rattle.std.proofs.lemmas.Option.{same_Some, slice_get_within}
-use Rattle.aero_access.specs.declared.slot.Slot.{Slot}
-use Rattle.aero_access.specs.declared.slot.Slot.TheVariants.{OfThread}
+use Rattle.aero_engine.specs.declared.slot.Slot.{Slot}
+use Rattle.aero_engine.specs.declared.slot.Slot.TheVariants.{OfThread}
 use Rattle.aero_access.specs.declared.clocks.Clocks.{Clocks}
 use Rattle.aero_access.specs.LastClocks.{same_slot}
 use Rattle.aero_access.specs.TableWords.{labels_of}

@@ -1,7 +1,7 @@
 -- What the end of a block does to the clocks.
 use Rattle.std.specs.Prelude.{◌≡◌, ◌≢◌, ◌⊎◌, ◌<◌, ℕ, max, true, false, None, Some, List, slice_get}
-use Rattle.aero_access.specs.declared.slot.Slot.{Slot}
-use Rattle.aero_access.specs.declared.slot.Slot.TheVariants.{OfThread}
+use Rattle.aero_engine.specs.declared.slot.Slot.{Slot}
+use Rattle.aero_engine.specs.declared.slot.Slot.TheVariants.{OfThread}
 use Rattle.aero_access.specs.declared.clocks.Clocks.{Clocks}
 use Rattle.aero_access.specs.Standing.{state_of, clock_of, begin_clock_of, closed_by, is_spent, slots_of, slot_at, IsBehind, ClosesBack, HaveSameSlots, led_of}
 

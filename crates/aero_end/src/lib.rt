@@ -34,11 +34,14 @@ ghost use Rattle.aero_model.specs.declared.numbered.Numbered.{Numbered};
 ghost use Rattle.aero_model.specs.declared.numbered.What.TheVariants.{End};
 ghost use Rattle.aero_model.specs.Blocks.{closes};
 ghost use Rattle.aero_model.specs.Shape.{IsWellFormed};
-ghost use Rattle.aero_access.specs.StateWords.{event};
+ghost use Rattle.aero_engine.specs.Events.{event};
 ghost use Rattle.aero_access.specs.Standing.{in_block_at, closed_by, threads_of, StandsFor, HaveSameTests, Answers, Tells};
 ghost use Rattle.aero_end.specs.Ends.{IsFirst, SpreadsToAll, IsRefused};
 
-use aero_access::clocks::{Clocks, Spent};
+pub mod ending_clocks;
+
+use aero_access::clocks::Clocks;
+use aero_engine::spent::Spent;
 
 /// Ends the outermost block of thread `t`, which is in a block. Answers the least thread whose
 /// open block closes a telling cycle through the block that ends, and `None` where there is none:

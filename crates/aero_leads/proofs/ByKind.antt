@@ -10,10 +10,10 @@ use Rattle.aero_model.specs.Blocks.{is_begin, is_end, by_thread, depth, opens, c
 use Rattle.aero_model.specs.Shape.{is_fork_of, IsWellFormed}
 use Rattle.aero_model.proofs.Depths.{opening_at}
 use Rattle.aero_model.proofs.Ends.{is_by}
-use Rattle.aero_access.specs.declared.slot.Slot.TheVariants.{OfThread}
-use Rattle.aero_access.specs.Slots.{of_slot}
-use Rattle.aero_access.specs.Takes.{Among, here, there, takes_only_own}
-use Rattle.aero_access.proofs.Counts.{quiet_from}
+use Rattle.aero_engine.specs.declared.slot.Slot.TheVariants.{OfThread}
+use Rattle.aero_engine.specs.Slots.{of_slot}
+use Rattle.aero_engine.specs.Takes.{Among, here, there, takes_only_own}
+use Rattle.aero_engine.proofs.Counts.{quiet_from}
 use Rattle.aero_leads.specs.Leads.{Rows, is_led, IsFirst, AreFirst}
 use Rattle.aero_leads.specs.Marks.{Mark, TakesMarks}
 use Rattle.aero_leads.specs.Marks as takes

@@ -13,8 +13,8 @@ use Rattle.std.proofs.lemmas.Fn.{always_returns_same}
 use Rattle.std.proofs.lemmas.Bool.{eqb-true, ltb-false}
 use Rattle.std.proofs.lemmas.List.Sorted.{sorted_far, Contains-permutation, IsPermutation-sym, IsStrictWeakOrder-flip, IsStrictWeakOrder-by_number}
 use Rattle.std.proofs.lemmas.List.Kept.{Contains-from_dedup}
-use Rattle.aero_access.specs.Takes.{Among, here, there}
-use Rattle.aero_access.proofs.Taken.{among_left, among_right, among_first, among_parts}
+use Rattle.aero_engine.specs.Takes.{Among, here, there}
+use Rattle.aero_engine.proofs.Taken.{among_left, among_right, among_first, among_parts}
 use Rattle.aero_leads.specs.declared.last.Last.{Last}
 use Rattle.aero_leads.specs.Kept.{reads_but, rank, IsCovered, AreCompacted, AreKept}
 

@@ -10,12 +10,12 @@ use Rattle.aero_model.specs.Shape.{IsWellFormed}
 use Rattle.aero_model.proofs.Depths.{AtOpening, AtClosing, AtOther, step, closing_at}
 use Rattle.aero_model.proofs.Ends.{is_by}
 use Rattle.aero_model.proofs.Walks.{Reaches}
-use Rattle.aero_access.specs.declared.slot.Slot.TheVariants.{OfThread}
-use Rattle.aero_access.specs.Slots.{of_slot}
-use Rattle.aero_access.proofs.LastEvents.{of_thread, last_covers}
-use Rattle.aero_access.proofs.Sources.{Latest}
-use Rattle.aero_access.proofs.Counts.{reaches_on, reaches_more}
-use Rattle.aero_access.proofs.EndSteps.{block, last, reaches_to_end, reaches_after, reaches_through}
+use Rattle.aero_engine.specs.declared.slot.Slot.TheVariants.{OfThread}
+use Rattle.aero_engine.specs.Slots.{of_slot}
+use Rattle.aero_engine.proofs.LastEvents.{of_thread, last_covers}
+use Rattle.aero_engine.proofs.Sources.{Latest}
+use Rattle.aero_engine.proofs.Counts.{reaches_on, reaches_more}
+use Rattle.aero_engine.proofs.EndSteps.{block, last, reaches_to_end, reaches_after, reaches_through}
 use Rattle.aero_leads.specs.Leads.{Rows, IsPlaceOf, IsFirst, AreFirst}
 use Rattle.aero_leads.specs.Steps.{lesser, end_rows}
 use Rattle.aero_leads.proofs.FirstPlaces.{thread_chain, first_some, first_of, first_reaches, first_least, none_from, none_at, some_from, place_more, place_less}

@@ -14,12 +14,12 @@ use Rattle.aero_model.proofs.Ends.{begin_in}
 use Rattle.aero_model.proofs.Begins.{blocks_rise, open_number}
 use Rattle.aero_model.proofs.Next.{reach_from_last, reach_before, reach_last}
 use Rattle.aero_model.proofs.Walks.{Reaches, leads_from_reaches}
-use Rattle.aero_access.specs.declared.slot.Slot.TheVariants.{OfThread}
-use Rattle.aero_access.specs.Slots.{of_slot}
-use Rattle.aero_access.specs.Takes.{Among, here, there}
-use Rattle.aero_access.proofs.LastEvents.{of_thread}
-use Rattle.aero_access.proofs.Sources.{latest, acted_by_block}
-use Rattle.aero_access.proofs.Counts.{reaches_on, reaches_more, own_latest}
+use Rattle.aero_engine.specs.declared.slot.Slot.TheVariants.{OfThread}
+use Rattle.aero_engine.specs.Slots.{of_slot}
+use Rattle.aero_engine.specs.Takes.{Among, here, there}
+use Rattle.aero_engine.proofs.LastEvents.{of_thread}
+use Rattle.aero_engine.proofs.Sources.{latest, acted_by_block}
+use Rattle.aero_engine.proofs.Counts.{reaches_on, reaches_more, own_latest}
 use Rattle.aero_leads.specs.Leads.{Rows, is_led, IsPlaceOf, IsFirst, AreFirst}
 use Rattle.aero_leads.specs.Marks.{Mark}
 use Rattle.aero_leads.specs.Steps.{led_by, gains, arrives, event_rows}

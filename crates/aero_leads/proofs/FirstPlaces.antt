@@ -11,9 +11,9 @@ use Rattle.aero_model.proofs.Reach.{Reach}
 use Rattle.aero_model.proofs.Stability.{Agree, agree_back, depth_same, blocks_same}
 use Rattle.aero_model.proofs.WellFormed.{forked_before, forked_once}
 use Rattle.aero_model.proofs.Walks.{Reaches, reaches_from_leads, leads_from_reaches, leads_same}
-use Rattle.aero_access.proofs.LastEvents.{of_thread}
-use Rattle.aero_access.proofs.Sources.{reach_later}
-use Rattle.aero_access.proofs.Counts.{reaches_on}
+use Rattle.aero_engine.proofs.LastEvents.{of_thread}
+use Rattle.aero_engine.proofs.Sources.{reach_later}
+use Rattle.aero_engine.proofs.Counts.{reaches_on}
 use Rattle.aero_leads.specs.Leads.{Rows, is_led, IsPlaceOf, IsFirst, AreFirst}
 
 -- a place of a thread reaches each later one

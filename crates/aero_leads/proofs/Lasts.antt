@@ -4,16 +4,16 @@ use Rattle.std.specs.Prelude.{◌==◌, ◌&&◌, ◌||◌, not, Bool, true, fal
 use Rattle.std.proofs.lemmas.Bool.{cases_eq, cases_lt, both_ways, and_parts, eqb-true, eq-eqb, ne_eqb, lt-ltb, le-ltb, le-leb, lt-leb, cond-true, cond-false}
 use Rattle.std.proofs.lemmas.Option.{same_Some}
 use Rattle.aero_model.specs.declared.numbered.Numbered.{Numbered}
-use Rattle.aero_access.specs.declared.slot.Slot.{Slot}
-use Rattle.aero_access.specs.declared.slot.Slot.TheVariants.{LastWrite, LastRead}
+use Rattle.aero_engine.specs.declared.slot.Slot.{Slot}
+use Rattle.aero_engine.specs.declared.slot.Slot.TheVariants.{LastWrite, LastRead}
 use Rattle.aero_model.specs.Blocks.{blocks, Block}
 use Rattle.aero_model.proofs.Walks.{reaches_from_leads}
-use Rattle.aero_access.specs.Slots.{of_slot, is_read_of, last_event}
-use Rattle.aero_access.specs.States.{thread_of}
-use Rattle.aero_access.specs.Takes.{Among, here, there}
-use Rattle.aero_access.proofs.LastEvents.{is_last, to_thread}
-use Rattle.aero_access.proofs.LongerTraces.{last_event_same}
-use Rattle.aero_access.proofs.Taken.{among_left, among_right, among_first, among_parts}
+use Rattle.aero_engine.specs.Slots.{of_slot, is_read_of, last_event}
+use Rattle.aero_engine.specs.Events.{thread_of}
+use Rattle.aero_engine.specs.Takes.{Among, here, there}
+use Rattle.aero_engine.proofs.LastEvents.{is_last, to_thread}
+use Rattle.aero_engine.proofs.LongerTraces.{last_event_same}
+use Rattle.aero_engine.proofs.Taken.{among_left, among_right, among_first, among_parts}
 use Rattle.aero_leads.specs.declared.last.Last.{Last}
 use Rattle.aero_leads.specs.Leads.{Rows, is_led, IsUnled}
 use Rattle.aero_leads.specs.Marks.{Mark, mark, IsPassed, IfOther, nobodys, its_own, other, IsReadAt, AreReads}

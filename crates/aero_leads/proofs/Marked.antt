@@ -9,13 +9,13 @@ use Rattle.aero_model.specs.Graph.{Conflict, read_write}
 use Rattle.aero_model.specs.Shape.{IsWellFormed}
 use Rattle.aero_model.proofs.Reach.{Reach, stay, reach_trans}
 use Rattle.aero_model.proofs.WellFormed.{joins_other}
-use Rattle.aero_access.specs.declared.slot.Slot.{Slot}
-use Rattle.aero_access.specs.declared.slot.Slot.TheVariants.{OfThread, LastWrite, LastRead, LastRelease}
-use Rattle.aero_access.specs.Slots.{is_read_of, of_slot, last_event}
-use Rattle.aero_access.specs.Takes.{Among, here, takes_only_own, HasActed}
-use Rattle.aero_access.proofs.LastEvents.{read_is, write_is, to_thread, IsLast, is_last}
-use Rattle.aero_access.proofs.Sources.{Source, own, read, write, write_after_read, acquire, join, source_conflicts, Covered, covered, latest, reach_latest, reach_later}
-use Rattle.aero_access.proofs.Taken.{among_left, among_right, among_first, among_parts}
+use Rattle.aero_engine.specs.declared.slot.Slot.{Slot}
+use Rattle.aero_engine.specs.declared.slot.Slot.TheVariants.{OfThread, LastWrite, LastRead, LastRelease}
+use Rattle.aero_engine.specs.Slots.{is_read_of, of_slot, last_event}
+use Rattle.aero_engine.specs.Takes.{Among, here, takes_only_own, HasActed}
+use Rattle.aero_engine.proofs.LastEvents.{read_is, write_is, to_thread, IsLast, is_last}
+use Rattle.aero_engine.proofs.Sources.{Source, own, read, write, write_after_read, acquire, join, source_conflicts, Covered, covered, latest, reach_latest, reach_later}
+use Rattle.aero_engine.proofs.Taken.{among_left, among_right, among_first, among_parts}
 use Rattle.aero_leads.specs.Leads.{IsPlaceOf}
 use Rattle.aero_leads.specs.Marks.{Mark, mark, IsPassed, IfOther, nobodys, its_own, other, IsReadAt, AreReads, TakesMarks}
 use Rattle.aero_leads.specs.Marks as takes

@@ -5,10 +5,10 @@ use Rattle.std.proofs.lemmas.Bool.{cases_eq, both_ways, eq-eqb, ne_eqb, cond-tru
 use Rattle.aero_model.specs.declared.numbered.Numbered.{Numbered}
 use Rattle.aero_model.specs.Blocks.{opens, closes}
 use Rattle.aero_model.specs.Shape.{is_release_of, is_fork_of, IsWellFormed}
-use Rattle.aero_access.specs.Slots.{is_read_of, is_write_of}
-use Rattle.aero_access.specs.Takes.{Among}
-use Rattle.aero_access.specs.Judgement.{IsTold}
-use Rattle.aero_access.proofs.LongerTraces.{slice_get-push}
+use Rattle.aero_engine.specs.Slots.{is_read_of, is_write_of}
+use Rattle.aero_engine.specs.Takes.{Among}
+use Rattle.aero_engine.specs.Judgement.{IsTold}
+use Rattle.aero_engine.proofs.LongerTraces.{slice_get-push}
 use Rattle.aero_leads.specs.declared.last.Last.{Last}
 use Rattle.aero_leads.specs.Leads.{is_led, IsUnled, AreFirst}
 use Rattle.aero_leads.specs.Marks.{Mark, TakesMarks}

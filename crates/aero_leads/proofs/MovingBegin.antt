@@ -6,9 +6,8 @@ use Rattle.aero_model.specs.declared.numbered.Numbered.{Numbered}
 use Rattle.aero_model.specs.declared.numbered.What.TheVariants.{Begin}
 use Rattle.aero_model.specs.Blocks.{is_begin, by_thread, depth, opens, closes}
 use Rattle.aero_model.specs.Shape.{IsWellFormed}
-use Rattle.aero_access.specs.StateWords.{event}
-use Rattle.aero_access.proofs.LongerTraces.{slice_get-push}
-use Rattle.aero_access.proofs.OwnSteps.{no_end}
+use Rattle.aero_engine.specs.Events.{event}
+use Rattle.aero_engine.proofs.LongerTraces.{slice_get-push, no_end}
 use Rattle.aero_leads.specs.Leads.{is_led, IsUnled, AreFirst}
 use Rattle.aero_leads.specs.Marks as takes
 use Rattle.aero_leads.specs.Steps.{lesser, begin_rows}

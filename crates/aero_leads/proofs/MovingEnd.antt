@@ -6,9 +6,9 @@ use Rattle.aero_model.specs.declared.numbered.What.TheVariants.{End}
 use Rattle.aero_model.specs.Blocks.{closes}
 use Rattle.aero_model.specs.Shape.{IsWellFormed}
 use Rattle.aero_model.proofs.Depths.{closing_at}
-use Rattle.aero_access.specs.Judgement.{IsTold}
-use Rattle.aero_access.specs.StateWords.{event}
-use Rattle.aero_access.proofs.LongerTraces.{slice_get-push}
+use Rattle.aero_engine.specs.Judgement.{IsTold}
+use Rattle.aero_engine.specs.Events.{event}
+use Rattle.aero_engine.proofs.LongerTraces.{slice_get-push}
 use Rattle.aero_leads.specs.Leads.{is_led, IsUnled, AreFirst}
 use Rattle.aero_leads.specs.Steps.{IsNamedAtEnd, IsClosedAtEnd, end_rows}
 use Rattle.aero_leads.specs.Kept.{IsBack, IsLeastBack}

@@ -7,10 +7,10 @@ use Rattle.aero_model.specs.declared.numbered.What.{What}
 use Rattle.aero_model.specs.declared.numbered.What.TheVariants.{Join, Begin, End, Exempt}
 use Rattle.aero_model.specs.Blocks.{is_begin, is_end, by_thread, depth}
 use Rattle.aero_model.specs.Shape.{is_fork_of, IsWellFormed, has_acted}
-use Rattle.aero_access.specs.declared.slot.Slot.TheVariants.{LastWrite, LastRelease}
-use Rattle.aero_access.specs.StateWords.{event, IsIdle}
-use Rattle.aero_access.specs.StateWords as idle
-use Rattle.aero_access.proofs.OwnSteps.{no_end, no_begin}
+use Rattle.aero_engine.specs.declared.slot.Slot.TheVariants.{LastWrite, LastRelease}
+use Rattle.aero_engine.specs.Events.{event, IsIdle}
+use Rattle.aero_engine.specs.Events as idle
+use Rattle.aero_engine.proofs.LongerTraces.{no_end, no_begin}
 use Rattle.aero_leads.specs.Leads.{is_led}
 use Rattle.aero_leads.specs.Marks as takes
 use Rattle.aero_leads.specs.States.{State, IsLastOf, AreReadsSince, IsStateOf, acting}

@@ -5,9 +5,9 @@ use Rattle.std.proofs.lemmas.Bool.{ne_eqb}
 use Rattle.std.proofs.lemmas.List.{append-nil}
 use Rattle.aero_model.specs.declared.numbered.Numbered.{Numbered}
 use Rattle.aero_model.specs.declared.numbered.What.TheVariants.{Read, Write, Acquire, Release, Join}
-use Rattle.aero_access.specs.declared.slot.Slot.TheVariants.{LastWrite, LastRelease}
-use Rattle.aero_access.specs.StateWords.{event}
-use Rattle.aero_access.proofs.OwnSteps.{no_end, no_begin}
+use Rattle.aero_engine.specs.declared.slot.Slot.TheVariants.{LastWrite, LastRelease}
+use Rattle.aero_engine.specs.Events.{event}
+use Rattle.aero_engine.proofs.LongerTraces.{no_end, no_begin}
 use Rattle.aero_leads.specs.declared.last.Last.{Last}
 use Rattle.aero_leads.specs.Leads.{Rows}
 use Rattle.aero_leads.specs.Marks.{mark}

@@ -2,9 +2,9 @@
 use Rattle.std.proofs.Common.{◌≡◌, ◌≢◌, ◌⊎◌, inl, inr, ⊎_elim, ℕ, suc, ◌<◌, List, [], ◌∷◌, ◌++◌, refl, sym, ap, ◌∙◌, subst, arith}
 use Rattle.std.specs.Prelude.{◌==◌, Bool, true, false, if◌then◌else◌}
 use Rattle.std.proofs.lemmas.Bool.{cases_eq, cases_Bool, eq-eqb, ne_eqb, cond-false}
-use Rattle.aero_access.specs.StateWords.{event}
-use Rattle.aero_access.specs.Takes.{Among, here}
-use Rattle.aero_access.proofs.Taken.{among_left, among_right, among_first, among_parts}
+use Rattle.aero_engine.specs.Events.{event}
+use Rattle.aero_engine.specs.Takes.{Among, here}
+use Rattle.aero_engine.proofs.Taken.{among_left, among_right, among_first, among_parts}
 use Rattle.aero_model.specs.declared.numbered.What.TheVariants.{Read}
 use Rattle.aero_leads.specs.declared.last.Last.{Last}
 use Rattle.aero_leads.specs.Kept.{last, is_below, if_any, AreKept}

@@ -5,8 +5,8 @@ use Rattle.aero_model.specs.declared.numbered.Numbered.{Numbered}
 use Rattle.aero_model.specs.declared.numbered.What.{What}
 use Rattle.aero_model.specs.Cycle.{HasTellingCycle}
 use Rattle.aero_model.specs.Shape.{IsWellFormed}
-use Rattle.aero_access.specs.Judgement.{IsTold}
-use Rattle.aero_access.specs.StateWords.{event, IsIdle}
+use Rattle.aero_engine.specs.Judgement.{IsTold}
+use Rattle.aero_engine.specs.Events.{event, IsIdle}
 use Rattle.aero_leads.specs.declared.leads.Leads.{Leads}
 use Rattle.aero_model.specs.declared.numbered.What.TheVariants.{End}
 use Rattle.aero_model.specs.Blocks.{closes}

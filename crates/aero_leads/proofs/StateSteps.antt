@@ -11,13 +11,13 @@ use Rattle.aero_model.specs.Shape.{is_release_of, has_acted}
 use Rattle.aero_model.proofs.Stability.{Agree, agree_front, depth_same, blocks_same}
 use Rattle.aero_model.proofs.Depths.{step, AtOpening, AtClosing, AtOther}
 use Rattle.aero_model.proofs.Telling.{telling_back}
-use Rattle.aero_access.specs.declared.slot.Slot.{Slot}
-use Rattle.aero_access.specs.declared.slot.Slot.TheVariants.{LastWrite, LastRead, LastRelease}
-use Rattle.aero_access.specs.Slots.{of_slot, is_read_of, is_write_of, last_event}
-use Rattle.aero_access.specs.States.{thread_of}
-use Rattle.aero_access.specs.Takes.{Among}
-use Rattle.aero_access.proofs.LastEvents.{read_is, is_last, last_covers, last_new, last_kept}
-use Rattle.aero_access.proofs.LongerTraces.{slice_get-push, last_event_same}
+use Rattle.aero_engine.specs.declared.slot.Slot.{Slot}
+use Rattle.aero_engine.specs.declared.slot.Slot.TheVariants.{LastWrite, LastRead, LastRelease}
+use Rattle.aero_engine.specs.Slots.{of_slot, is_read_of, is_write_of, last_event}
+use Rattle.aero_engine.specs.Events.{thread_of}
+use Rattle.aero_engine.specs.Takes.{Among}
+use Rattle.aero_engine.proofs.LastEvents.{read_is, is_last, last_covers, last_new, last_kept}
+use Rattle.aero_engine.proofs.LongerTraces.{slice_get-push, last_event_same}
 use Rattle.aero_leads.specs.declared.last.Last.{Last}
 use Rattle.aero_leads.specs.Leads.{Rows, is_led, IsUnled, AreFirst}
 use Rattle.aero_leads.specs.Marks.{IsReadAt}

@@ -4,7 +4,7 @@ use Rattle.std.specs.Prelude.{◌==◌, ◌&&◌, ◌||◌, Bool, true, false, i
 use Rattle.std.specs.List.{list_any}
 use Rattle.std.proofs.lemmas.Bool.{cases_eq, eqb-true, eq-eqb, ne_eqb, cond-true, cond-false, and_left}
 use Rattle.std.proofs.lemmas.Option.{slice_get_within, slice_get_past, same_Some}
-use Rattle.aero_access.proofs.KeptLists.{slice_get-set}
+use Rattle.aero_engine.proofs.Written.{slice_get-set}
 use Rattle.aero_leads.specs.declared.thread.Thread.{Thread}
 use Rattle.aero_leads.specs.declared.led.Led.{Led}
 use Rattle.aero_leads.specs.Listed.{is_listed, IsListedRow, AreListed, Grows}

@@ -13,19 +13,19 @@ use Rattle.aero_model.proofs.Depths.{closing_at}
 use Rattle.aero_model.proofs.Begins.{open_number}
 use Rattle.aero_model.proofs.Walks.{Reaches, leads_from_reaches}
 use Rattle.aero_model.proofs.Telling.{none_returns}
-use Rattle.aero_access.specs.declared.slot.Slot.{Slot}
-use Rattle.aero_access.specs.declared.slot.Slot.TheVariants.{OfThread}
-use Rattle.aero_access.specs.Slots.{of_slot, last_event}
-use Rattle.aero_access.specs.Takes.{Among}
-use Rattle.aero_access.specs.Clocks.{Clock, AreSound, MissNothing, Clocked}
-use Rattle.aero_access.specs.Judgement.{IsJudged, IsJudgedAtEnd, IsTold}
-use Rattle.aero_access.specs.Judgement as clocks_say
-use Rattle.aero_access.proofs.LastEvents.{last_covers}
-use Rattle.aero_access.proofs.Sources.{latest, latest_open, acted_by_block}
-use Rattle.aero_access.proofs.Taken.{IsForeign, Found, Stand, stand}
-use Rattle.aero_access.proofs.Counts.{sound_reaches, complete_counts, reaches_on}
-use Rattle.aero_access.proofs.EveryRun.{takes_some, clocks_of_front}
-use Rattle.aero_access.proofs.Rules.{named_told, named_told_at_end, clocked_sound, clocked_complete}
+use Rattle.aero_engine.specs.declared.slot.Slot.{Slot}
+use Rattle.aero_engine.specs.declared.slot.Slot.TheVariants.{OfThread}
+use Rattle.aero_engine.specs.Slots.{of_slot, last_event}
+use Rattle.aero_engine.specs.Takes.{Among}
+use Rattle.aero_engine.specs.Clocks.{Clock, AreSound, MissNothing, Clocked}
+use Rattle.aero_engine.specs.Judgement.{IsJudged, IsJudgedAtEnd, IsTold}
+use Rattle.aero_engine.specs.Judgement as clocks_say
+use Rattle.aero_engine.proofs.LastEvents.{last_covers}
+use Rattle.aero_engine.proofs.Sources.{latest, latest_open, acted_by_block}
+use Rattle.aero_engine.proofs.Taken.{IsForeign, Found, Stand, stand}
+use Rattle.aero_engine.proofs.Counts.{sound_reaches, complete_counts, reaches_on}
+use Rattle.aero_engine.proofs.EveryRun.{takes_some, clocks_of_front}
+use Rattle.aero_engine.proofs.Rules.{named_told, named_told_at_end, clocked_sound, clocked_complete}
 use Rattle.aero_leads.specs.Leads.{Rows, is_led, AreFirst}
 use Rattle.aero_leads.specs.Marks.{Mark, TakesMarks}
 use Rattle.aero_leads.specs.Steps.{led_by, LeadsBack, IsClosedAtEnd}

@@ -1,6 +1,6 @@
 -- What contracts see of what the engine keeps.
 use Rattle.std.specs.Prelude.{◌≡◌, ◌≢◌, ℕ, ◌+◌, ◌*◌, ◌^◌, ◌≤◌, nat_lt, not, ◌==◌, ◌&&◌, ◌||◌, Bool, true, false, if◌then◌else◌, List, [], ◌∷◌, ◌++◌, filter, Option, Some, None, is_some, slice_get}
-use Rattle.aero_access.specs.Takes.{Among}
+use Rattle.aero_engine.specs.Takes.{Among}
 use Rattle.aero_leads.specs.declared.row.Lead.{Lead}
 use Rattle.aero_leads.specs.declared.last.Last.{Last}
 use Rattle.aero_leads.specs.declared.thread.Thread.{Thread}

@@ -3,8 +3,8 @@ use Rattle.std.specs.Prelude.{◌≡◌, ℕ, ◌<◌, ◌≤◌, nat_le, Bool, 
 use Rattle.aero_model.specs.declared.numbered.Numbered.{Numbered}
 use Rattle.aero_model.specs.Blocks.{depth, blocks, Transaction, Block}
 use Rattle.aero_model.specs.Graph.{LeadsTo}
-use Rattle.aero_access.specs.declared.slot.Slot.TheVariants.{OfThread}
-use Rattle.aero_access.specs.Slots.{of_slot}
+use Rattle.aero_engine.specs.declared.slot.Slot.TheVariants.{OfThread}
+use Rattle.aero_engine.specs.Slots.{of_slot}
 
 -- for a thread, and a thread with an open block, a place or none
 abbrev pub Rows : Type 0

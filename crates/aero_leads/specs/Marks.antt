@@ -4,10 +4,10 @@ use Rattle.aero_model.specs.declared.numbered.Numbered.{Numbered}
 use Rattle.aero_model.specs.declared.numbered.What.TheVariants.{Read, Write, Acquire, Join}
 use Rattle.aero_model.specs.Blocks.{depth, blocks, Block}
 use Rattle.aero_model.specs.Graph.{LeadsTo}
-use Rattle.aero_access.specs.declared.slot.Slot.{Slot}
-use Rattle.aero_access.specs.declared.slot.Slot.TheVariants.{OfThread, LastWrite, LastRead, LastRelease}
-use Rattle.aero_access.specs.Slots.{last_event}
-use Rattle.aero_access.specs.Takes.{Among, takes_only_own, HasActed}
+use Rattle.aero_engine.specs.declared.slot.Slot.{Slot}
+use Rattle.aero_engine.specs.declared.slot.Slot.TheVariants.{OfThread, LastWrite, LastRead, LastRelease}
+use Rattle.aero_engine.specs.Slots.{last_event}
+use Rattle.aero_engine.specs.Takes.{Among, takes_only_own, HasActed}
 
 pub record Mark : Type 0 where
   pub thread : ℕ

@@ -1,9 +1,10 @@
 -- What contracts see of Leads, and the trace that they stand for.
-use Rattle.std.specs.Prelude.{◌≡◌, ◌==◌, ◌<◌, ◌-◌, ◌^◌, ℕ, vec_len, Bool, true, false, if◌then◌else◌, List, [], ◌∷◌, ◌++◌, length, Option, Some, None, slice_get, Result, Ok, Err, OnOk, OnErr, IfOk, IsErr, IsSome}
+use Rattle.std.specs.Prelude.{◌≡◌, ◌==◌, ◌<◌, ◌-◌, ◌^◌, ℕ, vec_len, Bool, true, false, if◌then◌else◌, List, Option, Some, None, slice_get, Result}
 use Rattle.aero_model.specs.declared.numbered.Numbered.{Numbered}
-use Rattle.aero_model.specs.Shape.{IsWellFormed}
-use Rattle.aero_access.specs.declared.clocks.Spent.{Spent}
-use Rattle.aero_access.specs.Judgement.{IsTold}
+use Rattle.aero_engine.specs.declared.spent.Spent.{Spent}
+use Rattle.aero_engine.specs.Protocol.{View}
+use Rattle.aero_engine.specs.Protocol as protocol
+use Rattle.aero_engine.specs.Judging as judging
 use Rattle.aero_leads.specs.declared.kept.Kept.{Kept}
 use Rattle.aero_leads.specs.declared.leads.Leads.{Leads}
 use Rattle.aero_leads.specs.Kept.{rows_in, thread_in_block, thread_begins, thread_acted, variable_write, variable_reads, last_or_none}
@@ -81,35 +82,24 @@ pub record StandsFor (c : Leads) (trace : List Numbered) : Type 0 where
   pub unclosed : closed_by c ≡ None
   pub state : IsStateOf (state_of c) trace
 
+abbrev pub view_of : Leads → View
+view_of c = record { in_block = in_block_at c; begins = begins_at c; acted = acted_at c; closed = closed_by c; spent = is_spent c }
+
 -- the tests answer the same
-pub record HaveSameTests (old new : Leads) : Type 0 where
-  pub in_block : (t : ℕ) → in_block_at new t ≡ in_block_at old t
-  pub begins : (t : ℕ) → begins_at new t ≡ begins_at old t
-  pub acted : (t : ℕ) → acted_at new t ≡ acted_at old t
+abbrev pub HaveSameTests : Leads → Leads → Type 0
+HaveSameTests old new = protocol.HaveSameTests (view_of old) (view_of new)
 
 -- what a call leaves, whatever the trace
-pub record Answers (old new : Leads) (result : Result (Option ℕ) Spent) : Type 0 where
-  pub spent : is_spent old ≡ true → IsErr result
-  pub unspent : OnOk result (is_spent new ≡ false)
-  pub refused : OnErr result (is_spent new ≡ true)
-  pub closed : IfOk result (λ o. closed_by new ≡ o)
-  pub closed_err : OnErr result (closed_by new ≡ closed_by old)
-  pub tests : IfOk result (λ o. IsSome o → HaveSameTests old new)
-  pub tests_err : OnErr result (HaveSameTests old new)
+abbrev pub Answers : Leads → Leads → Result (Option ℕ) Spent → Type 0
+Answers old new = protocol.Answers (view_of old) (view_of new)
 
--- The answer after the event at place n is what is to be told, so it is None exactly where there is no telling cycle. Then the engine stands for the longer trace.
-pub record Tells (new : Leads) (trace : List Numbered) (n : ℕ) (o : Option ℕ) : Type 0 where
-  pub told : IsTold trace n o
-  pub stands : o ≡ None → StandsFor new trace
+-- what the answer after the event at place n tells, and for which trace the engine stands then
+abbrev pub Tells : Leads → List Numbered → ℕ → Option ℕ → Type 0
+Tells new = judging.Tells (StandsFor new)
 
 -- for each trace that the engine stood for
 abbrev pub Follows : Leads → Leads → Numbered → Result (Option ℕ) Spent → Type 0
-Follows old new e result = (h : List Numbered) → StandsFor old h → IsWellFormed (h ++ e ∷ []) → IfOk result (Tells new (h ++ e ∷ []) (length h))
-
--- an answer that tells nothing
-abbrev pub quiet : Result (Unit {0}) Spent → Result (Option ℕ) Spent
-quiet (Ok x) = Ok None
-quiet (Err e) = Err e
+Follows old new = judging.Follows (StandsFor old) (StandsFor new)
 
 -- a call has begun
 pub record IsStarted (old new : Leads) (t : ℕ) : Type 0 where
@@ -120,10 +110,8 @@ pub record IsStarted (old new : Leads) (t : ℕ) : Type 0 where
   pub room : HasRoom new.kept t
 
 -- and has been refused
-pub record IsRefused (old new : Leads) : Type 0 where
-  pub spent : is_spent new ≡ true
-  pub closed : closed_by new ≡ closed_by old
-  pub tests : HaveSameTests old new
+abbrev pub IsRefused : Leads → Leads → Type 0
+IsRefused old new = protocol.IsRefused (view_of old) (view_of new)
 
 -- thread t has acted, and the call is done
 pub record IsFinished (old new : Leads) (t : ℕ) : Type 0 where
@@ -131,14 +119,9 @@ pub record IsFinished (old new : Leads) (t : ℕ) : Type 0 where
   pub closed : closed_by new ≡ closed_by old
   pub state : AreSame (acting (state_of old) t) (state_of new)
 
--- or its block is told
-pub record IsClosed (old new : Leads) (t : ℕ) : Type 0 where
-  pub spent : is_spent new ≡ false
-  pub closed : closed_by new ≡ Some t
-  pub tests : HaveSameTests old new
+-- or this is told
+abbrev pub IsToldOf : Leads → Leads → Option ℕ → Type 0
+IsToldOf old new = protocol.IsToldOf (view_of old) (view_of new)
 
--- another's block is told
-pub record IsToldOf (old new : Leads) (o : Option ℕ) : Type 0 where
-  pub spent : is_spent new ≡ false
-  pub closed : closed_by new ≡ o
-  pub tests : HaveSameTests old new
+abbrev pub IsClosed : Leads → Leads → ℕ → Type 0
+IsClosed old new t = IsToldOf old new (Some t)

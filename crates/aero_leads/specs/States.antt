@@ -4,12 +4,12 @@ use Rattle.aero_model.specs.declared.numbered.Numbered.{Numbered}
 use Rattle.aero_model.specs.Blocks.{depth, blocks}
 use Rattle.aero_model.specs.Cycle.{HasTellingCycle}
 use Rattle.aero_model.specs.Shape.{has_acted, IsWellFormed}
-use Rattle.aero_access.specs.declared.slot.Slot.{Slot}
-use Rattle.aero_access.specs.declared.slot.Slot.TheVariants.{LastWrite, LastRead, LastRelease}
-use Rattle.aero_access.specs.Slots.{last_event}
-use Rattle.aero_access.specs.Takes.{Among}
-use Rattle.aero_access.specs.States.{actor_at}
-use Rattle.aero_access.specs.Judgement.{IsTold}
+use Rattle.aero_engine.specs.declared.slot.Slot.{Slot}
+use Rattle.aero_engine.specs.declared.slot.Slot.TheVariants.{LastWrite, LastRead, LastRelease}
+use Rattle.aero_engine.specs.Slots.{last_event}
+use Rattle.aero_engine.specs.Takes.{Among}
+use Rattle.aero_engine.specs.Events.{actor_at}
+use Rattle.aero_engine.specs.Judgement.{IsTold}
 use Rattle.aero_leads.specs.declared.last.Last.{Last}
 use Rattle.aero_leads.specs.Leads.{Rows, IsUnled, AreFirst}
 use Rattle.aero_leads.specs.Marks.{IsReadAt}

@@ -2,8 +2,8 @@
 use Rattle.std.specs.Prelude.{◌≡◌, ◌≢◌, ℕ, ◌<◌, ◌≤◌, ◌==◌, ◌&&◌, ◌||◌, min, Bool, true, false, if◌then◌else◌, List, [], ◌∷◌, Option, Some, None, is_some}
 use Rattle.aero_model.specs.declared.numbered.Numbered.{Numbered}
 use Rattle.aero_model.specs.Blocks.{depth, opens}
-use Rattle.aero_access.specs.declared.slot.Slot.TheVariants.{OfThread}
-use Rattle.aero_access.specs.Slots.{of_slot}
+use Rattle.aero_engine.specs.declared.slot.Slot.TheVariants.{OfThread}
+use Rattle.aero_engine.specs.Slots.{of_slot}
 use Rattle.aero_leads.specs.Leads.{Rows, is_led}
 use Rattle.aero_leads.specs.Marks.{Mark}
 

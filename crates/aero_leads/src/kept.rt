@@ -2,7 +2,7 @@
 //! that closes a cycle through the open block of its thread; then it leaves the blocks as they were.
 ghost use Rattle.std.specs.Prelude.{◌≡◌, ◌≢◌, ◌<◌, ◌-◌, ◌^◌, ℕ, suc, [], true, false, IfOk, OnOk, OnErr, vec_len};
 ghost use Rattle.aero_model.specs.declared.numbered.What.TheVariants.{Read, Write, Acquire, Release, Fork, Join, Begin};
-ghost use Rattle.aero_access.specs.StateWords.{event};
+ghost use Rattle.aero_engine.specs.Events.{event};
 ghost use Rattle.aero_leads.specs.Kept.{last, IsLeastBack};
 
 use crate::last::Last;

@@ -5,10 +5,10 @@ ghost use Rattle.aero_model.specs.declared.numbered.What.{What};
 ghost use Rattle.aero_model.specs.declared.numbered.What.TheVariants.{Read, Write, Acquire, Release, Fork, Join, Begin, End};
 ghost use Rattle.aero_model.specs.Blocks.{closes};
 ghost use Rattle.aero_model.specs.Shape.{IsWellFormed};
-ghost use Rattle.aero_access.specs.StateWords.{event, IsIdle};
+ghost use Rattle.aero_engine.specs.Events.{event, IsIdle};
 
 use crate::kept::Kept;
-use aero_access::clocks::Spent;
+use aero_engine::spent::Spent;
 use std::alloc::Global;
 
 /// The first places of the events so far. Threads, variables and locks go by numbers from 0.
@@ -25,8 +25,9 @@ pub struct Leads {
 }
 
 impl Leads {
+    ghost use Rattle.aero_engine.specs.Protocol.{quiet};
     ghost use Rattle.aero_leads.specs.Kept.{IsLeastBack};
-    ghost use Rattle.aero_leads.specs.Standing.{state_of, in_block_at, begins_at, acted_at, closed_by, is_spent, StandsFor, Answers, Follows, Tells, quiet, IsStarted, IsRefused, IsFinished, IsClosed, IsToldOf, HasRoom};
+    ghost use Rattle.aero_leads.specs.Standing.{state_of, in_block_at, begins_at, acted_at, closed_by, is_spent, StandsFor, Answers, Follows, Tells, IsStarted, IsRefused, IsFinished, IsClosed, IsToldOf, HasRoom};
 
     /// No event.
     pub fn new(alloc: Global) -> Leads

@@ -43,6 +43,7 @@
 //!   before. After a refusal each later call refuses: `answers` of the same calls.
 #![tactic(auto)]
 
+mod engine;
 mod index;
 mod kept;
 mod last;

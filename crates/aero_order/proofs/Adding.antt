@@ -10,9 +10,9 @@ use Rattle.aero_model.proofs.Places.{IsIn, in_block, in_unary, block_from}
 use Rattle.aero_model.proofs.Depths.{AtOpening, AtClosing, AtOther, step}
 use Rattle.aero_model.proofs.Ends.{in_cases, begun, begin_in, deep_in}
 use Rattle.aero_model.proofs.Begins.{blocks_rise, last_in_open}
-use Rattle.aero_access.specs.declared.slot.Slot.{Slot}
-use Rattle.aero_access.specs.Slots.{of_slot, last_of}
-use Rattle.aero_access.proofs.LastEvents.{is_last, last_covers}
+use Rattle.aero_engine.specs.declared.slot.Slot.{Slot}
+use Rattle.aero_engine.specs.Slots.{of_slot, last_of}
+use Rattle.aero_engine.proofs.LastEvents.{is_last, last_covers}
 use Rattle.aero_order.specs.LastNumbers.{IsKept, AreReadsAfter, is_looked_at, Keeps, looked_back, AreLinked}
 use Rattle.aero_order.specs.Numbering.{IsNumbered}
 use Rattle.aero_order.specs.TransactionNumbers.{AreFirsts, HasNumber, AreEdges}

@@ -9,10 +9,10 @@ use Rattle.aero_model.specs.declared.numbered.What.{What}
 use Rattle.aero_model.specs.declared.numbered.What.TheVariants.{Read, Write, Acquire, Join}
 use Rattle.aero_model.specs.Blocks.{transaction}
 use Rattle.aero_model.proofs.Stability.{Agree, agree_front}
-use Rattle.aero_access.specs.declared.slot.Slot.{Slot}
-use Rattle.aero_access.specs.declared.slot.Slot.TheVariants.{OfThread, LastWrite, LastRelease}
-use Rattle.aero_access.specs.Slots.{of_slot, last_of, last_event}
-use Rattle.aero_access.proofs.LastEvents.{last_same}
+use Rattle.aero_engine.specs.declared.slot.Slot.{Slot}
+use Rattle.aero_engine.specs.declared.slot.Slot.TheVariants.{OfThread, LastWrite, LastRelease}
+use Rattle.aero_engine.specs.Slots.{of_slot, last_of, last_event}
+use Rattle.aero_engine.proofs.LastEvents.{last_same}
 use Rattle.aero_order.specs.LastNumbers.{IsKept, is_looked_at, Keeps, looked_at}
 use Rattle.aero_order.specs.Near.{NoWriteBetween, Near, own, read, write, write_after_read, acquire, join}
 use Rattle.aero_order.specs.TransactionNumbers.{HasNumber}

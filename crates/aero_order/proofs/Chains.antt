@@ -9,9 +9,9 @@ use Rattle.aero_model.specs.Graph.{Conflict, Conflicts, same_thread, write_read,
 use Rattle.aero_model.specs.Shape.{held, IsWellFormed}
 use Rattle.aero_model.proofs.WellFormed.{forked_before, forked_once, released_held}
 use Rattle.aero_model.proofs.Locks.{release_is, one_holder, acquired_between}
-use Rattle.aero_access.specs.declared.slot.Slot.TheVariants.{OfThread, LastWrite, LastRelease}
-use Rattle.aero_access.specs.Slots.{of_slot, last_of, last_event}
-use Rattle.aero_access.proofs.LastEvents.{write_is, of_thread, to_thread, to_fork, to_write, to_release, is_last, last_covers}
+use Rattle.aero_engine.specs.declared.slot.Slot.TheVariants.{OfThread, LastWrite, LastRelease}
+use Rattle.aero_engine.specs.Slots.{of_slot, last_of, last_event}
+use Rattle.aero_engine.proofs.LastEvents.{write_is, of_thread, to_thread, to_fork, to_write, to_release, is_last, last_covers}
 use Rattle.aero_order.specs.Near.{NoWriteBetween, Near, own, read, write, write_after_read, acquire, join, Chain, one, further}
 
 pub chain_trans : (trace : List Numbered) (i j k : ℕ) → Chain trace i j → Chain trace j k → Chain trace i k

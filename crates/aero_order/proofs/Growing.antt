@@ -11,9 +11,9 @@ use Rattle.aero_model.specs.Graph.{Edge}
 use Rattle.aero_model.specs.Serial.{IsFirstPlace}
 use Rattle.aero_model.proofs.Stability.{Agree, agree_front, agree_back, agree_less, transaction_same, conflict_same}
 use Rattle.aero_model.proofs.SerialOrders.{at_push}
-use Rattle.aero_access.specs.declared.slot.Slot.TheVariants.{OfThread, LastWrite, LastRelease}
-use Rattle.aero_access.specs.Slots.{of_slot, last_of}
-use Rattle.aero_access.proofs.LastEvents.{last_same}
+use Rattle.aero_engine.specs.declared.slot.Slot.TheVariants.{OfThread, LastWrite, LastRelease}
+use Rattle.aero_engine.specs.Slots.{of_slot, last_of}
+use Rattle.aero_engine.proofs.LastEvents.{last_same}
 use Rattle.aero_order.specs.LastNumbers.{AreLinked}
 use Rattle.aero_order.specs.Near.{Near, own, read, write, write_after_read, acquire, join}
 use Rattle.aero_order.specs.TransactionNumbers.{AreFirsts, HasNumber, AreEdges}

@@ -7,10 +7,10 @@ use Rattle.aero_model.specs.declared.numbered.What.{What}
 use Rattle.aero_model.specs.declared.numbered.What.TheVariants.{Begin, End, Exempt, Read, Write}
 use Rattle.aero_model.specs.Exempt.{IsBare, IsJudgedWhat, IsJudgedAs}
 use Rattle.aero_model.specs.Shape.{is_fork_of, is_release_of}
-use Rattle.aero_access.specs.declared.slot.Slot.{Slot}
-use Rattle.aero_access.specs.declared.slot.Slot.TheVariants.{OfThread, LastWrite, LastRead, LastRelease}
-use Rattle.aero_access.specs.Slots.{is_read_of, is_write_of, of_slot}
-use Rattle.aero_access.proofs.LastEvents.{read_is, write_is}
+use Rattle.aero_engine.specs.declared.slot.Slot.{Slot}
+use Rattle.aero_engine.specs.declared.slot.Slot.TheVariants.{OfThread, LastWrite, LastRead, LastRelease}
+use Rattle.aero_engine.specs.Slots.{is_read_of, is_write_of, of_slot}
+use Rattle.aero_engine.proofs.LastEvents.{read_is, write_is}
 use Rattle.aero_order.specs.LastNumbers.{AreReadsAfter, looked_at, looked_back}
 
 bare_same : {X : Type 0} (f : What → X) → ((label : Option ℕ) → f (Begin label) ≡ f Exempt) → f End ≡ f Exempt → (judged : What) → IsBare judged → f judged ≡ f Exempt

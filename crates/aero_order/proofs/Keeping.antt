@@ -9,9 +9,9 @@ use Rattle.aero_model.specs.declared.numbered.What.TheVariants.{Read, Write}
 use Rattle.aero_model.specs.Blocks.{Transaction, transaction}
 use Rattle.aero_model.proofs.Stability.{Agree, agree_front, transaction_same}
 use Rattle.aero_model.proofs.Ready.{one_first}
-use Rattle.aero_access.specs.declared.slot.Slot.{Slot}
-use Rattle.aero_access.specs.Slots.{is_read_of, is_write_of, of_slot, last_of}
-use Rattle.aero_access.proofs.LastEvents.{read_is, write_is, is_last, last_same, last_new, last_kept}
+use Rattle.aero_engine.specs.declared.slot.Slot.{Slot}
+use Rattle.aero_engine.specs.Slots.{is_read_of, is_write_of, of_slot, last_of}
+use Rattle.aero_engine.proofs.LastEvents.{read_is, write_is, is_last, last_same, last_new, last_kept}
 use Rattle.aero_order.specs.LastNumbers.{IsKept, AreReads, AreReadsAfter, Keeps}
 use Rattle.aero_order.specs.Near.{NoWriteBetween, Near}
 use Rattle.aero_order.specs.TransactionNumbers.{AreFirsts, HasNumber, AreEdges}

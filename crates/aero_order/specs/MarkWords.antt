@@ -1,7 +1,7 @@
 -- What contracts see of the numbers that are kept.
 use Rattle.std.specs.Prelude.{ℕ, List, [], Option, Some, None, slice_get, slice_index_or}
-use Rattle.aero_access.specs.declared.slot.Slot.{Slot}
-use Rattle.aero_access.specs.declared.slot.Slot.TheVariants.{OfThread, LastWrite, LastRead, LastRelease}
+use Rattle.aero_engine.specs.declared.slot.Slot.{Slot}
+use Rattle.aero_engine.specs.declared.slot.Slot.TheVariants.{OfThread, LastWrite, LastRead, LastRelease}
 use Rattle.aero_order.specs.declared.marks.Marks.{Marks}
 use Rattle.aero_order.specs.declared.marks.Readers.{Readers}
 

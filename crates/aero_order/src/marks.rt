@@ -2,8 +2,8 @@
 //! since the last write. Threads, variables and locks go by numbers from 0.
 ghost use Rattle.std.specs.Prelude.{◌≡◌, ◌≢◌, ◌↔◌, ◌-◌, ◌==◌, ◌<◌, ℕ, [], length, slice_get, Some, None, if◌then◌else◌, vec_len, IsTrue, OnOk};
 ghost use Rattle.std.specs.Option.{option_to_list};
-ghost use Rattle.aero_access.specs.declared.slot.Slot.TheVariants.{OfThread};
-ghost use Rattle.aero_access.specs.Slots.{is_write_of, of_slot};
+ghost use Rattle.aero_engine.specs.declared.slot.Slot.TheVariants.{OfThread};
+ghost use Rattle.aero_engine.specs.Slots.{is_write_of, of_slot};
 ghost use Rattle.aero_model.specs.Shape.{is_release_of};
 ghost use Rattle.aero_order.specs.LastNumbers.{AreReadersWith, AreReadsAfter, AreLinked};
 ghost use Rattle.aero_order.specs.MarkWords.{mark_at, reads_at};
@@ -57,7 +57,7 @@ pub struct Marks {
 
 impl Marks {
     ghost use Rattle.std.specs.Prelude.{true};
-    ghost use Rattle.aero_access.specs.declared.slot.Slot.{Slot};
+    ghost use Rattle.aero_engine.specs.declared.slot.Slot.{Slot};
     ghost use Rattle.aero_order.specs.LastNumbers.{is_looked_at, looked_back};
     ghost use Rattle.aero_order.specs.MarkWords.{kept_of, reads_of, own_of};
 

@@ -1,5 +1,6 @@
-use aero_access::clocks::{Clocks, Spent};
+use aero_access::clocks::Clocks;
 use aero_end::end;
+use aero_engine::spent::Spent;
 use aero_leads::leads::Leads;
 use std::alloc::Global;
 

@@ -3,7 +3,7 @@ ghost use Rattle.std.specs.Prelude.{◌≡◌};
 
 use crate::model::except_of;
 use crate::verdict::{parts_of, words_of};
-use aero_access::clocks::Clocks;
+use aero_end::ending_clocks::EndingClocks;
 use aero_grammar::parsed::Parsed;
 use aero_leads::leads::Leads;
 use aero_model::except::Except;
@@ -112,7 +112,7 @@ fn is_checked_so(alloc: Global, parts: &[Parsed], case: Case<'_>) -> bool {
 // Whether they are judged so by both engines, and by a check of them all.
 fn are_judged_so(alloc: Global, parts: &[Parsed], case: Case<'_>) -> bool {
     is_judged_so::<Leads>(alloc, parts, case)
-        && is_judged_so::<Clocks>(alloc, parts, case)
+        && is_judged_so::<EndingClocks>(alloc, parts, case)
         && is_checked_so(alloc, parts, case)
 }
 

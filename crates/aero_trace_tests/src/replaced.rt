@@ -4,7 +4,7 @@
 use crate::leads::roll;
 use crate::model::except_of;
 use crate::verdict::{judged_by, parts_of};
-use aero_access::clocks::Clocks;
+use aero_end::ending_clocks::EndingClocks;
 use aero_leads::leads::Leads;
 use aero_model::limits::Limits;
 use aero_verdict::engine::Engine;
@@ -137,7 +137,7 @@ fn words_by<E: Engine>(alloc: Global, text: &str, labels: &str) -> Option<String
 fn kind_of(alloc: Global, seed: u32) -> Option<usize> {
     let trace = generated(alloc, seed, 4 + seed % 44)?;
     let words = words_by::<Leads>(alloc, &trace.parts, LISTED)?;
-    let wanted = words_by::<Clocks>(alloc, &trace.replaced, "")?;
+    let wanted = words_by::<EndingClocks>(alloc, &trace.replaced, "")?;
     kind_of_both(words.as_str(), wanted.as_str())
 }
 

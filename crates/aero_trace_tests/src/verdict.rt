@@ -1,5 +1,5 @@
 use crate::model::except_of;
-use aero_access::clocks::Clocks;
+use aero_end::ending_clocks::EndingClocks;
 use aero_grammar::block::parse_block;
 use aero_grammar::parsed::Parsed;
 use aero_model::except::Except;
@@ -136,7 +136,7 @@ fn has_verdict(
     says(alloc, verdict_of(alloc, parts, limits, except), wanted)
         && says(
             alloc,
-            verdict_by::<Clocks>(alloc, parts, limits, except),
+            verdict_by::<EndingClocks>(alloc, parts, limits, except),
             wanted,
         )
 }

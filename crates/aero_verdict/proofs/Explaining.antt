@@ -27,11 +27,11 @@ use Rattle.aero_witness.specs.Trail.{IsTrail}
 use Rattle.aero_witness.proofs.Nests.{opening_first}
 use Rattle.aero_witness.proofs.Starting.{first_within}
 use Rattle.aero_witness.proofs.Trail.{transaction_recorded, telling_back, telling_on}
+use Rattle.aero_engine.specs.Given.{Given, words_of}
 use Rattle.aero_verdict.specs.declared.checker.Checker.{Checker}
 use Rattle.aero_verdict.specs.declared.recorder.Recorder.{Recorder}
 use Rattle.aero_verdict.specs.Actors.{named_on}
 use Rattle.aero_verdict.specs.Explained.{has_cycle, visit_places, round_places, IsCycleStep, IsExplained}
-use Rattle.aero_verdict.specs.Given.{Given, words_of}
 use Rattle.aero_verdict.specs.Standing.{AreGiven}
 use Rattle.aero_verdict.specs.Parts.{KeepsAt}
 use Rattle.aero_verdict.specs.Recorded.{HasRecorded, StandsForLeads}

@@ -14,10 +14,10 @@ use Rattle.aero_model.specs.Exempt.{Listed}
 use Rattle.aero_model.specs.Named.{Named}
 use Rattle.aero_model.specs.Verdicts.{HasOwnFault}
 use Rattle.aero_grammar.specs.Reading.{Reading, after_lines, whole_reading, fault_within}
+use Rattle.aero_engine.specs.Given.{Words}
 use Rattle.aero_verdict.specs.declared.checker.Checker.{Checker}
 use Rattle.aero_verdict.specs.declared.monitor.State.{State}
 use Rattle.aero_verdict.specs.declared.monitor.State.TheVariants.{Undecided, Decided, Spent}
-use Rattle.aero_verdict.specs.Given.{Words}
 use Rattle.aero_verdict.specs.Standing.{KeepsFirst, StandsFor, up_to}
 use Rattle.aero_verdict.specs.Fed.{IsCertain, IsOpen}
 use Rattle.aero_verdict.specs.Monitored.{FedSo, certain_of, TellsFed}

@@ -9,10 +9,10 @@ use Rattle.aero_model.specs.Named.{Named}
 use Rattle.aero_model.specs.Numbering.{Tables, tables_of, numbered, number_of}
 use Rattle.aero_grammar.specs.Reading.{Reading}
 use Rattle.aero_grammar.specs.Words.{IsName}
+use Rattle.aero_engine.specs.Given.{Given}
 use Rattle.aero_order.specs.declared.first.First.{First}
 use Rattle.aero_order.specs.Came.{Came, places_in, IsOf}
 use Rattle.aero_verdict.specs.declared.numbering.Numbering.{Numbering}
-use Rattle.aero_verdict.specs.Given.{Given}
 use Rattle.aero_verdict.specs.InOrder.{came_of, step_in}
 use Rattle.aero_verdict.specs.Standing.{AreGiven, HasNamedActor}
 use Rattle.aero_verdict.specs.Limited.{names_in, IsNamedThread}

@@ -11,6 +11,7 @@ use Rattle.aero_model.specs.Cycle.{IsSerializable}
 use Rattle.aero_model.specs.Shape.{IsWellFormed}
 use Rattle.aero_model.specs.Verdicts.{HasOwnFault}
 use Rattle.aero_grammar.specs.Reading.{Reading}
+use Rattle.aero_engine.specs.Given.{words_of}
 use Rattle.aero_order.specs.declared.first.First.{First}
 use Rattle.aero_order.specs.declared.transactions.Transactions.{Transactions}
 use Rattle.aero_order.specs.Came.{places_in}
@@ -18,7 +19,6 @@ use Rattle.aero_order.specs.Standing.{StandsFor}
 use Rattle.aero_verdict.specs.declared.checker.Checker.{Checker}
 use Rattle.aero_verdict.specs.declared.in_order.InOrder.{InOrder}
 use Rattle.aero_verdict.specs.declared.numbering.Numbering.{Numbering}
-use Rattle.aero_verdict.specs.Given.{words_of}
 use Rattle.aero_verdict.specs.InOrder.{StandsForBoth, came_of, KeepsFirsts, KeepsInOrder, AreGathered, AreFirstsInOrder, step_in}
 use Rattle.aero_verdict.specs.Standing.{KeepsFirst}
 use Rattle.aero_verdict.specs.Limited.{IsNamedThread}

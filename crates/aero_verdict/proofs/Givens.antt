@@ -3,7 +3,7 @@ use Rattle.std.proofs.Common.{◌≡◌, ◌⊎◌, ℕ, zero, suc, List, [], �
 use Rattle.std.specs.Prelude.{slice_get}
 use Rattle.std.proofs.lemmas.Option.{same_Some}
 use Rattle.aero_model.specs.Named.{Named}
-use Rattle.aero_verdict.specs.Given.{Given}
+use Rattle.aero_engine.specs.Given.{Given}
 use Rattle.aero_verdict.specs.Standing.{IsGiven, AreGiven, KeepsFirst}
 use Rattle.aero_verdict.specs.Verdict.{Rules}
 

@@ -8,7 +8,7 @@ use Rattle.aero_model.specs.declared.numbered.What.{What}
 use Rattle.aero_model.specs.declared.numbered.What.TheVariants.{Read, Write, Acquire, Release, Fork, Join, Begin, End, Exempt}
 use Rattle.aero_model.specs.Exempt.{Listed, leaves_out, begins_exempt}
 use Rattle.aero_model.specs.Numbering.{with_name, number_of, Tables}
-use Rattle.aero_access.proofs.KeptLists.{slice_get-pushed}
+use Rattle.aero_engine.proofs.Written.{slice_get-pushed}
 use Rattle.aero_names.specs.Listing.{Listing}
 use Rattle.aero_names.proofs.Listings.{number_of-place}
 use Rattle.aero_names.proofs.NewNames.{has_name, still_passes, number_stays}

@@ -3,7 +3,6 @@ pub mod KnownLabels
 pub mod KnownLines
 pub mod Targets
 pub mod Judged
-pub mod Judging
 pub mod Givens
 pub mod Recording
 pub mod Zipped

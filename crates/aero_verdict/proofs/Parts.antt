@@ -13,9 +13,9 @@ use Rattle.aero_model.specs.Cycle.{HasTellingCycle}
 use Rattle.aero_model.specs.Numbering.{tables_of}
 use Rattle.aero_model.specs.BlockCounts.{count_below, is_outer_begin, is_outer_end}
 use Rattle.aero_grammar.specs.Reading.{Reading, after_lines, whole_reading, IsReading, fault_within, malformed_line}
+use Rattle.aero_engine.specs.Given.{Words}
 use Rattle.aero_verdict.specs.declared.checker.Checker.{Checker}
 use Rattle.aero_verdict.specs.declared.checker.Stop.{Stop}
-use Rattle.aero_verdict.specs.Given.{Words}
 use Rattle.aero_verdict.specs.Standing.{StandsFor, KeepsFirst, HasNamedActor, CanBeTold, up_to, AreNext, AreExpected, StopsIn, TellsStop}
 use Rattle.aero_verdict.specs.declared.known.Exemptions.{Exemptions}
 use Rattle.aero_verdict.specs.Known.{AreMarked}

@@ -16,7 +16,7 @@ use Rattle.aero_model.proofs.WellFormed.{slice_get-take, length-take_at}
 use Rattle.aero_shape.specs.declared.admission.Admitted.TheVariants.{Plain, OuterBegin, OuterEnd, IdleJoin}
 use Rattle.aero_shape.specs.Admission.{admitted_as, deed_as}
 use Rattle.aero_witness.specs.Trail.{is_deed, IsRecorded, IsTrail}
-use Rattle.aero_verdict.specs.Given.{Given}
+use Rattle.aero_engine.specs.Given.{Given}
 use Rattle.aero_verdict.specs.Standing.{names_of, marked_in, judged_in, AreGiven, IsGiven}
 use Rattle.aero_verdict.specs.Recorded.{inner_what, recorded_what, recorded}
 use Rattle.aero_verdict.specs.Verdict.{Rules}

@@ -21,13 +21,13 @@ use Rattle.aero_model.proofs.Exempt.{judged_at}
 use Rattle.aero_model.proofs.Lawful.{lawful_well_formed}
 use Rattle.aero_model.proofs.Searching.{Decided, search_below}
 use Rattle.aero_model.proofs.Telling.{event_at, telling_back, closing_front, opener_front}
-use Rattle.aero_access.specs.declared.slot.Slot.{Slot}
-use Rattle.aero_access.specs.declared.slot.Slot.TheVariants.{OfThread, LastWrite, LastRead, LastRelease}
-use Rattle.aero_access.specs.Clocks.{Clock}
-use Rattle.aero_access.specs.Judgement.{IsJudged, IsJudgedAtEnd, Passed, start, event, end}
-use Rattle.aero_access.specs.Takes.{Among, here, there, Takes}
-use Rattle.aero_access.proofs.EveryRun.{takes_some}
-use Rattle.aero_access.proofs.Rules.{passed_none, passed_told, passed_told_at_end}
+use Rattle.aero_engine.specs.declared.slot.Slot.{Slot}
+use Rattle.aero_engine.specs.declared.slot.Slot.TheVariants.{OfThread, LastWrite, LastRead, LastRelease}
+use Rattle.aero_engine.specs.Clocks.{Clock}
+use Rattle.aero_engine.specs.Judgement.{IsJudged, IsJudgedAtEnd, Passed, start, event, end}
+use Rattle.aero_engine.specs.Takes.{Among, here, there, Takes}
+use Rattle.aero_engine.proofs.EveryRun.{takes_some}
+use Rattle.aero_engine.proofs.Rules.{passed_none, passed_told, passed_told_at_end}
 use Rattle.aero_grammar.specs.Reading.{Reading}
 use Rattle.aero_verdict.specs.Verdict.{Rules, IsVerdict, IsClean, IsOnLine, counted_events, events_of, faulty_line, read_trace, checked_trace}
 use Rattle.aero_verdict.proofs.Judged.{judged_well}

@@ -12,7 +12,7 @@ use Rattle.aero_model.specs.declared.verdict.ShapeFault.{ShapeFault}
 use Rattle.aero_model.specs.declared.verdict.ShapeFault.TheVariants.{Memory, TooManyThreads, TooManyNames, ThreadJoined, LockHeldByOther, LockNotHeld, ForkSelf, ForkStarted, JoinSelf, EndWithoutBegin}
 use Rattle.aero_model.specs.Blocks.{depth, is_begin, is_end, by_thread, opens, closes, blocks, Block, transaction}
 use Rattle.aero_model.specs.Cycle.{HasTellingCycle, IsOpener}
-use Rattle.aero_model.specs.Exempt.{Marked, read_events, ends_exempt, judged_what, judged as judged_event, judged_trace, marked}
+use Rattle.aero_model.specs.Exempt.{Marked, read_events, ends_exempt, judged_what, judged as judged_event, judged_trace, marked, IsBare, IsJudgedWhat, IsJudgedAs}
 use Rattle.aero_model.specs.Named.{Named, HasItsTarget}
 use Rattle.aero_model.specs.Numbering.{Tables, tables_of, numbered}
 use Rattle.aero_model.specs.Shape.{shape_fault, limit_fault, fault_at, IsLawful, IsWellFormed}
@@ -26,24 +26,23 @@ use Rattle.aero_model.proofs.Telling.{closing_front, opener_front, telling_back}
 use Rattle.aero_model.proofs.WellFormed.{slice_get-take}
 use Rattle.aero_shape.specs.declared.admission.Admitted.{Admitted}
 use Rattle.aero_shape.specs.Admission.{admitted_as, TellsEvent}
-use Rattle.aero_access.specs.Judgement.{IsTold}
-use Rattle.aero_access.specs.StateWords.{event}
 use Rattle.aero_shape.specs.Standing as shapes
 use Rattle.aero_shape.specs.States as states
+use Rattle.aero_engine.specs.Judgement.{IsTold}
+use Rattle.aero_engine.specs.Events.{event}
+use Rattle.aero_engine.specs.Given.{begins_block, ends_block, Given, Words}
+use Rattle.aero_engine.specs.Judging.{ComesAfter, IsAdmitted, Tells}
+use Rattle.aero_engine.proofs.Judging.{begins_as, ends_as}
 use Rattle.aero_verdict.specs.declared.checker.Checker.{Checker}
 use Rattle.aero_verdict.specs.declared.numbering.Numbering.{Numbering}
 use Rattle.aero_verdict.specs.declared.blocks.Blocks.{Blocks}
-use Rattle.aero_verdict.specs.Begun.{begin_line, begins_block, ends_block, CountsBlock}
-use Rattle.aero_model.specs.Exempt.{IsBare, IsJudgedWhat, IsJudgedAs}
-use Rattle.aero_verdict.specs.Given.{Given, Words}
-use Rattle.aero_verdict.specs.Judging.{ComesAfter, IsAdmitted, Tells}
+use Rattle.aero_verdict.specs.Begun.{begin_line, CountsBlock}
 use Rattle.aero_verdict.specs.Standing.{names_of, trace_in, marked_in, judged_in, LastBegins, IsGiven, KeepsFirst, Counts, StandsFor, IsNext, Refuses, Judged}
 use Rattle.aero_verdict.specs.Limited.{names_in, IsLimited, NumbersEvent, RefusesEvent}
 use Rattle.aero_verdict.specs.Verdict.{Rules}
 use Rattle.aero_names.specs.Additions.{with_event, numbered_after}
 use Rattle.aero_verdict.proofs.Givens.{keeps_more}
 use Rattle.aero_verdict.proofs.Judged.{read_so_far}
-use Rattle.aero_verdict.proofs.Judging.{begins_as, ends_as}
 use Rattle.aero_names.proofs.Fronts.{Extends, tables_pushed, tables_extended, numbered_kept}
 
 -- the front of a list with its next element, and what comes after it
@@ -359,12 +358,12 @@ module _ {E : Type 0} (words : Words E) (rules : Rules) (events : List (ℕ × N
           let count : new.shape.admitted ≡ suc n = ap (λ (s : states.Tables). s.admitted) same_shape ∙ count_next ∙ add-one n in
           record {
             counts = counts_next counted counts new same_numbering same_shape same_blocks;
-            untold = subst (λ k. ¬ HasTellingCycle trace k) (sym count) (untold_whole tells_new.is_told);
-            engine_stands = subst (words.stands new.engine) (sym taken ∙ ap (λ k. take k trace) (sym count)) (tells_new.standing refl);
+            untold = subst (λ k. ¬ HasTellingCycle trace k) (sym count) (untold_whole tells_new.told);
+            engine_stands = subst (words.stands new.engine) (sym taken ∙ ap (λ k. take k trace) (sym count)) (tells_new.stands refl);
             engine_keeps = subst (λ k. KeepsFirst words.keeps rules events k new.engine) (sym count) (keeps_next new.engine kept_on);
           }
       judged counted counts (Some t) new same_numbering same_shape same_blocks tells_new kept_on =
-          (counts_next counted counts new same_numbering same_shape same_blocks, told_whole t tells_new.is_told, keeps_next new.engine kept_on)
+          (counts_next counted counts new same_numbering same_shape same_blocks, told_whole t tells_new.told, keeps_next new.engine kept_on)
 
 count_below_most : (test : ℕ → Bool) (n : ℕ) → count_below test n ≤ n
 count_below_most test zero = omega arith

@@ -16,11 +16,11 @@ use Rattle.aero_grammar.specs.Words.{IsName}
 use Rattle.aero_names.proofs.Fronts.{Extends, tables_pushed, tables_extended}
 use Rattle.aero_names.proofs.Listings.{number_of-place}
 use Rattle.aero_names.proofs.NewNames.{still_has_name, number_stays}
+use Rattle.aero_engine.specs.Given.{Words}
 use Rattle.aero_verdict.specs.declared.checker.Checker.{Checker}
 use Rattle.aero_verdict.specs.declared.checker.Stop.{Stop}
 use Rattle.aero_verdict.specs.declared.checker.Stop.TheVariants.{Refused, Closed}
 use Rattle.aero_verdict.specs.Begun.{begin_line}
-use Rattle.aero_verdict.specs.Given.{Words}
 use Rattle.aero_verdict.specs.Standing.{names_of, marked_in, judged_in, LastBegins, HasNamedActor, CanBeTold, StopsIn}
 use Rattle.aero_verdict.specs.Verdict.{Rules}
 use Rattle.aero_verdict.proofs.BlockEvents.{thread_within}

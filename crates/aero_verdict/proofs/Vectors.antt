@@ -7,7 +7,7 @@ use Rattle.aero_model.specs.declared.verdict.ShapeFault.TheVariants.{TooManyThre
 use Rattle.aero_model.specs.declared.verdict.Verdict.TheVariants.{Serializable, Pending, Violation, Malformed, IllFormed}
 use Rattle.aero_model.specs.declared.numbered.Numbered.{Numbered}
 use Rattle.aero_model.specs.declared.numbered.What.TheVariants.{Begin, Read, Write}
-use Rattle.aero_access.specs.StateWords.{event}
+use Rattle.aero_engine.specs.Events.{event}
 use Rattle.aero_model.specs.Blocks.{Transaction, Block, Unary, transaction}
 use Rattle.aero_model.specs.Exempt.{these, all_but}
 use Rattle.aero_model.specs.Cycle.{HasTellingCycle}

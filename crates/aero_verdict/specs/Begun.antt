@@ -1,22 +1,12 @@
 -- Which blocks a `Blocks` counts.
-use Rattle.std.specs.Prelude.{◌≡◌, ℕ, ◌+◌, ◌==◌, ◌&&◌, Bool, true, false, if◌then◌else◌, slice_index_or}
+use Rattle.std.specs.Prelude.{◌≡◌, ℕ, ◌+◌, ◌==◌, ◌&&◌, if◌then◌else◌, slice_index_or}
 use Rattle.aero_shape.specs.declared.admission.Admitted.{Admitted}
-use Rattle.aero_shape.specs.declared.admission.Admitted.TheVariants.{OuterBegin, OuterEnd}
+use Rattle.aero_engine.specs.Given.{begins_block, ends_block}
 use Rattle.aero_verdict.specs.declared.blocks.Blocks.{Blocks}
 
 -- the line of the thread's latest outermost begin
 abbrev pub begin_line : Blocks → ℕ → ℕ
 begin_line b t = slice_index_or b.lines.items t 0
-
--- whether the event is an outermost begin
-abbrev pub begins_block : Admitted → Bool
-begins_block OuterBegin = true
-begins_block _ = false
-
--- whether it is an outermost end
-abbrev pub ends_block : Admitted → Bool
-ends_block OuterEnd = true
-ends_block _ = false
 
 -- an event of thread t on the line is counted too
 pub record CountsBlock (old new : Blocks) (admitted : Admitted) (t line : ℕ) : Type 0 where

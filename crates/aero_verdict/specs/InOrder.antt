@@ -3,6 +3,7 @@ use Rattle.std.specs.Prelude.{◌≡◌, ◌↔◌, Bool, true, List, [], length
 use Rattle.aero_model.specs.declared.numbered.Numbered.{Numbered}
 use Rattle.aero_model.specs.declared.verdict.Step.{Step}
 use Rattle.aero_grammar.specs.Reading.{Reading}
+use Rattle.aero_engine.specs.Given.{Given}
 use Rattle.aero_leads.specs.Standing as leads
 use Rattle.aero_model.specs.Cycle.{IsSerializable}
 use Rattle.aero_model.specs.Serial.{IsSerialOrder}
@@ -13,7 +14,6 @@ use Rattle.aero_order.specs.declared.first.First.{First}
 use Rattle.aero_order.specs.declared.transactions.Transactions.{Transactions}
 use Rattle.aero_verdict.specs.declared.in_order.InOrder.{InOrder}
 use Rattle.aero_verdict.specs.declared.numbering.Numbering.{Numbering}
-use Rattle.aero_verdict.specs.Given.{Given}
 use Rattle.aero_verdict.specs.Standing.{KeepsFirst}
 use Rattle.aero_verdict.specs.Limited.{names_in}
 use Rattle.aero_verdict.specs.Parts.{NamesAll}

@@ -1,13 +1,11 @@
 -- To be believed: Verdict (the verdict on parts under rules), Ordered (the order by lines and steps), Explained (the cycle
--- that shows a violation), Finding (what is found of a source) and Laws. Also Given and Judging (what an engine is given and
--- answers), Fed (what a monitor was fed, and when its verdict is certain) and Actors.
+-- that shows a violation), Finding (what is found of a source) and Laws. Also Fed (what a monitor
+-- was fed, and when its verdict is certain) and Actors. What an engine is given and answers stands in aero_engine.
 -- For proofs alone: Naming, Limited, Begun, Known, Standing, InOrder, Recorded, Records, Spots and Parts. Monitored tells how the
 -- view of Monitor reads its state.
 pub mod Naming
 pub mod Limited
 pub mod Begun
-pub mod Given
-pub mod Judging
 pub mod Known
 pub mod Standing
 pub mod Verdict

@@ -2,11 +2,11 @@
 use Rattle.std.specs.Prelude.{◌≡◌, ℕ, Bool, true, false, List, ◌++◌, length, Option, Some, None}
 use Rattle.aero_model.specs.declared.verdict.Verdict.{Verdict}
 use Rattle.aero_grammar.specs.Reading.{Reading}
+use Rattle.aero_engine.specs.Given.{Words}
 use Rattle.aero_verdict.specs.declared.checker.Checker.{Checker}
 use Rattle.aero_verdict.specs.declared.monitor.State.{State}
 use Rattle.aero_verdict.specs.declared.monitor.State.TheVariants.{Undecided, Decided, Spent}
 use Rattle.aero_verdict.specs.Fed.{IsCertain, IsVerdictOn}
-use Rattle.aero_verdict.specs.Given.{Words}
 use Rattle.aero_verdict.specs.Ordered.{is_faultless}
 use Rattle.aero_verdict.specs.Parts.{Stands, KeepsAt, NamesAll}
 use Rattle.aero_verdict.specs.Verdict.{Rules, checked_trace}

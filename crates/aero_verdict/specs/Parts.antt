@@ -6,9 +6,9 @@ use Rattle.aero_model.specs.Cycle.{IsClosing}
 use Rattle.aero_model.specs.Named.{Named}
 use Rattle.aero_model.specs.Numbering.{tables_of}
 use Rattle.aero_grammar.specs.Reading.{Reading, after_lines, whole_reading}
+use Rattle.aero_engine.specs.Given.{Given, Words}
 use Rattle.aero_verdict.specs.declared.checker.Checker.{Checker}
 use Rattle.aero_verdict.specs.declared.numbering.Numbering.{Numbering}
-use Rattle.aero_verdict.specs.Given.{Given, Words}
 use Rattle.aero_verdict.specs.Standing.{StandsFor, KeepsFirst, HasNamedActor, up_to}
 use Rattle.aero_verdict.specs.Limited.{names_in}
 use Rattle.aero_verdict.specs.Verdict.{Rules, counted_events, events_of, checked_trace, IsOnLine, IsVerdict}

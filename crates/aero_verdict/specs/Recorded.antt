@@ -3,11 +3,11 @@ use Rattle.std.specs.Prelude.{◌≡◌, List, None, map}
 use Rattle.aero_model.specs.declared.numbered.Numbered.{Numbered}
 use Rattle.aero_model.specs.declared.numbered.What.{What}
 use Rattle.aero_model.specs.declared.numbered.What.TheVariants.{Begin, End, Exempt}
+use Rattle.aero_engine.specs.Given.{Given}
 use Rattle.aero_leads.specs.Standing as leads
 use Rattle.aero_shape.specs.declared.admission.Admitted.{Admitted}
 use Rattle.aero_shape.specs.declared.admission.Admitted.TheVariants.{OuterBegin, OuterEnd}
 use Rattle.aero_verdict.specs.declared.recorder.Recorder.{Recorder}
-use Rattle.aero_verdict.specs.Given.{Given}
 
 -- a begin or an end that isn't outermost is an exempt one
 abbrev pub inner_what : What → What

@@ -4,10 +4,10 @@ use Rattle.aero_model.specs.declared.verdict.CycleStep.{CycleStep}
 use Rattle.aero_grammar.specs.Reading.{Reading, whole_reading}
 use Rattle.aero_witness.specs.declared.visit.Visit.{Visit}
 use Rattle.aero_witness.specs.Telling.{visit_of, visits_of}
+use Rattle.aero_engine.specs.Given.{Given}
 use Rattle.aero_verdict.specs.declared.recorder.Recorder.{Recorder}
 use Rattle.aero_verdict.specs.Actors.{named_on}
 use Rattle.aero_verdict.specs.Explained.{round_places}
-use Rattle.aero_verdict.specs.Given.{Given}
 use Rattle.aero_verdict.specs.Standing.{AreGiven}
 use Rattle.aero_verdict.specs.Recorded.{HasRecorded}
 use Rattle.aero_verdict.specs.Verdict.{Rules, counted_events, IsViolation}

@@ -14,14 +14,14 @@ use Rattle.aero_model.specs.Shape.{IsLawful, fault_at}
 use Rattle.aero_model.specs.BlockCounts.{count_below, is_outer_begin, is_outer_end}
 use Rattle.aero_grammar.specs.Reading.{after_lines}
 use Rattle.aero_grammar.specs.Words.{IsName}
-use Rattle.aero_access.specs.Judgement.{IsTold}
 use Rattle.aero_shape.specs.Admission.{admitted_as}
 use Rattle.aero_shape.specs.Standing as shapes
+use Rattle.aero_engine.specs.Judgement.{IsTold}
+use Rattle.aero_engine.specs.Given.{Given, Words}
 use Rattle.aero_verdict.specs.declared.checker.Checker.{Checker}
 use Rattle.aero_verdict.specs.declared.checker.Stop.{Stop}
 use Rattle.aero_verdict.specs.declared.checker.Stop.TheVariants.{Refused, Closed}
 use Rattle.aero_verdict.specs.Begun.{begin_line}
-use Rattle.aero_verdict.specs.Given.{Given, Words}
 use Rattle.aero_verdict.specs.declared.known.Exemptions.{Exemptions}
 use Rattle.aero_verdict.specs.Known.{AreMarked}
 use Rattle.aero_verdict.specs.Limited.{names_in, IsLimited, IsNamedThread}

@@ -2,16 +2,16 @@
 ghost use Rattle.std.specs.Prelude.{◌≡◌, ◌≢◌, ◌-◌, ℕ, true, false, List, Some, IsTrue, IfOk, IfSome, OnOk, OnErr};
 ghost use Rattle.aero_model.specs.Verdicts.{HasOwnFault};
 ghost use Rattle.aero_grammar.specs.Reading.{Reading, fault_within, is_own_fault};
+ghost use Rattle.aero_engine.specs.Given.{words_of};
 ghost use Rattle.aero_verdict.specs.Verdict.{Rules, under, IsVerdict, IsFaultless};
 ghost use Rattle.aero_verdict.specs.Standing.{CanBeTold, TellsStop};
 ghost use Rattle.aero_verdict.specs.Ordered.{is_faultless};
-ghost use Rattle.aero_verdict.specs.Given.{words_of};
 ghost use Rattle.aero_verdict.specs.Parts.{IsPartExpected, ComesNext, TellsPart};
 
 use crate::checker::{Checker, Stop};
-use crate::engine::Engine;
 use crate::known::{BlockNames, told_exemptions};
 use crate::monitor::{Monitor, feed_all};
+use aero_engine::engine::Engine;
 use aero_grammar::parsed::Parsed;
 use aero_leads::leads::Leads;
 use aero_model::except::Except;

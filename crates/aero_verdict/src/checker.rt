@@ -3,9 +3,9 @@ ghost use Rattle.std.specs.Prelude.{◌≡◌, List};
 ghost use Rattle.aero_verdict.specs.declared.checker.Stop.{Stop};
 
 use crate::blocks::Blocks;
-use crate::engine::Engine;
 use crate::known::{BlockNames, Known};
 use crate::numbering::Numbering;
+use aero_engine::engine::Engine;
 use aero_grammar::line_event::LineEvent;
 use aero_model::limits::Limits;
 use aero_model::name::Name;
@@ -39,8 +39,8 @@ impl<E: Engine> Checker<E> {
     ghost use Rattle.aero_model.specs.Named.{Named};
     ghost use Rattle.aero_model.specs.Names.{most_inline_bytes};
     ghost use Rattle.aero_grammar.specs.Words.{IsName};
+    ghost use Rattle.aero_engine.specs.Given.{words_of};
     ghost use Rattle.aero_verdict.specs.Begun.{begin_line};
-    ghost use Rattle.aero_verdict.specs.Given.{words_of};
     ghost use Rattle.aero_verdict.specs.Standing.{StandsFor, IsNext, IsExpected, Refuses, Judged, up_to, AreNext, AreExpected, StopsIn};
     ghost use Rattle.aero_grammar.specs.Tabled.{named_in, lines_in};
     ghost use Rattle.aero_verdict.specs.Known.{tables_in, Knows, is_told_exempt, HasLabel};

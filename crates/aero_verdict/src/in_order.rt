@@ -2,13 +2,13 @@
 ghost use Rattle.std.specs.Prelude.{◌≡◌, ◌++◌, ◌∷◌, [], List, length, IfOk, OnOk};
 ghost use Rattle.aero_model.specs.declared.numbered.Numbered.{Numbered};
 ghost use Rattle.aero_model.specs.Exempt.{IsJudgedAs};
-ghost use Rattle.aero_verdict.specs.Given.{Given};
+ghost use Rattle.aero_engine.specs.Given.{Given};
+ghost use Rattle.aero_engine.specs.Judging.{IsAdmitted, ComesAfter, Tells};
 ghost use Rattle.aero_verdict.specs.InOrder.{StandsForBoth, KeepsInOrder};
-ghost use Rattle.aero_verdict.specs.Judging.{IsAdmitted, ComesAfter, Tells};
 
-use crate::by_leads;
-use crate::engine::Engine;
-use aero_access::clocks::Spent;
+use aero_engine::by_kind;
+use aero_engine::engine::Engine;
+use aero_engine::spent::Spent;
 use aero_leads::leads::Leads;
 use aero_model::numbered::Numbered;
 use aero_order::transactions::Transactions;
@@ -72,7 +72,7 @@ fn judge(
     ensures kept { OnOk result ((given : List Given) → KeepsInOrder both.old given → KeepsInOrder both.new (given ++ record { line = line; event = event.now; admitted = admitted } ∷ [])) }
 {
     let inside = both.leads.in_block(event.thread);
-    let told = by_leads::judge(&mut both.leads, event, admitted)?;
+    let told = by_kind::judge(&mut both.leads, event, admitted)?;
     both.transactions.add(line, event, inside)?;
     Ok(told)
 }

@@ -40,23 +40,18 @@
 //!   from there has fewer visits. Each event comes with its line and that of the first event of its transaction: `told`,
 //!   `own_fault`.
 //! - The actor of the event on a line is answered, whatever the limits, if there is one: `actor_at`.
-//! - `Leads` and `Clocks` are engines, and so are `InOrder`, first places with the transactions, and `Recorder`
-//!   (private), with the events: of the events that each is given it tells what the definitions say. By
-//!   `Engine::judge`, `told`.
-//! - An engine may keep something of each event that it is given, also of the one that closes a cycle: `Engine::judge`,
-//!   `kept`. `InOrder` keeps the line and the thread of each transaction's first event, `Recorder` each event with its
-//!   line; `Leads` and `Clocks` keep none.
+//! - `InOrder`, first places with the transactions, and `Recorder` (private), with the events, are engines too: of the
+//!   events that each is given it tells what the definitions say. By `Engine::judge`, `told`.
+//! - They keep something of each event that they are given, also of the one that closes a cycle: `InOrder` the line and
+//!   the thread of each transaction's first event, `Recorder` each event with its line. By `Engine::judge`, `kept`.
 //! - All parts have exactly one verdict. `Serializable` means that there is no cycle at all, a violation that there is
 //!   one, and with open blocks each cycle passes two of them: `laws`.
 #![tactic(auto)]
 
 mod actor;
 mod blocks;
-mod by_clocks;
-mod by_leads;
 mod check;
 mod checker;
-pub mod engine;
 mod event_on;
 mod explained;
 mod first_steps;
@@ -72,6 +67,7 @@ mod recorder;
 mod serial;
 
 pub use actor::actor_at;
+pub use aero_engine::engine;
 pub use check::{check_trace, check_trace_by};
 pub use explained::check_trace_explained;
 pub use serial::{check_trace_in_order, serial_order};

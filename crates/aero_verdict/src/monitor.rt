@@ -52,17 +52,17 @@ ghost use Rattle.std.specs.Prelude.{◌≡◌, ◌+◌, ◌++◌, ◌∷◌, [],
 ghost use Rattle.aero_model.specs.Exempt.{Listed};
 ghost use Rattle.aero_grammar.specs.Reading.{Reading};
 ghost use Rattle.aero_model.specs.Verdicts.{HasOwnFault};
+ghost use Rattle.aero_engine.specs.Given.{words_of};
 ghost use Rattle.aero_verdict.specs.declared.monitor.State.TheVariants.{Undecided};
 ghost use Rattle.aero_verdict.specs.Fed.{IsCertain, IsOpen};
 ghost use Rattle.aero_verdict.specs.Monitored.{FedSo, is_spent, certain_of, TellsFed};
-ghost use Rattle.aero_verdict.specs.Given.{words_of};
 ghost use Rattle.aero_verdict.specs.Parts.{IsPartExpected};
 ghost use Rattle.aero_verdict.specs.Verdict.{under, IsVerdict};
 
 use crate::check::{check_part, faultless};
 use crate::checker::Checker;
-use crate::engine::Engine;
 use crate::ghost_parts::GhostParts;
+use aero_engine::engine::Engine;
 use aero_grammar::parsed::Parsed;
 use aero_model::except::Except;
 use aero_model::limits::Limits;
@@ -103,7 +103,7 @@ impl<E: Engine> Model for Monitor<E> {
 
     ghost Value = { Fed };
 
-    ghost use Rattle.aero_verdict.specs.Given.{words_of};
+    ghost use Rattle.aero_engine.specs.Given.{words_of};
     ghost use Rattle.aero_verdict.specs.Verdict.{under};
     ghost use Rattle.aero_verdict.specs.Monitored.{FedSo, is_spent, certain_of};
 

@@ -2,13 +2,13 @@
 ghost use Rattle.std.specs.Prelude.{◌≡◌, ◌++◌, ◌∷◌, [], List, length, IfOk, OnOk};
 ghost use Rattle.aero_model.specs.declared.numbered.Numbered.{Numbered};
 ghost use Rattle.aero_model.specs.Exempt.{IsJudgedAs};
-ghost use Rattle.aero_verdict.specs.Given.{Given};
-ghost use Rattle.aero_verdict.specs.Judging.{IsAdmitted, ComesAfter, Tells};
+ghost use Rattle.aero_engine.specs.Given.{Given};
+ghost use Rattle.aero_engine.specs.Judging.{IsAdmitted, ComesAfter, Tells};
 ghost use Rattle.aero_verdict.specs.Recorded.{inner_what, recorded_what, HasRecorded, StandsForLeads};
 
-use crate::by_leads;
-use crate::engine::Engine;
-use aero_access::clocks::Spent;
+use aero_engine::by_kind;
+use aero_engine::engine::Engine;
+use aero_engine::spent::Spent;
 use aero_leads::leads::Leads;
 use aero_model::numbered::{Numbered, What};
 use aero_shape::admission::Admitted;
@@ -65,7 +65,7 @@ fn judge(
         line,
         Numbered { what, ..*event },
     )?;
-    by_leads::judge(&mut recorder.leads, event, admitted)
+    by_kind::judge(&mut recorder.leads, event, admitted)
 }
 
 // Puts the event, and its line, behind the others.

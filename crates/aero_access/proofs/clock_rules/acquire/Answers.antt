@@ -1,9 +1,9 @@
 use Rattle.std.proofs.Common.{get_or}
 use Rattle.std.proofs.lemmas.Option.{slice_get-get_or}
+use Rattle.aero_engine.specs.declared.slot.Slot.TheVariants.{LastRelease}
 use Rattle.aero_access.proofs.Outcomes.{IfOk_both, IfOk_map}
 use Rattle.aero_access.proofs.OwnSteps.{same_blocks_set, taken_nothing}
 use Rattle.aero_access.proofs.Events.{acquire_answer}
-use Rattle.aero_access.specs.declared.slot.Slot.TheVariants.{LastRelease}
 use Rattle.aero_access.proofs.Heeding.{kept_test, heeded_taken}
 use Rattle.aero_access.specs.TableWords.{kept_of}
 use Rattle.aero_access.specs.StateWords.{last_but}

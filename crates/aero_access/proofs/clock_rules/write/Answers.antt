@@ -1,13 +1,13 @@
 use Rattle.std.proofs.Common.{get_or, subst, arith}
 use Rattle.std.proofs.lemmas.Option.{slice_get-get_or}
 use Rattle.aero_clock.specs.Numbers.{number_at}
+use Rattle.aero_engine.specs.declared.slot.Slot.TheVariants.{LastWrite}
 use Rattle.aero_access.specs.Threads.{ClosesOne}
 use Rattle.aero_access.specs.TableWords.{readers_of}
 use Rattle.aero_access.proofs.Outcomes.{not_true}
 use Rattle.aero_access.proofs.ThreadLists.{same_block_then}
 use Rattle.aero_access.proofs.OwnSteps.{same_blocks_set}
 use Rattle.aero_access.proofs.WriteSteps.{write_closes, reader_closes, write_moves}
-use Rattle.aero_access.specs.declared.slot.Slot.TheVariants.{LastWrite}
 use Rattle.aero_access.specs.StateWords.{state_in}
 use Rattle.aero_access.proofs.Heeding.{kept_test, reader_test, reader_heeds, test_still, taken_heeds, heeded_clock, heeded_taken, heeded_taken_kept}
 use Rattle.aero_access.proofs.clock_rules.write.Goals as goal

@@ -4,7 +4,7 @@ use Rattle.aero_grammar.specs.Reading.{Reading, fault_within}
 use Rattle.aero_grammar.specs.Tabled.{lines_in}
 use Rattle.aero_model.specs.Numbering.{Tables}
 use Rattle.aero_model.specs.declared.numbered.Numbered.{Numbered}
-use Rattle.aero_verdict.specs.Given.{words_of}
+use Rattle.aero_engine.specs.Given.{words_of}
 use Rattle.aero_verdict.specs.Known.{HasLabel}
 use Rattle.aero_verdict.specs.Standing.{HasNamedActor}
 use Rattle.aero_verdict.specs.Verdict.{under}

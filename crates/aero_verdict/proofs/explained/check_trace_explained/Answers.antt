@@ -1,7 +1,7 @@
 use Rattle.std.proofs.Common.{◌≡◌, ◌++◌, true, sym, ◌∙◌, ap, subst}
 use Rattle.std.specs.Prelude.{IfOk}
+use Rattle.aero_engine.specs.Given.{words_of}
 use Rattle.aero_verdict.specs.Explained.{has_cycle, IsCycleOf}
-use Rattle.aero_verdict.specs.Given.{words_of}
 use Rattle.aero_verdict.specs.Monitored.{TellsFed}
 use Rattle.aero_verdict.specs.Recorded.{HasRecorded, StandsForLeads}
 use Rattle.aero_verdict.specs.Verdict.{under, IsVerdict}

@@ -1,13 +1,13 @@
 use Rattle.std.proofs.Common.{List, [], ◌∷◌, map, sym, ◌∙◌, subst}
 use Rattle.std.proofs.lemmas.List.{map-append}
 use Rattle.aero_model.specs.declared.numbered.Numbered.{Numbered}
+use Rattle.aero_engine.specs.Given.{Given}
+use Rattle.aero_engine.specs.Judging.{ComesAfter}
 use Rattle.aero_leads.specs.Standing as leads
 use Rattle.aero_order.specs.Standing as orders
 use Rattle.aero_shape.specs.declared.admission.Admitted.{Admitted}
 use Rattle.aero_verdict.specs.declared.in_order.InOrder.{InOrder}
-use Rattle.aero_verdict.specs.Given.{Given}
 use Rattle.aero_verdict.specs.InOrder.{StandsForBoth, came_of}
-use Rattle.aero_verdict.specs.Judging.{ComesAfter}
 use Rattle.aero_verdict.proofs.in_order.judge.Goals as goal
 
 -- what comes after the events for which both stand comes after those for which first places do
@@ -23,8 +23,8 @@ returns-clause-told c = λ h judged judges after.
     let t = c.args.event.now.thread in
     let told = c.in_ok-told.ensures h judged judges (for_leads c.args.both.now h judged c.args.admitted after) in
     record {
-      is_told = told.told;
-      standing = λ none. (told.stands none, c.in_ok-add.ensures.stands h judged judges (c.in_block-inside.ensures ∙ after.standing.0.state.in_block t) after.standing.1);
+      told = told.told;
+      stands = λ none. (told.stands none, c.in_ok-add.ensures.stands h judged judges (c.in_block-inside.ensures ∙ after.standing.0.state.in_block t) after.standing.1);
     }
 
 pub returns-clause-kept : goal.returns-clause-kept

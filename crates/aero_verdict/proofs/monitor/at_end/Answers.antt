@@ -1,5 +1,5 @@
 use Rattle.std.proofs.Common.{sym, subst}
-use Rattle.aero_verdict.specs.Given.{words_of}
+use Rattle.aero_engine.specs.Given.{words_of}
 use Rattle.aero_verdict.specs.Monitored.{TellsFed}
 use Rattle.aero_verdict.specs.Verdict.{under}
 use Rattle.aero_verdict.proofs.Feeding.{tells_too_many, faultless_at_end, stands_at_end, names_at_end, keeps_at_end}

@@ -1,6 +1,6 @@
 use Rattle.std.proofs.Common.{◌+◌, [], ◌∷◌, ◌++◌, min, sym, ◌∙◌, ap, subst}
 use Rattle.aero_grammar.specs.Reading.{Reading}
-use Rattle.aero_verdict.specs.Given.{words_of}
+use Rattle.aero_engine.specs.Given.{words_of}
 use Rattle.aero_verdict.specs.declared.monitor.State.TheVariants.{Decided}
 use Rattle.aero_verdict.specs.Monitored.{FedSo}
 use Rattle.aero_verdict.specs.Parts.{greatest_number}

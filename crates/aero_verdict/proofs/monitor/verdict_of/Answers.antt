@@ -1,5 +1,5 @@
 use Rattle.std.proofs.Common.{subst}
-use Rattle.aero_verdict.specs.Given.{words_of}
+use Rattle.aero_engine.specs.Given.{words_of}
 use Rattle.aero_verdict.specs.Monitored.{FedSo}
 use Rattle.aero_verdict.specs.Verdict.{under}
 use Rattle.aero_verdict.proofs.Feeding.{tells_certain}

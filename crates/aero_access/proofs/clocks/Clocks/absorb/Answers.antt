@@ -1,7 +1,7 @@
 use Rattle.std.proofs.Common.{sym, arith, length, List, ◌≡◌, subst, Some, ap, ap₂, ◌∙◌, true}
 use Rattle.std.specs.Prelude.{◌↔◌, slice_get}
+use Rattle.aero_engine.specs.declared.slot.Slot.TheVariants.{OfThread}
 use Rattle.aero_access.specs.declared.thread.Thread.{Thread}
-use Rattle.aero_access.specs.declared.slot.Slot.TheVariants.{OfThread}
 use Rattle.aero_access.specs.Threads.{thread_begin, thread_clock, IsClosedBy}
 use Rattle.aero_access.specs.Standing.{slot_at}
 use Rattle.aero_access.proofs.SlotNumbers.{closes_back}

@@ -1,6 +1,6 @@
 use Rattle.std.proofs.Common.{refl}
 use Rattle.aero_model.specs.declared.numbered.What.TheVariants.{Fork}
-use Rattle.aero_access.specs.StateWords.{event}
+use Rattle.aero_engine.specs.Events.{event}
 use Rattle.aero_leads.specs.Standing.{state_in}
 use Rattle.aero_leads.proofs.Moving.{after_quiet}
 use Rattle.aero_leads.proofs.MovingFork.{moves_fork}

@@ -1,7 +1,7 @@
 use Rattle.std.proofs.Common.{◌≡◌, ◌<◌, ◌∷◌, [], ◌++◌, ap, sym, ◌∙◌, refl, subst, if◌then◌else◌}
 use Rattle.std.specs.Prelude.{false, slice_get, ◌||◌}
 use Rattle.aero_model.specs.declared.numbered.What.TheVariants.{Read}
-use Rattle.aero_access.specs.StateWords.{event}
+use Rattle.aero_engine.specs.Events.{event}
 use Rattle.aero_leads.specs.declared.last.Last.{Last}
 use Rattle.aero_leads.specs.Kept.{variable_write, latest_read_in, other_reads_in, is_below, AreKept}
 use Rattle.aero_leads.specs.Standing.{state_in}

@@ -1,7 +1,7 @@
 use Rattle.std.proofs.Common.{[], ◌∙◌, ap, refl, if◌then◌else◌}
 use Rattle.std.specs.Prelude.{◌==◌}
 use Rattle.aero_model.specs.declared.numbered.What.TheVariants.{Release}
-use Rattle.aero_access.specs.StateWords.{event}
+use Rattle.aero_engine.specs.Events.{event}
 use Rattle.aero_leads.specs.Standing.{state_in}
 use Rattle.aero_leads.proofs.Takings.{takes_nothing}
 use Rattle.aero_leads.proofs.Moving.{moves_passing, after_quiet}

@@ -2,7 +2,7 @@ use Rattle.std.proofs.Common.{◌≡◌, ◌∷◌, [], ◌++◌, ap, ap₂, sym
 use Rattle.std.specs.Prelude.{slice_get, ◌||◌, ◌==◌}
 use Rattle.std.proofs.lemmas.Bool.{or_left, or_right}
 use Rattle.aero_model.specs.declared.numbered.What.TheVariants.{Write}
-use Rattle.aero_access.specs.StateWords.{event}
+use Rattle.aero_engine.specs.Events.{event}
 use Rattle.aero_leads.specs.Kept.{rows_in, if_any, variable_write, latest_read_in, other_reads_in, leads_to, leads_to_any, TakesAll}
 use Rattle.aero_leads.specs.Standing.{state_in}
 use Rattle.aero_leads.proofs.Takings.{any_still, takes_then}

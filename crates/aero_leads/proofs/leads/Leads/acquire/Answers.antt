@@ -1,6 +1,6 @@
 use Rattle.std.proofs.Common.{refl}
 use Rattle.aero_model.specs.declared.numbered.What.TheVariants.{Acquire}
-use Rattle.aero_access.specs.StateWords.{event}
+use Rattle.aero_engine.specs.Events.{event}
 use Rattle.aero_leads.proofs.Standings.{follows}
 use Rattle.aero_leads.proofs.leads.Leads.acquire.Goals as goal
 

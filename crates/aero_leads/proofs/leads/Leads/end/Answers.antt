@@ -1,6 +1,6 @@
 use Rattle.std.proofs.Common.{refl, sym, ◌∙◌, subst, length, ◌++◌, ◌∷◌, []}
 use Rattle.aero_model.specs.declared.numbered.What.TheVariants.{End}
-use Rattle.aero_access.specs.StateWords.{event}
+use Rattle.aero_engine.specs.Events.{event}
 use Rattle.aero_leads.specs.Kept.{IsLeastBack}
 use Rattle.aero_leads.specs.Standing.{state_of, Tells}
 use Rattle.aero_leads.proofs.Standings.{is_none_of, follows_told, follows_end}

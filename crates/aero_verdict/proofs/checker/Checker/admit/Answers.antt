@@ -2,7 +2,7 @@ use Rattle.std.proofs.Common.{refl, sym, subst, arith}
 use Rattle.std.proofs.lemmas.Result.{err_from_is_err_and}
 use Rattle.aero_grammar.specs.Tabled.{named_in}
 use Rattle.aero_grammar.proofs.TablesGrown.{has_here}
-use Rattle.aero_verdict.specs.Given.{words_of}
+use Rattle.aero_engine.specs.Given.{words_of}
 use Rattle.aero_verdict.specs.Standing.{IsNext}
 use Rattle.aero_verdict.specs.Known.{tables_in, is_told_exempt}
 use Rattle.aero_verdict.proofs.Steps.{refused_by_limit, refused_by_shape, short_enough, comes_after, is_judged_as, judged, few_events, few_begun, few_ended, on_ok_here}

@@ -1,6 +1,6 @@
 use Rattle.std.proofs.Common.{◌∙◌}
 use Rattle.aero_grammar.specs.Tabled.{line_in, lines_in}
-use Rattle.aero_verdict.specs.Given.{words_of}
+use Rattle.aero_engine.specs.Given.{words_of}
 use Rattle.aero_verdict.specs.Known.{tables_in, is_told_exempt}
 use Rattle.aero_verdict.proofs.KnownNames.{told_exempt}
 use Rattle.aero_verdict.proofs.KnownLines.{line_is, label_is, line_less}

@@ -1,5 +1,5 @@
 use Rattle.aero_grammar.specs.Tabled.{lines_in}
-use Rattle.aero_verdict.specs.Given.{words_of}
+use Rattle.aero_engine.specs.Given.{words_of}
 use Rattle.aero_verdict.specs.Known.{tables_in, Knows}
 use Rattle.aero_verdict.proofs.Lines.{Admits}
 use Rattle.aero_verdict.proofs.checker.Checker.admit_all.Given as goal

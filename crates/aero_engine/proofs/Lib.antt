@@ -1,0 +1,17 @@
+pub mod Written
+pub mod LastEvents
+pub mod Sources
+pub mod Taken
+pub mod Counts
+pub mod Steps
+pub mod EndSteps
+pub mod Judged
+pub mod JudgedAtEnd
+pub mod BeginClocks
+pub mod ThreadSlots
+pub mod KeptSlots
+pub mod LongerTraces
+pub mod Rules
+pub mod Pushes
+pub mod EveryRun
+pub mod Judging

@@ -1,0 +1,33 @@
+-- The events that an engine is given, one after the other, and what it says of itself.
+use Rattle.std.specs.Prelude.{ℕ, Bool, true, false, List}
+use Rattle.aero_model.specs.declared.numbered.Numbered.{Numbered}
+use Rattle.aero_shape.specs.declared.admission.Admitted.{Admitted}
+use Rattle.aero_shape.specs.declared.admission.Admitted.TheVariants.{OuterBegin, OuterEnd}
+
+-- The number of an event's line, the event as it was read, and what it was admitted as
+pub record Given : Type 0 where
+  pub line : ℕ
+  pub event : Numbered
+  pub admitted : Admitted
+
+-- whether the event is an outermost begin
+abbrev pub begins_block : Admitted → Bool
+begins_block OuterBegin = true
+begins_block _ = false
+
+-- whether it is an outermost end
+abbrev pub ends_block : Admitted → Bool
+ends_block OuterEnd = true
+ends_block _ = false
+
+-- For which events as they are judged an engine stands, and of which events that it was given it keeps what it is to keep
+pub record Words (E : Type 0) : Type 1 where
+  pub stands : E → List Numbered → Type 0
+  pub keeps : E → List Given → Type 0
+
+abbrev pub words_of : {E : Type 0} → (E → List Numbered → Type 0) → (E → List Given → Type 0) → Words E
+words_of stands keeps = record { stands = stands; keeps = keeps }
+
+-- what an engine keeps that keeps nothing
+abbrev pub KeepsNone : {E : Type 0} → E → List Given → Type 0
+KeepsNone engine given = Unit {0}

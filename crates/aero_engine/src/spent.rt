@@ -1,0 +1,12 @@
+//! What an engine answers once memory was refused.
+use std::alloc::AllocError;
+
+/// Memory was refused. From then on each call that can answer this does.
+#[derive(Clone, Copy, Debug, PartialEq, Eq)]
+pub struct Spent;
+
+impl From<AllocError> for Spent {
+    fn from(_e: AllocError) -> Spent {
+        Spent
+    }
+}
