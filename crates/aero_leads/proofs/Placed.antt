@@ -8,10 +8,10 @@ use Rattle.aero_model.specs.Shape.{has_acted}
 use Rattle.aero_model.proofs.Stability.{agree_front}
 use Rattle.std.specs.List.{list_any}
 use Rattle.std.proofs.lemmas.Option.{same_Some}
-use Rattle.aero_access.specs.declared.slot.Slot.TheVariants.{OfThread}
-use Rattle.aero_access.specs.Slots.{of_slot, last_event}
-use Rattle.aero_access.specs.Takes.{HasActed}
-use Rattle.aero_access.proofs.LastEvents.{last_covers, to_thread}
+use Rattle.aero_engine.specs.declared.slot.Slot.TheVariants.{OfThread}
+use Rattle.aero_engine.specs.Slots.{of_slot, last_event}
+use Rattle.aero_engine.specs.Takes.{HasActed}
+use Rattle.aero_engine.proofs.LastEvents.{last_covers, to_thread}
 use Rattle.aero_leads.specs.Leads.{Rows, is_led, AreFirst, IsPlaceOf, IsFirst}
 use Rattle.aero_leads.specs.Marks.{Mark}
 use Rattle.aero_leads.specs.Steps.{led_by, gains, lesser}
