@@ -5,7 +5,7 @@ use Rattle.std.proofs.lemmas.List.{append-nil}
 use Rattle.aero_grammar.specs.Reading.{Reading, reading_of}
 use Rattle.aero_pieces.specs.declared.question.Question.{Question}
 use Rattle.aero_pieces.specs.declared.question.Question.TheVariants.{Parse, Check}
-use Rattle.aero_batch.specs.declared.progress.Progress.{Progress}
+use Rattle.aero_batch.specs.declared.underway.Underway.{Underway}
 use Rattle.aero_batch.specs.Inquiries.{Inquired, AreApart}
 use Rattle.aero_batch.specs.Steps.{with_block, with_check}
 use Rattle.aero_intake.specs.Held.{Known}
@@ -17,18 +17,21 @@ use Rattle.aero_verdict.specs.Finding.{Terms}
 
 blocks_asked-append : (s : ℕ) (xs ys : List Question) → blocks_asked s (xs ++ ys) ≡ blocks_asked s xs ++ blocks_asked s ys
 blocks_asked-append s [] ys = refl
-blocks_asked-append s (x ∷ xs) ys = ap (λ bs. own_block s x ++ bs) (blocks_asked-append s xs ys) ∙ sym (append_assoc (own_block s x) (blocks_asked s xs) (blocks_asked s ys))
+blocks_asked-append s (x ∷ xs) ys = ap (λ bs. own_block s x ++ bs) (blocks_asked-append s xs ys)
+    ∙ sym (append_assoc (own_block s x) (blocks_asked s xs) (blocks_asked s ys))
 
 checks_asked-append : (s : ℕ) (xs ys : List Question) → checks_asked s (xs ++ ys) ≡ checks_asked s xs ++ checks_asked s ys
 checks_asked-append s [] ys = refl
-checks_asked-append s (x ∷ xs) ys = ap (λ cs. own_check s x ++ cs) (checks_asked-append s xs ys) ∙ sym (append_assoc (own_check s x) (checks_asked s xs) (checks_asked s ys))
+checks_asked-append s (x ∷ xs) ys = ap (λ cs. own_check s x ++ cs) (checks_asked-append s xs ys)
+    ∙ sym (append_assoc (own_check s x) (checks_asked s xs) (checks_asked s ys))
 
 nil_left : {A : Type 0} (xs ys : List A) → xs ++ ys ≡ [] → xs ≡ []
 nil_left [] ys is = refl
 nil_left (x ∷ xs) ys is = cc
 
 -- what asks the same of each source
-pub same_tracked : (terms : Terms) (qs rs : List Question) (tale : ℕ → Story) (tracks : List Track) → ((s : ℕ) → blocks_asked s qs ≡ blocks_asked s rs) → ((s : ℕ) → checks_asked s qs ≡ checks_asked s rs) →
+pub same_tracked : (terms : Terms) (qs rs : List Question) (tale : ℕ → Story) (tracks : List Track) → ((s : ℕ) → blocks_asked s qs ≡ blocks_asked s rs) →
+    ((s : ℕ) → checks_asked s qs ≡ checks_asked s rs) →
     AreTracked terms qs tale tracks → AreTracked terms rs tale tracks
 same_tracked terms qs rs tale tracks blocks checks tracked s t at = go t (tracked s t at)
   where
@@ -42,7 +45,8 @@ same_tracked terms qs rs tale tracks blocks checks tracked s t at = go t (tracke
     go (Found n ending finding) is = is
 
 -- the first question on a block, in front of all
-pub block_first : (terms : Terms) (vs bs : List Question) (q : Question) (tale : ℕ → Story) (tracks : List Track) → ((s : ℕ) → checks_asked s (q ∷ bs) ≡ []) → ((s : ℕ) → blocks_asked s vs ≡ []) →
+pub block_first : (terms : Terms) (vs bs : List Question) (q : Question) (tale : ℕ → Story) (tracks : List Track) → ((s : ℕ) → checks_asked s (q ∷ bs) ≡ []) →
+    ((s : ℕ) → blocks_asked s vs ≡ []) →
     AreTracked terms (vs ++ q ∷ bs) tale tracks → AreTracked terms (q ∷ (vs ++ bs)) tale tracks
 block_first terms vs bs q tale tracks no_checks no_blocks =
     same_tracked terms (vs ++ q ∷ bs) (q ∷ (vs ++ bs)) tale tracks
@@ -55,7 +59,8 @@ block_first terms vs bs q tale tracks no_checks no_blocks =
     (checks_asked-append s vs bs ∙ ap (λ xs. checks_asked s vs ++ xs) (nil_right (own_check s q) (checks_asked s bs) (no_checks s))))))
 
 -- a question on a verdict, behind those on verdicts
-pub check_before_blocks : (terms : Terms) (vs bs : List Question) (q : Question) (tale : ℕ → Story) (tracks : List Track) → ((s : ℕ) → checks_asked s bs ≡ []) → ((s : ℕ) → own_block s q ≡ []) →
+pub check_before_blocks : (terms : Terms) (vs bs : List Question) (q : Question) (tale : ℕ → Story) (tracks : List Track) →
+    ((s : ℕ) → checks_asked s bs ≡ []) → ((s : ℕ) → own_block s q ≡ []) →
     AreTracked terms ((vs ++ bs) ++ q ∷ []) tale tracks → AreTracked terms ((vs ++ q ∷ []) ++ bs) tale tracks
 check_before_blocks terms vs bs q tale tracks no_checks no_block =
     same_tracked terms ((vs ++ bs) ++ q ∷ []) ((vs ++ q ∷ []) ++ bs) tale tracks
@@ -76,7 +81,7 @@ nothing_apart = record { no_checks = λ s. refl; no_blocks = λ s. refl }
 
 -- asking about a block, or for a verdict, keeps them apart
 
-pub block_apart : (p : Progress) (o : Option (List ℕ)) → AreApart p.inquiry → AreApart (with_block p o).inquiry
+pub block_apart : (p : Underway) (o : Option (List ℕ)) → AreApart p.inquiry → AreApart (with_block p o).inquiry
 block_apart p None apart = apart
 block_apart p (Some b) apart = record {
   no_checks = λ s. checks_asked-more s p.inquiry.blocks (Parse p.read p.blocks b) ∙ (append-nil (checks_asked s p.inquiry.blocks) ∙ apart.no_checks s);
@@ -87,5 +92,6 @@ pub check_apart : (terms : Terms) (i : Inquired) (place : ℕ) (o : Option (List
 check_apart terms i place None apart = apart
 check_apart terms i place (Some rs) apart = record {
   no_checks = apart.no_checks;
-  no_blocks = λ s. blocks_asked-more s i.verdicts (Check place rs terms.rules.limits terms.rules.labels terms.order terms.explain) ∙ (append-nil (blocks_asked s i.verdicts) ∙ apart.no_blocks s);
+  no_blocks = λ s. blocks_asked-more s i.verdicts (Check place rs terms.rules.limits terms.rules.labels terms.order terms.explain)
+      ∙ (append-nil (blocks_asked s i.verdicts) ∙ apart.no_blocks s);
 }

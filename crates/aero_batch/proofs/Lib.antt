@@ -1,8 +1,9 @@
 pub mod Apart
+pub mod ByKind
 pub mod Questions
 pub mod Readers
 pub mod Readings
 pub mod Retold
-pub mod Standing
+pub mod Stands
 pub mod Stepping
 pub mod Sums

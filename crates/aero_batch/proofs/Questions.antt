@@ -1,5 +1,6 @@
 -- Whatever is replied, the open questions stay as they are, and so does the number of those that were asked.
-use Rattle.std.proofs.Common.{◌≡◌, ℕ, zero, suc, ◌-◌, Bool, true, false, List, [], ◌∷◌, map, slice_get, slice_set, Option, Some, None, refl, sym, subst, ◌∙◌, ap, arith}
+use Rattle.std.proofs.Common.{◌≡◌, ℕ, zero, suc, ◌-◌, Bool, true, false, List, [], ◌∷◌, map, slice_get, slice_set, Option, Some, None, refl, sym, subst, ◌∙◌}
+use Rattle.std.proofs.Common.{ap, arith}
 use Rattle.std.specs.Prelude.{is_none, nat_le, if◌then◌else◌, length}
 use Rattle.std.proofs.lemmas.List.{length-map}
 use Rattle.aero_pieces.specs.declared.question.Question.{Question}
@@ -36,7 +37,8 @@ stays_same old new is = stays_open old new (ap questions_of is) (ap (λ g. g.tal
 
 pub accepted_stays : (q : Question) (v : Value) (old new : Gathered) (r : Accepted) → Accepts q v old new r → StaysOpen old new
 accepted_stays q v old new Kept is =
-    stays_open old new (ap (λ es. map (λ x. x.question) es) is.0.kept ∙ same_questions old.entries is.0.place is.0.entry (record is.0.entry { value = Some v }) is.0.at_place refl)
+    stays_open old new (ap (λ es. map (λ x. x.question) es) is.0.kept
+    ∙ same_questions old.entries is.0.place is.0.entry (record is.0.entry { value = Some v }) is.0.at_place refl)
     (ap (λ g. g.tally.asked) is.1) (ap (λ g. g.window) is.1)
 accepted_stays q v old new Repeated is = stays_same old new is.2
 accepted_stays q v old new Stranger is = stays_same old new is.1
@@ -53,16 +55,19 @@ noted_stays entries place (Some e) at = go (is_none e.value)
 with_note_stays : (gone ticket : ℕ) (entries : List Entry) → map (λ x. x.question) (with_note gone ticket entries) ≡ map (λ x. x.question) entries
 with_note_stays gone ticket entries = go (nat_le gone ticket)
   where
-    go : (b : Bool) → map (λ x. x.question) (if b then noted entries (ticket - gone) (slice_get entries (ticket - gone)) else entries) ≡ map (λ x. x.question) entries
+    go : (b : Bool) →
+        map (λ x. x.question) (if b then noted entries (ticket - gone) (slice_get entries (ticket - gone)) else entries) ≡ map (λ x. x.question) entries
     go true = noted_stays entries (ticket - gone) (slice_get entries (ticket - gone)) refl
     go false = refl
 
 pub missed_stays : (old new : Gathered) (ticket : ℕ) → new ≡ with_missed old ticket → StaysOpen old new
 missed_stays old new ticket is =
-    stays_open old new (ap questions_of is ∙ with_note_stays (old.tally.asked - length old.entries) ticket old.entries) (ap (λ g. g.tally.asked) is) (ap (λ g. g.window) is)
+    stays_open old new (ap questions_of is ∙ with_note_stays (old.tally.asked - length old.entries) ticket old.entries) (ap (λ g. g.tally.asked) is)
+    (ap (λ g. g.window) is)
 
 -- an open question that was noted, the oldest one, isn't awaited
-oldest_noted : (question : Question) (value : Option Value) (missed : Bool) (more : List Entry) (e : Entry) → e ≡ record { question = question; value = value; missed = missed } →
+oldest_noted : (question : Question) (value : Option Value) (missed : Bool) (more : List Entry) (e : Entry) →
+    e ≡ record { question = question; value = value; missed = missed } →
     oldest_of (noted (e ∷ more) 0 (Some e)) ≡ Awaited → ⊥
 oldest_noted question None missed more e is awaits =
     let no : Missed ≡ Awaited = subst (λ x. oldest_of (noted (x ∷ more) 0 (Some x)) ≡ Awaited) is awaits in cc
@@ -78,16 +83,19 @@ missed_ends old ticket is awaits =
     let gone = old.tally.asked - length old.entries in
     let none : gone - gone ≡ 0 = omega (arith) in
     let there : with_note gone gone old.entries ≡ noted old.entries 0 (slice_get old.entries 0) =
-    ap (λ b. if b then noted old.entries (gone - gone) (slice_get old.entries (gone - gone)) else old.entries) (le-leb gone gone (omega (arith))) ∙ ap (λ n. noted old.entries n (slice_get old.entries n)) none in
+    ap (λ b. if b then noted old.entries (gone - gone) (slice_get old.entries (gone - gone)) else old.entries) (le-leb gone gone (omega (arith)))
+    ∙ ap (λ n. noted old.entries n (slice_get old.entries n)) none in
     first_noted old.entries (subst (λ es. oldest_of es ≡ Awaited) there (subst (λ k. oldest_of (with_note gone k old.entries) ≡ Awaited) is awaits))
 
 -- what is given is one of the question's values
-given_known : (old new : Gathered) (entries : List Entry) (given : Option Value) → Settles old entries new given → GivesKnown entries given → SettlesKnown old entries new given
+given_known : (old new : Gathered) (entries : List Entry) (given : Option Value) → Settles old entries new given → GivesKnown entries given →
+    SettlesKnown old entries new given
 given_known old new [] given is known = is
 given_known old new (e ∷ more) given is known =
     (known.0, known.1, known.2, ap (λ g. g.entries) is.3, ap (λ g. g.tally.asked) is.3, ap (λ g. g.window) is.3)
 
-pub settles_known : {A E : Type 0} (value : A → Option Value) (old new : Gathered) (r : Result A E) → IfOk r (λ given. Settles old old.entries new (value given)) →
+pub settles_known : {A E : Type 0} (value : A → Option Value) (old new : Gathered) (r : Result A E) →
+    IfOk r (λ given. Settles old old.entries new (value given)) →
     IfOk r (λ given. GivesKnown old.entries (value given)) → IfOk r (λ given. SettlesKnown old old.entries new (value given))
 settles_known value old new (Ok given) is known = given_known old new old.entries (value given) is known
 settles_known value old new (Err e) is known = tt

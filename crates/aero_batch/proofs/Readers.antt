@@ -10,7 +10,8 @@ use Rattle.aero_batch.specs.Steps.{IsReadFrom}
 use Rattle.aero_intake.proofs.Tracked.{changed_there, changed_elsewhere, set_changed}
 use Rattle.aero_intake.specs.Stories.{changed}
 
-module _ {R : Type 0} (known : R → Option (List ℕ)) (sources : List (Source R)) (place : ℕ) (x : Source R) (reader : Counting R) (at : slice_get sources place ≡ Some x) where
+module _ {R : Type 0} (known : R → Option (List ℕ)) (sources : List (Source R)) (place : ℕ) (x : Source R) (reader : Counting R)
+    (at : slice_get sources place ≡ Some x) where
   abbrev used : Source R
   used = record x { reader = reader }
 
@@ -24,7 +25,8 @@ module _ {R : Type 0} (known : R → Option (List ℕ)) (sources : List (Source 
       ∙ (ap (option_map (sighted known)) (changed_elsewhere place s (λ y. used) sources other)
       ∙ sym (slice_get-map (sighted known) sources s)))
 
-  pub read_from : IsReadFrom (map (sighted known) sources) (map (sighted known) (slice_set sources place used)) place (seen_by known x.reader) (seen_by known reader)
+  pub read_from : IsReadFrom (map (sighted known) sources) (map (sighted known) (slice_set sources place used)) place (seen_by known x.reader)
+      (seen_by known reader)
   read_from = record {
     was = sighted known x;
     was_there = slice_get-map (sighted known) sources place ∙ ap (option_map (sighted known)) at;
@@ -36,7 +38,8 @@ module _ {R : Type 0} (known : R → Option (List ℕ)) (sources : List (Source 
     others = others_stay;
   }
 
-pub names_stay : {R : Type 0} (known : R → Option (List ℕ)) (sources : List (Source R)) (place : ℕ) (x : Source R) (reader : Counting R) → slice_get sources place ≡ Some x →
+pub names_stay : {R : Type 0} (known : R → Option (List ℕ)) (sources : List (Source R)) (place : ℕ) (x : Source R) (reader : Counting R) →
+    slice_get sources place ≡ Some x →
     map (λ s. s.name) (map (sighted known) (slice_set sources place (record x { reader = reader }))) ≡ map (λ s. s.name) (map (sighted known) sources)
 names_stay known [] place x reader at = refl
 names_stay known (c ∷ more) zero x reader at =
@@ -44,7 +47,8 @@ names_stay known (c ∷ more) zero x reader at =
     ap (λ s. s.name.items ∷ map (λ t. t.name) (map (sighted known) more)) (sym same)
 names_stay known (c ∷ more) (suc place) x reader at = ap (λ ns. c.name.items ∷ ns) (names_stay known more place x reader at)
 
-pub name_there : {R : Type 0} (known : R → Option (List ℕ)) (sources : List (Source R)) (place : ℕ) (s : Source R) (x : Sighted) → slice_get sources place ≡ Some s →
+pub name_there : {R : Type 0} (known : R → Option (List ℕ)) (sources : List (Source R)) (place : ℕ) (s : Source R) (x : Sighted) →
+    slice_get sources place ≡ Some s →
     slice_get (map (sighted known) sources) place ≡ Some x → x.name ≡ s.name.items
 name_there known sources place s x at is =
     let same : Some (sighted known s) ≡ Some x = sym (slice_get-map (sighted known) sources place ∙ ap (option_map (sighted known)) at) ∙ is in

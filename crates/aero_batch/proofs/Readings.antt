@@ -1,5 +1,6 @@
 -- A step of reading keeps what holds of the sources.
-use Rattle.std.proofs.Common.{◌≡◌, ℕ, ◌+◌, ◌<◌, Bool, true, false, List, [], ◌∷◌, ◌++◌, map, length, slice_get, Option, Some, None, refl, sym, ◌∙◌, ap, subst, append_assoc, inl, inr, arith}
+use Rattle.std.proofs.Common.{◌≡◌, ℕ, ◌+◌, ◌<◌, Bool, true, false, List, [], ◌∷◌, ◌++◌, map, length, slice_get, Option, Some, None, refl, sym, ◌∙◌, ap, subst}
+use Rattle.std.proofs.Common.{append_assoc, inl, inr, arith}
 use Rattle.std.specs.Prelude.{option_to_list}
 use Rattle.std.specs.List.{concat}
 use Rattle.std.proofs.lemmas.Bool.{cases_eq}
@@ -12,7 +13,7 @@ use Rattle.aero_model.specs.CallCounts.{Seen}
 use Rattle.aero_grammar.specs.Reading.{reading_of}
 use Rattle.aero_lines.specs.Cutting.{nothing_yet, block_of}
 use Rattle.aero_pieces.specs.declared.question.Question.{Question}
-use Rattle.aero_batch.specs.declared.progress.Progress.{Progress}
+use Rattle.aero_batch.specs.declared.underway.Underway.{Underway}
 use Rattle.aero_intake.specs.declared.track.Track.{Track}
 use Rattle.aero_intake.specs.declared.track.Track.TheVariants.{Arriving, Arrived, Checking, Found}
 use Rattle.aero_batch.specs.Founds.{Sighted}
@@ -21,11 +22,13 @@ use Rattle.aero_batch.specs.Inquiries.{Inquired, AreApart, all_open}
 use Rattle.aero_intake.specs.Held.{Known, IsDecisive}
 use Rattle.aero_intake.specs.Intake.{Taking, IsTaken, HaveCome, with_passing, fed_all}
 use Rattle.aero_intake.specs.Source.{WasRead}
-use Rattle.aero_batch.specs.Steps.{TakesPiece, NotesEnding, CutsHeld, PassesOver, PassesOn, IsReadFrom, DecidesThere, HasDecided, HasEnough, IsWanted, with_block, last_of, ended_track}
+use Rattle.aero_batch.specs.Steps.{TakesPiece, NotesEnding, CutsHeld, PassesOver, PassesOn, IsReadFrom, DecidesThere, HasDecided, HasEnough, IsWanted}
+use Rattle.aero_batch.specs.Steps.{with_block, last_of, ended_track}
 use Rattle.aero_intake.specs.Stories.{Story, AreEnough, BeginAlike, IsTracked, AreTracked, changed}
 use Rattle.aero_batch.proofs.Apart.{block_apart}
 use Rattle.aero_batch.proofs.Retold.{retold, retold_there, retold_same, retold_elsewhere, with_pieces, block_tracked, still_arriving}
-use Rattle.aero_intake.proofs.Taken.{nothing_is_taken, piece_is_held, held_is_cut, held_is_passed, cut_bytes, blocks_with_last, nothing_has_come, more_has_come, source_was_read}
+use Rattle.aero_intake.proofs.Taken.{nothing_is_taken, piece_is_held, held_is_cut, held_is_passed, cut_bytes, blocks_with_last, nothing_has_come}
+use Rattle.aero_intake.proofs.Taken.{more_has_come, source_was_read}
 use Rattle.aero_intake.proofs.Tracked.{changed_there, changed_elsewhere, before_change, enough_asked, alike_dropped, begin_alike, settled_decide}
 use Rattle.aero_verdict.specs.Finding.{Terms}
 
@@ -36,7 +39,8 @@ not_both : (b : Bool) → b ≡ true → b ≡ false → ⊥
 not_both b is_true is_false = cc (is_true, is_false)
 
 -- what became of the other sources stays
-ended_stays : (terms : Terms) (old now after : List Sighted) (place s : ℕ) (story : Story) → ((s : ℕ) → (place ≡ s → ⊥) → slice_get after s ≡ slice_get now s) → (place ≡ s → ⊥) →
+ended_stays : (terms : Terms) (old now after : List Sighted) (place s : ℕ) (story : Story) →
+    ((s : ℕ) → (place ≡ s → ⊥) → slice_get after s ≡ slice_get now s) → (place ≡ s → ⊥) →
     HasEnded terms old now s story → HasEnded terms old after s story
 ended_stays terms old now after place s story others other has = record {
   before = has.before;
@@ -49,7 +53,7 @@ ended_stays terms old now after place s story others other has = record {
 }
 
 -- What is settled of the source that is being read decides, and so do all its blocks that were asked about.
-story_decides : (terms : Terms) (p : Progress) (tale : ℕ → Story) → AreTracked terms (all_open p.inquiry) tale p.tracks.items → HasDecided p →
+story_decides : (terms : Terms) (p : Underway) (tale : ℕ → Story) → AreTracked terms (all_open p.inquiry) tale p.tracks.items → HasDecided p →
     IsDecisive terms (map reading_of (tale p.read).blocks)
 story_decides terms p tale tracked is = go (slice_get p.tracks.items p.read) refl is
   where
@@ -61,19 +65,23 @@ story_decides terms p tale tracked is = go (slice_get p.tracks.items p.read) ref
     go (Some (Found bytes ending finding)) at is = absurd is
 
 -- where no further block counts, those that were asked about decide
-enough_begun : (terms : Terms) (old now : List Sighted) (p : Progress) (tale : ℕ → Story) → HasEnough p → (holds : Holds terms old now p tale) → BeginAlike terms (tale p.read).blocks holds.cut
+enough_begun : (terms : Terms) (old now : List Sighted) (p : Underway) (tale : ℕ → Story) → HasEnough p → (holds : Holds terms old now p tale) →
+    BeginAlike terms (tale p.read).blocks holds.cut
 enough_begun terms old now p tale (inl passed) holds = holds.passed passed
-enough_begun terms old now p tale (inr decided) holds = begin_alike terms (tale p.read).blocks holds.cut (story_decides terms p tale holds.tracked decided) holds.enough
+enough_begun terms old now p tale (inr decided) holds =
+    begin_alike terms (tale p.read).blocks holds.cut (story_decides terms p tale holds.tracked decided) holds.enough
 
 -- the last block of a whole source is asked about, or doesn't count
-enough_wanted : (terms : Terms) (old now : List Sighted) (p : Progress) (tale : ℕ → Story) (ending : Ending) (asked : Option (List ℕ)) → (holds : Holds terms old now p tale) →
+enough_wanted : (terms : Terms) (old now : List Sighted) (p : Underway) (tale : ℕ → Story) (ending : Ending) (asked : Option (List ℕ)) →
+    (holds : Holds terms old now p tale) →
     IsWanted p (last_of p.intake.cutting ending) asked →
     AreEnough terms ((tale p.read).blocks ++ option_to_list asked) (holds.cut ++ option_to_list (last_of (fed_all nothing_yet (tale p.read).pieces) ending))
 enough_wanted terms old now p tale ending asked holds (inl wanted) =
     let blocks = (tale p.read).blocks in
     let last = last_of (fed_all nothing_yet (tale p.read).pieces) ending in
     let is : asked ≡ last = wanted.0 ∙ ap (λ c. last_of c ending) (holds.taken.cutting wanted.1.none_passed) in
-    subst (λ o. AreEnough terms (blocks ++ option_to_list o) (holds.cut ++ option_to_list last)) (sym is) (enough_asked terms blocks holds.cut (option_to_list last) holds.enough)
+    subst (λ o. AreEnough terms (blocks ++ option_to_list o) (holds.cut ++ option_to_list last)) (sym is)
+    (enough_asked terms blocks holds.cut (option_to_list last) holds.enough)
 enough_wanted terms old now p tale ending asked holds (inr enough) =
     let blocks = (tale p.read).blocks in
     let last = last_of (fed_all nothing_yet (tale p.read).pieces) ending in
@@ -81,27 +89,31 @@ enough_wanted terms old now p tale ending asked holds (inr enough) =
     (subst (λ bs. AreEnough terms bs (holds.cut ++ option_to_list last)) (sym (append-nil blocks))
     (inr (alike_dropped terms blocks holds.cut (option_to_list last) (enough_begun terms old now p tale enough.1 holds))))
 
-block_count : (p : Progress) (o : Option (List ℕ)) (blocks : List (List ℕ)) → p.blocks ≡ length blocks → (with_block p o).blocks ≡ length (blocks ++ option_to_list o)
+block_count : (p : Underway) (o : Option (List ℕ)) (blocks : List (List ℕ)) → p.blocks ≡ length blocks →
+    (with_block p o).blocks ≡ length (blocks ++ option_to_list o)
 block_count p None blocks is = is ∙ ap length (sym (append-nil blocks))
 block_count p (Some b) blocks is = omega (arith, is, length-append blocks (b ∷ []))
 
 -- what has come of the source whose reader was used
-come_on : (terms : Terms) (old now after : List Sighted) (place : ℕ) (before_read after_read : Seen) (bytes more : List ℕ) (was is : Option Ending) → IsReadFrom now after place before_read after_read →
+come_on : (terms : Terms) (old now after : List Sighted) (place : ℕ) (before_read after_read : Seen) (bytes more : List ℕ) (was is : Option Ending) →
+    IsReadFrom now after place before_read after_read →
     ((first : Seen) → HasCome first before_read terms.rules.limits.bytes bytes was → HasCome first after_read terms.rules.limits.bytes more is) →
     HasComeFrom terms old now place bytes was → HasComeFrom terms old after place more is
 come_on terms old now after place before_read after_read bytes more was is from goes come before last was_there is_there =
-    let same : record { name = from.was.name; reader = after_read } ≡ last = the_some (record { name = from.was.name; reader = after_read }) last (sym from.is_there ∙ is_there) in
+    let same : record { name = from.was.name; reader = after_read } ≡ last =
+    the_some (record { name = from.was.name; reader = after_read }) last (sym from.is_there ∙ is_there) in
     let mid = subst (λ (x : Seen). HasCome before.reader x terms.rules.limits.bytes bytes was) from.used (come before from.was was_there from.was_there) in
     subst (λ (x : Sighted). HasCome before.reader x.reader terms.rules.limits.bytes more is) same (goes before.reader mid)
 
 -- a piece comes, and is held
-pub taking_holds : (terms : Terms) (old now after : List Sighted) (p q : Progress) (tale : ℕ → Story) (before_read after_read : Seen) →
-    IsReadFrom now after p.read before_read after_read → p.ended ≡ None → TakesPiece terms before_read after_read p q → Holds terms old now p tale → Holds terms old after q tale
+pub taking_holds : (terms : Terms) (old now after : List Sighted) (p q : Underway) (tale : ℕ → Story) (before_read after_read : Seen) →
+    IsReadFrom now after p.read before_read after_read → p.ended ≡ None → TakesPiece terms before_read after_read p q → Holds terms old now p tale →
+    Holds terms old after q tale
 taking_holds terms old now after p q tale before_read after_read from reading takes holds =
     let pieces = (tale p.read).pieces in
     let bytes = concat pieces ++ p.intake.held in
     let limit = terms.rules.limits.bytes in
-    subst (λ (m : Progress). Holds terms old after m tale) (sym takes.new_is)
+    subst (λ (m : Underway). Holds terms old after m tale) (sym takes.new_is)
     (record {
       apart = holds.apart;
       tracked = holds.tracked;
@@ -121,12 +133,13 @@ taking_holds terms old now after p q tale before_read after_read from reading ta
     })
 
 -- the reading ends
-pub noting_holds : (terms : Terms) (old now after : List Sighted) (p q : Progress) (tale : ℕ → Story) (before_read after_read : Seen) →
-    IsReadFrom now after p.read before_read after_read → p.ended ≡ None → NotesEnding terms before_read after_read p q → Holds terms old now p tale → Holds terms old after q tale
+pub noting_holds : (terms : Terms) (old now after : List Sighted) (p q : Underway) (tale : ℕ → Story) (before_read after_read : Seen) →
+    IsReadFrom now after p.read before_read after_read → p.ended ≡ None → NotesEnding terms before_read after_read p q → Holds terms old now p tale →
+    Holds terms old after q tale
 noting_holds terms old now after p q tale before_read after_read from reading notes holds =
     let bytes = concat (tale p.read).pieces ++ p.intake.held in
     let limit = terms.rules.limits.bytes in
-    subst (λ (m : Progress). Holds terms old after m tale) (sym notes.new_is)
+    subst (λ (m : Underway). Holds terms old after m tale) (sym notes.new_is)
     (record {
       apart = holds.apart;
       tracked = holds.tracked;
@@ -136,7 +149,8 @@ noting_holds terms old now after p q tale before_read after_read from reading no
       enough = holds.enough;
       passed = holds.passed;
       come = come_on terms old now after p.read before_read after_read bytes bytes p.ended (Some notes.ending) from
-          (λ first come. source_was_read first before_read after_read limit p.intake.count bytes notes.ending (subst (λ e. HasCome first before_read limit bytes e) reading come) holds.taken.count notes.ends)
+          (λ first come. source_was_read first before_read after_read limit p.intake.count bytes notes.ending
+          (subst (λ e. HasCome first before_read limit bytes e) reading come) holds.taken.count notes.ends)
           holds.come;
       asked = holds.asked;
       not_ended = holds.not_ended;
@@ -144,7 +158,7 @@ noting_holds terms old now after p q tale before_read after_read from reading no
     })
 
 -- what is held is cut
-pub cutting_holds : (terms : Terms) (old now after : List Sighted) (p q : Progress) (tale : ℕ → Story) (before_read after_read : Seen) →
+pub cutting_holds : (terms : Terms) (old now after : List Sighted) (p q : Underway) (tale : ℕ → Story) (before_read after_read : Seen) →
     IsReadFrom now after p.read before_read after_read → after_read ≡ before_read → CutsHeld p q → Holds terms old now p tale →
     (new : ℕ → Story) × Holds terms old after q new × ((s : ℕ) → s < p.read → new s ≡ tale s)
 cutting_holds terms old now after p q tale before_read after_read from unread cuts holds =
@@ -173,12 +187,14 @@ cutting_holds terms old now after p q tale before_read after_read from unread cu
         ended = λ s below.
             let less : s < p.read = subst (λ r. s < r) cuts.read below in
             let other : p.read ≡ s → ⊥ = λ e. omega (arith, less, e) in
-            subst (λ (x : Story). HasEnded terms old after s x) (sym (elsewhere s other)) (ended_stays terms old now after p.read s (tale s) from.others other (holds.ended s less));
+            subst (λ (x : Story). HasEnded terms old after s x) (sym (elsewhere s other))
+            (ended_stays terms old now after p.read s (tale s) from.others other (holds.ended s less));
         cut = cut;
         taken = subst (λ (x : Story). IsTaken q.intake x.pieces cut) (sym there')
             (subst (λ (i : Taking). IsTaken i pieces cut) (sym cuts.intake)
             (held_is_cut p.intake (tale p.read).pieces holds.cut cuts.going_on.none_passed holds.taken));
-        enough = subst (λ (x : Story). AreEnough terms x.blocks cut) (sym there') (enough_asked terms (tale p.read).blocks holds.cut (option_to_list given) holds.enough);
+        enough = subst (λ (x : Story). AreEnough terms x.blocks cut) (sym there')
+            (enough_asked terms (tale p.read).blocks holds.cut (option_to_list given) holds.enough);
         passed = λ is_passed. absurd (not_both p.intake.passed (ap (λ (i : Taking). i.passed) (sym cuts.intake) ∙ is_passed) cuts.going_on.none_passed);
         come = subst (λ (x : Story). HasComeFrom terms old after q.read (concat x.pieces ++ q.intake.held) q.ended) (sym there')
             (subst (λ (i : Taking). HasComeFrom terms old after q.read (concat pieces ++ i.held) q.ended) (sym cuts.intake)
@@ -195,7 +211,7 @@ cutting_holds terms old now after p q tale before_read after_read from unread cu
     )
 
 -- what is held is passed over
-pub passing_over_holds : (terms : Terms) (old now after : List Sighted) (p q : Progress) (tale : ℕ → Story) (before_read after_read : Seen) →
+pub passing_over_holds : (terms : Terms) (old now after : List Sighted) (p q : Underway) (tale : ℕ → Story) (before_read after_read : Seen) →
     IsReadFrom now after p.read before_read after_read → after_read ≡ before_read → PassesOver p q → Holds terms old now p tale →
     (new : ℕ → Story) × Holds terms old after q new × ((s : ℕ) → s < p.read → new s ≡ tale s)
 passing_over_holds terms old now after p q tale before_read after_read from unread passes holds =
@@ -210,22 +226,25 @@ passing_over_holds terms old now after p q tale before_read after_read from unre
     let elsewhere : (s : ℕ) → (p.read ≡ s → ⊥) → new s ≡ tale s = λ s other. retold_elsewhere tale p.read s story other in
     let same : story.blocks ≡ (tale p.read).blocks = append-nil (tale p.read).blocks in
     let alike : BeginAlike terms story.blocks cut =
-    subst (λ bs. BeginAlike terms bs cut) (sym same) (alike_dropped terms (tale p.read).blocks holds.cut (option_to_list given) (enough_begun terms old now p tale passes.enough holds)) in
+    subst (λ bs. BeginAlike terms bs cut) (sym same)
+    (alike_dropped terms (tale p.read).blocks holds.cut (option_to_list given) (enough_begun terms old now p tale passes.enough holds)) in
     let come : HasComeFrom terms old after p.read (concat pieces ++ []) p.ended =
     come_on terms old now after p.read before_read after_read bytes (concat pieces ++ []) p.ended p.ended from
     (λ first come. subst (λ bs. HasCome first after_read limit bs p.ended) (sym (cut_bytes (tale p.read).pieces p.intake.held))
     (subst (λ (x : Seen). HasCome first x limit bytes p.ended) (sym unread) come))
     holds.come in (
       new,
-      subst (λ (m : Progress). Holds terms old after m new) (sym passes.new_is)
+      subst (λ (m : Underway). Holds terms old after m new) (sym passes.new_is)
           (record {
             apart = holds.apart;
             tracked = block_tracked terms p tale pieces None holds.not_ended holds.tracked;
             ended = λ s below.
                 let other : p.read ≡ s → ⊥ = λ e. omega (arith, below, e) in
-                subst (λ (x : Story). HasEnded terms old after s x) (sym (elsewhere s other)) (ended_stays terms old now after p.read s (tale s) from.others other (holds.ended s below));
+                subst (λ (x : Story). HasEnded terms old after s x) (sym (elsewhere s other))
+                (ended_stays terms old now after p.read s (tale s) from.others other (holds.ended s below));
             cut = cut;
-            taken = subst (λ (x : Story). IsTaken (with_passing p.intake) x.pieces cut) (sym there) (held_is_passed p.intake (tale p.read).pieces holds.cut holds.taken);
+            taken = subst (λ (x : Story). IsTaken (with_passing p.intake) x.pieces cut) (sym there)
+                (held_is_passed p.intake (tale p.read).pieces holds.cut holds.taken);
             enough = subst (λ (x : Story). AreEnough terms x.blocks cut) (sym there) (inr alike);
             passed = λ is_passed. subst (λ (x : Story). BeginAlike terms x.blocks cut) (sym there) alike;
             come = subst (λ (x : Story). HasComeFrom terms old after p.read (concat x.pieces ++ []) p.ended) (sym there) come;
@@ -240,7 +259,8 @@ passing_over_holds terms old now after p q tale before_read after_read from unre
 
 -- a source that was arriving has ended
 ended_track_fits : (terms : Terms) (qs : List Question) (s count blocks : ℕ) (ending : Ending) (i : Taking) (pieces cut all : List (List ℕ)) (known : Known) →
-    IsTaken i pieces cut → count ≡ length (concat pieces) → AreEnough terms all (cut ++ option_to_list (last_of (fed_all nothing_yet pieces) ending)) → blocks ≡ length all →
+    IsTaken i pieces cut → count ≡ length (concat pieces) → AreEnough terms all (cut ++ option_to_list (last_of (fed_all nothing_yet pieces) ending)) →
+    blocks ≡ length all →
     IsTracked terms qs s (record { pieces = pieces; blocks = all; ending = None }) (Arriving known) →
     IsTracked terms qs s (record { pieces = pieces; blocks = all; ending = Some ending }) (ended_track ending count blocks (Arriving known))
 ended_track_fits terms qs s count blocks Whole i pieces cut all known taken is_count enough is_blocks is = (
@@ -258,9 +278,11 @@ ended_track_fits terms qs s count blocks Broken i pieces cut all known taken is_
 ended_track_fits terms qs s count blocks TooLarge i pieces cut all known taken is_count enough is_blocks is =
     (refl, is_count, merely refl)
 
-ended_tracked : (terms : Terms) (p : Progress) (tale : ℕ → Story) (ending : Ending) (o : Option (List ℕ)) (all cut : List (List ℕ)) → AreEnough terms all (cut ++ option_to_list (last_of (fed_all nothing_yet (tale p.read).pieces) ending)) →
+ended_tracked : (terms : Terms) (p : Underway) (tale : ℕ → Story) (ending : Ending) (o : Option (List ℕ)) (all cut : List (List ℕ)) →
+    AreEnough terms all (cut ++ option_to_list (last_of (fed_all nothing_yet (tale p.read).pieces) ending)) →
     IsTaken p.intake (tale p.read).pieces cut → p.intake.count ≡ length (concat (tale p.read).pieces) → (with_block p o).blocks ≡ length all →
-    AreTracked terms (all_open (with_block p o).inquiry) (retold tale p.read (record { pieces = (tale p.read).pieces; blocks = all; ending = None })) p.tracks.items →
+    AreTracked terms (all_open (with_block p o).inquiry)
+    (retold tale p.read (record { pieces = (tale p.read).pieces; blocks = all; ending = None })) p.tracks.items →
     AreTracked terms (all_open (with_block p o).inquiry) (retold tale p.read (record { pieces = (tale p.read).pieces; blocks = all; ending = Some ending }))
     (changed p.read (ended_track ending p.intake.count (with_block p o).blocks) p.tracks.items)
 ended_tracked terms p tale ending o all cut enough taken is_count blocks tracked s t at =
@@ -274,7 +296,8 @@ ended_tracked terms p tale ending o all cut enough taken is_count blocks tracked
           let was = before_change f (slice_get p.tracks.items s) t (sym (changed_there s f p.tracks.items) ∙ at_place) in
           let is = subst (λ x. IsTracked terms qs s x was.0) (retold_same tale p.read s mid same) (tracked s was.0 was.1) in
           let arriving = still_arriving terms qs s mid was.0 refl is in
-          let fits = ended_track_fits terms qs s p.intake.count (with_block p o).blocks ending p.intake (tale p.read).pieces cut all arriving.0 taken is_count enough blocks
+          let fits = ended_track_fits terms qs s p.intake.count (with_block p o).blocks ending p.intake
+          (tale p.read).pieces cut all arriving.0 taken is_count enough blocks
           (subst (λ x. IsTracked terms qs s mid x) {y = Arriving arriving.0} arriving.1 is) in
           subst (λ x. IsTracked terms qs s x t) {x = story} {y = retold tale p.read story s} (sym (retold_same tale p.read s story same))
           (subst (λ x. IsTracked terms qs s story x) {y = t} (sym (was.2 ∙ ap f {y = Arriving arriving.0} arriving.1)) fits))
@@ -284,9 +307,12 @@ ended_tracked terms p tale ending o all cut enough taken is_count blocks tracked
     ]
 
 -- the sources that have ended, the one that was being read among them
-ended_before : (terms : Terms) (old now after : List Sighted) (p : Progress) (tale : ℕ → Story) (before_read after_read : Seen) (ending : Ending) (first : Sighted) (story : Story) (new : ℕ → Story) →
-    slice_get old p.read ≡ Some first → IsReadFrom now after p.read before_read after_read → WasRead first.reader after_read terms.rules.limits.bytes (concat (tale p.read).pieces) ending →
-    Holds terms old now p tale → story.pieces ≡ (tale p.read).pieces → story.ending ≡ Some ending → new p.read ≡ story → ((s : ℕ) → (p.read ≡ s → ⊥) → new s ≡ tale s) →
+ended_before : (terms : Terms) (old now after : List Sighted) (p : Underway) (tale : ℕ → Story) (before_read after_read : Seen) (ending : Ending)
+    (first : Sighted) (story : Story) (new : ℕ → Story) →
+    slice_get old p.read ≡ Some first → IsReadFrom now after p.read before_read after_read →
+    WasRead first.reader after_read terms.rules.limits.bytes (concat (tale p.read).pieces) ending →
+    Holds terms old now p tale → story.pieces ≡ (tale p.read).pieces → story.ending ≡ Some ending → new p.read ≡ story →
+    ((s : ℕ) → (p.read ≡ s → ⊥) → new s ≡ tale s) →
     (s : ℕ) → s < p.read + 1 → HasEnded terms old after s (new s)
 ended_before terms old now after p tale before_read after_read ending first story new was from read holds pieces is_ended there elsewhere s below =
     elim (cases_eq p.read s) [
@@ -304,7 +330,8 @@ ended_before terms old now after p tale before_read after_read ending first stor
           })))
       | inr other ↦
           (let less : s < p.read = omega (arith, below, other) in
-          subst (λ (x : Story). HasEnded terms old after s x) (sym (elsewhere s other)) (ended_stays terms old now after p.read s (tale s) from.others other (holds.ended s less)))
+          subst (λ (x : Story). HasEnded terms old after s x) (sym (elsewhere s other))
+          (ended_stays terms old now after p.read s (tale s) from.others other (holds.ended s less)))
     ]
 
 empty : (xs : List ℕ) → length xs ≡ 0 → xs ≡ []
@@ -312,7 +339,7 @@ empty [] none = refl
 empty (x ∷ xs) none = absurd (omega (arith, none))
 
 -- the source is passed on from
-pub passing_holds : (terms : Terms) (old now after : List Sighted) (p q : Progress) (tale : ℕ → Story) (before_read after_read : Seen) (first : Sighted) →
+pub passing_holds : (terms : Terms) (old now after : List Sighted) (p q : Underway) (tale : ℕ → Story) (before_read after_read : Seen) (first : Sighted) →
     slice_get old p.read ≡ Some first → IsReadFrom now after p.read before_read after_read → after_read ≡ before_read → PassesOn p q →
     Holds terms old now p tale → (new : ℕ → Story) × Holds terms old after q new × ((s : ℕ) → s < p.read → new s ≡ tale s)
 passing_holds terms old now after p q tale before_read after_read first was from unread passes holds =
@@ -322,7 +349,8 @@ passing_holds terms old now after p q tale before_read after_read first was from
     let o = is.asked in
     let pieces = (tale p.read).pieces in
     let all = (tale p.read).blocks ++ option_to_list o in
-    let bytes_are : concat pieces ++ p.intake.held ≡ concat pieces = ap (λ h. concat pieces ++ h) (empty p.intake.held passes.none_held) ∙ append-nil (concat pieces) in
+    let bytes_are : concat pieces ++ p.intake.held ≡ concat pieces = ap (λ h. concat pieces ++ h) (empty p.intake.held passes.none_held)
+    ∙ append-nil (concat pieces) in
     let read : WasRead first.reader after_read limit (concat pieces) ending =
     subst (λ (x : Seen). WasRead first.reader x limit (concat pieces) ending) (from.used ∙ sym unread)
     (subst (λ bs. WasRead first.reader from.was.reader limit bs ending) bytes_are
@@ -344,8 +372,10 @@ passing_holds terms old now after p q tale before_read after_read first was from
         apart = subst AreApart (sym is.inquiry) (block_apart p o holds.apart);
         tracked = subst (λ (i : Inquired). AreTracked terms (all_open i) new q.tracks.items) (sym is.inquiry)
             (subst (λ ts. AreTracked terms qs new ts) (sym is.tracks)
-            (ended_tracked terms p tale ending o all holds.cut (enough_wanted terms old now p tale ending o holds is.wanted) holds.taken (holds.taken.count ∙ ap length bytes_are) blocks tracked));
-        ended = λ s below. ended_before terms old now after p tale before_read after_read ending first story new was from read holds refl refl there elsewhere s (omega (arith, below, is.read));
+            (ended_tracked terms p tale ending o all holds.cut (enough_wanted terms old now p tale ending o holds is.wanted) holds.taken
+            (holds.taken.count ∙ ap length bytes_are) blocks tracked));
+        ended = λ s below. ended_before terms old now after p tale before_read after_read ending first story new was from read holds refl refl there elsewhere
+            s (omega (arith, below, is.read));
         cut = [];
         taken = subst (λ (x : Story). IsTaken q.intake x.pieces []) (sym next_known) (subst (λ (i : Taking). IsTaken i [] []) (sym is.intake) nothing_is_taken);
         enough = subst (λ (x : Story). AreEnough terms x.blocks []) (sym next_known) (inl refl);
@@ -354,7 +384,8 @@ passing_holds terms old now after p q tale before_read after_read first was from
             (subst (λ (i : Taking). HasComeFrom terms old after q.read (concat (new q.read).pieces ++ i.held) None) (sym is.intake)
             (subst (λ (x : Story). HasComeFrom terms old after q.read (concat x.pieces ++ []) None) (sym next_known)
             (λ before last at_old at_new.
-            let same : before ≡ last = the_some before last (sym at_old ∙ (sym (holds.later q.read next_above).1 ∙ (sym (from.others q.read next_other) ∙ at_new))) in
+            let same : before ≡ last = the_some before last
+            (sym at_old ∙ (sym (holds.later q.read next_above).1 ∙ (sym (from.others q.read next_other) ∙ at_new))) in
             subst (λ (x : Sighted). HaveCome before.reader x.reader []) same (nothing_has_come before.reader))));
         asked = is.blocks ∙ ap (λ (x : Story). length x.blocks) (sym next_known);
         not_ended = ap (λ (x : Story). x.ending) next_known;

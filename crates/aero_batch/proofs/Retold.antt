@@ -1,5 +1,6 @@
 -- A step keeps what holds of the sources: settling, and asking for a verdict.
-use Rattle.std.proofs.Common.{◌≡◌, ℕ, ◌<◌, eqb, cond, append_assoc, List, [], ◌∷◌, ◌++◌, map, length, slice_get, Option, Some, None, refl, sym, ◌∙◌, ap, subst, inl, inr}
+use Rattle.std.proofs.Common.{◌≡◌, ℕ, ◌<◌, eqb, cond, append_assoc, List, [], ◌∷◌, ◌++◌, map, length, slice_get, Option, Some, None, refl, sym, ◌∙◌, ap}
+use Rattle.std.proofs.Common.{subst, inl, inr}
 use Rattle.std.specs.Prelude.{option_to_list}
 use Rattle.std.specs.List.{concat}
 use Rattle.std.proofs.lemmas.Bool.{cases_eq, eq-eqb, ne_eqb}
@@ -7,21 +8,23 @@ use Rattle.std.proofs.lemmas.List.{append-nil}
 use Rattle.aero_grammar.specs.Reading.{Reading, reading_of}
 use Rattle.aero_pieces.specs.declared.question.Question.{Question}
 use Rattle.aero_pieces.specs.declared.question.Question.TheVariants.{Parse, Check}
-use Rattle.aero_batch.specs.declared.progress.Progress.{Progress}
+use Rattle.aero_batch.specs.declared.underway.Underway.{Underway}
 use Rattle.aero_intake.specs.declared.track.Track.{Track}
 use Rattle.aero_intake.specs.declared.track.Track.TheVariants.{Arriving, Arrived, Checking, Found}
 use Rattle.aero_batch.specs.Founds.{Sighted}
 use Rattle.aero_batch.specs.Holding.{Holds, HasComeFrom}
 use Rattle.aero_batch.specs.declared.kind.Kind.{Kind}
-use Rattle.aero_batch.specs.declared.kind.Kind.TheVariants.{Block, Verdict}
+use Rattle.aero_batch.specs.declared.kind.Kind.TheVariants as kinds
 use Rattle.aero_batch.specs.Inquiries.{Inquired, AreApart, all_open, open_of, with_open}
 use Rattle.aero_intake.specs.Held.{Known}
 use Rattle.aero_intake.specs.Intake.{Taking, IsTaken}
 use Rattle.aero_batch.specs.Steps.{ChecksNext, SettlesNext, Settles, with_block, with_check}
-use Rattle.aero_intake.specs.Stories.{Story, AreEnough, BeginAlike, IsSettledWith, IsTracked, AreTracked, blocks_asked, checks_asked, own_block, own_check, changed}
-use Rattle.aero_intake.specs.Tracks.{IsReady, GivesReadings}
+use Rattle.aero_intake.specs.Stories.{Story, AreEnough, BeginAlike, IsSettledWith, IsTracked, AreTracked, blocks_asked, checks_asked, own_block, own_check}
+use Rattle.aero_intake.specs.Stories.{changed}
+use Rattle.aero_intake.specs.Tracks.{IsReady, GivesParts}
 use Rattle.aero_batch.proofs.Apart.{block_first, check_before_blocks, check_apart}
-use Rattle.aero_intake.proofs.Tracked.{changed_there, changed_elsewhere, before_change, value_goes, nil_right, asked_other, asked_block, asked_check, found_here}
+use Rattle.aero_intake.proofs.Tracked.{changed_there, changed_elsewhere, before_change, value_goes, nil_right, asked_other, asked_block, asked_check}
+use Rattle.aero_intake.proofs.Tracked.{found_here}
 use Rattle.aero_verdict.specs.Finding.{Terms}
 
 -- the stories with another one for the source at the place
@@ -38,16 +41,19 @@ pub retold_elsewhere : (tale : ℕ → Story) (place s : ℕ) (story : Story) �
 retold_elsewhere tale place s story other = ap (λ b. cond b story (tale s)) (ne_eqb place s other)
 
 -- a step that reads nothing keeps what holds of the reading
-pub without_reading : (terms : Terms) (old now : List Sighted) (p q : Progress) (tale : ℕ → Story) → q.read ≡ p.read → q.intake ≡ p.intake → q.blocks ≡ p.blocks → q.ended ≡ p.ended →
+pub without_reading : (terms : Terms) (old now : List Sighted) (p q : Underway) (tale : ℕ → Story) → q.read ≡ p.read → q.intake ≡ p.intake →
+    q.blocks ≡ p.blocks → q.ended ≡ p.ended →
     AreApart q.inquiry → AreTracked terms (all_open q.inquiry) tale q.tracks.items → Holds terms old now p tale → Holds terms old now q tale
 without_reading terms old now p q tale read intake blocks ended apart tracked holds = record {
   apart = apart;
   tracked = tracked;
   ended = λ s below. holds.ended s (subst (λ r. s < r) read below);
   cut = holds.cut;
-  taken = subst (λ r. IsTaken q.intake (tale r).pieces holds.cut) (sym read) (subst (λ (i : Taking). IsTaken i (tale p.read).pieces holds.cut) (sym intake) holds.taken);
+  taken = subst (λ r. IsTaken q.intake (tale r).pieces holds.cut) (sym read)
+      (subst (λ (i : Taking). IsTaken i (tale p.read).pieces holds.cut) (sym intake) holds.taken);
   enough = subst (λ r. AreEnough terms (tale r).blocks holds.cut) (sym read) holds.enough;
-  passed = λ is_passed. subst (λ r. BeginAlike terms (tale r).blocks holds.cut) (sym read) (holds.passed (ap (λ (i : Taking). i.passed) (sym intake) ∙ is_passed));
+  passed = λ is_passed. subst (λ r. BeginAlike terms (tale r).blocks holds.cut) (sym read)
+      (holds.passed (ap (λ (i : Taking). i.passed) (sym intake) ∙ is_passed));
   come = subst (λ e. HasComeFrom terms old now q.read (concat (tale q.read).pieces ++ q.intake.held) e) (sym ended)
       (subst (λ (i : Taking). HasComeFrom terms old now q.read (concat (tale q.read).pieces ++ i.held) p.ended) (sym intake)
       (subst (λ r. HasComeFrom terms old now r (concat (tale r).pieces ++ p.intake.held) p.ended) (sym read) holds.come));
@@ -67,52 +73,62 @@ record LeavesOpen (terms : Terms) (tale : ℕ → Story) (new : Inquired) (new_t
   pub apart : AreApart new
   pub tracked : AreTracked terms (all_open new) tale new_tracks
 
-leaves_open : (terms : Terms) (tale : ℕ → Story) (i new : Inquired) (old_tracks new_tracks : List Track) → new ≡ i → new_tracks ≡ old_tracks → AreApart i → AreTracked terms (all_open i) tale old_tracks →
+leaves_open : (terms : Terms) (tale : ℕ → Story) (i new : Inquired) (old_tracks new_tracks : List Track) → new ≡ i → new_tracks ≡ old_tracks → AreApart i →
+    AreTracked terms (all_open i) tale old_tracks →
     LeavesOpen terms tale new new_tracks
 leaves_open terms tale i new old_tracks new_tracks is same apart tracked = record {
   apart = subst AreApart (sym is) apart;
-  tracked = subst (λ (j : Inquired). AreTracked terms (all_open j) tale new_tracks) (sym is) (subst (λ ts. AreTracked terms (all_open i) tale ts) (sym same) tracked);
+  tracked = subst (λ (j : Inquired). AreTracked terms (all_open j) tale new_tracks) (sym is)
+      (subst (λ ts. AreTracked terms (all_open i) tale ts) (sym same) tracked);
 }
 
-block_settled : (terms : Terms) (tale : ℕ → Story) (i new : Inquired) (qs : List Question) (old_tracks new_tracks : List Track) → i.blocks ≡ qs → Settles qs (with_open Block i) new old_tracks new_tracks →
+block_settled : (terms : Terms) (tale : ℕ → Story) (i new : Inquired) (qs : List Question) (old_tracks new_tracks : List Track) → i.blocks ≡ qs →
+    Settles qs (with_open kinds.Parse i) new old_tracks new_tracks →
     AreApart i → AreTracked terms (all_open i) tale old_tracks → LeavesOpen terms tale new new_tracks
 block_settled terms tale i new [] old_tracks new_tracks are is apart tracked =
-    leaves_open terms tale i new old_tracks new_tracks (is.0 ∙ ap (with_open Block i) (sym are)) is.1 apart tracked
+    leaves_open terms tale i new old_tracks new_tracks (is.0 ∙ ap (with_open kinds.Parse i) (sym are)) is.1 apart tracked
 block_settled terms tale i new (q ∷ rest) old_tracks new_tracks are is apart tracked =
     let no_checks : (s : ℕ) → checks_asked s (q ∷ rest) ≡ [] = λ s. ap (checks_asked s) (sym are) ∙ apart.no_checks s in
-    let first = block_first terms i.verdicts rest q tale old_tracks no_checks apart.no_blocks (subst (λ qs. AreTracked terms (i.verdicts ++ qs) tale old_tracks) are tracked) in
-    leaves_open terms tale (with_open Block i rest) new new_tracks new_tracks is.0 refl
+    let first = block_first terms i.verdicts rest q tale old_tracks no_checks apart.no_blocks
+    (subst (λ qs. AreTracked terms (i.verdicts ++ qs) tale old_tracks) are tracked) in
+    leaves_open terms tale (with_open kinds.Parse i rest) new new_tracks new_tracks is.0 refl
     (record { no_checks = λ s. nil_right (own_check s q) (checks_asked s rest) (no_checks s); no_blocks = apart.no_blocks })
     (settled_tracked terms tale q (i.verdicts ++ rest) old_tracks new_tracks is.1 first)
 
-verdict_settled : (terms : Terms) (tale : ℕ → Story) (i new : Inquired) (qs : List Question) (old_tracks new_tracks : List Track) → i.verdicts ≡ qs → Settles qs (with_open Verdict i) new old_tracks new_tracks →
+verdict_settled : (terms : Terms) (tale : ℕ → Story) (i new : Inquired) (qs : List Question) (old_tracks new_tracks : List Track) → i.verdicts ≡ qs →
+    Settles qs (with_open kinds.Check i) new old_tracks new_tracks →
     AreApart i → AreTracked terms (all_open i) tale old_tracks → LeavesOpen terms tale new new_tracks
 verdict_settled terms tale i new [] old_tracks new_tracks are is apart tracked =
-    leaves_open terms tale i new old_tracks new_tracks (is.0 ∙ ap (with_open Verdict i) (sym are)) is.1 apart tracked
+    leaves_open terms tale i new old_tracks new_tracks (is.0 ∙ ap (with_open kinds.Check i) (sym are)) is.1 apart tracked
 verdict_settled terms tale i new (q ∷ rest) old_tracks new_tracks are is apart tracked =
     let no_blocks : (s : ℕ) → blocks_asked s (q ∷ rest) ≡ [] = λ s. ap (blocks_asked s) (sym are) ∙ apart.no_blocks s in
-    leaves_open terms tale (with_open Verdict i rest) new new_tracks new_tracks is.0 refl
+    leaves_open terms tale (with_open kinds.Check i rest) new new_tracks new_tracks is.0 refl
     (record { no_checks = apart.no_checks; no_blocks = λ s. nil_right (own_block s q) (blocks_asked s rest) (no_blocks s) })
     (settled_tracked terms tale q (rest ++ i.blocks) old_tracks new_tracks is.1 (subst (λ qs. AreTracked terms (qs ++ i.blocks) tale old_tracks) are tracked))
 
-settled_open : (terms : Terms) (tale : ℕ → Story) (kind : Kind) (i new : Inquired) (old_tracks new_tracks : List Track) → Settles (open_of kind i) (with_open kind i) new old_tracks new_tracks →
+settled_open : (terms : Terms) (tale : ℕ → Story) (kind : Kind) (i new : Inquired) (old_tracks new_tracks : List Track) →
+    Settles (open_of kind i) (with_open kind i) new old_tracks new_tracks →
     AreApart i → AreTracked terms (all_open i) tale old_tracks → LeavesOpen terms tale new new_tracks
-settled_open terms tale Block i new old_tracks new_tracks = block_settled terms tale i new i.blocks old_tracks new_tracks refl
-settled_open terms tale Verdict i new old_tracks new_tracks = verdict_settled terms tale i new i.verdicts old_tracks new_tracks refl
+settled_open terms tale kinds.Parse i new old_tracks new_tracks = block_settled terms tale i new i.blocks old_tracks new_tracks refl
+settled_open terms tale kinds.Check i new old_tracks new_tracks = verdict_settled terms tale i new i.verdicts old_tracks new_tracks refl
 
-pub settling_holds : (terms : Terms) (old now : List Sighted) (kind : Kind) (p q : Progress) (tale : ℕ → Story) → SettlesNext kind p q → Holds terms old now p tale → Holds terms old now q tale
+pub settling_holds : (terms : Terms) (old now : List Sighted) (kind : Kind) (p q : Underway) (tale : ℕ → Story) → SettlesNext kind p q →
+    Holds terms old now p tale → Holds terms old now q tale
 settling_holds terms old now kind p q tale is holds =
     let left = settled_open terms tale kind p.inquiry q.inquiry p.tracks.items q.tracks.items is.settles holds.apart holds.tracked in
     without_reading terms old now p q tale is.read is.intake is.blocks is.ended left.apart left.tracked holds
 
 -- the track at the place of what is known, once another stands there
-known_after : (terms : Terms) (qs more : List Question) (tale : ℕ → Story) (tracks : List Track) (place : ℕ) (before after : Track) → slice_get tracks place ≡ Some before →
-    IsTracked terms more place (tale place) after → ((s : ℕ) (t : Track) → (place ≡ s → ⊥) → IsTracked terms qs s (tale s) t → IsTracked terms more s (tale s) t) →
+known_after : (terms : Terms) (qs more : List Question) (tale : ℕ → Story) (tracks : List Track) (place : ℕ) (before after : Track) →
+    slice_get tracks place ≡ Some before →
+    IsTracked terms more place (tale place) after →
+    ((s : ℕ) (t : Track) → (place ≡ s → ⊥) → IsTracked terms qs s (tale s) t → IsTracked terms more s (tale s) t) →
     AreTracked terms qs tale tracks → AreTracked terms more tale (changed place (λ t. after) tracks)
 known_after terms qs more tale tracks place before after was there elsewhere tracked s t at =
     elim (cases_eq place s) [
       | inl same ↦
-          (let at_place : slice_get (changed place (λ x. after) tracks) place ≡ Some t = subst (λ n. slice_get (changed place (λ x. after) tracks) n ≡ Some t) (sym same) at in
+          (let at_place : slice_get (changed place (λ x. after) tracks) place ≡
+          Some t = subst (λ n. slice_get (changed place (λ x. after) tracks) n ≡ Some t) (sym same) at in
           let is = before_change (λ x. after) (slice_get tracks place) t (sym (changed_there place (λ x. after) tracks) ∙ at_place) in
           subst (λ n. IsTracked terms more n (tale n) t) same (subst (λ x. IsTracked terms more place (tale place) x) (sym is.2) there))
       | inr other ↦
@@ -124,48 +140,51 @@ abbrev checked_on : Terms → Inquired → ℕ → Option (List Reading) → Lis
 checked_on terms i place None = all_open i
 checked_on terms i place (Some rs) = all_open i ++ Check place rs terms.rules.limits terms.rules.labels terms.order terms.explain ∷ []
 
-check_asked : (terms : Terms) (i : Inquired) (tale : ℕ → Story) (tracks : List Track) (place : ℕ) (before after : Track) (readings : Option (List Reading)) →
-    slice_get tracks place ≡ Some before → IsReady before → GivesReadings before after readings → AreTracked terms (all_open i) tale tracks →
-    AreTracked terms (checked_on terms i place readings) tale (changed place (λ t. after) tracks)
-check_asked terms i tale tracks place (Arriving known) after readings was ready gives tracked = absurd ready
-check_asked terms i tale tracks place (Checking bytes) after readings was ready gives tracked = absurd ready
-check_asked terms i tale tracks place (Arrived bytes blocks known) after readings was ready (inl gives) tracked =
+check_asked : (terms : Terms) (i : Inquired) (tale : ℕ → Story) (tracks : List Track) (place : ℕ) (before after : Track) (parts : Option (List Reading)) →
+    slice_get tracks place ≡ Some before → IsReady before → GivesParts before after parts → AreTracked terms (all_open i) tale tracks →
+    AreTracked terms (checked_on terms i place parts) tale (changed place (λ t. after) tracks)
+check_asked terms i tale tracks place (Arriving known) after parts was ready gives tracked = absurd ready
+check_asked terms i tale tracks place (Checking bytes) after parts was ready gives tracked = absurd ready
+check_asked terms i tale tracks place (Arrived bytes blocks known) after parts was ready (inl gives) tracked =
     let question = Check place known.parts terms.rules.limits terms.rules.labels terms.order terms.explain in
     subst (λ o. AreTracked terms (checked_on terms i place o) tale (changed place (λ t. after) tracks)) (sym gives.0)
     (known_after terms (all_open i) (all_open i ++ question ∷ []) tale tracks place (Arrived bytes blocks known) after was
     (subst (λ x. IsTracked terms (all_open i ++ question ∷ []) place (tale place) x) (sym gives.1)
     (asked_check terms (all_open i) place bytes blocks (tale place) known ready (tracked place (Arrived bytes blocks known) was)))
     (λ s t other. asked_other terms (all_open i) question s (tale s) t other) tracked)
-check_asked terms i tale tracks place (Arrived bytes blocks known) after readings was ready (inr gives) tracked =
+check_asked terms i tale tracks place (Arrived bytes blocks known) after parts was ready (inr gives) tracked =
     subst (λ o. AreTracked terms (checked_on terms i place o) tale (changed place (λ t. after) tracks)) (sym gives.0)
     (known_after terms (all_open i) (all_open i) tale tracks place (Arrived bytes blocks known) after was
     (subst (λ x. IsTracked terms (all_open i) place (tale place) x) (sym gives.3)
     (found_here terms (all_open i) place bytes blocks (tale place) known gives.1 ready gives.2 (tracked place (Arrived bytes blocks known) was)))
     (λ s t other is. is) tracked)
-check_asked terms i tale tracks place (Found bytes ending finding) after readings was ready gives tracked =
+check_asked terms i tale tracks place (Found bytes ending finding) after parts was ready gives tracked =
     subst (λ o. AreTracked terms (checked_on terms i place o) tale (changed place (λ t. after) tracks)) (sym gives.0)
     (known_after terms (all_open i) (all_open i) tale tracks place (Found bytes ending finding) after was
     (subst (λ x. IsTracked terms (all_open i) place (tale place) x) (sym gives.1) (tracked place (Found bytes ending finding) was))
     (λ s t other is. is) tracked)
 
 -- the same, with the question where it stands
-check_tracked : (terms : Terms) (i : Inquired) (tale : ℕ → Story) (tracks : List Track) (place : ℕ) (readings : Option (List Reading)) → AreApart i →
-    AreTracked terms (checked_on terms i place readings) tale tracks → AreTracked terms (all_open (with_check terms i place readings)) tale tracks
+check_tracked : (terms : Terms) (i : Inquired) (tale : ℕ → Story) (tracks : List Track) (place : ℕ) (parts : Option (List Reading)) → AreApart i →
+    AreTracked terms (checked_on terms i place parts) tale tracks → AreTracked terms (all_open (with_check terms i place parts)) tale tracks
 check_tracked terms i tale tracks place None apart tracked = tracked
 check_tracked terms i tale tracks place (Some rs) apart tracked =
-    check_before_blocks terms i.verdicts i.blocks (Check place rs terms.rules.limits terms.rules.labels terms.order terms.explain) tale tracks apart.no_checks (λ s. refl) tracked
+    check_before_blocks terms i.verdicts i.blocks (Check place rs terms.rules.limits terms.rules.labels terms.order terms.explain) tale tracks apart.no_checks
+    (λ s. refl) tracked
 
-pub checking_holds : (terms : Terms) (old now : List Sighted) (p q : Progress) (tale : ℕ → Story) → ChecksNext terms p q → Holds terms old now p tale → Holds terms old now q tale
+pub checking_holds : (terms : Terms) (old now : List Sighted) (p q : Underway) (tale : ℕ → Story) → ChecksNext terms p q → Holds terms old now p tale →
+    Holds terms old now q tale
 checking_holds terms old now p q tale is holds =
-    let asked = check_asked terms p.inquiry tale p.tracks.items p.checked is.before is.after is.readings is.was is.ready is.gives holds.tracked in
-    let tracked = check_tracked terms p.inquiry tale (changed p.checked (λ t. is.after) p.tracks.items) p.checked is.readings holds.apart asked in
+    let asked = check_asked terms p.inquiry tale p.tracks.items p.checked is.before is.after is.parts is.was is.ready is.gives holds.tracked in
+    let tracked = check_tracked terms p.inquiry tale (changed p.checked (λ t. is.after) p.tracks.items) p.checked is.parts holds.apart asked in
     without_reading terms old now p q tale is.read is.intake is.blocks is.ended
-    (subst AreApart (sym is.inquiry) (check_apart terms p.inquiry p.checked is.readings holds.apart))
+    (subst AreApart (sym is.inquiry) (check_apart terms p.inquiry p.checked is.parts holds.apart))
     (subst (λ (i : Inquired). AreTracked terms (all_open i) tale q.tracks.items) (sym is.inquiry)
-    (subst (λ ts. AreTracked terms (all_open (with_check terms p.inquiry p.checked is.readings)) tale ts) (sym is.tracks) tracked)) holds
+    (subst (λ ts. AreTracked terms (all_open (with_check terms p.inquiry p.checked is.parts)) tale ts) (sym is.tracks) tracked)) holds
 
 -- a source that hasn't ended is still arriving
-pub still_arriving : (terms : Terms) (qs : List Question) (s : ℕ) (story : Story) (t : Track) → story.ending ≡ None → IsTracked terms qs s story t → (known : Known) × (t ≡ Arriving known)
+pub still_arriving : (terms : Terms) (qs : List Question) (s : ℕ) (story : Story) (t : Track) → story.ending ≡ None → IsTracked terms qs s story t →
+    (known : Known) × (t ≡ Arriving known)
 still_arriving terms qs s story (Arriving known) none is = (known, refl)
 still_arriving terms qs s story (Arrived bytes blocks known) none is = absurd (clash none is.2.ended)
   where
@@ -185,12 +204,12 @@ abbrev pub with_pieces : Story → List (List ℕ) → Option (List ℕ) → Sto
 with_pieces story pieces o = record { pieces = pieces; blocks = story.blocks ++ option_to_list o; ending = None }
 
 -- the open questions with one more on a block, if there is one, behind all
-abbrev asked_on : Progress → Option (List ℕ) → List Question
+abbrev asked_on : Underway → Option (List ℕ) → List Question
 asked_on p None = all_open p.inquiry
 asked_on p (Some b) = all_open p.inquiry ++ Parse p.read p.blocks b ∷ []
 
 -- asking about the next block, if there is one, keeps what is known of the sources
-block_asked : (terms : Terms) (p : Progress) (tale : ℕ → Story) (pieces : List (List ℕ)) (o : Option (List ℕ)) → (tale p.read).ending ≡ None →
+block_asked : (terms : Terms) (p : Underway) (tale : ℕ → Story) (pieces : List (List ℕ)) (o : Option (List ℕ)) → (tale p.read).ending ≡ None →
     AreTracked terms (all_open p.inquiry) tale p.tracks.items →
     AreTracked terms (asked_on p o) (retold tale p.read (with_pieces (tale p.read) pieces o)) p.tracks.items
 block_asked terms p tale pieces None none tracked s t at =
@@ -206,7 +225,8 @@ block_asked terms p tale pieces None none tracked s t at =
           (subst (λ n. IsTracked terms (all_open p.inquiry) n (with_pieces (tale p.read) pieces None) t) same
           (subst (λ x. IsTracked terms (all_open p.inquiry) p.read (with_pieces (tale p.read) pieces None) x) (sym arriving.1) new)))
       | inr other ↦
-          subst (λ x. IsTracked terms (all_open p.inquiry) s x t) (sym (retold_elsewhere tale p.read s (with_pieces (tale p.read) pieces None) other)) (tracked s t at)
+          subst (λ x. IsTracked terms (all_open p.inquiry) s x t) (sym (retold_elsewhere tale p.read s (with_pieces (tale p.read) pieces None) other))
+          (tracked s t at)
     ]
 block_asked terms p tale pieces (Some b) none tracked s t at =
     elim (cases_eq p.read s) [
@@ -216,20 +236,24 @@ block_asked terms p tale pieces (Some b) none tracked s t at =
           let arriving = still_arriving terms (all_open p.inquiry) p.read (tale p.read) t none is in
           let is_there = subst (λ x. IsTracked terms (all_open p.inquiry) p.read (tale p.read) x) arriving.1 is in
           let new = asked_block terms (all_open p.inquiry) p.read p.blocks b (tale p.read) pieces arriving.0 is_there in
-          subst (λ x. IsTracked terms (all_open p.inquiry ++ Parse p.read p.blocks b ∷ []) s x t) (sym (retold_same tale p.read s (with_pieces (tale p.read) pieces (Some b)) same))
+          subst (λ x. IsTracked terms (all_open p.inquiry ++ Parse p.read p.blocks b ∷ []) s x t)
+          (sym (retold_same tale p.read s (with_pieces (tale p.read) pieces (Some b)) same))
           (subst (λ n. IsTracked terms (all_open p.inquiry ++ Parse p.read p.blocks b ∷ []) n (with_pieces (tale p.read) pieces (Some b)) t) same
-          (subst (λ x. IsTracked terms (all_open p.inquiry ++ Parse p.read p.blocks b ∷ []) p.read (with_pieces (tale p.read) pieces (Some b)) x) (sym arriving.1) new)))
+          (subst (λ x. IsTracked terms (all_open p.inquiry ++ Parse p.read p.blocks b ∷ []) p.read (with_pieces (tale p.read) pieces (Some b)) x)
+          (sym arriving.1) new)))
       | inr other ↦
-          subst (λ x. IsTracked terms (all_open p.inquiry ++ Parse p.read p.blocks b ∷ []) s x t) (sym (retold_elsewhere tale p.read s (with_pieces (tale p.read) pieces (Some b)) other))
+          subst (λ x. IsTracked terms (all_open p.inquiry ++ Parse p.read p.blocks b ∷ []) s x t)
+          (sym (retold_elsewhere tale p.read s (with_pieces (tale p.read) pieces (Some b)) other))
           (asked_other terms (all_open p.inquiry) (Parse p.read p.blocks b) s (tale s) t other (tracked s t at))
     ]
 
-all_asked : (p : Progress) (o : Option (List ℕ)) → asked_on p o ≡ all_open (with_block p o).inquiry
+all_asked : (p : Underway) (o : Option (List ℕ)) → asked_on p o ≡ all_open (with_block p o).inquiry
 all_asked p None = refl
 all_asked p (Some b) = append_assoc p.inquiry.verdicts p.inquiry.blocks (Parse p.read p.blocks b ∷ [])
 
-pub block_tracked : (terms : Terms) (p : Progress) (tale : ℕ → Story) (pieces : List (List ℕ)) (o : Option (List ℕ)) → (tale p.read).ending ≡ None →
+pub block_tracked : (terms : Terms) (p : Underway) (tale : ℕ → Story) (pieces : List (List ℕ)) (o : Option (List ℕ)) → (tale p.read).ending ≡ None →
     AreTracked terms (all_open p.inquiry) tale p.tracks.items →
     AreTracked terms (all_open (with_block p o).inquiry) (retold tale p.read (with_pieces (tale p.read) pieces o)) p.tracks.items
 block_tracked terms p tale pieces o none tracked =
-    subst (λ qs. AreTracked terms qs (retold tale p.read (with_pieces (tale p.read) pieces o)) p.tracks.items) (all_asked p o) (block_asked terms p tale pieces o none tracked)
+    subst (λ qs. AreTracked terms qs (retold tale p.read (with_pieces (tale p.read) pieces o)) p.tracks.items) (all_asked p o)
+    (block_asked terms p tale pieces o none tracked)

@@ -7,14 +7,15 @@ use Rattle.aero_grammar.specs.Reading.{Reading}
 use Rattle.aero_lines.specs.Cutting.{block_of}
 use Rattle.aero_pieces.specs.declared.question.Question.{Question}
 use Rattle.aero_pieces.specs.declared.question.Question.TheVariants.{Parse, Check}
-use Rattle.aero_batch.specs.declared.progress.Progress.{Progress}
+use Rattle.aero_batch.specs.declared.underway.Underway.{Underway}
 use Rattle.aero_intake.specs.declared.track.Track.{Track}
 use Rattle.aero_batch.specs.Holding.{Counted}
 use Rattle.aero_batch.specs.declared.kind.Kind.{Kind}
-use Rattle.aero_batch.specs.declared.kind.Kind.TheVariants.{Block, Verdict}
+use Rattle.aero_batch.specs.declared.kind.Kind.TheVariants as kinds
 use Rattle.aero_batch.specs.Inquiries.{Inquired, open_count, open_of, with_open}
 use Rattle.aero_intake.specs.Intake.{Taking}
-use Rattle.aero_batch.specs.Steps.{ChecksNext, SettlesNext, TakesPiece, NotesEnding, CutsHeld, PassesOver, EndsSource, MayAsk, with_block, with_check, ended_track, Settles}
+use Rattle.aero_batch.specs.Steps.{ChecksNext, SettlesNext, TakesPiece, NotesEnding, CutsHeld, PassesOver, EndsSource, MayAsk, with_block, with_check}
+use Rattle.aero_batch.specs.Steps.{ended_track, Settles}
 use Rattle.aero_intake.specs.Stories.{trace_of}
 use Rattle.aero_intake.specs.Tracks.{with_value}
 use Rattle.aero_intake.proofs.Tracked.{changed_length}
@@ -26,25 +27,28 @@ pub record Fewer (i new : Inquired) (old_tracks new_tracks : List Track) : Type 
   pub tracks : length new_tracks ≡ length old_tracks
 
 -- those of one kind are left so, of which there were at least as many
-left_fewer : (kind : Kind) (i new : Inquired) (rest : List Question) (old_tracks new_tracks : List Track) → length rest ≤ length (open_of kind i) → new ≡ with_open kind i rest →
+left_fewer : (kind : Kind) (i new : Inquired) (rest : List Question) (old_tracks new_tracks : List Track) → length rest ≤ length (open_of kind i) →
+    new ≡ with_open kind i rest →
     length new_tracks ≡ length old_tracks → Fewer i new old_tracks new_tracks
-left_fewer Block i new rest old_tracks new_tracks less is same =
+left_fewer kinds.Parse i new rest old_tracks new_tracks less is same =
     let count : open_count new ≡ length i.verdicts + length rest = ap open_count is in
     record { questions = omega (arith, count, less); same_asked = ap (λ (j : Inquired). j.asked) is; tracks = same }
-left_fewer Verdict i new rest old_tracks new_tracks less is same =
+left_fewer kinds.Check i new rest old_tracks new_tracks less is same =
     let count : open_count new ≡ length rest + length i.blocks = ap open_count is in
     record { questions = omega (arith, count, less); same_asked = ap (λ (j : Inquired). j.asked) is; tracks = same }
 
-settled_fewer : (kind : Kind) (i new : Inquired) (qs : List Question) (old_tracks new_tracks : List Track) → open_of kind i ≡ qs → Settles qs (with_open kind i) new old_tracks new_tracks →
+settled_fewer : (kind : Kind) (i new : Inquired) (qs : List Question) (old_tracks new_tracks : List Track) → open_of kind i ≡ qs →
+    Settles qs (with_open kind i) new old_tracks new_tracks →
     Fewer i new old_tracks new_tracks
 settled_fewer kind i new [] old_tracks new_tracks are is =
     let none : 0 ≤ length (open_of kind i) = omega arith in
     left_fewer kind i new [] old_tracks new_tracks none is.0 (ap length is.1)
 settled_fewer kind i new (q ∷ rest) old_tracks new_tracks are is =
     let more : length (open_of kind i) ≡ suc (length rest) = ap length are in
-    left_fewer kind i new rest old_tracks new_tracks (omega (arith, more)) is.0 (ap length is.1.tracks ∙ changed_length (trace_of q) (λ t. with_value is.1.most is.1.certain t is.1.value) old_tracks)
+    left_fewer kind i new rest old_tracks new_tracks (omega (arith, more)) is.0
+    (ap length is.1.tracks ∙ changed_length (trace_of q) (λ t. with_value is.1.most is.1.certain t is.1.value) old_tracks)
 
-pub settling_counted : (terms : Terms) (n : ℕ) (kind : Kind) (p q : Progress) → SettlesNext kind p q → Counted terms n p → Counted terms n q
+pub settling_counted : (terms : Terms) (n : ℕ) (kind : Kind) (p q : Underway) → SettlesNext kind p q → Counted terms n p → Counted terms n q
 settling_counted terms n kind p q is c =
     let few = settled_fewer kind p.inquiry q.inquiry (open_of kind p.inquiry) p.tracks.items q.tracks.items refl is.settles in
     let count : q.intake.count ≡ p.intake.count = ap (λ (i : Taking). i.count) is.intake in
@@ -68,11 +72,18 @@ pub record OneMore (i j : Inquired) (k : ℕ) : Type 0 where
 
 check_more : (terms : Terms) (i : Inquired) (place : ℕ) (o : Option (List Reading)) → (k : ℕ) × OneMore i (with_check terms i place o) k
 check_more terms i place None = (0, record { one = omega arith; questions = omega arith; more_asked = omega arith })
-check_more terms i place (Some rs) = (1, record { one = omega arith; questions = omega (arith, length_push i.verdicts (Check place rs terms.rules.limits terms.rules.labels terms.order terms.explain)); more_asked = refl })
+check_more terms i place (Some rs) = (
+  1,
+  record {
+    one = omega arith;
+    questions = omega (arith, length_push i.verdicts (Check place rs terms.rules.limits terms.rules.labels terms.order terms.explain));
+    more_asked = refl;
+  },
+)
 
-pub checking_counted : (terms : Terms) (n : ℕ) (p q : Progress) → p.checked < p.read → MayAsk p → ChecksNext terms p q → Counted terms n p → Counted terms n q
+pub checking_counted : (terms : Terms) (n : ℕ) (p q : Underway) → p.checked < p.read → MayAsk p → ChecksNext terms p q → Counted terms n p → Counted terms n q
 checking_counted terms n p q below may is c =
-    let more = check_more terms p.inquiry p.checked is.readings in
+    let more = check_more terms p.inquiry p.checked is.parts in
     let k = more.0 in
     let m = more.1 in
     let count : q.intake.count ≡ p.intake.count = ap (λ (i : Taking). i.count) is.intake in
@@ -91,13 +102,21 @@ checking_counted terms n p q below may is c =
       asked = omega (arith, more_asked, m.one, c.asked, is.read, is.blocks, is.checked);
     }
 
-block_more : (p : Progress) (o : Option (List ℕ)) → (k : ℕ) × OneMore p.inquiry (with_block p o).inquiry k × ((with_block p o).blocks ≡ p.blocks + k)
+block_more : (p : Underway) (o : Option (List ℕ)) → (k : ℕ) × OneMore p.inquiry (with_block p o).inquiry k × ((with_block p o).blocks ≡ p.blocks + k)
 block_more p None = (0, record { one = omega arith; questions = omega arith; more_asked = omega arith }, omega arith)
-block_more p (Some b) = (1, record { one = omega arith; questions = omega (arith, length_push p.inquiry.blocks (Parse p.read p.blocks b)); more_asked = refl }, refl)
+block_more p (Some b) = (
+  1,
+  record {
+    one = omega arith;
+    questions = omega (arith, length_push p.inquiry.blocks (Parse p.read p.blocks b));
+    more_asked = refl;
+  },
+  refl,
+)
 
-pub taking_counted : (terms : Terms) (n : ℕ) (p q : Progress) (before after : Seen) → TakesPiece terms before after p q → Counted terms n p → Counted terms n q
+pub taking_counted : (terms : Terms) (n : ℕ) (p q : Underway) (before after : Seen) → TakesPiece terms before after p q → Counted terms n p → Counted terms n q
 taking_counted terms n p q before after is c =
-    subst (λ (m : Progress). Counted terms n m) (sym is.new_is)
+    subst (λ (m : Underway). Counted terms n m) (sym is.new_is)
     (record {
       tracks = c.tracks;
       few_sources = c.few_sources;
@@ -110,9 +129,9 @@ taking_counted terms n p q before after is c =
       asked = c.asked;
     })
 
-pub noting_counted : (terms : Terms) (n : ℕ) (p q : Progress) (before after : Seen) → NotesEnding terms before after p q → Counted terms n p → Counted terms n q
+pub noting_counted : (terms : Terms) (n : ℕ) (p q : Underway) (before after : Seen) → NotesEnding terms before after p q → Counted terms n p → Counted terms n q
 noting_counted terms n p q before after is c =
-    subst (λ (m : Progress). Counted terms n m) (sym is.new_is)
+    subst (λ (m : Underway). Counted terms n m) (sym is.new_is)
     (record {
       tracks = c.tracks;
       few_sources = c.few_sources;
@@ -125,7 +144,7 @@ noting_counted terms n p q before after is c =
       asked = c.asked;
     })
 
-pub cutting_counted : (terms : Terms) (n : ℕ) (p q : Progress) → MayAsk p → CutsHeld p q → Counted terms n p → Counted terms n q
+pub cutting_counted : (terms : Terms) (n : ℕ) (p q : Underway) → MayAsk p → CutsHeld p q → Counted terms n p → Counted terms n q
 cutting_counted terms n p q may is c =
     let more = block_more p (block_of p.intake.cutting p.intake.held) in
     let k = more.0 in
@@ -147,9 +166,9 @@ cutting_counted terms n p q may is c =
       asked = omega (arith, more_asked, c.asked, blocks, is.read, is.checked);
     }
 
-pub passing_counted : (terms : Terms) (n : ℕ) (p q : Progress) → PassesOver p q → Counted terms n p → Counted terms n q
+pub passing_counted : (terms : Terms) (n : ℕ) (p q : Underway) → PassesOver p q → Counted terms n p → Counted terms n q
 passing_counted terms n p q is c =
-    subst (λ (m : Progress). Counted terms n m) (sym is.new_is)
+    subst (λ (m : Underway). Counted terms n m) (sym is.new_is)
     (record {
       tracks = c.tracks;
       few_sources = c.few_sources;
@@ -162,7 +181,8 @@ passing_counted terms n p q is c =
       asked = c.asked;
     })
 
-pub ending_counted : (terms : Terms) (n : ℕ) (p q : Progress) (ending : Ending) → p.read < n → MayAsk p → EndsSource ending p q → Counted terms n p → Counted terms n q
+pub ending_counted : (terms : Terms) (n : ℕ) (p q : Underway) (ending : Ending) → p.read < n → MayAsk p → EndsSource ending p q → Counted terms n p →
+    Counted terms n q
 ending_counted terms n p q ending unread may is c =
     let more = block_more p is.asked in
     let k = more.0 in
@@ -185,7 +205,7 @@ ending_counted terms n p q ending unread may is c =
     }
 
 -- there is always room for one more question's number
-pub may_ask : (terms : Terms) (n : ℕ) (p : Progress) → Counted terms n p → open_count p.inquiry < 64 → MayAsk p
+pub may_ask : (terms : Terms) (n : ℕ) (p : Underway) → Counted terms n p → open_count p.inquiry < 64 → MayAsk p
 may_ask terms n p c room =
     let few : terms.rules.limits.bytes ≤ 70368744177664 = c.few_bytes in
     let asked : p.inquiry.asked < 9223372036854775808 = omega (arith, c.asked, c.read, c.few_sources, c.blocks, c.within, few, c.checked) in

@@ -88,14 +88,17 @@ pub record WasCutOff (terms : Terms) (form : Form) (old new : List Sighted) (fou
   pub went : Appends before.bytes after.bytes (lines_of_all form founds ++ take written text)
   pub faults : after.faults ≡ before.faults + 1
 
--- What was written. Without a refusal it is the report on all sources. Where memory was refused it is the lines of the founds alone, and where a write failed a part of the next text follows them.
+-- What was written. Without a refusal it is the report on all sources. Where memory was refused it is the lines of the founds alone, and
+-- where a write failed a part of the next text follows them.
 abbrev pub IsWritten : Terms → Form → List Sighted → List Sighted → List Found → Seen → Seen → Option Cause → Type 0
 IsWritten terms form old new founds before after None = (length founds ≡ length old) × Took before after (report_in form (map told founds))
 IsWritten terms form old new founds before after (Some Memory) = Took before after (lines_of_all form founds)
 IsWritten terms form old new founds before after (Some Write) = WasCutOff terms form old new founds before after
 
--- A run over these sources. It tells how many bytes came of each of the first ones, how they ended, which line is told to be faulty, and how many were found to be what, and wrote of these what is said of them.
-pub record WasRun (terms : Terms) (form : Form) (old new : List Sighted) (before after : Seen) (endings : List (ℕ × Ending)) (faults : List (Option FaultyLine)) (counts : Counts) (cause : Option Cause) : Type 0 where
+-- A run over these sources. It tells how many bytes came of each of the first ones, how they ended, which line is told to be faulty, and
+-- how many were found to be what, and wrote of these what is said of them.
+pub record WasRun (terms : Terms) (form : Form) (old new : List Sighted) (before after : Seen) (endings : List (ℕ × Ending))
+    (faults : List (Option FaultyLine)) (counts : Counts) (cause : Option Cause) : Type 0 where
   pub founds : List Found
   pub found : AreOfTheFirst terms old new founds
   pub names : map (λ s. s.name) new ≡ map (λ s. s.name) old

@@ -5,7 +5,7 @@ use Rattle.aero_model.specs.declared.verdict.Ending.{Ending}
 use Rattle.aero_model.specs.CallCounts.{Seen}
 use Rattle.aero_report.specs.Texts.{no_counts}
 use Rattle.aero_report.specs.declared.form.Form.{Form}
-use Rattle.aero_batch.specs.declared.progress.Progress.{Progress}
+use Rattle.aero_batch.specs.declared.underway.Underway.{Underway}
 use Rattle.aero_batch.specs.declared.told.Told.{Told}
 use Rattle.aero_batch.specs.Founds.{Sighted, Found, Took, ending_of, counts_of_all, lines_of_all, faulty_line}
 use Rattle.aero_intake.specs.Intake.{IsTaken, HaveCome}
@@ -38,10 +38,14 @@ HasCome before after limit bytes (Some ending) = WasRead before after limit byte
 -- The same of the source at place s.
 abbrev pub HasComeFrom : Terms → List Sighted → List Sighted → ℕ → List ℕ → Option Ending → Type 0
 HasComeFrom terms old now s bytes ending =
-    (before after : Sighted) → slice_get old s ≡ Some before → slice_get now s ≡ Some after → HasCome before.reader after.reader terms.rules.limits.bytes bytes ending
+    (before after : Sighted) → slice_get old s ≡ Some before → slice_get now s ≡ Some after →
+    HasCome before.reader after.reader terms.rules.limits.bytes bytes ending
 
--- The open questions on blocks and on verdicts stand apart. Each source has a story: it has ended, is being read, or was not read yet. What is known of each fits its story. Of the blocks that the source that is being read was cut into, enough were asked about, and where some of it was passed over those decide. The pieces that were cut or passed over and what is held have come from it, and its reading has ended so, if it has.
-pub record Holds (terms : Terms) (old now : List Sighted) (p : Progress) (tale : ℕ → Story) : Type 0 where
+-- The open questions on blocks and on verdicts stand apart. Each source has a story: it has ended, is being read, or was not read yet. What
+-- is known of each fits its story. Of the blocks that the source that is being read was cut into, enough were asked about, and where some
+-- of it was passed over those decide. The pieces that were cut or passed over and what is held have come from it, and its reading has ended
+-- so, if it has.
+pub record Holds (terms : Terms) (old now : List Sighted) (p : Underway) (tale : ℕ → Story) : Type 0 where
   pub apart : AreApart p.inquiry
   pub tracked : AreTracked terms (all_open p.inquiry) tale p.tracks.items
   pub ended : (s : ℕ) → s < p.read → HasEnded terms old now s (tale s)
@@ -54,8 +58,9 @@ pub record Holds (terms : Terms) (old now : List Sighted) (p : Progress) (tale :
   pub not_ended : (tale p.read).ending ≡ None
   pub later : (s : ℕ) → p.read < s → (tale s ≡ nothing_known) × (slice_get now s ≡ slice_get old s)
 
--- The numbers of a run over so many sources: there is always room for one more question's number, since a source has at most 2^46 + 2 questions on its blocks and one on its verdict.
-pub record Counted (terms : Terms) (sources : ℕ) (p : Progress) : Type 0 where
+-- The numbers of a run over so many sources: there is always room for one more question's number, since a source has at most 2^46 + 2
+-- questions on its blocks and one on its verdict.
+pub record Counted (terms : Terms) (sources : ℕ) (p : Underway) : Type 0 where
   pub tracks : length p.tracks.items ≡ sources
   pub few_sources : sources ≤ 65536
   pub read : p.read ≤ sources
@@ -76,7 +81,8 @@ pub record Tells (terms : Terms) (old : List Sighted) (s : ℕ) (story : Story) 
   pub finding : ∥ IsFinding found.bytes found.ending terms found.finding ∥₁
 
 -- The first sources were told, as many as there are founds, and nothing else was written.
-pub record AreTold (terms : Terms) (form : Form) (old : List Sighted) (before after : Seen) (p : Progress) (told : Told) (tale : ℕ → Story) (founds : List Found) : Type 0 where
+pub record AreTold (terms : Terms) (form : Form) (old : List Sighted) (before after : Seen) (p : Underway) (told : Told) (tale : ℕ → Story)
+    (founds : List Found) : Type 0 where
   pub tells : (s : ℕ) (found : Found) → slice_get founds s ≡ Some found → Tells terms old s (tale s) found
   pub few : length founds ≤ p.checked
   pub took : Took before after (lines_of_all form founds)
@@ -88,7 +94,7 @@ pub record AreTold (terms : Terms) (form : Form) (old : List Sighted) (before af
   pub faults_room : vec_capacity told.faults ≡ length old
 
 -- between two steps
-pub record Stands (terms : Terms) (form : Form) (old now : List Sighted) (before after : Seen) (p : Progress) (told : Told) : Type 0 where
+pub record Stands (terms : Terms) (form : Form) (old now : List Sighted) (before after : Seen) (p : Underway) (told : Told) : Type 0 where
   pub tale : ℕ → Story
   pub founds : List Found
   pub holds : Holds terms old now p tale
@@ -97,7 +103,7 @@ pub record Stands (terms : Terms) (form : Form) (old now : List Sighted) (before
   pub names : map (λ s. s.name) now ≡ map (λ s. s.name) old
 
 -- The numbers of a run, and of what was told in it, over so many sources.
-pub record HasNumbers (terms : Terms) (sources : ℕ) (p : Progress) (told : Told) : Type 0 where
+pub record HasNumbers (terms : Terms) (sources : ℕ) (p : Underway) (told : Told) : Type 0 where
   pub counted : Counted terms sources p
   pub told_few : vec_len told.endings ≤ p.checked
   pub total_is : total told.counts ≡ vec_len told.endings
@@ -106,7 +112,7 @@ pub record HasNumbers (terms : Terms) (sources : ℕ) (p : Progress) (told : Tol
   pub faults_room : vec_capacity told.faults ≡ sources
 
 -- before the first step
-pub record IsBegun (terms : Terms) (sources : ℕ) (p : Progress) (told : Told) : Type 0 where
+pub record IsBegun (terms : Terms) (sources : ℕ) (p : Underway) (told : Told) : Type 0 where
   pub start : IsStart terms sources p
   pub few : sources ≤ 65536
   pub few_bytes : terms.rules.limits.bytes ≤ 2 ^ 46

@@ -7,7 +7,7 @@ use Rattle.aero_pieces.specs.Values.{IsValueOf}
 use Rattle.aero_pieces.specs.Schedule.{Entry}
 use Rattle.aero_gather.specs.Gathered.{Gathered}
 use Rattle.aero_batch.specs.declared.kind.Kind.{Kind}
-use Rattle.aero_batch.specs.declared.kind.Kind.TheVariants.{Block, Verdict}
+use Rattle.aero_batch.specs.declared.kind.Kind.TheVariants as kinds
 use Rattle.aero_intake.specs.Stories.{trace_of, blocks_asked, checks_asked}
 
 -- the open questions on blocks and those on verdicts, the oldest first, and how many were asked
@@ -31,18 +31,18 @@ open_count i = length i.verdicts + length i.blocks
 
 -- those of one kind
 abbrev pub open_of : Kind → Inquired → List Question
-open_of Block i = i.blocks
-open_of Verdict i = i.verdicts
+open_of kinds.Parse i = i.blocks
+open_of kinds.Check i = i.verdicts
 
 -- the same with these of one kind
 abbrev pub with_open : Kind → Inquired → List Question → Inquired
-with_open Block i qs = record i { blocks = qs }
-with_open Verdict i qs = record i { verdicts = qs }
+with_open kinds.Parse i qs = record i { blocks = qs }
+with_open kinds.Check i qs = record i { verdicts = qs }
 
 -- a question of the kind is asked
 abbrev pub with_question : Kind → Inquired → Question → Inquired
-with_question Block i q = record { blocks = i.blocks ++ q ∷ []; verdicts = i.verdicts; asked = i.asked + 1 }
-with_question Verdict i q = record { blocks = i.blocks; verdicts = i.verdicts ++ q ∷ []; asked = i.asked + 1 }
+with_question kinds.Parse i q = record { blocks = i.blocks ++ q ∷ []; verdicts = i.verdicts; asked = i.asked + 1 }
+with_question kinds.Check i q = record { blocks = i.blocks; verdicts = i.verdicts ++ q ∷ []; asked = i.asked + 1 }
 
 -- No question on a verdict is among those on blocks, and none on a block among those on verdicts.
 pub record AreApart (i : Inquired) : Type 0 where
@@ -64,7 +64,8 @@ SettlesKnown old (e ∷ more) new given =
 abbrev pub TakesFront : Gathered → List Entry → Gathered → Option (ℕ × Value) → Type 0
 TakesFront old [] new given = (given ≡ None) × (new ≡ old)
 TakesFront old (e ∷ more) new given =
-    (v : Value) × IsValueOf e.question v × (given ≡ Some (trace_of e.question, v)) × (new.entries ≡ more) × (new.tally.asked ≡ old.tally.asked) × (new.window ≡ old.window)
+    (v : Value) × IsValueOf e.question v × (given ≡ Some (trace_of e.question, v)) × (new.entries ≡ more) × (new.tally.asked ≡ old.tally.asked)
+    × (new.window ≡ old.window)
 
 -- The questions stay open, as many as there were, and no more are asked.
 pub record StaysOpen (old new : Gathered) : Type 0 where
@@ -74,10 +75,10 @@ pub record StaysOpen (old new : Gathered) : Type 0 where
   pub window : new.window ≡ old.window
 
 abbrev pub kind_of : Question → Kind
-kind_of (Parse trace number bytes) = Block
-kind_of (Check trace parts limits labels order explain) = Verdict
+kind_of (Parse trace number bytes) = kinds.Parse
+kind_of (Check trace parts limits labels order explain) = kinds.Check
 
 -- The number of a job tells the kind of its question, and its ticket among those of its kind.
 abbrev pub job_number : Kind → ℕ → ℕ
-job_number Block ticket = ticket * 2
-job_number Verdict ticket = ticket * 2 + 1
+job_number kinds.Parse ticket = ticket * 2
+job_number kinds.Check ticket = ticket * 2 + 1

@@ -8,46 +8,46 @@ use Rattle.aero_grammar.specs.Reading.{Reading}
 use Rattle.aero_lines.specs.Cutting.{Cutting, block_of, last_block}
 use Rattle.aero_pieces.specs.declared.question.Question.{Question}
 use Rattle.aero_pieces.specs.declared.question.Question.TheVariants.{Parse, Check}
-use Rattle.aero_batch.specs.declared.progress.Progress.{Progress}
+use Rattle.aero_batch.specs.declared.underway.Underway.{Underway}
 use Rattle.aero_intake.specs.declared.track.Track.{Track}
 use Rattle.aero_intake.specs.declared.track.Track.TheVariants.{Arriving, Found}
 use Rattle.aero_batch.specs.Founds.{Sighted}
 use Rattle.aero_batch.specs.declared.kind.Kind.{Kind}
-use Rattle.aero_batch.specs.declared.kind.Kind.TheVariants.{Block, Verdict}
+use Rattle.aero_batch.specs.declared.kind.Kind.TheVariants as kinds
 use Rattle.aero_batch.specs.Inquiries.{Inquired, nothing_asked, open_count, open_of, with_open, with_question}
 use Rattle.aero_intake.specs.Held.{nothing_read}
 use Rattle.aero_intake.specs.Intake.{nothing_taken, with_piece, with_cut, with_passing, Comes, Ends}
-use Rattle.aero_intake.specs.Tracks.{is_faulty, is_told, IsDecided, with_arrival, IsReady, GivesReadings}
+use Rattle.aero_intake.specs.Tracks.{is_faulty, is_told, IsDecided, with_arrival, IsReady, GivesParts}
 use Rattle.aero_intake.specs.Stories.{changed, IsSettledWith}
 use Rattle.aero_verdict.specs.Finding.{Terms}
 
 -- before the first step
-pub record IsStart (terms : Terms) (sources : ℕ) (progress : Progress) : Type 0 where
-  pub inquiry : progress.inquiry ≡ nothing_asked
-  pub tracks : progress.tracks.items ≡ replicate sources (Arriving (nothing_read terms))
-  pub none_read : progress.read ≡ 0
-  pub none_checked : progress.checked ≡ 0
-  pub intake : progress.intake ≡ nothing_taken
-  pub no_blocks : progress.blocks ≡ 0
-  pub reading : progress.ended ≡ None
+pub record IsStart (terms : Terms) (sources : ℕ) (underway : Underway) : Type 0 where
+  pub inquiry : underway.inquiry ≡ nothing_asked
+  pub tracks : underway.tracks.items ≡ replicate sources (Arriving (nothing_read terms))
+  pub none_read : underway.read ≡ 0
+  pub none_checked : underway.checked ≡ 0
+  pub intake : underway.intake ≡ nothing_taken
+  pub no_blocks : underway.blocks ≡ 0
+  pub reading : underway.ended ≡ None
 
 -- one more question may be asked
-pub record MayAsk (progress : Progress) : Type 0 where
-  pub room : open_count progress.inquiry < 64
-  pub few : progress.inquiry.asked < 2 ^ 63
-  pub few_blocks : progress.blocks < 2 ^ 64 - 1
+pub record MayAsk (underway : Underway) : Type 0 where
+  pub room : open_count underway.inquiry < 64
+  pub few : underway.inquiry.asked < 2 ^ 63
+  pub few_blocks : underway.blocks < 2 ^ 64 - 1
 
 -- the next block of the source that is being read is asked about, if there is one
-abbrev pub with_block : Progress → Option (List ℕ) → Progress
+abbrev pub with_block : Underway → Option (List ℕ) → Underway
 with_block p None = p
-with_block p (Some block) = record p { inquiry = with_question Block p.inquiry (Parse p.read p.blocks block); blocks = p.blocks + 1 }
+with_block p (Some block) = record p { inquiry = with_question kinds.Parse p.inquiry (Parse p.read p.blocks block); blocks = p.blocks + 1 }
 
 -- whether a line of the source that is being read is known to be malformed, or one too many
 abbrev pub faulty_there : Option Track → Bool
 faulty_there None = false
 faulty_there (Some track) = is_faulty track
 
-abbrev pub has_fault : Progress → Bool
+abbrev pub has_fault : Underway → Bool
 has_fault p = faulty_there (slice_get p.tracks.items p.read)
 
 -- what was read of the source that is being read decides
@@ -55,11 +55,11 @@ abbrev pub DecidesThere : Option Track → Type 0
 DecidesThere None = ⊥
 DecidesThere (Some track) = IsDecided track
 
-abbrev pub HasDecided : Progress → Type 0
+abbrev pub HasDecided : Underway → Type 0
 HasDecided p = DecidesThere (slice_get p.tracks.items p.read)
 
 -- No further block of the source that is being read counts: some of it was passed over, or what was read decides.
-abbrev pub HasEnough : Progress → Type 0
+abbrev pub HasEnough : Underway → Type 0
 HasEnough p = (p.intake.passed ≡ true) ⊎ HasDecided p
 
 -- whether it is told of the source that is being read that what was read decides
@@ -68,13 +68,13 @@ told_there None = false
 told_there (Some track) = is_told track
 
 -- Its next block counts: nothing of it was passed over, no line is known to be malformed, or one too many, and no verdict to be certain.
-pub record GoesOn (p : Progress) : Type 0 where
+pub record GoesOn (p : Underway) : Type 0 where
   pub none_passed : p.intake.passed ≡ false
   pub no_fault : has_fault p ≡ false
   pub none_told : told_there (slice_get p.tracks.items p.read) ≡ false
 
 -- The block that is asked about of the last one, if there is one: none, where it doesn't count.
-abbrev pub IsWanted : Progress → (given asked : Option (List ℕ)) → Type 0
+abbrev pub IsWanted : Underway → (given asked : Option (List ℕ)) → Type 0
 IsWanted p given asked = ((asked ≡ given) × GoesOn p) ⊎ ((asked ≡ None) × HasEnough p)
 
 -- the last block of a source that is whole
@@ -90,7 +90,7 @@ ended_track endings.Broken bytes blocks t = Found bytes endings.Broken (findings
 ended_track endings.TooLarge bytes blocks t = Found bytes endings.TooLarge findings.TooLarge
 
 -- The source that was being read has ended so, and the next one is to be read.
-pub record EndsSource (ending : Ending) (old new : Progress) : Type 0 where
+pub record EndsSource (ending : Ending) (old new : Underway) : Type 0 where
   pub asked : Option (List ℕ)
   pub wanted : IsWanted old (last_of old.intake.cutting ending) asked
   pub inquiry : new.inquiry ≡ (with_block old asked).inquiry
@@ -102,24 +102,24 @@ pub record EndsSource (ending : Ending) (old new : Progress) : Type 0 where
   pub reading : new.ended ≡ None
 
 -- A piece came, by a read of at most so many bytes, and is held.
-pub record TakesPiece (terms : Terms) (before after : Seen) (old new : Progress) : Type 0 where
+pub record TakesPiece (terms : Terms) (before after : Seen) (old new : Underway) : Type 0 where
   pub piece : List ℕ
   pub most : ℕ
   pub comes : Comes before after most terms.rules.limits.bytes old.intake.count piece
   pub new_is : new ≡ record old { intake = with_piece old.intake piece }
 
 -- The reading has ended, and what came stays.
-pub record NotesEnding (terms : Terms) (before after : Seen) (old new : Progress) : Type 0 where
+pub record NotesEnding (terms : Terms) (before after : Seen) (old new : Underway) : Type 0 where
   pub ending : Ending
   pub ends : Ends before after terms.rules.limits.bytes old.intake.count ending
   pub new_is : new ≡ record old { ended = Some ending }
 
 -- The reader is used, unless as many bytes have come as may.
-abbrev pub ReadsPiece : Terms → Seen → Seen → Progress → Progress → Type 0
+abbrev pub ReadsPiece : Terms → Seen → Seen → Underway → Underway → Type 0
 ReadsPiece terms before after old new = TakesPiece terms before after old new ⊎ NotesEnding terms before after old new
 
 -- What is held is cut, and the block that it gives, if it gives one, is asked about.
-pub record CutsHeld (old new : Progress) : Type 0 where
+pub record CutsHeld (old new : Underway) : Type 0 where
   pub some : 0 < length old.intake.held
   pub going_on : GoesOn old
   pub inquiry : new.inquiry ≡ (with_block old (block_of old.intake.cutting old.intake.held)).inquiry
@@ -131,23 +131,23 @@ pub record CutsHeld (old new : Progress) : Type 0 where
   pub ended : new.ended ≡ old.ended
 
 -- What is held is passed over.
-pub record PassesOver (old new : Progress) : Type 0 where
+pub record PassesOver (old new : Underway) : Type 0 where
   pub enough : HasEnough old
   pub new_is : new ≡ record old { intake = with_passing old.intake }
 
 -- What is held is cut, or passed over.
-abbrev pub LetsHeldGo : Progress → Progress → Type 0
+abbrev pub LetsHeldGo : Underway → Underway → Type 0
 LetsHeldGo old new = CutsHeld old new ⊎ PassesOver old new
 
 -- The reading of the source has ended so, nothing that came is held any more, and the next source is to be read.
-pub record PassesOn (old new : Progress) : Type 0 where
+pub record PassesOn (old new : Underway) : Type 0 where
   pub ending : Ending
   pub ended : old.ended ≡ Some ending
   pub none_held : length old.intake.held ≡ 0
   pub ends : EndsSource ending old new
 
 -- One step of reading: the reader is used while the reading has not ended; or what is held is cut, or passed over; or the source is passed on from.
-abbrev pub ReadsOn : Terms → Seen → Seen → Progress → Progress → Type 0
+abbrev pub ReadsOn : Terms → Seen → Seen → Underway → Underway → Type 0
 ReadsOn terms before after old new =
     ((old.ended ≡ None) × ReadsPiece terms before after old new)
     ⊎ (((after ≡ before) × LetsHeldGo old new) ⊎ ((after ≡ before) × PassesOn old new))
@@ -155,18 +155,18 @@ ReadsOn terms before after old new =
 -- the verdict is asked for on what the blocks of a source say
 abbrev pub with_check : Terms → Inquired → ℕ → Option (List Reading) → Inquired
 with_check terms i trace None = i
-with_check terms i trace (Some readings) = with_question Verdict i (Check trace readings terms.rules.limits terms.rules.labels terms.order terms.explain)
+with_check terms i trace (Some parts) = with_question kinds.Check i (Check trace parts terms.rules.limits terms.rules.labels terms.order terms.explain)
 
 -- The verdict on the next source is asked for, where it needs one.
-pub record ChecksNext (terms : Terms) (old new : Progress) : Type 0 where
+pub record ChecksNext (terms : Terms) (old new : Underway) : Type 0 where
   pub before : Track
   pub after : Track
-  pub readings : Option (List Reading)
+  pub parts : Option (List Reading)
   pub was : slice_get old.tracks.items old.checked ≡ Some before
   pub ready : IsReady before
-  pub gives : GivesReadings before after readings
+  pub gives : GivesParts before after parts
   pub tracks : new.tracks.items ≡ changed old.checked (λ t. after) old.tracks.items
-  pub inquiry : new.inquiry ≡ with_check terms old.inquiry old.checked readings
+  pub inquiry : new.inquiry ≡ with_check terms old.inquiry old.checked parts
   pub checked : new.checked ≡ old.checked + 1
   pub read : new.read ≡ old.read
   pub intake : new.intake ≡ old.intake
@@ -179,7 +179,7 @@ Settles [] left inquiry old new = (inquiry ≡ left []) × (new ≡ old)
 Settles (q ∷ rest) left inquiry old new = (inquiry ≡ left rest) × IsSettledWith q old new
 
 -- The oldest open question of the kind is settled, if there is one.
-pub record SettlesNext (kind : Kind) (old new : Progress) : Type 0 where
+pub record SettlesNext (kind : Kind) (old new : Underway) : Type 0 where
   pub settles : Settles (open_of kind old.inquiry) (with_open kind old.inquiry) new.inquiry old.tracks.items new.tracks.items
   pub read : new.read ≡ old.read
   pub checked : new.checked ≡ old.checked
@@ -196,7 +196,7 @@ pub record IsReadFrom (now after : List Sighted) (place : ℕ) (before_read afte
   pub others : (s : ℕ) → (place ≡ s → ⊥) → slice_get after s ≡ slice_get now s
 
 -- A step of reading.
-pub record ReadsNext (terms : Terms) (now after : List Sighted) (old new : Progress) : Type 0 where
+pub record ReadsNext (terms : Terms) (now after : List Sighted) (old new : Underway) : Type 0 where
   pub before_read : Seen
   pub after_read : Seen
   pub reads : ReadsOn terms before_read after_read old new
@@ -205,7 +205,7 @@ pub record ReadsNext (terms : Terms) (now after : List Sighted) (old new : Progr
   pub unread : old.read < length now
 
 -- One step of a run: it asks for a verdict, reads, or settles.
-abbrev pub Steps : Terms → List Sighted → List Sighted → Progress → Progress → Type 0
+abbrev pub Steps : Terms → List Sighted → List Sighted → Underway → Underway → Type 0
 Steps terms now after old new =
     ((after ≡ now) × (kind : Kind) × SettlesNext kind old new)
     ⊎ (((after ≡ now) × (old.checked < old.read) × MayAsk old × ChecksNext terms old new) ⊎ ReadsNext terms now after old new)

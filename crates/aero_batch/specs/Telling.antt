@@ -1,5 +1,6 @@
 -- Telling what was found of the sources, one after the other.
-use Rattle.std.specs.Prelude.{◌≡◌, ℕ, ◌+◌, ◌<◌, Bool, true, false, List, [], ◌∷◌, ◌++◌, length, take, vec_len, vec_capacity, Option, None, Some, Result, Ok, Err}
+use Rattle.std.specs.Prelude.{◌≡◌, ℕ, ◌+◌, ◌<◌, Bool, true, false, List, [], ◌∷◌, ◌++◌, length, take, vec_len, vec_capacity, Option, None, Some, Result, Ok}
+use Rattle.std.specs.Prelude.{Err}
 use Rattle.std.specs.Io.KnownBytes.{Appends}
 use Rattle.aero_model.specs.declared.verdict.Counts.{Counts}
 use Rattle.aero_model.specs.declared.verdict.Ending.{Ending}
@@ -49,7 +50,8 @@ pub record IsOneMore (old new : Told) (bytes : ℕ) (ending : Ending) (finding :
 
 -- The source is told where it is found what is to be said of it, and else nothing happens.
 abbrev pub TellsNext : Form → List ℕ → Track → Seen → Seen → Told → Told → Result Bool Cause → Type 0
-TellsNext form name (Found bytes ending finding) before after old new (Ok true) = Took before after (source_line_in form name finding) × IsOneMore old new bytes ending finding
+TellsNext form name (Found bytes ending finding) before after old new (Ok true) = Took before after (source_line_in form name finding)
+    × IsOneMore old new bytes ending finding
 TellsNext form name (Found bytes ending finding) before after old new (Err Memory) = Took before after [] × (new ≡ old)
 TellsNext form name (Found bytes ending finding) before after old new (Err Write) = WasCut before after (source_line_in form name finding) × (new ≡ old)
 TellsNext form name (Found bytes ending finding) before after old new (Ok false) = ⊥

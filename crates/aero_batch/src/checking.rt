@@ -10,7 +10,8 @@ ghost use Rattle.aero_intake.specs.Stories.{changed};
 use crate::helpers::Helpers;
 use crate::inquiry::Inquiry;
 use crate::kind::Kind;
-use crate::progress::Progress;
+use crate::setting::Setting;
+use crate::underway::Underway;
 use aero_intake::plan::Plan;
 use aero_intake::track::{Track, take_parts, take_value};
 use aero_pieces::answer::Value;
@@ -20,63 +21,52 @@ use std::sync::{Arc, Wait};
 
 /// Asks for the verdict on the next source, where it needs one.
 pub fn check_next<H: Helpers, T: Wait>(
-    rt: &T,
-    alloc: Global,
-    plan: &Plan,
+    setting: &Setting<'_, T>,
     helpers: &mut H,
-    progress: &mut Progress,
+    underway: &mut Underway,
 ) -> Result<(), AllocError>
-    requires may { MayAsk progress.old }
-    requires unchecked { progress.old.checked < vec_len progress.old.tracks }
-    requires ready { (t : Track) → slice_get progress.old.tracks.items progress.old.checked ≡ Some t → IsReady t }
-    ensures { OnOk result (ChecksNext (terms_of plan.now) progress.old progress.new) }
+    requires may { MayAsk underway.old }
+    requires unchecked { underway.old.checked < vec_len underway.old.tracks }
+    requires ready { (t : Track) → slice_get underway.old.tracks.items underway.old.checked ≡ Some t → IsReady t }
+    ensures { OnOk result (ChecksNext (terms_of setting.now.plan.now) underway.old underway.new) }
 {
-    let place = progress.checked;
-    let readings = take_parts(&mut progress.tracks[place])?;
-    ask_check(
-        rt,
-        alloc,
-        plan,
-        helpers,
-        &mut progress.inquiry,
-        place as u64,
-        readings,
-    )?;
-    progress.checked += 1;
+    let place = underway.checked;
+    let parts = take_parts(&mut underway.tracks[place])?;
+    ask_check(setting, helpers, &mut underway.inquiry, place as u64, parts)?;
+    underway.checked += 1;
     Ok(())
 }
 
 fn ask_check<H: Helpers, T: Wait>(
-    rt: &T,
-    alloc: Global,
-    plan: &Plan,
+    setting: &Setting<'_, T>,
     helpers: &mut H,
     inquiry: &mut Inquiry,
     trace: u64,
-    readings: Option<Parts>,
+    parts: Option<Parts>,
 ) -> Result<(), AllocError>
     requires room { open_count inquiry.old < 64 }
     requires few { inquiry.old.asked < 2 ^ 63 }
-    ensures { OnOk result (inquiry.new ≡ with_check (terms_of plan.now) inquiry.old trace readings) }
+    ensures { OnOk result (inquiry.new ≡ with_check (terms_of setting.now.plan.now) inquiry.old trace parts) }
 {
-    let Some(readings) = readings else {
+    let Some(parts) = parts else {
         return Ok(());
     };
-    let question = check_question(alloc, plan, trace, readings)?;
-    inquiry.ask(rt, helpers, Kind::Verdict, question)
+    let question = check_question(setting.alloc, setting.plan, trace, parts)?;
+    inquiry.ask(setting.rt, helpers, Kind::Check, question)
 }
 
 fn check_question(
     alloc: Global,
     plan: &Plan,
     trace: u64,
-    readings: Parts,
+    parts: Parts,
 ) -> Result<Arc<Question, Global>, AllocError>
-    ensures { IfOk result (λ question. arc_value question ≡ Question.Check trace readings plan.now.limits plan.now.except plan.now.order plan.now.explain) }
+    ensures { IfOk result (λ question. arc_value question ≡
+        Question.Check trace parts plan.now.limits plan.now.except plan.now.order plan.now.explain) }
 {
     Question::Check {
         trace,
-        parsed: readings,
+        parsed: parts,
         limits: plan.limits,
         except: plan.except.share()?,
         order: plan.order,
@@ -87,20 +77,24 @@ fn check_question(
 
 /// Settles the oldest open question of this kind, if there is one: its value goes to the track of its source.
 pub fn settle_next<H: Helpers, T: Wait>(
-    rt: &T,
-    alloc: Global,
-    plan: &Plan,
+    setting: &Setting<'_, T>,
     helpers: &mut H,
-    progress: &mut Progress,
+    underway: &mut Underway,
     kind: Kind,
 ) -> Result<(), AllocError>
-    ensures { OnOk result (SettlesNext kind progress.old progress.new) }
+    ensures { OnOk result (SettlesNext kind underway.old underway.new) }
 {
-    let is_last = progress.read == progress.tracks.len();
-    let Some((trace, value)) = progress.inquiry.settle(rt, helpers, kind, is_last)? else {
+    let is_last = underway.read == underway.tracks.len();
+    let Some((trace, value)) = underway.inquiry.settle(setting.rt, helpers, kind, is_last)? else {
         return Ok(());
     };
-    give_value(&mut progress.tracks, alloc, trace, value, plan)
+    give_value(
+        &mut underway.tracks,
+        setting.alloc,
+        trace,
+        value,
+        setting.plan,
+    )
 }
 
 // Gives a value to the track of its source, if there is one, of which as much is kept as the plan says.
@@ -111,7 +105,8 @@ fn give_value(
     value: Value,
     plan: &Plan,
 ) -> Result<(), AllocError>
-    ensures { OnOk result ((certain : Bool) × (tracks.new.items ≡ changed trace (λ t. with_value (most_kept plan.now.keeping trace (length tracks.old.items)) certain t value) tracks.old.items)) }
+    ensures { OnOk result ((certain : Bool) × (tracks.new.items ≡
+        changed trace (λ t. with_value (most_kept plan.now.keeping trace (length tracks.old.items)) certain t value) tracks.old.items)) }
 {
     let count = tracks.len() as u64;
     if trace >= count {

@@ -1,16 +1,17 @@
 //! The questions that are open, and those who may answer them.
-ghost use Rattle.std.specs.Prelude.{◌≡◌, ◌<◌, ◌≤◌, ◌-◌, ◌+◌, ◌*◌, ◌^◌, ◌++◌, ◌∷◌, ◌↔◌, [], ℕ, length, map, true, false, IfOk, IfSome, IfNone, OnOk, OnErr, IsTrue, MatchBool};
+ghost use Rattle.std.specs.Prelude.{◌≡◌, ◌<◌, ◌≤◌, ◌+◌, ◌*◌, ◌^◌, ◌++◌, ◌∷◌, ◌↔◌, [], length, true, false, IfOk, OnOk, OnErr, IsTrue, MatchBool};
 ghost use Rattle.std.specs.Arc.{arc_value};
-ghost use Rattle.aero_gather.specs.Gathered.{with_missed};
+ghost use Rattle.aero_gather.specs.Gathered.{with_asked};
 ghost use Rattle.aero_gather.specs.Given.{value_of};
-ghost use Rattle.aero_batch.specs.Inquiries.{nothing_asked, with_question, open_of, open_count, with_open, job_number, Gives, SettlesKnown, StaysOpen, TakesFront, questions_of};
-ghost use Rattle.aero_batch.specs.Replies.{of_kind};
+ghost use Rattle.aero_batch.specs.Inquiries.{nothing_asked, with_question, open_of, open_count, with_open, job_number};
+ghost use Rattle.aero_batch.specs.Inquiries.{Gives, SettlesKnown, TakesFront};
+ghost use Rattle.aero_batch.specs.Replies.{AllStay, Misses};
 ghost use Rattle.aero_intake.specs.Stories.{trace_of};
 
 use crate::gathers::Gathers;
 use crate::helpers::Helpers;
 use crate::kind::Kind;
-use crate::replies::{Listening, answered, await_oldest, hear, note};
+use crate::replies::{Listening, answered, await_oldest, hear, miss_job};
 use aero_gather::gather::{Gather, Settled, Tally, Ticket};
 use aero_pieces::answer::Value;
 use aero_pieces::question::Question;
@@ -27,9 +28,6 @@ const WINDOW: u32 = 64;
 #[derive(Drop)]
 pub struct Inquiry {
     gathers: Gathers,
-    // How many questions of each kind are open.
-    blocks: u32,
-    verdicts: u32,
     listening: Listening,
 }
 
@@ -38,20 +36,14 @@ impl Model for Inquiry {
 
     ghost Value = { Inquired };
 
-    ghost use Rattle.std.specs.Prelude.{◌≡◌, ◌+◌, ◌≤◌, ◌^◌, length};
-    ghost use Rattle.aero_batch.specs.Inquiries.{questions_of};
+    ghost use Rattle.std.specs.Prelude.{◌≡◌, ◌+◌, ◌≤◌, ◌^◌};
+    ghost use Rattle.aero_batch.specs.Replies.{inquired};
 
-    ghost view = { λ i. record {
-      blocks = questions_of i.gathers.blocks;
-      verdicts = questions_of i.gathers.verdicts;
-      asked = i.gathers.blocks.tally.asked + i.gathers.verdicts.tally.asked;
-    } };
+    ghost view = { λ i. inquired i.gathers };
 
     ghost invariant = { λ i. record {
       block_window : i.gathers.blocks.window ≡ 64;
       verdict_window : i.gathers.verdicts.window ≡ 64;
-      block_count : i.blocks ≡ length i.gathers.blocks.entries;
-      verdict_count : i.verdicts ≡ length i.gathers.verdicts.entries;
       few : i.gathers.blocks.tally.asked + i.gathers.verdicts.tally.asked ≤ 2 ^ 63;
     } };
 }
@@ -66,8 +58,6 @@ impl Inquiry {
                 blocks: Gather::new(alloc, WINDOW)?,
                 verdicts: Gather::new(alloc, WINDOW)?,
             },
-            blocks: 0,
-            verdicts: 0,
             listening: Listening {
                 is_alone,
                 useless: 0,
@@ -79,22 +69,22 @@ impl Inquiry {
     pub fn has_room(&self) -> bool
         ensures { IsTrue result ↔ (open_count self.now < 64) }
     {
-        u64::from(self.blocks) + u64::from(self.verdicts) < u64::from(WINDOW)
+        self.gathers.blocks.len() + self.gathers.verdicts.len() < WINDOW as usize
     }
 
     /// Whether no question is open.
     pub fn is_settled(&self) -> bool
         ensures { IsTrue result ↔ (open_count self.now ≡ 0) }
     {
-        self.blocks == 0 && self.verdicts == 0
+        self.gathers.blocks.len() == 0 && self.gathers.verdicts.len() == 0
     }
 
     /// The kind of which a question is to be awaited next: blocks, where one is asked about.
     pub fn awaited(&self) -> Kind {
-        if self.blocks == 0 {
-            Kind::Verdict
+        if self.gathers.blocks.len() == 0 {
+            Kind::Check
         } else {
-            Kind::Block
+            Kind::Parse
         }
     }
 
@@ -125,31 +115,10 @@ impl Inquiry {
         requires few { self.old.asked < 2 ^ 63 }
         ensures { OnOk result (self.new ≡ with_question kind self.old (arc_value question)) }
     {
-        let is_alone = self.listening.is_alone;
-        match kind {
-            Kind::Block => {
-                ask_in(
-                    rt,
-                    helpers,
-                    &mut self.gathers.blocks,
-                    kind,
-                    is_alone,
-                    question,
-                )?;
-                self.blocks += 1;
-            }
-            Kind::Verdict => {
-                ask_in(
-                    rt,
-                    helpers,
-                    &mut self.gathers.verdicts,
-                    kind,
-                    is_alone,
-                    question,
-                )?;
-                self.verdicts += 1;
-            }
-        }
+        let shared = Arc::try_clone(&question)?;
+        let ticket = ask_in(self.gathers.of_mut(kind), question);
+        let job = job_of(kind, ticket, shared);
+        post(rt, helpers, &mut self.gathers, self.listening.is_alone, job);
         Ok(())
     }
 
@@ -176,81 +145,52 @@ impl Inquiry {
     ) -> Result<Option<(u64, Value)>, AllocError>
         ensures { IfOk result (λ given. Gives (open_of kind self.old) (with_open kind self.old) self.new given) }
     {
-        let oldest = oldest_ticket(&self.gathers, kind, self.blocks, self.verdicts);
-        self.listening = await_oldest(rt, helpers, &mut self.gathers, kind, oldest, self.listening);
-        let hands_on = self.is_freed_soon(helpers, is_last);
-        match kind {
-            Kind::Block => take_front(
-                rt,
-                helpers,
-                false,
-                &mut self.gathers.blocks,
-                &mut self.blocks,
-            ),
-            Kind::Verdict => take_front(
-                rt,
-                helpers,
-                hands_on,
-                &mut self.gathers.verdicts,
-                &mut self.verdicts,
-            ),
-        }
+        self.listening = await_oldest(rt, helpers, &mut self.gathers, kind, self.listening);
+        let hands_on = self.is_freed_soon(helpers, kind, is_last);
+        take_front(rt, helpers, hands_on, self.gathers.of_mut(kind))
     }
 
     // Whether a helper frees what is let go at a verdict before more is kept. Not each may be at another verdict,
     // which can take long; and either blocks are asked about, before which it is freed, or nothing more is read. Before
     // the first block of a source that may be slow it would be kept meanwhile.
-    fn is_freed_soon<H: Helpers>(&self, helpers: &H, is_last: bool) -> bool {
-        let is_one_free = self.verdicts <= helpers.workers();
-        !self.listening.is_alone && is_one_free && (self.blocks > 0 || is_last)
+    fn is_freed_soon<H: Helpers>(&self, helpers: &H, kind: Kind, is_last: bool) -> bool {
+        let is_one_free = self.gathers.verdicts.len() <= helpers.workers() as usize;
+        let is_next_soon = is_last || self.gathers.blocks.len() > 0;
+        kind == Kind::Check && !self.listening.is_alone && is_one_free && is_next_soon
     }
 }
 
-// Asks a question of this kind, for which there is room, and posts it.
-fn ask_in<H: Helpers, R: Wait>(
-    rt: &R,
-    helpers: &mut H,
-    gather: &mut Gather,
-    kind: Kind,
-    is_alone: bool,
-    question: Arc<Question, Global>,
-) -> Result<(), AllocError>
+// Asks a question, for which there is room.
+fn ask_in(gather: &mut Gather, question: Arc<Question, Global>) -> Ticket
     requires room { length gather.old.entries < gather.old.window }
     requires few { gather.old.tally.asked < 2 ^ 63 }
-    ensures questions { OnOk result (questions_of gather.new ≡ questions_of gather.old ++ arc_value question ∷ []) }
-    ensures asked { OnOk result (gather.new.tally.asked ≡ gather.old.tally.asked + 1) }
-    ensures one_more { OnOk result (length gather.new.entries ≡ length gather.old.entries + 1) }
-    ensures window { OnOk result (gather.new.window ≡ gather.old.window) }
-    ensures unchanged { OnErr result (gather.new ≡ gather.old) }
+    ensures ticket { result.number ≡ gather.old.tally.asked }
+    ensures asked { gather.new ≡ with_asked gather.old (arc_value question) }
 {
-    let shared = Arc::try_clone(&question)?;
     let Ok(ticket) = gather.ask(question) else {
         unreachable!()
     };
-    post(rt, helpers, gather, kind, is_alone, ticket, shared);
-    Ok(())
+    ticket
 }
 
-// Posts the question, unless nobody helps, and says whether an answer is to be awaited. Where none is,
-// the question is noted as missed.
+// Posts the job, unless nobody helps, and says whether an answer is to be awaited. Where none is, its question is
+// noted as missed.
 fn post<H: Helpers, R: Wait>(
     rt: &R,
     helpers: &mut H,
-    gather: &mut Gather,
-    kind: Kind,
+    gathers: &mut Gathers,
     is_alone: bool,
-    ticket: Ticket,
-    question: Arc<Question, Global>,
+    job: Job,
 ) -> bool
-    requires { ticket.number < 2 ^ 63 }
-    ensures awaited { MatchBool result (gather.new ≡ gather.old) (gather.new ≡ with_missed gather.old ticket.number) }
+    ensures awaited { MatchBool result (gathers.new ≡ gathers.old) (Misses job.number gathers.old gathers.new) }
     ensures alone { is_alone ≡ true → result ≡ false }
-    ensures stays { StaysOpen gather.old gather.new }
+    ensures stay { AllStay gathers.old gathers.new }
 {
-    if !is_alone && is_posted(rt, helpers, job_of(kind, ticket, question)) {
+    let number = job.number;
+    if !is_alone && is_posted(rt, helpers, job) {
         return true;
     }
-    note(gather, ticket);
+    miss_job(gathers, number);
     false
 }
 
@@ -267,46 +207,21 @@ fn job_of(kind: Kind, ticket: Ticket, question: Arc<Question, Global>) -> Job
 {
     let even = ticket.number * 2;
     let number = match kind {
-        Kind::Block => even,
-        Kind::Verdict => even + 1,
+        Kind::Parse => even,
+        Kind::Check => even + 1,
     };
     Job { number, question }
 }
 
-// The ticket of the oldest open question of this kind, where so many are open of each.
-fn oldest_ticket(gathers: &Gathers, kind: Kind, blocks: u32, verdicts: u32) -> Ticket
-    requires blocks { blocks ≡ length gathers.now.blocks.entries }
-    requires verdicts { verdicts ≡ length gathers.now.verdicts.entries }
-    ensures { result.number ≡ (of_kind kind gathers.now).tally.asked - length (of_kind kind gathers.now).entries }
-{
-    match kind {
-        Kind::Block => oldest_of(&gathers.blocks, blocks),
-        Kind::Verdict => oldest_of(&gathers.verdicts, verdicts),
-    }
-}
-
-// The ticket of the oldest open question, where so many are open.
-fn oldest_of(gather: &Gather, count: u32) -> Ticket
-    requires { count ≡ length gather.now.entries }
-    ensures { result.number ≡ gather.now.tally.asked - length gather.now.entries }
-{
-    Ticket {
-        number: gather.tally().asked - u64::from(count),
-    }
-}
-
-// Takes the oldest open question away, and gives the number of its trace and its value. So many are open. The
-// question is freed, by the helpers if it is handed on.
+// Takes the oldest open question away, and gives the number of its trace and its value. The question is freed, by
+// the helpers if it is handed on.
 fn take_front<H: Helpers, R: Wait>(
     rt: &R,
     helpers: &mut H,
     hands_on: bool,
     gather: &mut Gather,
-    count: &mut u32,
 ) -> Result<Option<(u64, Value)>, AllocError>
-    requires { count.old ≡ length gather.old.entries }
     ensures front { IfOk result (λ given. TakesFront gather.old gather.old.entries gather.new given) }
-    ensures count { count.new ≡ length gather.new.entries }
     ensures window { gather.new.window ≡ gather.old.window }
     ensures asked { gather.new.tally.asked ≡ gather.old.tally.asked }
 {
@@ -317,7 +232,6 @@ fn take_front<H: Helpers, R: Wait>(
     let Some(Settled { question, value }) = settle_known(gather)? else {
         return Ok(None);
     };
-    *count -= 1;
     let_go(rt, helpers, hands_on, question);
     Ok(Some((trace, value)))
 }

@@ -3,6 +3,6 @@
 /// What a question is about: what a block says, or what the verdict on a whole source is.
 #[derive(Clone, Copy, Debug, PartialEq, Eq)]
 pub enum Kind {
-    Block,
-    Verdict,
+    Parse,
+    Check,
 }

@@ -54,11 +54,13 @@ pub mod helpers;
 mod inquiry;
 mod kind;
 pub mod outcome;
-mod progress;
 mod reading;
 mod replies;
 pub mod run;
+mod setting;
+mod standing;
 mod step;
 mod told;
+mod underway;
 
 pub use aero_intake::{intake, laws, plan, source};

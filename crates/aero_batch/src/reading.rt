@@ -8,7 +8,8 @@ ghost use Rattle.aero_batch.specs.Steps.{MayAsk, ReadsOn, ReadsPiece, CutsHeld, 
 
 use crate::helpers::Helpers;
 use crate::kind::Kind;
-use crate::progress::Progress;
+use crate::setting::Setting;
+use crate::underway::Underway;
 use aero_intake::intake::{Intake, Taken};
 use aero_intake::plan::Plan;
 use aero_intake::track::{Track, arrive, is_decided};
@@ -24,38 +25,37 @@ use std::sync::{Arc, Wait};
 /// held of it is cut, and its block asked about, or is passed over where what was read before decides; or, once
 /// nothing is held, it is noted how it has ended. An `AllocError` says that memory was refused.
 pub fn read_on<R: Read, H: Helpers, T: Wait>(
-    rt: &T,
-    alloc: Global,
-    plan: &Plan,
+    setting: &Setting<'_, T>,
     reader: &mut Counting<R>,
     helpers: &mut H,
-    progress: &mut Progress,
+    underway: &mut Underway,
 ) -> Result<(), AllocError>
-    requires may { MayAsk progress.old }
-    requires unread { progress.old.read < vec_len progress.old.tracks }
-    requires within { progress.old.intake.count ≤ plan.now.limits.bytes + 1 }
-    ensures { OnOk result (ReadsOn (terms_of plan.now) (seen_by R.remaining reader.old) (seen_by R.remaining reader.new) progress.old progress.new) }
+    requires may { MayAsk underway.old }
+    requires unread { underway.old.read < vec_len underway.old.tracks }
+    requires within { underway.old.intake.count ≤ setting.now.plan.now.limits.bytes + 1 }
+    ensures { OnOk result (ReadsOn (terms_of setting.now.plan.now) (seen_by R.remaining reader.old) (seen_by R.remaining reader.new)
+        underway.old underway.new) }
 {
-    match progress.ended {
-        Some(ending) if progress.intake.is_cut() => {
-            end_source(rt, alloc, helpers, progress, ending)
+    match underway.ended {
+        Some(ending) if underway.intake.is_cut() => {
+            end_source(setting, helpers, underway, ending)
         }
-        None if !progress.intake.is_full() => {
-            read_piece(plan, reader, progress);
+        None if !underway.intake.is_full() => {
+            read_piece(setting.plan, reader, underway);
             Ok(())
         }
-        _ => let_held_go(rt, alloc, helpers, progress),
+        _ => let_held_go(setting, helpers, underway),
     }
 }
 
 // Reads one piece of the source that is being read, or notes how its reading has ended.
-fn read_piece<R: Read>(plan: &Plan, reader: &mut Counting<R>, progress: &mut Progress)
-    requires reading { progress.old.ended ≡ None }
-    requires not_full { length progress.old.intake.held < 2 ^ 18 }
-    requires within { progress.old.intake.count ≤ plan.now.limits.bytes + 1 }
-    ensures { ReadsPiece (terms_of plan.now) (seen_by R.remaining reader.old) (seen_by R.remaining reader.new) progress.old progress.new }
+fn read_piece<R: Read>(plan: &Plan, reader: &mut Counting<R>, underway: &mut Underway)
+    requires reading { underway.old.ended ≡ None }
+    requires not_full { length underway.old.intake.held < 2 ^ 18 }
+    requires within { underway.old.intake.count ≤ plan.now.limits.bytes + 1 }
+    ensures { ReadsPiece (terms_of plan.now) (seen_by R.remaining reader.old) (seen_by R.remaining reader.new) underway.old underway.new }
 {
-    progress.ended = match progress.intake.take(reader, plan.piece, plan.limits.bytes) {
+    underway.ended = match underway.intake.take(reader, plan.piece, plan.limits.bytes) {
         Taken::Piece => None,
         Taken::Ended(ending) => Some(ending),
     };
@@ -64,71 +64,70 @@ fn read_piece<R: Read>(plan: &Plan, reader: &mut Counting<R>, progress: &mut Pro
 // Passes over what is held of the source that is being read, where no further block of it counts, and else cuts it
 // and asks about its block.
 fn let_held_go<H: Helpers, T: Wait>(
-    rt: &T,
-    alloc: Global,
+    setting: &Setting<'_, T>,
     helpers: &mut H,
-    progress: &mut Progress,
+    underway: &mut Underway,
 ) -> Result<(), AllocError>
-    requires may { MayAsk progress.old }
-    requires unread { progress.old.read < vec_len progress.old.tracks }
-    requires some { 0 < length progress.old.intake.held }
-    ensures { OnOk result (LetsHeldGo progress.old progress.new) }
+    requires may { MayAsk underway.old }
+    requires unread { underway.old.read < vec_len underway.old.tracks }
+    requires some { 0 < length underway.old.intake.held }
+    ensures { OnOk result (LetsHeldGo underway.old underway.new) }
 {
-    if has_enough(progress) {
-        progress.intake.pass_over();
+    if has_enough(underway) {
+        underway.intake.pass_over();
         return Ok(());
     }
-    cut_held(rt, alloc, helpers, progress)
+    cut_held(setting, helpers, underway)
 }
 
 // Whether no further block of the source that is being read counts.
-fn has_enough(progress: &Progress) -> bool
-    requires { progress.now.read < vec_len progress.now.tracks }
-    ensures enough { result ≡ true → HasEnough progress.now }
-    ensures not_yet { result ≡ false → GoesOn progress.now }
+fn has_enough(underway: &Underway) -> bool
+    requires { underway.now.read < vec_len underway.now.tracks }
+    ensures enough { result ≡ true → HasEnough underway.now }
+    ensures not_yet { result ≡ false → GoesOn underway.now }
 {
-    if progress.intake.has_passed() {
+    if underway.intake.has_passed() {
         return true;
     }
-    is_decided(&progress.tracks[progress.read])
+    is_decided(&underway.tracks[underway.read])
 }
 
 // Cuts what is held of the source that is being read, and asks about its block.
 fn cut_held<H: Helpers, T: Wait>(
-    rt: &T,
-    alloc: Global,
+    setting: &Setting<'_, T>,
     helpers: &mut H,
-    progress: &mut Progress,
+    underway: &mut Underway,
 ) -> Result<(), AllocError>
-    requires may { MayAsk progress.old }
-    requires unread { progress.old.read < vec_len progress.old.tracks }
-    requires some { 0 < length progress.old.intake.held }
-    requires going_on { GoesOn progress.old }
-    ensures { OnOk result (CutsHeld progress.old progress.new) }
+    requires may { MayAsk underway.old }
+    requires unread { underway.old.read < vec_len underway.old.tracks }
+    requires some { 0 < length underway.old.intake.held }
+    requires going_on { GoesOn underway.old }
+    ensures { OnOk result (CutsHeld underway.old underway.new) }
 {
-    let block = progress.intake.cut()?;
-    ask_block(rt, alloc, helpers, progress, block)
+    let block = underway.intake.cut()?;
+    ask_block(setting, helpers, underway, block)
 }
 
 // Asks about the next block of the source that is being read, if there is one.
 fn ask_block<H: Helpers, T: Wait>(
-    rt: &T,
-    alloc: Global,
+    setting: &Setting<'_, T>,
     helpers: &mut H,
-    progress: &mut Progress,
+    underway: &mut Underway,
     block: Option<Block>,
 ) -> Result<(), AllocError>
-    requires may { MayAsk progress.old }
-    requires unread { progress.old.read < vec_len progress.old.tracks }
+    requires may { MayAsk underway.old }
+    requires unread { underway.old.read < vec_len underway.old.tracks }
     requires short { IfSome block (λ bytes. length bytes ≤ 2 ^ 30) }
-    ensures { OnOk result (progress.new ≡ with_block progress.old block) }
+    ensures { OnOk result (underway.new ≡ with_block underway.old block) }
 {
     let Some(block) = block else {
         return Ok(());
     };
-    let question = block_question(alloc, progress.read as u64, progress.blocks, block)?;
-    progress.inquiry.ask(rt, helpers, Kind::Block, question)?;
-    progress.blocks += 1;
+    let question = block_question(setting.alloc, underway.read as u64, underway.blocks, block)?;
+    underway
+        .inquiry
+        .ask(setting.rt, helpers, Kind::Parse, question)?;
+    underway.blocks += 1;
     Ok(())
 }
 
@@ -154,25 +153,24 @@ fn block_question(
 
 // Notes how the source that was being read has ended, once its last block is asked about.
 fn end_source<H: Helpers, T: Wait>(
-    rt: &T,
-    alloc: Global,
+    setting: &Setting<'_, T>,
     helpers: &mut H,
-    progress: &mut Progress,
+    underway: &mut Underway,
     ending: Ending,
 ) -> Result<(), AllocError>
-    requires may { MayAsk progress.old }
-    requires unread { progress.old.read < vec_len progress.old.tracks }
-    ensures { OnOk result (EndsSource ending progress.old progress.new) }
+    requires may { MayAsk underway.old }
+    requires unread { underway.old.read < vec_len underway.old.tracks }
+    ensures { OnOk result (EndsSource ending underway.old underway.new) }
 {
-    let bytes = progress.intake.count();
-    let enough = has_enough(progress);
-    let last = last_block(&mut progress.intake, ending, enough)?;
-    ask_block(rt, alloc, helpers, progress, last)?;
-    let place = progress.read;
-    end_track(&mut progress.tracks[place], ending, bytes, progress.blocks);
-    progress.blocks = 0;
-    progress.ended = None;
-    progress.read += 1;
+    let bytes = underway.intake.count();
+    let enough = has_enough(underway);
+    let last = last_block(&mut underway.intake, ending, enough)?;
+    ask_block(setting, helpers, underway, last)?;
+    let place = underway.read;
+    end_track(&mut underway.tracks[place], ending, bytes, underway.blocks);
+    underway.blocks = 0;
+    underway.ended = None;
+    underway.read += 1;
     Ok(())
 }
 

@@ -27,18 +27,15 @@ pub struct Listening {
     pub useless: u32,
 }
 
-/// Takes replies until the oldest open question of this kind, which has this ticket, has an answer or is
-/// noted as missed. After 1,024 replies in a row that were of no use it is noted as missed. Where
-/// nobody replies nothing is awaited.
+/// Takes replies until the oldest open question of this kind has an answer or is noted as missed. After 1,024
+/// replies in a row that were of no use it is noted as missed. Where nobody replies nothing is awaited.
 pub fn await_oldest<H: Helpers, R: Wait>(
     rt: &R,
     helpers: &mut H,
     gathers: &mut Gathers,
     kind: Kind,
-    oldest: Ticket,
     listening: Listening,
 ) -> Listening
-    requires { oldest.number ≡ (of_kind kind gathers.old).tally.asked - length (of_kind kind gathers.old).entries }
     ensures ended { result.is_alone ≡ false → (oldest_of (of_kind kind gathers.new).entries ≡ Awaited → ⊥) }
     ensures stay { AllStay gathers.old gathers.new }
 {
@@ -51,7 +48,7 @@ pub fn await_oldest<H: Helpers, R: Wait>(
             return replied(useless);
         }
         if !is_patient(useless) {
-            give_up(gathers, kind, oldest);
+            give_up(gathers, kind);
             return replied(0);
         }
         let Some(reply) = helpers.next_answer(rt) else {
@@ -116,10 +113,10 @@ pub fn answered(gathers: &Gathers) -> Option<Kind>
     ensures none { IfNone result ((kind : Kind) → IsAnswered kind gathers.now → ⊥) }
 {
     if is_answered(&gathers.verdicts) {
-        return Some(Kind::Verdict);
+        return Some(Kind::Check);
     }
     if is_answered(&gathers.blocks) {
-        return Some(Kind::Block);
+        return Some(Kind::Parse);
     }
     None
 }
@@ -138,10 +135,7 @@ fn is_answered(gather: &Gather) -> bool
 fn oldest_state(gathers: &Gathers, kind: Kind) -> Oldest
     ensures { result ≡ oldest_of (of_kind kind gathers.now).entries }
 {
-    match kind {
-        Kind::Block => gathers.blocks.oldest(),
-        Kind::Verdict => gathers.verdicts.oldest(),
-    }
+    gathers.of(kind).oldest()
 }
 
 // Whether one more reply is awaited after so many in a row that were of no use.
@@ -159,12 +153,12 @@ fn useless_after(useless: u32, is_of_use: bool) -> u32
     if is_of_use { 0 } else { useless + 1 }
 }
 
-// Notes the oldest open question of this kind, which has this ticket, as missed, unless it has an answer.
-fn give_up(gathers: &mut Gathers, kind: Kind, oldest: Ticket)
-    requires { oldest.number ≡ (of_kind kind gathers.old).tally.asked - length (of_kind kind gathers.old).entries }
+// Notes the oldest open question of this kind as missed, unless it has an answer.
+fn give_up(gathers: &mut Gathers, kind: Kind)
     ensures ended { oldest_of (of_kind kind gathers.new).entries ≡ Awaited → ⊥ }
     ensures stay { AllStay gathers.old gathers.new }
 {
+    let oldest = gathers.of(kind).oldest_ticket();
     miss(gathers, kind, oldest);
 }
 
@@ -186,33 +180,30 @@ fn accept(gathers: &mut Gathers, answer: Answer) -> bool
     ensures stay { AllStay gathers.old gathers.new }
 {
     let kind = kind_of(answer.question());
-    match kind {
-        Kind::Block => gathers.blocks.accept(answer) == Accepted::Kept,
-        Kind::Verdict => gathers.verdicts.accept(answer) == Accepted::Kept,
-    }
+    gathers.of_mut(kind).accept(answer) == Accepted::Kept
 }
 
-/// What the question is about.
-pub fn kind_of(question: &Question) -> Kind
+// What the question is about.
+fn kind_of(question: &Question) -> Kind
     ensures { result ≡ asked_kind question.now }
 {
     match question {
-        Question::Parse { .. } => Kind::Block,
-        Question::Check { .. } => Kind::Verdict,
+        Question::Parse { .. } => Kind::Parse,
+        Question::Check { .. } => Kind::Check,
     }
 }
 
-// Notes the question of the job with this number as missed, unless it has an answer or isn't open, and
-// says whether that is news.
-fn miss_job(gathers: &mut Gathers, number: u64) -> bool
+/// Notes the question of the job with this number as missed, unless it has an answer or isn't open, and
+/// says whether that is news.
+pub fn miss_job(gathers: &mut Gathers, number: u64) -> bool
     ensures heeds { Heeds (Reply.Missed number) gathers.old gathers.new result }
     ensures stay { AllStay gathers.old gathers.new }
 {
     let ticket = Ticket { number: number / 2 };
     let kind = if number % 2 == 0 {
-        Kind::Block
+        Kind::Parse
     } else {
-        Kind::Verdict
+        Kind::Check
     };
     miss(gathers, kind, ticket)
 }
@@ -224,15 +215,12 @@ fn miss(gathers: &mut Gathers, kind: Kind, ticket: Ticket) -> bool
     ensures noted { ChangesOne kind gathers.old gathers.new (λ a b. b ≡ with_missed a ticket.number) }
     ensures stay { AllStay gathers.old gathers.new }
 {
-    match kind {
-        Kind::Block => note(&mut gathers.blocks, ticket),
-        Kind::Verdict => note(&mut gathers.verdicts, ticket),
-    }
+    note(gathers.of_mut(kind), ticket)
 }
 
-/// Notes the question with this ticket as missed, unless it has an answer or isn't open, and says
-/// whether that is news.
-pub fn note(gather: &mut Gather, ticket: Ticket) -> bool
+// Notes the question with this ticket as missed, unless it has an answer or isn't open, and says
+// whether that is news.
+fn note(gather: &mut Gather, ticket: Ticket) -> bool
     ensures news { IsTrue result ↔ IsAwaited gather.old ticket.number }
     ensures noted { gather.new ≡ with_missed gather.old ticket.number }
     ensures stays { StaysOpen gather.old gather.new }

@@ -1,18 +1,20 @@
 //! A run over many sources.
-ghost use Rattle.std.specs.Prelude.{◌≡◌, ◌<◌, ◌≤◌, ◌+◌, ℕ, List, None, Some, true, false, length, map, vec_len, vec_capacity, [], IfOk, IfErr, OnOk};
+ghost use Rattle.std.specs.Prelude.{◌≡◌, ◌≤◌, ◌+◌, None, Some, true, false, length, map, vec_len, [], IfOk, IfErr, OnOk};
 ghost use Rattle.aero_report.specs.Texts.{no_counts};
-ghost use Rattle.aero_model.specs.CallCounts.{Seen, seen_by};
+ghost use Rattle.aero_model.specs.CallCounts.{seen_by};
 ghost use Rattle.aero_intake.specs.PlanTerms.{terms_of};
-ghost use Rattle.aero_batch.specs.Founds.{Sighted, sighted, WasRun};
+ghost use Rattle.aero_batch.specs.Founds.{sighted, WasRun};
 ghost use Rattle.aero_batch.specs.Inquiries.{open_count};
-ghost use Rattle.aero_batch.specs.Holding.{HasNumbers, IsBegun, Stands};
+ghost use Rattle.aero_batch.specs.Holding.{HasNumbers, IsBegun};
+ghost use Rattle.aero_batch.specs.Runs.{HasRun, KeepsStanding, StopsRun};
 
 use crate::helpers::{Helpers, Nobody};
-use crate::inquiry::Inquiry;
 use crate::outcome::{Cause, Outcome};
-use crate::progress::Progress;
+use crate::setting::Setting;
+use crate::standing::Standing;
 use crate::step::step;
 use crate::told::{Style, Told, nothing_counted, tell_next, tell_summary};
+use crate::underway::Underway;
 use aero_gather::gather::Tally;
 use aero_intake::plan::Plan;
 use aero_intake::source::Source;
@@ -73,37 +75,24 @@ pub fn run_over<R: Read, W: Write, H: Helpers, T: Wait>(
     ensures workers { result.workers ≡ H.count helpers.old }
 {
     let workers = helpers.workers();
-    let Ok((mut progress, mut told)) = begin(alloc, plan, sources.len(), workers == 0) else {
+    let Ok(mut standing) = begin(alloc, plan, sources.len(), workers == 0) else {
         return refused(alloc, workers);
     };
-    let around = Around { rt, alloc, plan };
-    match run_on(&around, sources, writer, helpers, &mut progress, &mut told) {
-        Ok(()) => outcome_of(told, None, &progress.inquiry, workers),
-        Err(cause) => outcome_of(told, Some(cause), &progress.inquiry, workers),
+    let setting = Setting { rt, alloc, plan };
+    match run_on(&setting, sources, writer, helpers, &mut standing) {
+        Ok(()) => outcome_of(standing, None, workers),
+        Err(cause) => outcome_of(standing, Some(cause), workers),
     }
 }
 
-// What each step of a run is handed.
-#[derive(Drop)]
-struct Around<'a, T> {
-    rt: &'a T,
-    alloc: Global,
-    plan: &'a Plan,
-}
-
 // What stands before the first step, over so many sources.
-fn begin(
-    alloc: Global,
-    plan: &Plan,
-    sources: usize,
-    is_alone: bool,
-) -> Result<(Progress, Told), AllocError>
+fn begin(alloc: Global, plan: &Plan, sources: usize, is_alone: bool) -> Result<Standing, AllocError>
     requires { sources ≤ 65536 }
-    ensures { IfOk result (λ begun. IsBegun (terms_of plan.now) sources begun.0 begun.1) }
+    ensures { IfOk result (λ begun. IsBegun (terms_of plan.now) sources begun.underway begun.told) }
 {
     let told = Told::new(alloc, sources)?;
-    let progress = Progress::new(alloc, plan, sources, is_alone)?;
-    Ok((progress, told))
+    let underway = Underway::new(alloc, plan, sources, is_alone)?;
+    Ok(Standing { underway, told })
 }
 
 // Where memory was refused before the first step.
@@ -131,16 +120,17 @@ fn refused(alloc: Global, workers: u32) -> Outcome
 }
 
 // What a run that came so far has told, asked and kept.
-fn outcome_of(told: Told, cause: Option<Cause>, inquiry: &Inquiry, workers: u32) -> Outcome
-    ensures endings { result.endings ≡ told.endings }
-    ensures faults { result.faults ≡ told.faults }
-    ensures counts { result.counts ≡ told.counts }
+fn outcome_of(standing: Standing, cause: Option<Cause>, workers: u32) -> Outcome
+    ensures endings { result.endings ≡ standing.told.endings }
+    ensures faults { result.faults ≡ standing.told.faults }
+    ensures counts { result.counts ≡ standing.told.counts }
     ensures cause { result.cause ≡ cause }
-    ensures asked { result.tally.asked ≡ inquiry.now.asked }
+    ensures asked { result.tally.asked ≡ standing.underway.inquiry.asked }
     ensures tallied { result.tally.kept + result.tally.done_here ≤ result.tally.asked }
-    ensures settled { open_count inquiry.now ≡ 0 → result.tally.asked ≡ result.tally.kept + result.tally.done_here }
+    ensures settled { open_count standing.underway.inquiry ≡ 0 → result.tally.asked ≡ result.tally.kept + result.tally.done_here }
     ensures workers { result.workers ≡ workers }
 {
+    let Standing { underway, told } = standing;
     let Told {
         endings,
         faults,
@@ -151,30 +141,33 @@ fn outcome_of(told: Told, cause: Option<Cause>, inquiry: &Inquiry, workers: u32)
         faults,
         counts,
         cause,
-        tally: inquiry.tally(),
+        tally: underway.inquiry.tally(),
         workers,
     }
 }
 
 // All steps, and the summary.
 fn run_on<R: Read, W: Write, H: Helpers, T: Wait>(
-    around: &Around<'_, T>,
+    setting: &Setting<'_, T>,
     sources: &mut [Source<R>],
     writer: &mut Counting<W>,
     helpers: &mut H,
-    progress: &mut Progress,
-    told: &mut Told,
+    standing: &mut Standing,
 ) -> Result<(), Cause>
-    requires { IsBegun (terms_of around.now.plan.now) (length sources.old) progress.old told.old }
-    ensures done { OnOk result (WasRun (terms_of around.now.plan.now) around.now.plan.now.form (map (sighted R.remaining) sources.old) (map (sighted R.remaining) sources.new)
-        (seen_by W.contents writer.old) (seen_by W.contents writer.new) told.new.endings.items told.new.faults.items told.new.counts None) }
-    ensures stopped { IfErr result (λ cause. WasRun (terms_of around.now.plan.now) around.now.plan.now.form (map (sighted R.remaining) sources.old) (map (sighted R.remaining) sources.new)
-        (seen_by W.contents writer.old) (seen_by W.contents writer.new) told.new.endings.items told.new.faults.items told.new.counts (Some cause)) }
-    ensures settled { OnOk result (open_count progress.new.inquiry ≡ 0) }
+    requires { IsBegun (terms_of setting.now.plan.now) (length sources.old) standing.old.underway standing.old.told }
+    ensures done { OnOk result (HasRun setting.now.plan.now (map (sighted R.remaining) sources.old) (map (sighted R.remaining) sources.new)
+        (seen_by W.contents writer.old) (seen_by W.contents writer.new) standing.new.told None) }
+    ensures stopped { IfErr result (λ cause. HasRun setting.now.plan.now (map (sighted R.remaining) sources.old) (map (sighted R.remaining) sources.new)
+        (seen_by W.contents writer.old) (seen_by W.contents writer.new) standing.new.told (Some cause)) }
+    ensures settled { OnOk result (open_count standing.new.underway.inquiry ≡ 0) }
 {
-    'steps: for _ in around.rt.forever() {
-        if advance(around, sources, writer, helpers, progress, told)? {
-            return tell_summary(style_of(around.alloc, around.plan), &told.counts, writer);
+    'steps: for _ in setting.rt.forever() {
+        if advance(setting, sources, writer, helpers, standing)? {
+            return tell_summary(
+                style_of(setting.alloc, setting.plan),
+                &standing.told.counts,
+                writer,
+            );
         }
     }
     unreachable!()
@@ -183,29 +176,33 @@ fn run_on<R: Read, W: Write, H: Helpers, T: Wait>(
 // The next line is written, or else one step is done. The answer says whether all is done but for
 // the summary.
 fn advance<R: Read, W: Write, H: Helpers, T: Wait>(
-    around: &Around<'_, T>,
+    setting: &Setting<'_, T>,
     sources: &mut [Source<R>],
     writer: &mut Counting<W>,
     helpers: &mut H,
-    progress: &mut Progress,
-    told: &mut Told,
+    standing: &mut Standing,
 ) -> Result<bool, Cause>
-    requires { HasNumbers (terms_of around.now.plan.now) (length sources.old) progress.old told.old }
-    ensures stands { OnOk result ((old : List Sighted) (before : Seen) → Stands (terms_of around.now.plan.now) around.now.plan.now.form old (map (sighted R.remaining) sources.old) before (seen_by W.contents writer.old) progress.old told.old
-        → Stands (terms_of around.now.plan.now) around.now.plan.now.form old (map (sighted R.remaining) sources.new) before (seen_by W.contents writer.new) progress.new told.new) }
-    ensures stopped { IfErr result (λ cause. (old : List Sighted) (before : Seen) → Stands (terms_of around.now.plan.now) around.now.plan.now.form old (map (sighted R.remaining) sources.old) before (seen_by W.contents writer.old) progress.old told.old
-        → WasRun (terms_of around.now.plan.now) around.now.plan.now.form old (map (sighted R.remaining) sources.new) before (seen_by W.contents writer.new) told.new.endings.items told.new.faults.items told.new.counts (Some cause)) }
-    ensures all_told { IfOk result (λ is_done. is_done ≡ true → vec_len told.new.endings ≡ length sources.new) }
-    ensures all_settled { IfOk result (λ is_done. is_done ≡ true → open_count progress.new.inquiry ≡ 0) }
+    requires { HasNumbers (terms_of setting.now.plan.now) (length sources.old) standing.old.underway standing.old.told }
+    ensures stands { OnOk result (KeepsStanding setting.now.plan.now (map (sighted R.remaining) sources.old) (map (sighted R.remaining) sources.new)
+        (seen_by W.contents writer.old) (seen_by W.contents writer.new) standing.old.underway standing.new.underway standing.old.told standing.new.told) }
+    ensures stopped { IfErr result (StopsRun setting.now.plan.now (map (sighted R.remaining) sources.old) (map (sighted R.remaining) sources.new)
+        (seen_by W.contents writer.old) (seen_by W.contents writer.new) standing.old.underway standing.old.told standing.new.told) }
+    ensures all_told { IfOk result (λ is_done. is_done ≡ true → vec_len standing.new.told.endings ≡ length sources.new) }
+    ensures all_settled { IfOk result (λ is_done. is_done ≡ true → open_count standing.new.underway.inquiry ≡ 0) }
 {
-    let Around { rt, alloc, plan } = *around;
-    if tell_ready(alloc, plan, sources, progress, writer, told)? {
+    if tell_ready(
+        setting,
+        sources,
+        &standing.underway,
+        writer,
+        &mut standing.told,
+    )? {
         return Ok(false);
     }
-    if told.endings.len() == sources.len() && progress.inquiry.is_settled() {
+    if standing.told.endings.len() == sources.len() && standing.underway.inquiry.is_settled() {
         return Ok(true);
     }
-    match step(rt, alloc, plan, sources, helpers, progress) {
+    match step(setting, sources, helpers, &mut standing.underway) {
         Ok(()) => Ok(false),
         Err(refused) => Err(cause_of(refused)),
     }
@@ -229,30 +226,31 @@ fn cause_of(_refused: AllocError) -> Cause
 }
 
 // Writes the next line, where it is found what it is to say. The answer says whether it is.
-fn tell_ready<R: Read, W: Write>(
-    alloc: Global,
-    plan: &Plan,
+fn tell_ready<R: Read, W: Write, T>(
+    setting: &Setting<'_, T>,
     sources: &[Source<R>],
-    progress: &Progress,
+    underway: &Underway,
     writer: &mut Counting<W>,
     told: &mut Told,
 ) -> Result<bool, Cause>
-    requires { HasNumbers (terms_of plan.now) (length sources.now) progress.now told.old }
-    ensures stands { IfOk result (λ is_told. is_told ≡ true → (old : List Sighted) (before : Seen) → Stands (terms_of plan.now) plan.now.form old (map (sighted R.remaining) sources.now) before (seen_by W.contents writer.old) progress.now told.old
-        → Stands (terms_of plan.now) plan.now.form old (map (sighted R.remaining) sources.now) before (seen_by W.contents writer.new) progress.now told.new) }
-    ensures unchanged { IfOk result (λ is_told. is_told ≡ false → (seen_by W.contents writer.new ≡ seen_by W.contents writer.old) × (told.new ≡ told.old)) }
-    ensures stopped { IfErr result (λ cause. (old : List Sighted) (before : Seen) → Stands (terms_of plan.now) plan.now.form old (map (sighted R.remaining) sources.now) before (seen_by W.contents writer.old) progress.now told.old
-        → WasRun (terms_of plan.now) plan.now.form old (map (sighted R.remaining) sources.now) before (seen_by W.contents writer.new) told.new.endings.items told.new.faults.items told.new.counts (Some cause)) }
+    requires { HasNumbers (terms_of setting.now.plan.now) (length sources.now) underway.now told.old }
+    ensures stands { IfOk result (λ is_told. is_told ≡ true →
+        KeepsStanding setting.now.plan.now (map (sighted R.remaining) sources.now) (map (sighted R.remaining) sources.now)
+        (seen_by W.contents writer.old) (seen_by W.contents writer.new) underway.now underway.now told.old told.new) }
+    ensures unchanged { IfOk result (λ is_told. is_told ≡ false →
+        (seen_by W.contents writer.new ≡ seen_by W.contents writer.old) × (told.new ≡ told.old)) }
+    ensures stopped { IfErr result (StopsRun setting.now.plan.now (map (sighted R.remaining) sources.now) (map (sighted R.remaining) sources.now)
+        (seen_by W.contents writer.old) (seen_by W.contents writer.new) underway.now told.old told.new) }
 {
     let place = told.endings.len();
-    if place >= progress.checked {
+    if place >= underway.checked {
         return Ok(false);
     }
     let name = sources[place].name.as_slice();
     tell_next(
-        style_of(alloc, plan),
+        style_of(setting.alloc, setting.plan),
         name,
-        &progress.tracks[place],
+        &underway.tracks[place],
         writer,
         told,
     )

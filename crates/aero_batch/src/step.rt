@@ -10,12 +10,12 @@ use crate::checking::{check_next, settle_next};
 use crate::helpers::Helpers;
 use crate::inquiry::Inquiry;
 use crate::kind::Kind;
-use crate::progress::Progress;
 use crate::reading::read_on;
-use aero_intake::plan::Plan;
+use crate::setting::Setting;
+use crate::underway::Underway;
 use aero_intake::source::Source;
 use aero_intake::track::is_ready;
-use std::alloc::{AllocError, Global};
+use std::alloc::AllocError;
 use std::io::Read;
 use std::sync::Wait;
 
@@ -24,50 +24,50 @@ use std::sync::Wait;
 /// source that may wait, or nothing is left to read, that question is settled. So what is known of a
 /// source is told before the next read. An `AllocError` says that memory was refused.
 pub fn step<R: Read, H: Helpers, T: Wait>(
-    rt: &T,
-    alloc: Global,
-    plan: &Plan,
+    setting: &Setting<'_, T>,
     sources: &mut [Source<R>],
     helpers: &mut H,
-    progress: &mut Progress,
+    underway: &mut Underway,
 ) -> Result<(), AllocError>
-    requires { Counted (terms_of plan.now) (length sources.old) progress.old }
-    ensures steps { OnOk result (Steps (terms_of plan.now) (map (sighted R.remaining) sources.old) (map (sighted R.remaining) sources.new) progress.old progress.new) }
+    requires { Counted (terms_of setting.now.plan.now) (length sources.old) underway.old }
+    ensures steps { OnOk result (Steps (terms_of setting.now.plan.now) (map (sighted R.remaining) sources.old)
+        (map (sighted R.remaining) sources.new) underway.old underway.new) }
     ensures names { map (λ s. s.name) (map (sighted R.remaining) sources.new) ≡ map (λ s. s.name) (map (sighted R.remaining) sources.old) }
-    ensures others { (s : ℕ) → (progress.old.read ≡ s → ⊥) → slice_get (map (sighted R.remaining) sources.new) s ≡ slice_get (map (sighted R.remaining) sources.old) s }
+    ensures others { (s : ℕ) → (underway.old.read ≡ s → ⊥) →
+        slice_get (map (sighted R.remaining) sources.new) s ≡ slice_get (map (sighted R.remaining) sources.old) s }
 {
-    let answered = progress.inquiry.hear(rt, helpers);
-    step_on(rt, alloc, plan, sources, helpers, progress, answered)
+    let answered = underway.inquiry.hear(setting.rt, helpers);
+    step_on(setting, sources, helpers, underway, answered)
 }
 
 // The same, where it is said of which kind the oldest question has its answer, if of one.
 fn step_on<R: Read, H: Helpers, T: Wait>(
-    rt: &T,
-    alloc: Global,
-    plan: &Plan,
+    setting: &Setting<'_, T>,
     sources: &mut [Source<R>],
     helpers: &mut H,
-    progress: &mut Progress,
+    underway: &mut Underway,
     answered: Option<Kind>,
 ) -> Result<(), AllocError>
-    requires { Counted (terms_of plan.now) (length sources.old) progress.old }
-    ensures steps { OnOk result (Steps (terms_of plan.now) (map (sighted R.remaining) sources.old) (map (sighted R.remaining) sources.new) progress.old progress.new) }
+    requires { Counted (terms_of setting.now.plan.now) (length sources.old) underway.old }
+    ensures steps { OnOk result (Steps (terms_of setting.now.plan.now) (map (sighted R.remaining) sources.old)
+        (map (sighted R.remaining) sources.new) underway.old underway.new) }
     ensures names { map (λ s. s.name) (map (sighted R.remaining) sources.new) ≡ map (λ s. s.name) (map (sighted R.remaining) sources.old) }
-    ensures others { (s : ℕ) → (progress.old.read ≡ s → ⊥) → slice_get (map (sighted R.remaining) sources.new) s ≡ slice_get (map (sighted R.remaining) sources.old) s }
+    ensures others { (s : ℕ) → (underway.old.read ≡ s → ⊥) →
+        slice_get (map (sighted R.remaining) sources.new) s ≡ slice_get (map (sighted R.remaining) sources.old) s }
 {
-    let kind = next_kind(&progress.inquiry, answered);
-    if !progress.inquiry.has_room() {
-        return settle_next(rt, alloc, plan, helpers, progress, kind);
+    let kind = next_kind(&underway.inquiry, answered);
+    if !underway.inquiry.has_room() {
+        return settle_next(setting, helpers, underway, kind);
     }
-    if progress.checked < progress.read && is_ready(&progress.tracks[progress.checked]) {
-        return check_next(rt, alloc, plan, helpers, progress);
+    if underway.checked < underway.read && is_ready(&underway.tracks[underway.checked]) {
+        return check_next(setting, helpers, underway);
     }
-    let is_settled_first = answered.is_some() || is_held_back(sources, progress);
-    if !is_settled_first && progress.read < sources.len() {
-        let source = &mut sources[progress.read];
-        return read_on(rt, alloc, plan, &mut source.reader, helpers, progress);
+    let is_settled_first = answered.is_some() || is_held_back(sources, underway);
+    if !is_settled_first && underway.read < sources.len() {
+        let source = &mut sources[underway.read];
+        return read_on(setting, &mut source.reader, helpers, underway);
     }
-    settle_next(rt, alloc, plan, helpers, progress, kind)
+    settle_next(setting, helpers, underway, kind)
 }
 
 // The kind of which a question is settled next, where one is: one that is answered, or else that which is awaited.
@@ -80,9 +80,9 @@ fn next_kind(inquiry: &Inquiry, answered: Option<Kind>) -> Kind {
 
 // Whether the next read is the first of a source that may wait, while questions on those before it are
 // open: what they say is told first.
-fn is_held_back<R>(sources: &[Source<R>], progress: &Progress) -> bool {
-    let Some(source) = sources.get(progress.read) else {
+fn is_held_back<R>(sources: &[Source<R>], underway: &Underway) -> bool {
+    let Some(source) = sources.get(underway.read) else {
         return false;
     };
-    source.may_wait && progress.intake.count() == 0 && !progress.inquiry.is_settled()
+    source.may_wait && underway.intake.count() == 0 && !underway.inquiry.is_settled()
 }

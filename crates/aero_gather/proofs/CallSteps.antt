@@ -1,11 +1,13 @@
 -- Each call is a step of the schedule.
-use Rattle.std.proofs.Common.{◌≡◌, ℕ, suc, ◌+◌, ◌-◌, ◌<◌, Bool, true, false, cond, nat_le, List, [], ◌∷◌, ◌++◌, length, slice_get, slice_set, Option, Some, None, is_none, inl, inr, refl, sym, ◌∙◌, ap, subst, arith}
+use Rattle.std.proofs.Common.{◌≡◌, ℕ, suc, ◌+◌, ◌-◌, ◌<◌, Bool, true, false, cond, nat_le, List, [], ◌∷◌, ◌++◌, length, slice_get, slice_set, Option, Some}
+use Rattle.std.proofs.Common.{None, is_none, inl, inr, refl, sym, ◌∙◌, ap, subst, arith}
 use Rattle.std.proofs.lemmas.Bool.{lt-ltb}
 use Rattle.std.proofs.lemmas.List.{length-set, length-append}
 use Rattle.aero_pieces.specs.declared.question.Question.{Question}
 use Rattle.aero_pieces.specs.declared.answer.Value.{Value}
 use Rattle.aero_pieces.specs.declared.answer.Value.TheVariants.{Parsed}
-use Rattle.aero_pieces.specs.Schedule.{World, Entry, TakesAnswer, Ask, Answers, Miss, Settle, fresh, with_question, noted, with_note, settled_value, after_settling, MaySettle}
+use Rattle.aero_pieces.specs.Schedule.{World, Entry, TakesAnswer, Ask, Answers, Miss, Settle, fresh, with_question, noted, with_note, settled_value}
+use Rattle.aero_pieces.specs.Schedule.{after_settling, MaySettle}
 use Rattle.aero_gather.specs.declared.gather.Accepted.{Accepted}
 use Rattle.aero_gather.specs.declared.gather.Accepted.TheVariants as accepted
 use Rattle.aero_gather.specs.Gathered.{Gathered, Accepts, Settles}
@@ -43,14 +45,17 @@ asks_step room old new q w is seen =
       step = Ask q;
       next = record w { asked = w.asked ++ q ∷ []; entries = with_question w.entries q };
       is_step = refl;
-      happens = sym (ap (λ b. cond b (record w { asked = w.asked ++ q ∷ []; entries = with_question w.entries q }) w) (lt-ltb (length w.entries) old.window fits));
+      happens = sym (ap (λ b. cond b (record w { asked = w.asked ++ q ∷ []; entries = with_question w.entries q }) w)
+          (lt-ltb (length w.entries) old.window fits));
       seen = record {
         entries = ap (λ es. es ++ fresh q ∷ []) seen.entries ∙ sym (ap (λ (g : Gathered). g.entries) is.1);
-        given = subst (λ (g : Gathered). length w.given + length g.entries ≡ g.tally.asked) (sym is.1) (omega (arith, seen.given, length-append old.entries (fresh q ∷ [])));
+        given = subst (λ (g : Gathered). length w.given + length g.entries ≡ g.tally.asked) (sym is.1)
+            (omega (arith, seen.given, length-append old.entries (fresh q ∷ [])));
       };
     }
 
-takes_step : (room : ℕ) (old new : Gathered) (q : Question) (v : Value) (a : Accepted) (w : World) → Does old (Takes q v a) new → IsSeenBy old w → StepsOn room old new (Takes q v a) w
+takes_step : (room : ℕ) (old new : Gathered) (q : Question) (v : Value) (a : Accepted) (w : World) → Does old (Takes q v a) new → IsSeenBy old w →
+    StepsOn room old new (Takes q v a) w
 takes_step room old new q v a w is seen =
     let takes : TakesAnswer q v old.entries new.entries = takes_answer q v old new a is.1 in
     let same : length new.entries ≡ length old.entries = length_taken q v old.entries new.entries takes in
@@ -84,7 +89,8 @@ misses_step room old new ticket w is seen =
 some_value : Value
 some_value = Parsed (record { events = []; lines = 0; fault = None })
 
-gives_step : (room : ℕ) (old new : Gathered) (given : Option Value) (w : World) (entries : List Entry) → Settles old entries new given → old.entries ≡ entries → IsSeenBy old w →
+gives_step : (room : ℕ) (old new : Gathered) (given : Option Value) (w : World) (entries : List Entry) → Settles old entries new given →
+    old.entries ≡ entries → IsSeenBy old w →
     StepsOn room old new (Gives given) w
 gives_step room old new given w [] is none seen =
     record {
@@ -100,7 +106,8 @@ gives_step room old new given w (e ∷ more) is some seen =
       step = Settle is.0;
       next = record w { entries = more; given = w.given ++ settled_value e is.0 ∷ [] };
       is_step = (is.0, refl);
-      happens = subst (λ es. MaySettle es is.0 × (record w { entries = more; given = w.given ++ settled_value e is.0 ∷ [] } ≡ after_settling w is.0 es)) (sym (seen.entries ∙ some)) (is.1, refl);
+      happens = subst (λ es. MaySettle es is.0 × (record w { entries = more; given = w.given ++ settled_value e is.0 ∷ [] } ≡ after_settling w is.0 es))
+          (sym (seen.entries ∙ some)) (is.1, refl);
       seen = subst (λ (g : Gathered). IsSeenBy g (record w { entries = more; given = w.given ++ settled_value e is.0 ∷ [] })) (sym is.3)
           (record { entries = refl; given = omega (arith, seen.given, all, length-append w.given (settled_value e is.0 ∷ [])) });
     }

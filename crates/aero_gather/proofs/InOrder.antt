@@ -21,10 +21,12 @@ abbrev with_given : List Value → Option Value → List Value
 with_given given None = given
 with_given given (Some v) = given ++ v ∷ []
 
-settles_hold : (asked : List Question) (given : List Value) (old new : Gathered) (entries : List Entry) (o : Option Value) → Settles old entries new o → old.entries ≡ entries →
+settles_hold : (asked : List Question) (given : List Value) (old new : Gathered) (entries : List Entry) (o : Option Value) → Settles old entries new o →
+    old.entries ≡ entries →
     Holds asked entries given → Holds asked new.entries (with_given given o)
 settles_hold asked given old new [] o is same h =
-    subst (λ x. Holds asked new.entries (with_given given x)) (sym is.0) (subst (λ es. Holds asked es given) (sym (ap (λ (g : Gathered). g.entries) is.1 ∙ same)) h)
+    subst (λ x. Holds asked new.entries (with_given given x)) (sym is.0)
+    (subst (λ es. Holds asked es given) (sym (ap (λ (g : Gathered). g.entries) is.1 ∙ same)) h)
 settles_hold asked given old new (e ∷ more) o is same h =
     subst (λ x. Holds asked new.entries (with_given given x)) (sym is.2)
     (subst (λ (g : Gathered). Holds asked g.entries (given ++ settled_value e is.0 ∷ [])) (sym is.3) (settle_holds asked e more given is.0 is.1 h))
@@ -37,7 +39,8 @@ calls_hold [] old new asked given is h =
     (subst (λ vs. Holds asked new.entries vs) (sym (append-nil given)) (subst (λ (g : Gathered). Holds asked g.entries given) (sym is) h))
 calls_hold (Asks q ∷ more) old new asked given is h =
     subst (λ qs. Holds qs new.entries (given ++ given_in more)) (append_assoc asked (q ∷ []) (asked_in more))
-    (calls_hold more is.0 new (asked ++ q ∷ []) given is.2 (subst (λ (g : Gathered). Holds (asked ++ q ∷ []) g.entries given) (sym is.1.1) (asked_holds asked old.entries given q h)))
+    (calls_hold more is.0 new (asked ++ q ∷ []) given is.2
+    (subst (λ (g : Gathered). Holds (asked ++ q ∷ []) g.entries given) (sym is.1.1) (asked_holds asked old.entries given q h)))
 calls_hold (Takes q v a ∷ more) old new asked given is h =
     calls_hold more is.0 new asked given is.2 (answer_holds asked old.entries is.0.entries given q v is.1.0 (takes_answer q v old is.0 a is.1.1) h)
 calls_hold (Misses ticket ∷ more) old new asked given is h =

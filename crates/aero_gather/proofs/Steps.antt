@@ -1,5 +1,6 @@
 -- Each call keeps what a gatherer keeps.
-use Rattle.std.proofs.Common.{◌≡◌, ℕ, zero, suc, ◌+◌, ◌-◌, ◌<◌, ◌≤◌, Bool, true, cond, List, [], ◌∷◌, length, get_or, slice_get, slice_set, Option, Some, None, is_none, is_some, IfSome, drop, refl, sym, ◌∙◌, ap, subst, arith}
+use Rattle.std.proofs.Common.{◌≡◌, ℕ, zero, suc, ◌+◌, ◌-◌, ◌<◌, ◌≤◌, Bool, true, cond, List, [], ◌∷◌, length, get_or, slice_get, slice_set, Option, Some}
+use Rattle.std.proofs.Common.{None, is_none, is_some, IfSome, drop, refl, sym, ◌∙◌, ap, subst, arith}
 use Rattle.std.specs.Prelude.{count_by}
 use Rattle.std.proofs.lemmas.Bool.{le-leb}
 use Rattle.std.proofs.lemmas.List.{length-set}
@@ -40,7 +41,8 @@ some_wait (c ∷ more) zero e at none =
     omega (arith, sum_by-cons waiting c more, same)
 some_wait (c ∷ more) (suc place) e at none = omega (arith, sum_by-cons waiting c more, some_wait more place e at none)
 
-pub same_place : (q p : Question) (entries more : List Entry) (place : ℕ) → q ≡ p → entries ≡ more → IsOldestWaiting q entries place → IsOldestWaiting p more place
+pub same_place : (q p : Question) (entries more : List Entry) (place : ℕ) → q ≡ p → entries ≡ more → IsOldestWaiting q entries place →
+    IsOldestWaiting p more place
 same_place q p entries more place same list w = subst (λ x. IsOldestWaiting x more place) same (subst (λ es. IsOldestWaiting q es place) list w)
 
 pub same_slot : (entries : List Entry) (place : ℕ) (s x : Entry) → s ≡ x → x ≡ get_or entries place x → s ≡ get_or entries place s
@@ -96,13 +98,16 @@ set_same (c ∷ more) (suc place) e at = ap (λ es. c ∷ es) (set_same more pla
 abbrev missed_of : Entry → Entry
 missed_of e = cond (is_none e.value) (record e { missed = true }) e
 
-note_there : (entries : List Entry) (place : ℕ) (question : Question) (value : Option Value) (missed : Bool) → slice_get entries place ≡ Some (record { question = question; value = value; missed = missed }) →
-    slice_set entries place (missed_of (record { question = question; value = value; missed = missed })) ≡ noted entries place (Some (record { question = question; value = value; missed = missed }))
+note_there : (entries : List Entry) (place : ℕ) (question : Question) (value : Option Value) (missed : Bool) →
+    slice_get entries place ≡ Some (record { question = question; value = value; missed = missed }) →
+    slice_set entries place (missed_of (record { question = question; value = value; missed = missed })) ≡
+    noted entries place (Some (record { question = question; value = value; missed = missed }))
 note_there entries place question None missed at = refl
 note_there entries place question (Some v) missed at = set_same entries place (record { question = question; value = Some v; missed = missed }) at
 
 -- what is noted of the entry s, which is at the ticket's place, m is how many were settled
-pub note_at : (m k : ℕ) (entries : List Entry) (s : Entry) → m ≤ k → slice_get entries (k - m) ≡ Some s → slice_set entries (k - m) (missed_of s) ≡ with_note m k entries
+pub note_at : (m k : ℕ) (entries : List Entry) (s : Entry) → m ≤ k → slice_get entries (k - m) ≡ Some s →
+    slice_set entries (k - m) (missed_of s) ≡ with_note m k entries
 note_at m k entries s le at =
     note_there entries (k - m) s.question s.value s.missed at
     ∙ sym (ap (λ b. cond b (noted entries (k - m) (slice_get entries (k - m))) entries) (le-leb m k le) ∙ ap (noted entries (k - m)) at)
@@ -113,7 +118,8 @@ value_settles g question None missed more has_value = cc
 value_settles g question (Some v) missed more has_value = (v, tt, refl, refl)
 
 -- the oldest has a value, which is given
-pub kept_settles : (g : Gathered) (entries more : List Entry) (f s : Entry) → 0 < length entries → f ≡ get_or entries 0 f → s ≡ get_or entries 0 s → is_some f.value ≡ true → more ≡ drop 1 entries →
+pub kept_settles : (g : Gathered) (entries more : List Entry) (f s : Entry) → 0 < length entries → f ≡ get_or entries 0 f → s ≡ get_or entries 0 s →
+    is_some f.value ≡ true → more ≡ drop 1 entries →
     Settles g entries (record { window = g.window; entries = more; tally = g.tally }) s.value
 kept_settles g [] more f s some first same has_value rest = absurd (omega (arith, some))
 kept_settles g (e ∷ tail) more f s some first same has_value rest =

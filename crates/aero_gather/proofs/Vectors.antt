@@ -13,7 +13,11 @@ abbrev after_ask : Question → Gathered
 after_ask q = with_asked (nothing_gathered 1) q
 
 abbrev after_answer : Question → Value → Gathered
-after_answer q v = record { window = 1; entries = record { question = q; value = Some v; missed = false } ∷ []; tally = record { asked = 1; kept = 1; done_here = 0 } }
+after_answer q v = record {
+  window = 1;
+  entries = record { question = q; value = Some v; missed = false } ∷ [];
+  tally = record { asked = 1; kept = 1; done_here = 0 };
+}
 
 oldest_of_nothing : oldest_of (nothing_gathered 1).entries ≡ oldest.Nothing
 oldest_of_nothing = refl

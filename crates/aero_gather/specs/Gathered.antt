@@ -1,5 +1,6 @@
 -- What a gatherer knows: how many questions may be open, those that are, the oldest first, and counts.
-use Rattle.std.specs.Prelude.{◌≤◌, All, IfSome, ◌≡◌, ℕ, ◌+◌, ◌-◌, Bool, true, false, is_some, if◌then◌else◌, List, [], ◌∷◌, length, slice_get, Option, Some, None, count_by, is_none}
+use Rattle.std.specs.Prelude.{◌≤◌, All, IfSome, ◌≡◌, ℕ, ◌+◌, ◌-◌, Bool, true, false, is_some, if◌then◌else◌, List, [], ◌∷◌, length, slice_get, Option, Some}
+use Rattle.std.specs.Prelude.{None, count_by, is_none}
 use Rattle.aero_pieces.specs.declared.question.Question.{Question}
 use Rattle.aero_pieces.specs.declared.answer.Value.{Value}
 use Rattle.aero_pieces.specs.Values.{IsValueOf}
@@ -15,7 +16,8 @@ pub record Gathered : Type 0 where
   pub entries : List Entry
   pub tally : Tally
 
--- No more are open than may be, each kept value is one of its question, and of what was asked each has an answer that was kept, was worked out here, or is open without one.
+-- No more are open than may be, each kept value is one of its question, and of what was asked each has an answer that was kept, was worked
+-- out here, or is open without one.
 pub record IsGathered (g : Gathered) : Type 0 where
   pub room : length g.entries ≤ g.window
   pub open_were_asked : length g.entries ≤ g.tally.asked
@@ -75,7 +77,11 @@ abbrev pub Settles : Gathered → List Entry → Gathered → Option Value → T
 Settles old [] new given = (given ≡ None) × (new ≡ old)
 Settles old (e ∷ more) new given =
     (v : Value) × IsWorkedOut e v × (given ≡ Some (settled_value e v))
-    × (new ≡ record { window = old.window; entries = more; tally = record old.tally { done_here = if is_some e.value then old.tally.done_here else old.tally.done_here + 1 } })
+    × (new ≡ record {
+      window = old.window;
+      entries = more;
+      tally = record old.tally { done_here = if is_some e.value then old.tally.done_here else old.tally.done_here + 1 };
+    })
 
 -- what is given is a value of the oldest open question, where one is open
 abbrev pub GivesKnown : List Entry → Option Value → Type 0

@@ -85,7 +85,10 @@ impl Model for Gather {
 
     ghost view = { λ g. record { window = g.window; entries = g.slots.items; tally = g.tally } };
 
-    ghost invariant = { λ g. record { gathered : IsGathered (record { window = g.window; entries = g.slots.items; tally = g.tally }); roomy : g.window ≤ vec_capacity g.slots } };
+    ghost invariant = { λ g. record {
+      gathered : IsGathered (record { window = g.window; entries = g.slots.items; tally = g.tally });
+      roomy : g.window ≤ vec_capacity g.slots;
+    } };
 }
 
 impl Gather {
@@ -164,6 +167,24 @@ impl Gather {
         miss(&mut self.slots[(ticket.number - settled) as usize])
     }
 
+    /// How many questions are open: as many as the window allows at most.
+    pub fn len(&self) -> usize
+        ensures count { result ≡ length self.now.entries }
+        ensures within { result ≤ self.now.window }
+    {
+        self.slots.len()
+    }
+
+    /// The ticket of the oldest open question. As many were settled as its number says. Where none is open it is that
+    /// which the next question gets.
+    pub fn oldest_ticket(&self) -> Ticket
+        ensures { result.number ≡ self.now.tally.asked - length self.now.entries }
+    {
+        Ticket {
+            number: self.tally.asked - self.slots.len() as u64,
+        }
+    }
+
     /// What is known of the oldest open question.
     pub fn oldest(&self) -> Oldest
         ensures { result ≡ oldest_of self.now.entries }
@@ -212,7 +233,8 @@ impl Gather {
     pub fn settle_with_question(&mut self) -> Result<Option<Settled>, AllocError>
         ensures settled { IfOk result (λ given. Settles self.old self.old.entries self.new (value_of given)) }
         ensures known { IfOk result (λ given. GivesKnown self.old.entries (value_of given)) }
-        ensures question { IfOk result (λ given. option_map (λ settled. arc_value settled.question) given ≡ option_map (λ entry. entry.question) (slice_get self.old.entries 0)) }
+        ensures question { IfOk result (λ given. option_map (λ settled. arc_value settled.question) given ≡
+            option_map (λ entry. entry.question) (slice_get self.old.entries 0)) }
         ensures unchanged { OnErr result (self.new ≡ self.old) }
     {
         if self.slots.is_empty() {

@@ -26,7 +26,8 @@
 //! - Values are given in the order asked, each a value of its question, and on request the question with it: `settle`,
 //!   `settle_with_question`, `settled`, `known`, `question`. A refused call changes nothing: `unchanged`.
 //! - A note that a question's answer is missed says whether it was news: `note_missed`, `news`, `noted`.
-//! - How the oldest question stands, which it is, and the counts are as defined: `oldest`, `front`, `tally`.
+//! - How the oldest question stands, which it is, its ticket, how many are open, and the counts are as defined: `oldest`,
+//!   `front`, `oldest_ticket`, `len`, `tally`.
 //! - Each call is a step of the schedule of which the laws of `aero_pieces` speak, and the values come in the order of
 //!   the questions: `laws`.
 #![tactic(auto)]

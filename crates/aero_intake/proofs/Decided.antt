@@ -1,5 +1,6 @@
 -- Blocks after a malformed line, or after one line too many, don't count.
-use Rattle.std.proofs.Common.{◌≡◌, ℕ, suc, ◌+◌, ◌<◌, nat_le, nat_lt, true, false, List, [], ◌∷◌, ◌++◌, map, filter, Option, Some, None, refl, sym, ◌∙◌, ap, subst, inl, inr, arith}
+use Rattle.std.proofs.Common.{◌≡◌, ℕ, suc, ◌+◌, ◌<◌, nat_le, nat_lt, true, false, List, [], ◌∷◌, ◌++◌, map, filter, Option, Some, None, refl, sym, ◌∙◌, ap}
+use Rattle.std.proofs.Common.{subst, inl, inr, arith}
 use Rattle.std.specs.Prelude.{IfSome, is_some, option_map, if◌then◌else◌}
 use Rattle.std.proofs.lemmas.Bool.{cond-true, cond-false, cases_lt, lt-leb, lt-ltb, le-ltb}
 use Rattle.std.proofs.lemmas.List.{map-append}
@@ -37,7 +38,8 @@ both_above a b first second = followed_above a.events a.lines a.fault b.events b
 
 lines_above : (lines : List (List ℕ)) → FaultAbove (whole_reading (map (λ line. line_reading (meaning line)) lines))
 lines_above [] = tt
-lines_above (line ∷ more) = both_above (line_reading (meaning line)) (whole_reading (map (λ line. line_reading (meaning line)) more)) (line_above (meaning line)) (lines_above more)
+lines_above (line ∷ more) = both_above (line_reading (meaning line)) (whole_reading (map (λ line. line_reading (meaning line)) more))
+    (line_above (meaning line)) (lines_above more)
 
 blocks_above : (blocks : List (List ℕ)) → FaultAbove (whole_reading (map reading_of blocks))
 blocks_above [] = tt
@@ -45,13 +47,15 @@ blocks_above (block ∷ more) = both_above (reading_of block) (whole_reading (ma
 
 -- what comes after more lines than may be
 
-filter-more : (limit : ℕ) (xs ys : List (ℕ × Named)) → filter (λ e. nat_le e.0 limit) ys ≡ [] → filter (λ e. nat_le e.0 limit) (xs ++ ys) ≡ filter (λ e. nat_le e.0 limit) xs
+filter-more : (limit : ℕ) (xs ys : List (ℕ × Named)) → filter (λ e. nat_le e.0 limit) ys ≡ [] →
+    filter (λ e. nat_le e.0 limit) (xs ++ ys) ≡ filter (λ e. nat_le e.0 limit) xs
 filter-more limit [] ys none = none
 filter-more limit (x ∷ xs) ys none = ap (λ zs. if nat_le x.0 limit then x ∷ zs else zs) (filter-more limit xs ys none)
 
 none_within : (limit lines : ℕ) (es : List (ℕ × Named)) → limit < lines → filter (λ e. nat_le e.0 limit) (map (after_lines lines) es) ≡ []
 none_within limit lines [] beyond = refl
-none_within limit lines (e ∷ es) beyond = cond-false (nat_le (lines + e.0) limit) _ _ (lt-leb (lines + e.0) limit (omega (arith, beyond))) ∙ none_within limit lines es beyond
+none_within limit lines (e ∷ es) beyond = cond-false (nat_le (lines + e.0) limit) _ _ (lt-leb (lines + e.0) limit (omega (arith, beyond)))
+    ∙ none_within limit lines es beyond
 
 too_many : (limit lines : ℕ) → limit < lines → fault_within limit lines None ≡ Some (suc limit, TooManyLines)
 too_many limit lines beyond = cond-true (nat_lt limit lines) _ _ (lt-ltb limit lines beyond)
@@ -59,7 +63,8 @@ too_many limit lines beyond = cond-true (nat_lt limit lines) _ _ (lt-ltb limit l
 fault_later : (limit lines more : ℕ) (f : Option (ℕ × LineFault)) → limit < lines → IfSome f (λ f. 0 < f.0) →
     fault_within limit (lines + more) (option_map (after_lines lines) f) ≡ Some (suc limit, TooManyLines)
 fault_later limit lines more None beyond above = too_many limit (lines + more) (omega (arith, beyond))
-fault_later limit lines more (Some f) beyond above = cond-false (nat_le (lines + f.0) (suc limit)) _ _ (lt-leb (lines + f.0) (suc limit) (omega (arith, beyond, above)))
+fault_later limit lines more (Some f) beyond above =
+    cond-false (nat_le (lines + f.0) (suc limit)) _ _ (lt-leb (lines + f.0) (suc limit) (omega (arith, beyond, above)))
 
 beyond_limit : (limit lines : ℕ) → is_some (fault_within limit lines None) ≡ true → limit < lines
 beyond_limit limit lines is = elim (cases_lt limit lines) [
@@ -74,7 +79,8 @@ pub record CountsAlike (limit : ℕ) (w v : Reading) : Type 0 where
   pub events : events_within limit w ≡ events_within limit v
   pub fault : malformed_line limit w ≡ malformed_line limit v
 
-counts_alike : (limit : ℕ) (e : List (ℕ × Named)) (n : ℕ) (f : Option (ℕ × LineFault)) (v : Reading) → is_some (malformed_line limit (reading e n f)) ≡ true → FaultAbove v →
+counts_alike : (limit : ℕ) (e : List (ℕ × Named)) (n : ℕ) (f : Option (ℕ × LineFault)) (v : Reading) → is_some (malformed_line limit (reading e n f)) ≡ true →
+    FaultAbove v →
     CountsAlike limit (reading e n f) (followed_by (reading e n f) v)
 counts_alike limit e n (Some f) v is above = record { events = refl; fault = refl }
 counts_alike limit e n None v is above =
@@ -91,14 +97,16 @@ front_counts rules parts more is =
     let v = whole_reading (map reading_of more) in
     rw (whole_reading-append parts (map reading_of more)) (counts_alike rules.limits.lines w.events w.lines w.fault v is (blocks_above more))
 
-pub first_parts_decide : (rules : Rules) (parts : List Reading) (more : List (List ℕ)) → decides rules.limits parts ≡ true → AreJudgedAlike parts (parts ++ map reading_of more) rules
+pub first_parts_decide : (rules : Rules) (parts : List Reading) (more : List (List ℕ)) → decides rules.limits parts ≡ true →
+    AreJudgedAlike parts (parts ++ map reading_of more) rules
 first_parts_decide rules parts more is =
     let alike = front_counts rules parts more is in
     counted_alike rules parts (parts ++ map reading_of more) alike.events alike.fault
 
 pub first_blocks_decide : FirstBlocksDecide
 first_blocks_decide front more rules is =
-    subst (λ rs. AreJudgedAlike (map reading_of front) rs rules) (sym (map-append reading_of front more)) (first_parts_decide rules (map reading_of front) more is)
+    subst (λ rs. AreJudgedAlike (map reading_of front) rs rules) (sym (map-append reading_of front more))
+    (first_parts_decide rules (map reading_of front) more is)
 
 -- how many lines there are with one block more, and whether one of them is malformed
 
@@ -108,7 +116,8 @@ more_read rs r = whole_reading-append rs (r ∷ []) ∙ ap (followed_by (whole_r
 pub read_after_fault : (rs : List Reading) (r : Reading) → is_some (whole_reading rs).fault ≡ true → whole_reading (rs ++ r ∷ []) ≡ whole_reading rs
 read_after_fault rs r faulty = more_read rs r ∙ after_faulty (whole_reading rs) r faulty
 
-pub lines_more : (rs : List Reading) (r : Reading) → is_some (whole_reading rs).fault ≡ false → (whole_reading (rs ++ r ∷ [])).lines ≡ (whole_reading rs).lines + r.lines
+pub lines_more : (rs : List Reading) (r : Reading) → is_some (whole_reading rs).fault ≡ false →
+    (whole_reading (rs ++ r ∷ [])).lines ≡ (whole_reading rs).lines + r.lines
 lines_more rs r faultless = ap (λ x. x.lines) (more_read rs r ∙ after_faultless (whole_reading rs) r faultless)
 
 pub fault_more : (rs : List Reading) (r : Reading) → is_some (whole_reading rs).fault ≡ false → is_some (whole_reading (rs ++ r ∷ [])).fault ≡ is_some r.fault

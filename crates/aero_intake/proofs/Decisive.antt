@@ -37,7 +37,8 @@ not_both : (b : Bool) → b ≡ true → b ≡ false → ⊥
 not_both b is_true is_false = cc (is_true, is_false)
 
 -- parts with the same verdict have the same finding where something is wrong, and no violation is to be explained
-found_wrong : (terms : Terms) → terms.explain ≡ false → (here there : List Reading) (v : Verdict) → IsVerdict here terms.rules v → IsVerdict there terms.rules v → is_faultless v ≡ false →
+found_wrong : (terms : Terms) → terms.explain ≡ false → (here there : List Reading) (v : Verdict) → IsVerdict here terms.rules v →
+    IsVerdict there terms.rules v → is_faultless v ≡ false →
     (f : Finding) → IsTraceFinding here terms f → IsTraceFinding there terms f
 found_wrong terms unexplained here there v at_here at_there wrong (Judged w) is =
     let same : v ≡ w = one_verdict here terms.rules v w at_here is.0 in
@@ -59,7 +60,8 @@ certain_decides terms unexplained parts v is more f =
     (found_wrong terms unexplained all parts v at_all at_parts is.wrong f, found_wrong terms unexplained parts all v at_parts at_all is.wrong f)
 
 -- and stays so with more parts
-pub certain_longer : (parts more : List Reading) (rules : Rules) (o : Option Verdict) → IfSome o (IsCertain parts rules) → IfSome o (IsCertain (parts ++ more) rules)
+pub certain_longer : (parts more : List Reading) (rules : Rules) (o : Option Verdict) → IfSome o (IsCertain parts rules) →
+    IfSome o (IsCertain (parts ++ more) rules)
 certain_longer parts more rules None is = tt
 certain_longer parts more rules (Some v) is = record {
   is_verdict = λ rest. subst (λ ps. IsVerdict ps rules v) (sym (append_assoc parts more rest)) (is.is_verdict (more ++ rest));
@@ -67,9 +69,11 @@ certain_longer parts more rules (Some v) is = record {
   wrong = is.wrong;
 }
 
-pub some_certain_decides : (terms : Terms) → terms.explain ≡ false → (parts : List Reading) (rules : Rules) (o : Option Verdict) → rules ≡ terms.rules → IfSome o (IsCertain parts rules) → is_some o ≡ true → IsDecisive terms parts
+pub some_certain_decides : (terms : Terms) → terms.explain ≡ false → (parts : List Reading) (rules : Rules) (o : Option Verdict) → rules ≡ terms.rules →
+    IfSome o (IsCertain parts rules) → is_some o ≡ true → IsDecisive terms parts
 some_certain_decides terms unexplained parts rules None same is some = cc (some)
-some_certain_decides terms unexplained parts rules (Some v) same is some = certain_decides terms unexplained parts v (subst (λ (r : Rules). IsCertain parts r v) same is)
+some_certain_decides terms unexplained parts rules (Some v) same is some =
+    certain_decides terms unexplained parts v (subst (λ (r : Rules). IsCertain parts r v) same is)
 
 -- more blocks decide where the first ones do
 pub more_decide : (terms : Terms) (parts : List Reading) (blocks : List (List ℕ)) → IsDecisive terms parts → IsDecisive terms (parts ++ map reading_of blocks)

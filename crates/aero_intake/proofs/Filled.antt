@@ -1,5 +1,6 @@
 -- A read into a buffer behind what it holds.
-use Rattle.std.proofs.Common.{◌≡◌, ℕ, zero, suc, ◌+◌, ◌<◌, ◌≤◌, List, [], ◌∷◌, ◌++◌, length, take, Result, Ok, Err, refl, ◌∙◌, ap, ap₂, arith, drop_at, length-take-le}
+use Rattle.std.proofs.Common.{◌≡◌, ℕ, zero, suc, ◌+◌, ◌<◌, ◌≤◌, List, [], ◌∷◌, ◌++◌, length, take, Result, Ok, Err, refl, ◌∙◌, ap, ap₂, arith, drop_at}
+use Rattle.std.proofs.Common.{length-take-le}
 use Rattle.std.specs.Prelude.{is_err, if◌then◌else◌, ◌&&◌, nat_lt}
 use Rattle.std.specs.Global.{Vec}
 use Rattle.std.specs.Vec.{with_items}
@@ -27,23 +28,42 @@ pub fills : {E : Type 0} (before after : Seen) (held room k : ℕ) (xs ys : List
     after.ends ≡ before.ends + (if moves_nothing r ys then 1 else 0) → Fills before after held room xs (put_mid held k xs ys) r
 fills before after held room k xs [] (Ok zero) within long some bound bytes faults ends = absurd (omega (arith, long, some))
 fills before after held room k xs (y ∷ ys) (Ok zero) within long some bound bytes faults ends = (
-  λ limit. record { came = bytes.0; faults = faults; ends = ends ∙ ap (λ b. before.ends + (if b then 1 else 0)) (lt-ltb 0 (suc (length ys)) (omega arith)); fits = omega arith; rest = bytes.1 refl (omega arith) },
+  λ limit. record {
+    came = bytes.0;
+    faults = faults;
+    ends = ends ∙ ap (λ b. before.ends + (if b then 1 else 0)) (lt-ltb 0 (suc (length ys)) (omega arith));
+    fits = omega arith;
+    rest = bytes.1 refl (omega arith);
+  },
   take_put held k xs (y ∷ ys) within,
 )
 fills before after held room k xs ys (Ok (suc n)) within long some bound bytes faults ends = (
   take (suc n) ys,
-  record { came = bytes.0; quiet = record { faults = omega (arith, faults); ends = ends ∙ (ap (λ b. before.ends + (if b && nat_lt 0 (length ys) then 1 else 0)) (ne_eqb (suc n) 0 (λ e. omega (arith, e))) ∙ omega arith) } },
+  record {
+    came = bytes.0;
+    quiet = record {
+      faults = omega (arith, faults);
+      ends = ends ∙ (ap (λ b. before.ends + (if b && nat_lt 0 (length ys) then 1 else 0)) (ne_eqb (suc n) 0 (λ e. omega (arith, e))) ∙ omega arith);
+    };
+  },
   length-take-le (suc n) ys bound.0,
   omega (arith, bound.0, long),
   behind_front held k (suc n) xs ys within bound.0,
 )
 fills before after held room k xs ys (Err e) within long some bound bytes faults ends = (
-  λ limit. record { came = Consumes-kept before.bytes before.bytes after.bytes [] (Consumes-nil before.bytes) bytes; faults = faults; ends = omega (arith, ends); fits = omega arith; rest = tt },
+  λ limit. record {
+    came = Consumes-kept before.bytes before.bytes after.bytes [] (Consumes-nil before.bytes) bytes;
+    faults = faults;
+    ends = omega (arith, ends);
+    fits = omega arith;
+    rest = tt;
+  },
   take_put held k xs ys within,
 )
 
 -- what is held stays where a read gave nothing
-pub still_held : (v : Vec ℕ) (held : ℕ) (old new : List ℕ) → old ≡ v.items → length new ≡ v.len → take held new ≡ take held old → take held (with_items v new).items ≡ take held v.items
+pub still_held : (v : Vec ℕ) (held : ℕ) (old new : List ℕ) → old ≡ v.items → length new ≡ v.len → take held new ≡ take held old →
+    take held (with_items v new).items ≡ take held v.items
 still_held v held old new is kept same = ap (take held) (with_items_is v new kept) ∙ (same ∙ ap (take held) is)
 
 -- a read that gave 0 bytes found the end

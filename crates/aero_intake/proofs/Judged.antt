@@ -46,11 +46,13 @@ one_read r = go r.events r.lines r.fault
         whole_reading (record { events = events; lines = lines; fault = fault } ∷ []) ≡ record { events = events; lines = lines; fault = fault }
     go events lines None =
         let none : lines + 0 ≡ lines = omega arith in
-        ap (λ es. record { events = es; lines = lines + 0; fault = None }) (append-nil events) ∙ ap (λ n. record { events = events; lines = n; fault = None }) none
+        ap (λ es. record { events = es; lines = lines + 0; fault = None }) (append-nil events)
+        ∙ ap (λ n. record { events = events; lines = n; fault = None }) none
     go events lines (Some f) = refl
 
 -- a verdict, the serial order and the events of a cycle speak of parts through the events that count and the malformed line
-module _ (rules : Rules) (parts others : List Reading) (same : events_within rules.limits.lines (whole_reading parts) ≡ events_within rules.limits.lines (whole_reading others))
+module _ (rules : Rules) (parts others : List Reading)
+    (same : events_within rules.limits.lines (whole_reading parts) ≡ events_within rules.limits.lines (whole_reading others))
     (same_fault : malformed_line rules.limits.lines (whole_reading parts) ≡ malformed_line rules.limits.lines (whole_reading others)) where
   abbrev counted : List Reading → List (ℕ × Named)
   counted rs = events_within rules.limits.lines (whole_reading rs)
@@ -152,7 +154,8 @@ module _ (rules : Rules) (parts others : List Reading) (same : events_within rul
   cycle_steps (p ∷ places) [] zip = absurd zip
   cycle_steps (p ∷ places) (s ∷ more) zip = (cycle_step p s zip.0, cycle_steps places more zip.1)
 
-  explained : (line : ℕ) (thread : List ℕ) (begun : ℕ) (cycle : Cycle) → IsExplained parts rules line thread begun cycle → IsExplained others rules line thread begun cycle
+  explained : (line : ℕ) (thread : List ℕ) (begun : ℕ) (cycle : Cycle) → IsExplained parts rules line thread begun cycle →
+      IsExplained others rules line thread begun cycle
   unfolding violation begins
   explained line thread begun cycle is =
       let v = is.violation in
@@ -175,13 +178,17 @@ module _ (rules : Rules) (parts others : List Reading) (same : events_within rul
   same_cycle (Malformed line fault) cycle is = absurd is
   same_cycle (IllFormed line fault) cycle is = absurd is
 
-pub counted_alike : (rules : Rules) (parts others : List Reading) → events_within rules.limits.lines (whole_reading parts) ≡ events_within rules.limits.lines (whole_reading others) →
+pub counted_alike : (rules : Rules) (parts others : List Reading) →
+    events_within rules.limits.lines (whole_reading parts) ≡ events_within rules.limits.lines (whole_reading others) →
     malformed_line rules.limits.lines (whole_reading parts) ≡ malformed_line rules.limits.lines (whole_reading others) → AreJudgedAlike parts others rules
 counted_alike rules parts others same same_fault =
     record {
       verdicts = λ verdict. (same_verdict rules parts others same same_fault verdict, same_verdict rules others parts (sym same) (sym same_fault) verdict);
       orders = λ steps. (same_order rules parts others same same_fault steps, same_order rules others parts (sym same) (sym same_fault) steps);
-      cycles = λ verdict cycle. (same_cycle rules parts others same same_fault verdict cycle, same_cycle rules others parts (sym same) (sym same_fault) verdict cycle);
+      cycles = λ verdict cycle. (
+        same_cycle rules parts others same same_fault verdict cycle,
+        same_cycle rules others parts (sym same) (sym same_fault) verdict cycle,
+      );
     }
 
 pub alike_back : (rules : Rules) (parts others : List Reading) → AreJudgedAlike parts others rules → AreJudgedAlike others parts rules

@@ -21,7 +21,8 @@ blocks_so_far-more : (c : Cutting) (pieces : List (List ℕ)) (piece : List ℕ)
 blocks_so_far-more c [] piece = append-nil (option_to_list (block_of c piece))
 blocks_so_far-more c (first ∷ pieces) piece =
     ap (λ bs. option_to_list (block_of c first) ++ bs) (blocks_so_far-more (fed c first) pieces piece)
-    ∙ sym (append_assoc (option_to_list (block_of c first)) (blocks_so_far (fed c first) pieces) (option_to_list (block_of (fed_all (fed c first) pieces) piece)))
+    ∙ sym (append_assoc (option_to_list (block_of c first)) (blocks_so_far (fed c first) pieces)
+    (option_to_list (block_of (fed_all (fed c first) pieces) piece)))
 
 blocks_from-last : (c : Cutting) (pieces : List (List ℕ)) → blocks_so_far c pieces ++ option_to_list (last_block (fed_all c pieces)) ≡ blocks_from c pieces
 blocks_from-last c [] = refl
@@ -67,14 +68,16 @@ held_is_passed i pieces blocks is = record {
 }
 
 -- the text ends
-pub blocks_with_last : (i : Taking) (pieces blocks : List (List ℕ)) → IsTaken i pieces blocks → blocks ++ option_to_list (last_block (fed_all nothing_yet pieces)) ≡ blocks_from nothing_yet pieces
+pub blocks_with_last : (i : Taking) (pieces blocks : List (List ℕ)) → IsTaken i pieces blocks →
+    blocks ++ option_to_list (last_block (fed_all nothing_yet pieces)) ≡ blocks_from nothing_yet pieces
 blocks_with_last i pieces blocks is =
     ap (λ bs. bs ++ option_to_list (last_block (fed_all nothing_yet pieces))) is.given ∙ blocks_from-last nothing_yet pieces
 
 pub nothing_has_come : (seen : Seen) → HaveCome seen seen []
 nothing_has_come seen = record { came = Consumes-nil seen.bytes; quiet = record { faults = refl; ends = refl } }
 
-pub more_has_come : (before mid after : Seen) (bytes more : List ℕ) → HaveCome before mid bytes → HaveCome mid after more → HaveCome before after (bytes ++ more)
+pub more_has_come : (before mid after : Seen) (bytes more : List ℕ) → HaveCome before mid bytes → HaveCome mid after more →
+    HaveCome before after (bytes ++ more)
 more_has_come before mid after bytes more have then = record {
   came = Consumes-trans before.bytes mid.bytes after.bytes bytes more have.came then.came;
   quiet = record { faults = then.quiet.faults ∙ have.quiet.faults; ends = then.quiet.ends ∙ have.quiet.ends };
@@ -84,14 +87,16 @@ more_has_come before mid after bytes more have then = record {
 pub source_was_read : (before mid after : Seen) (limit count : ℕ) (bytes : List ℕ) (ending : Ending) →
     HaveCome before mid bytes → count ≡ length bytes → Ends mid after limit count ending → WasRead before after limit bytes ending
 source_was_read before mid after limit count bytes Whole have is ends = record {
-  came = subst (λ bs. Consumes before.bytes after.bytes bs) (append-nil bytes) (Consumes-trans before.bytes mid.bytes after.bytes bytes [] have.came ends.0.came);
+  came = subst (λ bs. Consumes before.bytes after.bytes bs) (append-nil bytes)
+      (Consumes-trans before.bytes mid.bytes after.bytes bytes [] have.came ends.0.came);
   faults = omega (arith, ends.0.faults, have.quiet.faults);
   ends = omega (arith, ends.0.ends, have.quiet.ends);
   fits = subst (λ n. n ≤ limit) is ends.1;
   rest = ends.0.rest;
 }
 source_was_read before mid after limit count bytes Broken have is ends = record {
-  came = subst (λ bs. Consumes before.bytes after.bytes bs) (append-nil bytes) (Consumes-trans before.bytes mid.bytes after.bytes bytes [] have.came ends.0.came);
+  came = subst (λ bs. Consumes before.bytes after.bytes bs) (append-nil bytes)
+      (Consumes-trans before.bytes mid.bytes after.bytes bytes [] have.came ends.0.came);
   faults = omega (arith, ends.0.faults, have.quiet.faults);
   ends = omega (arith, ends.0.ends, have.quiet.ends);
   fits = subst (λ n. n ≤ limit) is ends.1;

@@ -1,5 +1,6 @@
 -- Asking and settling questions keep what is known of each source.
-use Rattle.std.proofs.Common.{◌≡◌, ℕ, zero, suc, ◌≤◌, List, [], ◌∷◌, ◌++◌, map, length, slice_get, slice_set, Option, Some, None, refl, sym, ◌∙◌, ap, ap₂, subst, append_assoc, inl, inr, arith}
+use Rattle.std.proofs.Common.{◌≡◌, ℕ, zero, suc, ◌≤◌, List, [], ◌∷◌, ◌++◌, map, length, slice_get, slice_set, Option, Some, None, refl, sym, ◌∙◌, ap, ap₂}
+use Rattle.std.proofs.Common.{subst, append_assoc, inl, inr, arith}
 use Rattle.std.specs.Prelude.{All, Bool, option_map, if◌then◌else◌}
 use Rattle.std.specs.List.{concat}
 use Rattle.std.proofs.Math.Logic.{∥∥₁_elim}
@@ -23,7 +24,8 @@ use Rattle.aero_verdict.specs.Finding.{Terms, asking, IsFinding, IsTraceFinding}
 use Rattle.aero_intake.specs.Held.{Known, with_next, IsDecisive}
 use Rattle.aero_intake.specs.declared.track.Track.{Track}
 use Rattle.aero_intake.specs.declared.track.Track.TheVariants.{Arriving, Arrived, Checking, Found}
-use Rattle.aero_intake.specs.Stories.{Story, Asked, AreEnough, BeginAlike, own_block, own_check, blocks_asked, checks_asked, HasArrived, AreSettled, IsTracked, AreTracked, changed, trace_of}
+use Rattle.aero_intake.specs.Stories.{Story, Asked, AreEnough, BeginAlike, own_block, own_check, blocks_asked, checks_asked, HasArrived, AreSettled}
+use Rattle.aero_intake.specs.Stories.{IsTracked, AreTracked, changed, trace_of}
 use Rattle.aero_intake.specs.Tracks.{with_finding, with_value}
 use Rattle.aero_intake.proofs.Decisive.{more_decide}
 use Rattle.aero_intake.proofs.Judged.{judged_alike, same_finding}
@@ -38,20 +40,25 @@ pub own_block-other : (s : ℕ) (q : Question) → (trace_of q ≡ s → ⊥) �
 own_block-other s (Parse trace number bytes) other = ap (λ b. if b then bytes ∷ [] else []) (ne_eqb trace s other)
 own_block-other s (Check trace parts limits labels order explain) other = refl
 
-own_check-same : (s trace : ℕ) (parts : List Reading) (limits : Limits) (labels : Listed) (order explain : Bool) → trace ≡ s → own_check s (Check trace parts limits labels order explain) ≡ record { parts = parts; terms = asking limits labels order explain } ∷ []
-own_check-same s trace parts limits labels order explain same = ap (λ b. if b then record { parts = parts; terms = asking limits labels order explain } ∷ [] else []) (eq-eqb trace s same)
+own_check-same : (s trace : ℕ) (parts : List Reading) (limits : Limits) (labels : Listed) (order explain : Bool) → trace ≡ s →
+    own_check s (Check trace parts limits labels order explain) ≡ record { parts = parts; terms = asking limits labels order explain } ∷ []
+own_check-same s trace parts limits labels order explain same =
+    ap (λ b. if b then record { parts = parts; terms = asking limits labels order explain } ∷ [] else []) (eq-eqb trace s same)
 
 pub own_check-other : (s : ℕ) (q : Question) → (trace_of q ≡ s → ⊥) → own_check s q ≡ []
 own_check-other s (Parse trace number bytes) other = refl
-own_check-other s (Check trace parts limits labels order explain) other = ap (λ b. if b then record { parts = parts; terms = asking limits labels order explain } ∷ [] else []) (ne_eqb trace s other)
+own_check-other s (Check trace parts limits labels order explain) other =
+    ap (λ b. if b then record { parts = parts; terms = asking limits labels order explain } ∷ [] else []) (ne_eqb trace s other)
 
 pub blocks_asked-more : (s : ℕ) (qs : List Question) (q : Question) → blocks_asked s (qs ++ q ∷ []) ≡ blocks_asked s qs ++ own_block s q
 blocks_asked-more s [] q = append-nil (own_block s q)
-blocks_asked-more s (p ∷ more) q = ap (λ bs. own_block s p ++ bs) (blocks_asked-more s more q) ∙ sym (append_assoc (own_block s p) (blocks_asked s more) (own_block s q))
+blocks_asked-more s (p ∷ more) q = ap (λ bs. own_block s p ++ bs) (blocks_asked-more s more q)
+    ∙ sym (append_assoc (own_block s p) (blocks_asked s more) (own_block s q))
 
 pub checks_asked-more : (s : ℕ) (qs : List Question) (q : Question) → checks_asked s (qs ++ q ∷ []) ≡ checks_asked s qs ++ own_check s q
 checks_asked-more s [] q = append-nil (own_check s q)
-checks_asked-more s (p ∷ more) q = ap (λ cs. own_check s p ++ cs) (checks_asked-more s more q) ∙ sym (append_assoc (own_check s p) (checks_asked s more) (own_check s q))
+checks_asked-more s (p ∷ more) q = ap (λ cs. own_check s p ++ cs) (checks_asked-more s more q)
+    ∙ sym (append_assoc (own_check s p) (checks_asked s more) (own_check s q))
 
 -- a list of tracks with one changed
 
@@ -103,7 +110,8 @@ settled_other terms q rest s story (Checking bytes) no_block no_check is = (
 settled_other terms q rest s story (Found bytes ending finding) no_block no_check is = is
 
 -- the block that is settled goes from those that are asked about to those that are read
-part_settled : (terms : Terms) (story : Story) (rest : List Question) (s trace number most : ℕ) (certain : Bool) (bytes : List ℕ) (known : Known) (r : Reading) → trace ≡ s → r ≡ reading_of bytes →
+part_settled : (terms : Terms) (story : Story) (rest : List Question) (s trace number most : ℕ) (certain : Bool) (bytes : List ℕ) (known : Known)
+    (r : Reading) → trace ≡ s → r ≡ reading_of bytes →
     AreSettled terms story (Parse trace number bytes ∷ rest) s known → AreSettled terms story rest s (with_next most certain known r)
 part_settled terms story rest s trace number most certain bytes known r same is before = record {
   on = before.on;
@@ -164,23 +172,29 @@ trace_found terms story bytes parts asked f same has known =
     let there : ∥ IsTraceFinding (map reading_of story.blocks) terms f ∥₁ = subst (λ (a : Asked). ∥ IsTraceFinding a.parts a.terms f ∥₁) same known in
     let all = blocks_from nothing_yet story.pieces in
     let alike = judged_alike story.pieces terms.rules in
-    ∥∥₁_elim there squash₁ (λ found. merely (same_finding terms (map reading_of all) (reading_of (concat story.pieces) ∷ []) f alike (enough_found terms story.blocks all f has.enough found)))
+    ∥∥₁_elim there squash₁ (λ found. merely (same_finding terms (map reading_of all) (reading_of (concat story.pieces) ∷ []) f alike
+    (enough_found terms story.blocks all f has.enough found)))
 
 -- what is known of the source whose trace was checked
-settled_check : (terms : Terms) (trace : ℕ) (parts : List Reading) (limits : Limits) (labels : Listed) (order explain : Bool) (rest : List Question) (s : ℕ) (story : Story) (t : Track) (f : Finding) →
-    trace ≡ s → ∥ IsTraceFinding parts (asking limits labels order explain) f ∥₁ → IsTracked terms (Check trace parts limits labels order explain ∷ rest) s story t → IsTracked terms rest s story (with_finding t f)
+settled_check : (terms : Terms) (trace : ℕ) (parts : List Reading) (limits : Limits) (labels : Listed) (order explain : Bool) (rest : List Question)
+    (s : ℕ) (story : Story) (t : Track) (f : Finding) →
+    trace ≡ s → ∥ IsTraceFinding parts (asking limits labels order explain) f ∥₁ →
+    IsTracked terms (Check trace parts limits labels order explain ∷ rest) s story t → IsTracked terms rest s story (with_finding t f)
 settled_check terms trace parts limits labels order explain rest s story (Arriving k) f same known is =
     (record { on = is.0.on; all = is.0.all }, nil_right (own_check s (Check trace parts limits labels order explain)) (checks_asked s rest) is.1, is.2)
 settled_check terms trace parts limits labels order explain rest s story (Arrived n blocks k) f same known is =
     (record { on = is.0.on; all = is.0.all }, nil_right (own_check s (Check trace parts limits labels order explain)) (checks_asked s rest) is.1, is.2)
 settled_check terms trace parts limits labels order explain rest s story (Checking n) f same known is =
-    let all = subst (λ cs. All (λ a. a ≡ record { parts = map reading_of story.blocks; terms = terms }) (cs ++ checks_asked s rest)) (own_check-same s trace parts limits labels order explain same) is.0 in
-    let first = All-head (λ a. a ≡ record { parts = map reading_of story.blocks; terms = terms }) (record { parts = parts; terms = asking limits labels order explain }) (checks_asked s rest) all in
+    let all = subst (λ cs. All (λ a. a ≡ record { parts = map reading_of story.blocks; terms = terms }) (cs ++ checks_asked s rest))
+    (own_check-same s trace parts limits labels order explain same) is.0 in
+    let first = All-head (λ a. a ≡ record { parts = map reading_of story.blocks; terms = terms })
+    (record { parts = parts; terms = asking limits labels order explain }) (checks_asked s rest) all in
     (is.1.ended, is.1.byte_count, trace_found terms story n parts (asking limits labels order explain) f first is.1 known)
 settled_check terms trace parts limits labels order explain rest s story (Found n ending finding) f same known is = is
 
 -- what is known of the source of which a question is settled
-settled_own : (terms : Terms) (q : Question) (rest : List Question) (s most : ℕ) (certain : Bool) (story : Story) (t : Track) (v : Value) → trace_of q ≡ s → IsValueOf q v →
+settled_own : (terms : Terms) (q : Question) (rest : List Question) (s most : ℕ) (certain : Bool) (story : Story) (t : Track) (v : Value) → trace_of q ≡ s →
+    IsValueOf q v →
     IsTracked terms (q ∷ rest) s story t → IsTracked terms rest s story (with_value most certain t v)
 settled_own terms (Parse trace number bytes) rest s most certain story (Arriving k) (Parsed r) same known is =
     (part_settled terms story rest s trace number most certain bytes k r same (parsed_value trace number bytes r known) is.0, is.1, is.2)
@@ -190,8 +204,10 @@ settled_own terms (Parse trace number bytes) rest s most certain story (Checking
 settled_own terms (Parse trace number bytes) rest s most certain story (Found n ending finding) (Parsed r) same known is = is
 settled_own terms (Parse trace number bytes) rest s most certain story t (Judged w) same known is = absurd (not_judged trace number bytes w known)
 settled_own terms (Parse trace number bytes) rest s most certain story t (Ordered w steps) same known is = absurd (not_ordered trace number bytes w steps known)
-settled_own terms (Parse trace number bytes) rest s most certain story t (Explained w steps) same known is = absurd (not_explained trace number bytes w steps known)
-settled_own terms (Check trace parts limits labels order explain) rest s most certain story t (Parsed r) same known is = absurd (not_parsed trace parts limits labels order explain r known)
+settled_own terms (Parse trace number bytes) rest s most certain story t (Explained w steps) same known is =
+    absurd (not_explained trace number bytes w steps known)
+settled_own terms (Check trace parts limits labels order explain) rest s most certain story t (Parsed r) same known is =
+    absurd (not_parsed trace parts limits labels order explain r known)
 settled_own terms (Check trace parts limits labels order explain) rest s most certain story t (Judged w) same known is =
     settled_check terms trace parts limits labels order explain rest s story t (findings.Judged w) same known is
 settled_own terms (Check trace parts limits labels order explain) rest s most certain story t (Ordered w steps) same known is =
@@ -199,14 +215,17 @@ settled_own terms (Check trace parts limits labels order explain) rest s most ce
 settled_own terms (Check trace parts limits labels order explain) rest s most certain story t (Explained w steps) same known is =
     settled_check terms trace parts limits labels order explain rest s story t (findings.Explained w steps) same known is
 
-pub value_goes : (terms : Terms) (tale : ℕ → Story) (q : Question) (rest : List Question) (v : Value) (most : ℕ) (certain : Bool) (tracks : List Track) → IsValueOf q v →
+pub value_goes : (terms : Terms) (tale : ℕ → Story) (q : Question) (rest : List Question) (v : Value) (most : ℕ) (certain : Bool) (tracks : List Track) →
+    IsValueOf q v →
     AreTracked terms (q ∷ rest) tale tracks → AreTracked terms rest tale (changed (trace_of q) (λ x. with_value most certain x v) tracks)
 value_goes terms tale q rest v most certain tracks known tracked s t at =
     elim (cases_eq (trace_of q) s) [
       | inl same ↦
           (let at_place = subst (λ p. slice_get (changed p (λ x. with_value most certain x v) tracks) s ≡ Some t) same at in
-          let was = before_change (λ x. with_value most certain x v) (slice_get tracks s) t (sym (changed_there s (λ x. with_value most certain x v) tracks) ∙ at_place) in
-          subst (λ x. IsTracked terms rest s (tale s) x) (sym was.2) (settled_own terms q rest s most certain (tale s) was.0 v same known (tracked s was.0 was.1)))
+          let was = before_change (λ x. with_value most certain x v) (slice_get tracks s) t
+          (sym (changed_there s (λ x. with_value most certain x v) tracks) ∙ at_place) in
+          subst (λ x. IsTracked terms rest s (tale s) x) (sym was.2)
+          (settled_own terms q rest s most certain (tale s) was.0 v same known (tracked s was.0 was.1)))
       | inr other ↦
           settled_other terms q rest s (tale s) t (own_block-other s q other) (own_check-other s q other)
           (tracked s t (sym (changed_elsewhere (trace_of q) s (λ x. with_value most certain x v) tracks other) ∙ at))
@@ -240,7 +259,8 @@ pub asked_block : (terms : Terms) (qs : List Question) (s number : ℕ) (block :
 asked_block terms qs s number block story pieces known is = (
   record {
     on = is.0.on;
-    all = ap (λ bs. known.parts ++ map reading_of bs) (blocks_asked-more s qs (Parse s number block) ∙ ap (λ bs. blocks_asked s qs ++ bs) (own_block-same s s number block refl))
+    all = ap (λ bs. known.parts ++ map reading_of bs)
+        (blocks_asked-more s qs (Parse s number block) ∙ ap (λ bs. blocks_asked s qs ++ bs) (own_block-same s s number block refl))
         ∙ (ap (λ rs. known.parts ++ rs) (map-append reading_of (blocks_asked s qs) (block ∷ []))
         ∙ (sym (append_assoc known.parts (map reading_of (blocks_asked s qs)) (reading_of block ∷ []))
         ∙ (ap (λ rs. rs ++ reading_of block ∷ []) is.0.all
@@ -251,13 +271,15 @@ asked_block terms qs s number block story pieces known is = (
 )
 
 -- what is settled of the blocks that were asked about decides, and so do all of them
-pub settled_decide : (terms : Terms) (qs : List Question) (s : ℕ) (story : Story) (known : Known) → AreSettled terms story qs s known → IsDecisive known.terms known.parts →
+pub settled_decide : (terms : Terms) (qs : List Question) (s : ℕ) (story : Story) (known : Known) → AreSettled terms story qs s known →
+    IsDecisive known.terms known.parts →
     IsDecisive terms (map reading_of story.blocks)
 settled_decide terms qs s story known are is =
     let here : IsDecisive terms known.parts = subst (λ t. IsDecisive t known.parts) are.on is in
     subst (IsDecisive terms) are.all (more_decide terms known.parts (blocks_asked s qs) here)
 
-no_blocks_left : (readings rs : List Reading) (blocks : List (List ℕ)) (bs : List (List ℕ)) → readings ++ map reading_of bs ≡ map reading_of blocks → length readings ≡ length blocks →
+no_blocks_left : (readings rs : List Reading) (blocks : List (List ℕ)) (bs : List (List ℕ)) → readings ++ map reading_of bs ≡ map reading_of blocks →
+    length readings ≡ length blocks →
     readings ≡ map reading_of blocks
 no_blocks_left readings rs blocks [] is same = sym (append-nil readings) ∙ is
 no_blocks_left readings rs blocks (b ∷ bs) is same =
@@ -266,12 +288,15 @@ no_blocks_left readings rs blocks (b ∷ bs) is same =
 
 -- the verdict on a whole source is asked for once all its blocks are read
 pub asked_check : (terms : Terms) (qs : List Question) (s bytes blocks : ℕ) (story : Story) (known : Known) → length known.parts ≡ blocks →
-    IsTracked terms qs s story (Arrived bytes blocks known) → IsTracked terms (qs ++ Check s known.parts terms.rules.limits terms.rules.labels terms.order terms.explain ∷ []) s story (Checking bytes)
+    IsTracked terms qs s story (Arrived bytes blocks known) →
+    IsTracked terms (qs ++ Check s known.parts terms.rules.limits terms.rules.labels terms.order terms.explain ∷ []) s story (Checking bytes)
 asked_check terms qs s bytes blocks story known ready is =
     let readings = known.parts in
     let all_read = no_blocks_left readings [] story.blocks (blocks_asked s qs) is.0.all (ready ∙ is.2.block_count) in
-    let one : checks_asked s (qs ++ Check s readings terms.rules.limits terms.rules.labels terms.order terms.explain ∷ []) ≡ record { parts = readings; terms = terms } ∷ [] =
-    checks_asked-more s qs (Check s readings terms.rules.limits terms.rules.labels terms.order terms.explain) ∙ ap₂ (λ xs ys. xs ++ ys) is.1 (own_check-same s s readings terms.rules.limits terms.rules.labels terms.order terms.explain refl) in (
+    let one : checks_asked s (qs ++ Check s readings terms.rules.limits terms.rules.labels terms.order terms.explain ∷ []) ≡
+    record { parts = readings; terms = terms } ∷ [] =
+    checks_asked-more s qs (Check s readings terms.rules.limits terms.rules.labels terms.order terms.explain)
+    ∙ ap₂ (λ xs ys. xs ++ ys) is.1 (own_check-same s s readings terms.rules.limits terms.rules.labels terms.order terms.explain refl) in (
       subst (λ cs. All (λ a. a ≡ record { parts = map reading_of story.blocks; terms = terms }) cs) (sym one)
           (All-cons (λ a. a ≡ record { parts = map reading_of story.blocks; terms = terms }) (record { parts = readings; terms = terms }) []
           (ap (λ rs. record { parts = rs; terms = terms }) all_read) (All-nil (λ a. a ≡ record { parts = map reading_of story.blocks; terms = terms }))),
@@ -280,10 +305,12 @@ asked_check terms qs s bytes blocks story known ready is =
 
 -- it is known what is found of a whole source once all its blocks are read
 pub found_here : (terms : Terms) (qs : List Question) (s bytes blocks : ℕ) (story : Story) (known : Known) (f : Finding) → length known.parts ≡ blocks →
-    IsTraceFinding known.parts known.terms f → IsTracked terms qs s story (Arrived bytes blocks known) → IsTracked terms qs s story (Found bytes endings.Whole f)
+    IsTraceFinding known.parts known.terms f → IsTracked terms qs s story (Arrived bytes blocks known) →
+    IsTracked terms qs s story (Found bytes endings.Whole f)
 found_here terms qs s bytes blocks story known f ready found is =
     let all_read = no_blocks_left known.parts [] story.blocks (blocks_asked s qs) is.0.all (ready ∙ is.2.block_count) in
-    let has : HasArrived terms story bytes (length story.blocks) = record { ended = is.2.ended; enough = is.2.enough; byte_count = is.2.byte_count; block_count = refl } in
+    let has : HasArrived terms story bytes (length story.blocks) =
+    record { ended = is.2.ended; enough = is.2.enough; byte_count = is.2.byte_count; block_count = refl } in
     let same : ◌≡◌ {A = Asked} (record { parts = known.parts; terms = known.terms }) (record { parts = map reading_of story.blocks; terms = terms }) =
     ap₂ (λ rs (t : Terms). record { parts = rs; terms = t }) all_read is.0.on in
     (is.2.ended, is.2.byte_count, trace_found terms story bytes known.parts known.terms f same has (merely found))

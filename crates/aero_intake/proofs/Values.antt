@@ -30,5 +30,6 @@ pub not_explained : (trace number : ℕ) (bytes : List ℕ) (verdict : Verdict) 
 not_explained trace number bytes verdict cycle is = ∥∥₁_elim is (λ x y. absurd x) (λ e. e)
 
 -- and the question on a trace by a verdict
-pub not_parsed : (trace : ℕ) (parts : List Reading) (limits : Limits) (labels : Listed) (order explain : Bool) (parsed : Reading) → IsValueOf (Check trace parts limits labels order explain) (Parsed parsed) → ⊥
+pub not_parsed : (trace : ℕ) (parts : List Reading) (limits : Limits) (labels : Listed) (order explain : Bool) (parsed : Reading) →
+    IsValueOf (Check trace parts limits labels order explain) (Parsed parsed) → ⊥
 not_parsed trace parts limits labels order explain parsed is = ∥∥₁_elim is (λ x y. absurd x) (λ e. e)

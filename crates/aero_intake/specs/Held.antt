@@ -4,8 +4,8 @@ use Rattle.std.specs.List.{sum_by}
 use Rattle.aero_grammar.specs.Reading.{Reading, reading_of}
 use Rattle.aero_intake.specs.declared.keeping.Held.{Held}
 use Rattle.aero_intake.specs.declared.keeping.Held.TheVariants.{Kept, Live}
-use Rattle.aero_intake.specs.declared.keeping.Judged.{Judged}
-use Rattle.aero_intake.specs.declared.keeping.Judged.TheVariants.{ByParts, Already}
+use Rattle.aero_intake.specs.declared.keeping.Basis.{Basis}
+use Rattle.aero_intake.specs.declared.keeping.Basis.TheVariants.{ByParts, Already}
 use Rattle.aero_model.specs.declared.verdict.Finding.{Finding}
 use Rattle.aero_verdict.specs.Finding.{Terms, IsTraceFinding}
 
@@ -68,6 +68,6 @@ FitsTerms terms (Kept parts events) = ⊤
 FitsTerms terms (Live live) = (live.rules ≡ terms.rules) × (live.order ≡ terms.order) × (terms.explain ≡ false)
 
 -- the parts themselves, or what is found of them
-abbrev pub IsJudgedFrom : List Reading → Terms → Judged → Type 0
-IsJudgedFrom parts terms (ByParts kept) = kept ≡ parts
-IsJudgedFrom parts terms (Already finding) = IsTraceFinding parts terms finding
+abbrev pub IsBasis : List Reading → Terms → Basis → Type 0
+IsBasis parts terms (ByParts kept) = kept ≡ parts
+IsBasis parts terms (Already finding) = IsTraceFinding parts terms finding

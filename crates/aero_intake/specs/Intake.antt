@@ -43,7 +43,8 @@ abbrev pub blocks_so_far : Cutting → List (List ℕ) → List (List ℕ)
 blocks_so_far c [] = []
 blocks_so_far c (piece ∷ pieces) = option_to_list (block_of c piece) ++ blocks_so_far (fed c piece) pieces
 
--- These pieces were cut, one after the other, and gave these blocks, and what is held came after them. Where some were passed over, these are the blocks that they would have given.
+-- These pieces were cut, one after the other, and gave these blocks, and what is held came after them. Where some were passed over, these are the
+-- blocks that they would have given.
 pub record IsTaken (i : Taking) (pieces blocks : List (List ℕ)) : Type 0 where
   pub cutting : i.passed ≡ false → i.cutting ≡ fed_all nothing_yet pieces
   pub given : blocks ≡ blocks_so_far nothing_yet pieces

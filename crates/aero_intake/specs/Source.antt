@@ -23,7 +23,8 @@ abbrev pub NothingIsLeft : Ending → Option (List ℕ) → Type 0
 NothingIsLeft Whole left = IsAtEnd left
 NothingIsLeft ending left = ⊤
 
--- These bytes came from the reader, and then the reading ended so: by one failed read exactly where the source is broken, by one end exactly where it is whole, and then nothing is left.
+-- These bytes came from the reader, and then the reading ended so: by one failed read exactly where the source is broken, by one end exactly where it
+-- is whole, and then nothing is left.
 pub record WasRead (before after : Seen) (limit : ℕ) (bytes : List ℕ) (ending : Ending) : Type 0 where
   pub came : Consumes before.bytes after.bytes bytes
   pub faults : after.faults ≡ before.faults + (if is_broken ending then 1 else 0)

@@ -38,7 +38,8 @@ blocks_asked s (q ∷ more) = own_block s q ++ blocks_asked s more
 
 abbrev pub own_check : ℕ → Question → List Asked
 own_check s (Parse trace number bytes) = []
-own_check s (Check trace parts limits labels order explain) = if trace == s then record { parts = parts; terms = asking limits labels order explain } ∷ [] else []
+own_check s (Check trace parts limits labels order explain) =
+    if trace == s then record { parts = parts; terms = asking limits labels order explain } ∷ [] else []
 
 abbrev pub checks_asked : ℕ → List Question → List Asked
 checks_asked s [] = []
@@ -64,7 +65,8 @@ pub record HasArrived (terms : Terms) (story : Story) (bytes blocks : ℕ) : Typ
   pub byte_count : bytes ≡ length (concat story.pieces)
   pub block_count : blocks ≡ length story.blocks
 
--- On the terms is judged what its blocks say, and that of those that are settled, with what those say that are still asked about, is what all say that were asked about.
+-- On the terms is judged what its blocks say, and that of those that are settled, with what those say that are still asked about, is what all say
+-- that were asked about.
 pub record AreSettled (terms : Terms) (story : Story) (qs : List Question) (s : ℕ) (known : Known) : Type 0 where
   pub on : known.terms ≡ terms
   pub all : known.parts ++ map reading_of (blocks_asked s qs) ≡ map reading_of story.blocks

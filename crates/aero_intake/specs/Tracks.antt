@@ -14,7 +14,7 @@ use Rattle.aero_intake.specs.declared.track.Track.TheVariants.{Arriving, Arrived
 
 -- Whether what was read decides, whatever comes after it: a line of it is malformed, or there are more lines than may be.
 abbrev pub decides : Limits → List Reading → Bool
-decides limits readings = is_some (malformed_line limits.lines (whole_reading readings))
+decides limits parts = is_some (malformed_line limits.lines (whole_reading parts))
 
 -- whether that is so of what is known of a source that is still coming
 abbrev pub is_faulty : Track → Bool
@@ -70,13 +70,13 @@ IsReady (Checking bytes) = ⊥
 IsReady (Found bytes ending finding) = ⊤
 
 -- what the blocks of a whole source say is taken from its track
-abbrev pub TakesReadings : Track → Track → Option Known → Type 0
-TakesReadings (Arrived bytes blocks known) new given = (given ≡ Some known) × (new ≡ Checking bytes)
-TakesReadings old new given = (given ≡ None) × (new ≡ old)
+abbrev pub TakesKnown : Track → Track → Option Known → Type 0
+TakesKnown (Arrived bytes blocks known) new given = (given ≡ Some known) × (new ≡ Checking bytes)
+TakesKnown old new given = (given ≡ None) × (new ≡ old)
 
 -- the verdict is asked for where a whole source waits for it, unless the source was judged as it came: then it is known what is found of it
-abbrev pub GivesReadings : Track → Track → Option (List Reading) → Type 0
-GivesReadings (Arrived bytes blocks known) new given =
+abbrev pub GivesParts : Track → Track → Option (List Reading) → Type 0
+GivesParts (Arrived bytes blocks known) new given =
     ((given ≡ Some known.parts) × (new ≡ Checking bytes))
     ⊎ ((given ≡ None) × (finding : Finding) × IsTraceFinding known.parts known.terms finding × (new ≡ Found bytes endings.Whole finding))
-GivesReadings old new given = (given ≡ None) × (new ≡ old)
+GivesParts old new given = (given ≡ None) × (new ≡ old)

@@ -1,6 +1,6 @@
 //! What is held of a source whose blocks are being read.
 ghost use Rattle.std.specs.Prelude.{◌≡◌, ◌++◌, ◌∷◌, [], length, true, false, not, ◌&&◌, ◌||◌, nat_lt, IfOk, OnOk, IsTrue};
-ghost use Rattle.aero_intake.specs.Held.{parts_in, live_in, certain_in, event_count, turns_live, CountsEvents, FitsTerms, IsDecisive, IsJudgedFrom};
+ghost use Rattle.aero_intake.specs.Held.{parts_in, live_in, certain_in, event_count, turns_live, CountsEvents, FitsTerms, IsDecisive, IsBasis};
 ghost use Rattle.aero_verdict.specs.Finding.{Terms as Asked, IsTraceFinding};
 
 use crate::live::Live;
@@ -22,7 +22,7 @@ pub enum Held {
 
 /// What a whole source is judged by.
 #[derive(Drop)]
-pub enum Judged {
+pub enum Basis {
     ByParts(Parts),
     Already(Finding),
 }
@@ -142,13 +142,13 @@ fn live_from(held: Held, alloc: Global, terms: &Terms) -> Result<Live, AllocErro
 }
 
 /// What a whole source is judged by, on these terms. An `AllocError` says that memory was refused.
-pub fn judged_from(held: Held, terms: &Terms) -> Result<Judged, AllocError>
+pub fn basis_of(held: Held, terms: &Terms) -> Result<Basis, AllocError>
     requires { FitsTerms terms.now held }
-    ensures { IfOk result (IsJudgedFrom (parts_in held) terms.now) }
+    ensures { IfOk result (IsBasis (parts_in held) terms.now) }
 {
     match held {
-        Held::Kept { parts, .. } => Ok(Judged::ByParts(Parts::new(parts))),
-        Held::Live(live) => Ok(Judged::Already(found(live, terms)?)),
+        Held::Kept { parts, .. } => Ok(Basis::ByParts(Parts::new(parts))),
+        Held::Live(live) => Ok(Basis::Already(found(live, terms)?)),
     }
 }
 

@@ -29,13 +29,13 @@
 //!   `rules`, `order`; `len`. `finish` gives what is found of exactly them: the verdict, and the serial order where that
 //!   is asked for and the verdict is `Serializable`. So does its `Judge`: `new`, `feed`, `feed_rest`, `finish`.
 //! - Kept or judged as they came, the parts of a source are those that its blocks gave, on the terms that it began
-//!   with: `Readings::new`, `add`, `len`. With the block that makes them more than so many events the source turns
-//!   live, unless a violation is to be explained, and it stays so: `Readings::add`, `take_value`.
+//!   with: `Knowledge::new`, `add`, `len`. With the block that makes them more than so many events the source turns
+//!   live, unless a violation is to be explained, and it stays so: `Knowledge::add`, `take_value`.
 //! - A whole source is judged by its parts themselves, or has the finding on them, on its own terms:
-//!   `Readings::into_judged`.
+//!   `Knowledge::into_basis`.
 //! - Where it is told that the first blocks of a source decide, what is found of it is the same whatever blocks come
 //!   after them. It is told exactly after a malformed line, after a line too many, and where the source is live and
-//!   the verdict of its `Live` is certain: `Readings::decide`, `told`, `faulty`, `decisive`; `is_decided`, `told`;
+//!   the verdict of its `Live` is certain: `Knowledge::decide`, `told`, `faulty`, `decisive`; `is_decided`, `told`;
 //!   `Live::is_certain`.
 //! - However its bytes came, the blocks of a source have the verdicts, orders and events of telling cycles of its text.
 //!   After a malformed line, or one too many, later blocks don't count: `laws`.

@@ -1,9 +1,10 @@
 //! What is known of a source while it is worked on.
 ghost use Rattle.std.specs.Prelude.{◌≡◌, ◌||◌, length, true, OnOk, IfOk, ◌↔◌, IsTrue};
-ghost use Rattle.aero_intake.specs.Held.{nothing_read, with_next, IsDecisive, IsJudgedFrom};
-ghost use Rattle.aero_intake.specs.Tracks.{with_part, with_finding, with_value, with_arrival, certain_of, decides, is_faulty, is_told, IsDecided, IsReady, TakesReadings, GivesReadings};
+ghost use Rattle.aero_intake.specs.Held.{nothing_read, with_next, IsDecisive, IsBasis};
+ghost use Rattle.aero_intake.specs.Tracks.{with_part, with_finding, with_value, with_arrival, certain_of, decides, is_faulty, is_told, IsDecided, IsReady};
+ghost use Rattle.aero_intake.specs.Tracks.{TakesKnown, GivesParts};
 
-use crate::keeping::{Held, Judged, add_to, held_count, is_certain, judged_from, nothing_held};
+use crate::keeping::{Basis, Held, add_to, basis_of, held_count, is_certain, nothing_held};
 use crate::terms::Terms;
 use aero_grammar::parsed::Parsed;
 use aero_model::verdict::{Ending, Finding};
@@ -15,7 +16,7 @@ use std::mem;
 
 /// On what terms a source is judged, and what its first blocks say, in their order.
 #[derive(Drop)]
-pub struct Readings {
+pub struct Knowledge {
     terms: Terms,
     held: Held,
     // How many lines they have, up to the first fault, but no more than 2^32 - 1.
@@ -23,7 +24,7 @@ pub struct Readings {
     has_fault: bool,
 }
 
-impl Model for Readings {
+impl Model for Knowledge {
     ghost use Rattle.aero_intake.specs.Held.{Known};
 
     ghost Value = { Known };
@@ -43,12 +44,12 @@ impl Model for Readings {
     } };
 }
 
-impl Readings {
+impl Knowledge {
     /// Nothing is read yet of a source that is judged on these terms.
-    pub fn new(alloc: Global, terms: Terms) -> Readings
+    pub fn new(alloc: Global, terms: Terms) -> Knowledge
         ensures { result ≡ nothing_read terms }
     {
-        Readings {
+        Knowledge {
             terms,
             held: nothing_held(alloc),
             lines: 0,
@@ -100,11 +101,11 @@ impl Readings {
     }
 
     /// What a whole source is judged by. An `AllocError` says that memory was refused.
-    pub fn into_judged(self) -> Result<Judged, AllocError>
-        ensures { IfOk result (IsJudgedFrom self.parts self.terms) }
+    pub fn into_basis(self) -> Result<Basis, AllocError>
+        ensures { IfOk result (IsBasis self.parts self.terms) }
     {
-        let Readings { terms, held, .. } = self;
-        judged_from(held, &terms)
+        let Knowledge { terms, held, .. } = self;
+        basis_of(held, &terms)
     }
 }
 
@@ -112,12 +113,12 @@ impl Readings {
 #[derive(Drop)]
 pub enum Track {
     /// Its bytes are coming, or are still to come. This is what its first blocks say.
-    Arriving(Readings),
+    Arriving(Knowledge),
     /// It is whole, so many bytes came, and so many of its blocks were asked about.
     Arrived {
         bytes: u64,
         blocks: u64,
-        readings: Readings,
+        known: Knowledge,
     },
     /// The blocks that were asked about were read, and the verdict is asked for. So many bytes came.
     Checking {
@@ -162,8 +163,8 @@ fn take_part(track: &mut Track, alloc: Global, part: Parsed, most: u64) -> Resul
     ensures { OnOk result (track.new ≡ with_part most (certain_of track.new) track.old part) }
 {
     match track {
-        Track::Arriving(readings) => readings.add(alloc, part, most),
-        Track::Arrived { readings, .. } => readings.add(alloc, part, most),
+        Track::Arriving(known) => known.add(alloc, part, most),
+        Track::Arrived { known, .. } => known.add(alloc, part, most),
         Track::Checking { .. } | Track::Found { .. } => Ok(()),
     }
 }
@@ -189,10 +190,10 @@ pub fn arrive(track: &mut Track, bytes: u64, blocks: u64)
 {
     let old = mem::replace(track, Track::Checking { bytes });
     *track = match old {
-        Track::Arriving(readings) => Track::Arrived {
+        Track::Arriving(known) => Track::Arrived {
             bytes,
             blocks,
-            readings,
+            known,
         },
         other => other,
     };
@@ -203,11 +204,7 @@ pub fn is_ready(track: &Track) -> bool
     ensures { IsTrue result ↔ IsReady track.now }
 {
     match track {
-        Track::Arrived {
-            blocks,
-            readings,
-            ..
-        } => readings.len() == *blocks,
+        Track::Arrived { blocks, known, .. } => known.len() == *blocks,
         Track::Found { .. } => true,
         _ => false,
     }
@@ -221,7 +218,7 @@ pub fn is_decided(track: &Track) -> bool
     ensures decided { IsTrue result → IsDecided track.now }
 {
     match track {
-        Track::Arriving(readings) => readings.decide(),
+        Track::Arriving(known) => known.decide(),
         Track::Arrived { .. } | Track::Checking { .. } | Track::Found { .. } => false,
     }
 }
@@ -230,29 +227,29 @@ pub fn is_decided(track: &Track) -> bool
 /// is to be asked for. Where the source was judged as they came, it is noted what is found of it. An `AllocError`
 /// says that memory was refused.
 pub fn take_parts(track: &mut Track) -> Result<Option<Parts>, AllocError>
-    ensures { IfOk result (GivesReadings track.old track.new) }
+    ensures { IfOk result (GivesParts track.old track.new) }
 {
-    let Some(readings) = take_readings(track) else {
+    let Some(known) = take_known(track) else {
         return Ok(None);
     };
-    match readings.into_judged()? {
-        Judged::ByParts(parts) => Ok(Some(parts)),
-        Judged::Already(finding) => {
+    match known.into_basis()? {
+        Basis::ByParts(parts) => Ok(Some(parts)),
+        Basis::Already(finding) => {
             take_finding(track, finding);
             Ok(None)
         }
     }
 }
 
-fn take_readings(track: &mut Track) -> Option<Readings>
-    ensures { TakesReadings track.old track.new result }
+fn take_known(track: &mut Track) -> Option<Knowledge>
+    ensures { TakesKnown track.old track.new result }
 {
     let bytes = match track {
         Track::Arrived { bytes, .. } => *bytes,
         _ => return None,
     };
     match mem::replace(track, Track::Checking { bytes }) {
-        Track::Arrived { readings, .. } => Some(readings),
+        Track::Arrived { known, .. } => Some(known),
         _ => None,
     }
 }

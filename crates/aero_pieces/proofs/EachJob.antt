@@ -1,12 +1,14 @@
 -- Over every schedule the queue, the hands and what was taken back have each job as often as it was posted.
-use Rattle.std.proofs.Common.{◌≡◌, ℕ, zero, suc, ◌+◌, ◌==◌, Bool, true, false, cond, List, [], ◌∷◌, ◌++◌, replicate, Option, Some, None, slice_get, slice_set, refl, sym, ◌∙◌, ap, subst, arith}
+use Rattle.std.proofs.Common.{◌≡◌, ℕ, zero, suc, ◌+◌, ◌==◌, Bool, true, false, cond, List, [], ◌∷◌, ◌++◌, replicate, Option, Some, None, slice_get, slice_set}
+use Rattle.std.proofs.Common.{refl, sym, ◌∙◌, ap, subst, arith}
 use Rattle.std.specs.Prelude.{nat_lt, length, sum_by}
 use Rattle.std.specs.List.{AllByRecursion}
 use Rattle.std.proofs.lemmas.List.{append_assoc}
 use Rattle.std.proofs.lemmas.List.Elements.{All-from_recursion}
 use Rattle.std.proofs.lemmas.List.Sums.{sum_by-cons, sum_by-append}
 use Rattle.aero_pieces.specs.Invariants.{IsSubsequence, done, same, other, times, HasEachJob}
-use Rattle.aero_pieces.specs.Schedule.{World, Step, Ask, Post, Take, Back, Answers, Miss, Settle, Entry, Happens, Runs, start, with_question, after_settling, taken_by, taken_back}
+use Rattle.aero_pieces.specs.Schedule.{World, Step, Ask, Post, Take, Back, Answers, Miss, Settle, Entry, Happens, Runs, start, with_question, after_settling}
+use Rattle.aero_pieces.specs.Schedule.{taken_by, taken_back}
 use Rattle.aero_pieces.specs.declared.answer.Value.{Value}
 
 none_of : (ys : List ℕ) → IsSubsequence [] ys
@@ -73,7 +75,8 @@ Holds posted queue hands back =
 abbrev WorldHolds : World → Type 0
 WorldHolds w = Holds w.posted w.queue w.hands w.back
 
-post_holds : (posted queue : List ℕ) (hands : List (List ℕ)) (back : List ℕ) (k : ℕ) → Holds posted queue hands back → Holds (posted ++ k ∷ []) (queue ++ k ∷ []) hands back
+post_holds : (posted queue : List ℕ) (hands : List (List ℕ)) (back : List ℕ) (k : ℕ) → Holds posted queue hands back →
+    Holds (posted ++ k ∷ []) (queue ++ k ∷ []) hands back
 post_holds posted queue hands back k h =
     (h.0, ap (λ xs. xs ++ k ∷ []) h.1 ∙ append_assoc h.0 queue (k ∷ []), h.2, h.3, h.4)
 
@@ -97,7 +100,8 @@ back_holds posted j queue hands back h = (
   λ k. omega (arith, h.4 k, times-append k h.0 (j ∷ []), times-append k back (j ∷ [])),
 )
 
-taken_by_holds : (w : World) (n : ℕ) (queue : List ℕ) (o : Option (List ℕ)) → w.queue ≡ queue → slice_get w.hands n ≡ o → WorldHolds w → WorldHolds (taken_by w n queue o)
+taken_by_holds : (w : World) (n : ℕ) (queue : List ℕ) (o : Option (List ℕ)) → w.queue ≡ queue → slice_get w.hands n ≡ o → WorldHolds w →
+    WorldHolds (taken_by w n queue o)
 taken_by_holds w n [] o is at h = h
 taken_by_holds w n (k ∷ more) None is at h = h
 taken_by_holds w n (k ∷ more) (Some hand) is at h =
@@ -145,7 +149,8 @@ module _ (window room : ℕ) where
   each_job w h =
       record {
         queue = subst (λ xs. IsSubsequence w.queue xs) (sym h.1) (behind h.0 w.queue);
-        hands = All-from_recursion (λ hand. IsSubsequence hand w.posted) w.hands (subst (λ xs. AreFrom xs w.hands) (sym h.1) (from_more w.queue h.0 w.hands h.2));
+        hands = All-from_recursion (λ hand. IsSubsequence hand w.posted) w.hands
+            (subst (λ xs. AreFrom xs w.hands) (sym h.1) (from_more w.queue h.0 w.hands h.2));
         back = subst (λ xs. IsSubsequence w.back xs) (sym h.1) (before w.queue w.back h.0 h.3);
         each = λ k. let posted : times k w.posted ≡ times k (h.0 ++ w.queue) = ap (times k) h.1 in
             omega (arith, h.4 k, times-append k h.0 w.queue, posted);

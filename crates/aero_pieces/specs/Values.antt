@@ -12,8 +12,10 @@ use Rattle.aero_verdict.specs.Finding.{asking, IsTraceFinding}
 abbrev pub ValueFits : Question → Value → Type 0
 ValueFits (Parse trace number bytes) (Parsed parsed) = parsed ≡ reading_of bytes
 ValueFits (Check trace parts limits labels order explain) (Judged verdict) = IsTraceFinding parts (asking limits labels order explain) (findings.Judged verdict)
-ValueFits (Check trace parts limits labels order explain) (Ordered verdict steps) = IsTraceFinding parts (asking limits labels order explain) (findings.Ordered verdict steps)
-ValueFits (Check trace parts limits labels order explain) (Explained verdict cycle) = IsTraceFinding parts (asking limits labels order explain) (findings.Explained verdict cycle)
+ValueFits (Check trace parts limits labels order explain) (Ordered verdict steps) =
+    IsTraceFinding parts (asking limits labels order explain) (findings.Ordered verdict steps)
+ValueFits (Check trace parts limits labels order explain) (Explained verdict cycle) =
+    IsTraceFinding parts (asking limits labels order explain) (findings.Explained verdict cycle)
 ValueFits _ _ = ⊥
 
 -- the same as a mere fact: what shows the verdict isn't kept

@@ -46,8 +46,8 @@ WasEmpty p = Queued p.desk []
 abbrev pub WasFront : Posting → Job → Type 0
 WasFront p job = (slips : List Slip) × Queued p.desk (Work job ∷ slips)
 
--- Nothing that was posted is in the queue. What was taken back and the hand of each Taker that rejoined are parts of what was posted, in its order, and once no Taker is out they have
--- together each job as often as it was posted.
+-- Nothing that was posted is in the queue. What was taken back and the hand of each Taker that rejoined are parts of what was posted, in its order,
+-- and once no Taker is out they have together each job as often as it was posted.
 pub record IsSettled (p : Posting) : Type 0 where
   pub each : p.desk.takers ≡ 0 → (test : Job → Bool) → count_by test p.desk.back + in_hands test p.desk.kept ≡ count_by test p.desk.posted
   pub back : IsSubsequence p.desk.back p.desk.posted

@@ -1,7 +1,8 @@
--- The rule of the queue, which each change of it keeps: what was posted is what is gone from the queue and then what the queue holds, and what is gone is in the hands.
--- Each end holds a pass, and the view of the pass is what that end knows. `IsTake`, and `WasFull`, `WasEmpty` and `WasFront` of Ends, say what one Taker or the Poster knows of a moment
--- of a call: there is some queue that agrees with its own view. Two Takers could each claim what contradicts the other's claim, and no such clause excludes it: only the channel does, since
--- it has one queue, and each change of that keeps `Staged` with the views of all passes at once.
+-- The rule of the queue, which each change of it keeps: what was posted is what is gone from the queue and then what the queue holds, and what is
+-- gone is in the hands. Each end holds a pass, and the view of the pass is what that end knows. `IsTake`, and `WasFull`, `WasEmpty` and `WasFront` of
+-- Ends, say what one Taker or the Poster knows of a moment of a call: there is some queue that agrees with its own view. Two Takers could each claim
+-- what contradicts the other's claim, and no such clause excludes it: only the channel does, since it has one queue, and each change of that keeps
+-- `Staged` with the views of all passes at once.
 use Rattle.std.specs.Prelude.{◌≡◌, ℕ, ◌+◌, ◌-◌, ◌≤◌, min, Bool, List, [], ◌∷◌, ◌++◌, length, count_by}
 use mathlib.Core.Option.{some}
 use lib.ListN.{get_elem?}
@@ -57,7 +58,8 @@ abbrev pub AreHandsOf : List Job → List Job → List Hand → Type 0
 AreHandsOf posted gone [] = Unit {0}
 AreHandsOf posted gone (h ∷ hs) = IsHandOf posted gone h × AreHandsOf posted gone hs
 
--- The desk is right at a moment at which these jobs are gone from the queue and the queue holds these slips: no more jobs and stops than the bounds of the desk.
+-- The desk is right at a moment at which these jobs are gone from the queue and the queue holds these slips: no more jobs and stops than the bounds
+-- of the desk.
 pub record IsMoment (d : Desk) (gone : List Job) (slips : List Slip) : Type 0 where
   pub order : d.posted ≡ gone ++ jobs_of slips
   pub jobs : length (jobs_of slips) ≤ d.bound
@@ -65,14 +67,15 @@ pub record IsMoment (d : Desk) (gone : List Job) (slips : List Slip) : Type 0 wh
   pub back : IsSubsequence d.back gone
   pub hands : AreHandsOf d.posted gone d.kept
 
--- What one view has to do with the queue, where these jobs were posted, these are gone and the queue holds these slips. The seat is the port of the Poster's pass, and the port that of
--- the pass with this view: so there is one Poster. The Poster knows what was posted, and how many Takers are out.
+-- What one view has to do with the queue, where these jobs were posted, these are gone and the queue holds these slips. The seat is the port of the
+-- Poster's pass, and the port that of the pass with this view: so there is one Poster. The Poster knows what was posted, and how many Takers are out.
 abbrev pub Fits : ℕ → List Job → List Job → List Slip → ℕ → ℕ → View → Type 0
 Fits seat posted gone slips out port (Posts d) = (port ≡ seat) × (d.posted ≡ posted) × (d.takers ≡ out) × IsMoment d gone slips
 Fits seat posted gone slips out port (Takes h) = IsHandOf posted gone h
 Fits seat posted gone slips out port Spent = Unit {0}
 
--- The rule itself: of the slips in the queue and of all views. The seat is the port of the Poster's pass, and so many Takers are out. Each job is held as often as it is gone.
+-- The rule itself: of the slips in the queue and of all views. The seat is the port of the Poster's pass, and so many Takers are out. Each job is
+-- held as often as it is gone.
 pub record Staged (slips : List Slip) (views : List View) : Type 0 where
   pub seat : ℕ
   pub posted : List Job
@@ -141,7 +144,8 @@ abbrev pub TakenBack : View → Slip → View → Type 0
 TakenBack v (Work job) w = (w ≡ Posts (with_back (desk_of v) job)) × ((slips : List Slip) × Queued (desk_of v) (Work job ∷ slips))
 TakenBack v Stop w = w ≡ v
 
--- The job was the front of the queue: all that was posted before it was gone, and the hand h is a part of that. The hand w has the job too, and had seen all that was posted by then.
+-- The job was the front of the queue: all that was posted before it was gone, and the hand h is a part of that. The hand w has the job too, and had
+-- seen all that was posted by then.
 pub record IsTake (h : Hand) (job : Job) (w : Hand) : Type 0 where
   pub gone : List Job
   pub rest : List Job

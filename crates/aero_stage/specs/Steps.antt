@@ -1,5 +1,5 @@
--- The changes of the queue as steps of the schedule of questions, jobs and answers, of which aero_pieces says what every schedule keeps: the queue, the hands and what was taken back have
--- jobs in the order in which they were posted, and together each as often as it was posted.
+-- The changes of the queue as steps of the schedule of questions, jobs and answers, of which aero_pieces says what every schedule keeps: the queue,
+-- the hands and what was taken back have jobs in the order in which they were posted, and together each as often as it was posted.
 use Rattle.std.specs.Prelude.{◌≡◌, ℕ, suc, ◌<◌, ⊤, List, [], ◌∷◌, ◌++◌, map, length, replicate, slice_get, slice_set, Some}
 use mathlib.Core.Option.{some}
 use lib.ListN.{get_elem?}
@@ -47,15 +47,19 @@ module _ (window room : ℕ) (w : World) where
   pub record AreSteps (slips : List Slip) (views : List View) : Type 0 where
     pub post : (port : ℕ) (v : View) (slip : Slip) (u : View) → get_elem? views port ≡ some v → IsPoster v → length slips < room → Posted room v slip u →
         (x : World) × Joins slip x × HasStage (slips ++ slip ∷ []) (slice_set views port u) x
-    pub take : (port : ℕ) (v : View) (slip : Slip) (rest : List Slip) (u : View) → get_elem? views port ≡ some v → IsTaker v → slips ≡ slip ∷ rest → Taken v slip u →
+    pub take : (port : ℕ) (v : View) (slip : Slip) (rest : List Slip) (u : View) → get_elem? views port ≡ some v → IsTaker v → slips ≡ slip ∷ rest →
+        Taken v slip u →
         (x : World) × LeavesTo port slip x × HasStage rest (slice_set views port u) x
-    pub take_back : (port : ℕ) (v : View) (slip : Slip) (rest : List Slip) (u : View) → get_elem? views port ≡ some v → IsPoster v → slips ≡ slip ∷ rest → TakenBack v slip u →
+    pub take_back : (port : ℕ) (v : View) (slip : Slip) (rest : List Slip) (u : View) → get_elem? views port ≡ some v → IsPoster v → slips ≡ slip ∷ rest →
+        TakenBack v slip u →
         (x : World) × LeavesBack slip x × HasStage rest (slice_set views port u) x
-    pub rejoin : (port : ℕ) (v : View) (other : ℕ) (u : View) → get_elem? views port ≡ some v → IsPoster v → HasStage slips (slice_set (slice_set views port (joined v u)) other Spent) w
+    pub rejoin : (port : ℕ) (v : View) (other : ℕ) (u : View) → get_elem? views port ≡ some v → IsPoster v →
+        HasStage slips (slice_set (slice_set views port (joined v u)) other Spent) w
 
 -- over every world that has a queue under its rule
 abbrev pub ChangesAreSteps : Type 0
-ChangesAreSteps = (window room : ℕ) (w : World) (slips : List Slip) (views : List View) → Staged slips views → HasStage slips views w → AreSteps window room w slips views
+ChangesAreSteps = (window room : ℕ) (w : World) (slips : List Slip) (views : List View) → Staged slips views → HasStage slips views w →
+    AreSteps window room w slips views
 
 -- The worker with the port of the Poster's pass never takes anything.
 abbrev pub OpensAsStart : Type 0

@@ -4,7 +4,8 @@ ghost use Rattle.crossbeam_channel.specs.Claims.{view, IsSeatAt};
 ghost use Rattle.crossbeam_channel.specs.Ends.{sends_on, receives_on, ruled_capacity};
 ghost use Rattle.crossbeam_channel.specs.Fifo.{Held};
 ghost use Rattle.aero_stage.specs.Ends.{WasFull, WasEmpty, WasFront, IsSettled, IsStage, new_taker};
-ghost use Rattle.aero_stage.specs.Rule.{desk_of, hand_of, IsPoster, IsTaker, IsTake, Posted, TakenBack, Taken, Queued, with_post, with_stop, with_back, with_taker, with_hand};
+ghost use Rattle.aero_stage.specs.Rule.{desk_of, hand_of, IsPoster, IsTaker, IsTake, Posted, TakenBack, Taken, Queued, with_post, with_stop, with_back};
+ghost use Rattle.aero_stage.specs.Rule.{with_taker, with_hand};
 
 use crate::job::{Job, Slip, View};
 use crate::rule::{Law, Post, Roles, Room, Take, TakeBack};
@@ -34,7 +35,12 @@ impl Model for Poster {
 
     ghost view = { λ p. record { stage = mark_of p.pass; capacity = ruled_capacity (sends_on p.sender); desk = desk_of (known p.pass) } };
 
-    ghost invariant = { λ p. record { seated : IsSeatAt (sends_on p.sender) p.pass; joined : receives_on p.receiver ≡ sends_on p.sender; posts : known p.pass ≡ Posts (desk_of (known p.pass)); small : (desk_of (known p.pass)).bound ≤ ruled_capacity (sends_on p.sender) } };
+    ghost invariant = { λ p. record {
+      seated : IsSeatAt (sends_on p.sender) p.pass;
+      joined : receives_on p.receiver ≡ sends_on p.sender;
+      posts : known p.pass ≡ Posts (desk_of (known p.pass));
+      small : (desk_of (known p.pass)).bound ≤ ruled_capacity (sends_on p.sender);
+    } };
 }
 
 /// An end that takes jobs until it meets a stop.
@@ -72,7 +78,8 @@ fn add<K: Room, R: Wait>(
     requires seat { IsSeatAt (sends_on sender.now) pass.old }
     requires poster { IsPoster (view pass.old) }
     ensures seat { IsSeatAt (sends_on sender.now) pass.new }
-    ensures rule { MatchResult result (λ _. Posted K.room (view pass.old) slip (view pass.new)) (λ e. (e ≡ slip) × (view pass.new ≡ view pass.old) × Held K.room (Queued (desk_of (view pass.old)))) }
+    ensures rule { MatchResult result (λ _. Posted K.room (view pass.old) slip (view pass.new))
+        (λ e. (e ≡ slip) × (view pass.new ≡ view pass.old) × Held K.room (Queued (desk_of (view pass.old)))) }
 {
     for _ in rt.forever() {
         match sender.try_send_as::<Post<K>, R>(rt, pass, slip) {
@@ -182,7 +189,8 @@ impl Taker {
     /// Poster is gone and the queue was empty, and at once on every later call. No clause says that
     /// it returns, nor that `None` comes only there.
     pub fn take<R: Wait>(&mut self, rt: &R) -> Option<Job>
-        ensures took { IfSome result (λ job. (self.old.over ≡ false) × (self.new.over ≡ false) × (self.new.stage ≡ self.old.stage) × IsTake self.old.hand job self.new.hand) }
+        ensures took { IfSome result (λ job. (self.old.over ≡ false) × (self.new.over ≡ false) × (self.new.stage ≡ self.old.stage)
+            × IsTake self.old.hand job self.new.hand) }
         ensures over { IfNone result (self.new ≡ record self.old { over = true }) }
     {
         if self.over {

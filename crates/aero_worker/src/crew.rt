@@ -129,7 +129,19 @@ impl Model for Crew {
 
     ghost view = { λ c. record { posted = map number_of c.poster.desk.posted; workers = vec_len c.running + vec_len c.by_worker } };
 
-    ghost invariant = { λ c. record { stage : All (λ h. h.promise.0.value.stage ≡ c.poster.stage) c.running.items; takers : c.poster.desk.takers ≡ vec_len c.running; tells : Tells (lists_of c.by_worker.items) c.poster.desk.kept; back : c.poster.desk.back ≡ []; left : c.left.items ≡ []; room : vec_len c.running + vec_len c.by_worker ≤ vec_capacity c.by_worker; capacity : c.poster.capacity ≡ 64; places : 64 ≤ vec_capacity c.left; bound : c.poster.desk.bound ≤ 64; stops : c.poster.desk.stops ≡ 0; few : vec_len c.running + vec_len c.by_worker ≤ 16 } };
+    ghost invariant = { λ c. record {
+      stage : All (λ h. h.promise.0.value.stage ≡ c.poster.stage) c.running.items;
+      takers : c.poster.desk.takers ≡ vec_len c.running;
+      tells : Tells (lists_of c.by_worker.items) c.poster.desk.kept;
+      back : c.poster.desk.back ≡ [];
+      left : c.left.items ≡ [];
+      room : vec_len c.running + vec_len c.by_worker ≤ vec_capacity c.by_worker;
+      capacity : c.poster.capacity ≡ 64;
+      places : 64 ≤ vec_capacity c.left;
+      bound : c.poster.desk.bound ≤ 64;
+      stops : c.poster.desk.stops ≡ 0;
+      few : vec_len c.running + vec_len c.by_worker ≤ 16;
+    } };
 }
 
 impl Crew {

@@ -5,17 +5,17 @@ use Rattle.aero_batch.proofs.checking.check_next.Goals as goal
 
 pub returns : goal.returns
 returns g c =
-    let p = c.args.progress.now in
+    let p = c.args.underway.now in
     let before = c.index_mut.result.now in
     let after = c.take_parts.new.track in
     let at = slice_get_read p.tracks.items p.tracks.len p.checked before p.tracks.ok.0 c.requires.unchecked c.index_mut.ensures.value in
     record {
       before = before;
       after = after;
-      readings = c.in_ok-readings.readings;
+      parts = c.in_ok-parts.parts;
       was = at;
       ready = c.requires.ready before at;
-      gives = c.in_ok-readings.ensures;
+      gives = c.in_ok-parts.ensures;
       tracks = set_changed p.tracks.items p.checked before after (λ t. after) at refl;
       inquiry = c.in_ok-ask_check.ensures;
       checked = refl;

@@ -9,8 +9,11 @@ use Rattle.aero_batch.proofs.checking.give_value.Goals as goal
 pub returns-then-trace-count : goal.returns-then-trace-count
 returns-then-trace-count c =
     let v = c.args.tracks.now in
-    let past : length v.items ≤ c.args.trace = omega (arith, v.ok.0, c.if-trace-count.true, c.len-count.ensures) in
-    (false, sym (changed_past v.items c.args.trace (λ t. with_value (most_kept c.args.plan.now.keeping c.args.trace (length v.items)) false t c.args.value) past))
+    let past : length v.items ≤ c.args.trace = omega (arith, v.ok.0, c.if-trace-count.true, c.len-count.ensures) in (
+      false,
+      sym (changed_past v.items c.args.trace
+          (λ t. with_value (most_kept c.args.plan.now.keeping c.args.trace (length v.items)) false t c.args.value) past),
+    )
 
 pub returns : goal.returns
 returns c =
@@ -23,6 +26,7 @@ returns c =
     let certain = certain_of c.take_value.new.track in
     on_ok_weaker c.take_value.result (λ is. (
       certain,
-      set_changed v.items c.args.trace c.index_mut.result.now c.take_value.new.track (λ t. with_value (most_kept keeping c.args.trace (length v.items)) certain t c.args.value) at
+      set_changed v.items c.args.trace c.index_mut.result.now c.take_value.new.track
+          (λ t. with_value (most_kept keeping c.args.trace (length v.items)) certain t c.args.value) at
           (is ∙ ap (λ n. with_value n certain c.index_mut.result.now c.args.value) most),
     )) c.take_value.ensures

@@ -8,12 +8,15 @@ use Rattle.aero_batch.proofs.checking.settle_next.Goals as goal
 
 pub returns : goal.returns
 returns g c =
-    let p = c.args.progress.now in
+    let p = c.args.underway.now in
     let is : c.in_ok-trace.field-0 ≡ Some (c.in-Some.trace, c.in-Some.value) = cc in
-    let gives = subst (λ (o : Option (ℕ × Value)). Gives (open_of c.args.kind p.inquiry) (with_open c.args.kind p.inquiry) c.settle.new.self o) is c.in_ok-trace.ensures in
+    let gives = subst (λ (o : Option (ℕ × Value)). Gives (open_of c.args.kind p.inquiry) (with_open c.args.kind p.inquiry) c.settle.new.self o) is
+    c.in_ok-trace.ensures in
     on_ok_weaker c.give_value.result
     (λ given. record {
-      settles = settles_from_gives (open_of c.args.kind p.inquiry) (with_open c.args.kind p.inquiry) c.settle.new.self c.in-Some.trace c.in-Some.value (most_kept c.args.plan.now.keeping c.in-Some.trace (length p.tracks.items)) given.0 p.tracks.items c.give_value.new.tracks.items gives given.1;
+      settles = settles_from_gives (open_of c.args.kind p.inquiry) (with_open c.args.kind p.inquiry) c.settle.new.self c.in-Some.trace c.in-Some.value
+          (most_kept c.args.setting.now.plan.now.keeping c.in-Some.trace (length p.tracks.items)) given.0 p.tracks.items c.give_value.new.tracks.items gives
+          given.1;
       read = refl;
       checked = refl;
       intake = refl;

@@ -5,5 +5,6 @@ use Rattle.aero_batch.proofs.reading.cut_held.Goals as goal
 pub returns : goal.returns
 returns g c =
     on_ok_weaker c.ask_block.result
-    (λ asks. cuts_held c.args.progress.now c.ask_block.new.progress c.cut.new.self c.in_ok-block.block c.requires.some c.requires.going_on c.in_ok-block.ensures.after c.in_ok-block.ensures.block asks)
+    (λ asks. cuts_held c.args.underway.now c.ask_block.new.underway c.cut.new.self c.in_ok-block.block c.requires.some c.requires.going_on
+    c.in_ok-block.ensures.after c.in_ok-block.ensures.block asks)
     c.ask_block.ensures

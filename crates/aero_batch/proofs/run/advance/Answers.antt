@@ -7,33 +7,36 @@ use Rattle.aero_batch.specs.declared.told.Told.{Told}
 use Rattle.std.specs.Prelude.{Some}
 use Rattle.aero_batch.specs.Founds.{sighted, WasRun}
 use Rattle.aero_batch.specs.Holding.{Stands}
-use Rattle.aero_batch.proofs.Standing.{step_stands, memory_stops}
+use Rattle.aero_batch.proofs.Stands.{step_stands, memory_stops}
 use Rattle.aero_batch.proofs.run.advance.Goals as goal
 use Rattle.aero_intake.specs.PlanTerms.{terms_of}
 
 pub returns-in-Ok-clause-stands : goal.returns-in-Ok-clause-stands
 returns-in-Ok-clause-stands g c = λ old before st.
-    let terms = (terms_of c.args.around.now.plan.now) in
-    let form = c.args.around.now.plan.now.form in
+    let terms = (terms_of c.args.setting.now.plan.now) in
+    let form = c.args.setting.now.plan.now.form in
     let now = map (sighted g.R.Read.remaining) c.args.sources.now in
     let after = map (sighted g.R.Read.remaining) c.step.new.sources in
     let mid = seen_by g.W.Write.contents c.args.writer.now in
     let same = c.in_ok-tell_ready.ensures.unchanged c.if-branch.false in
-    let next = step_stands terms form old now after before mid c.args.progress.now c.step.new.progress c.args.told.now c.in-Ok.ensures.steps c.step.ensures.names st in
-    subst (λ (s : Seen). Stands terms form old after before s c.step.new.progress c.tell_ready.new.told) (sym same.0)
-    (subst (λ (t : Told). Stands terms form old after before mid c.step.new.progress t) (sym same.1) next)
+    let next = step_stands terms form old now after before mid c.args.standing.now.underway c.step.new.underway c.args.standing.now.told c.in-Ok.ensures.steps
+    c.step.ensures.names st in
+    subst (λ (s : Seen). Stands terms form old after before s c.step.new.underway c.tell_ready.new.told) (sym same.0)
+    (subst (λ (t : Told). Stands terms form old after before mid c.step.new.underway t) (sym same.1) next)
 
 pub returns-in-Err-clause-stopped : goal.returns-in-Err-clause-stopped
 returns-in-Err-clause-stopped g c = λ old before st.
-    let terms = (terms_of c.args.around.now.plan.now) in
-    let form = c.args.around.now.plan.now.form in
+    let terms = (terms_of c.args.setting.now.plan.now) in
+    let form = c.args.setting.now.plan.now.form in
     let now = map (sighted g.R.Read.remaining) c.args.sources.now in
     let after = map (sighted g.R.Read.remaining) c.step.new.sources in
     let mid = seen_by g.W.Write.contents c.args.writer.now in
     let same = c.in_ok-tell_ready.ensures.unchanged c.if-branch.false in
-    let stops = memory_stops terms form old now after before mid mid c.args.progress.now c.args.told.now st (λ s less. c.step.ensures.others s (λ e. omega (arith, less, e))) c.step.ensures.names
+    let stops = memory_stops terms form old now after before mid mid c.args.standing.now.underway c.args.standing.now.told st
+    (λ s less. c.step.ensures.others s (λ e. omega (arith, less, e))) c.step.ensures.names
     (record { went = Appends-nil mid.bytes; faults = refl }) in
     let told = c.tell_ready.new.told in
-    subst (λ (x : Cause). WasRun terms form old after before (seen_by g.W.Write.contents c.tell_ready.new.writer) told.endings.items told.faults.items told.counts (Some x)) (sym c.cause_of.ensures)
+    subst (λ (x : Cause). WasRun terms form old after before
+    (seen_by g.W.Write.contents c.tell_ready.new.writer) told.endings.items told.faults.items told.counts (Some x)) (sym c.cause_of.ensures)
     (subst (λ (s : Seen). WasRun terms form old after before s told.endings.items told.faults.items told.counts (Some Memory)) (sym same.0)
     (subst (λ (t : Told). WasRun terms form old after before mid t.endings.items t.faults.items t.counts (Some Memory)) (sym same.1) stops))

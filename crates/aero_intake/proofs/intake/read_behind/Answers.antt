@@ -7,5 +7,6 @@ pub returns : goal.returns
 returns g c =
     let within : c.args.held ≤ length c.args.buffer.now = omega (arith, c.requires.fits) in
     let long : length c.read.new.buf ≡ c.args.room = search rules in
-    fills (seen_by g.R.Read.remaining c.args.reader.now) (seen_by g.R.Read.remaining c.read.new.self) c.args.held c.args.room (c.args.held + c.args.room - c.args.held) c.args.buffer.now c.read.new.buf c.read.result
+    fills (seen_by g.R.Read.remaining c.args.reader.now) (seen_by g.R.Read.remaining c.read.new.self) c.args.held c.args.room
+    (c.args.held + c.args.room - c.args.held) c.args.buffer.now c.read.new.buf c.read.result
     within long c.requires.some c.read.ensures.bound c.read.ensures.bytes c.read.ensures.faults c.read.ensures.ends

@@ -13,7 +13,8 @@ pub returns-then-not-asked : goal.returns-then-not-asked
 returns-then-not-asked c =
     let asked = c.args.asked in
     let none = not-true asked.order c.if-not-asked.true in
-    IfOk-weaker c.judge.result _ (λ value. (trace : ℕ) → IsValueOf (Check trace c.args.parts.now c.args.limits.now c.args.except.now asked.order asked.explain) value)
+    IfOk-weaker c.judge.result _ (λ value. (trace : ℕ) →
+    IsValueOf (Check trace c.args.parts.now c.args.limits.now c.args.except.now asked.order asked.explain) value)
     (λ value fits trace. fits trace asked.order (λ verdict is. no_order asked.order none verdict)) c.judge.ensures
 
 pub returns-in-None : goal.returns-in-None
@@ -24,7 +25,8 @@ returns-in-None c =
     let told : TellsInOrder c.args.parts.now rules verdict _ =
     subst (λ steps. TellsInOrder c.args.parts.now rules verdict (option_map (λ s. s.items) steps)) c.in-None.is c.in_ok-verdict.ensures.told in
     let explain : asked.explain ≡ true = cycle_asked asked.explain verdict (sym c.has_cycle.ensures ∙ c.if-has_cycle.true) in
-    IfOk-weaker c.judge-in-None.result _ (λ value. (trace : ℕ) → IsValueOf (Check trace c.args.parts.now c.args.limits.now c.args.except.now asked.order asked.explain) value)
+    IfOk-weaker c.judge-in-None.result _ (λ value. (trace : ℕ) →
+    IsValueOf (Check trace c.args.parts.now c.args.limits.now c.args.except.now asked.order asked.explain) value)
     (λ value fits trace.
     subst (λ b. IsValueOf (Check trace c.args.parts.now c.args.limits.now c.args.except.now asked.order b) value) (sym explain)
     (fits trace asked.order (none_told c.args.parts.now rules verdict told asked.order)))

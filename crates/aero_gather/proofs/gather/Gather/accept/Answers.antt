@@ -30,7 +30,8 @@ returns-in-None c =
     let slots = ap (λ (g : Gathered). g.entries) c.self.view_is in
     let first = c.deref.ensures.value ∙ slots in
     let second = c.deref-in-None-oldest_waiting.ensures.value ∙ slots in (
-      same_open _ c.args.answer.question _ c.args.self.now.entries c.question-in-None-oldest_waiting.ensures second (c.has_question.ensures.0 c.if-has_question.true),
+      same_open _ c.args.answer.question _ c.args.self.now.entries c.question-in-None-oldest_waiting.ensures second
+          (c.has_question.ensures.0 c.if-has_question.true),
       same_waits c.question.result.now c.args.answer.question c.deref.result.now c.args.self.now.entries c.question.ensures first c.in-None.ensures.none,
       refl,
     )

@@ -13,6 +13,7 @@ returns-clause-noted c =
     let le : m ≤ k = omega (arith, gone, c.if-ticket-settled.false) in
     let less : k - m < length slots = omega (arith, c.self.invariant.gathered.open_were_asked, c.if-self-ticket.false) in
     let slot = c.index_mut.result.now in
-    let there : slice_get slots (k - m) ≡ Some slot = slice_get_read slots (length slots) (k - m) slot refl less (subst (λ n. slot ≡ get_or slots (k - n) slot) gone c.index_mut.ensures.value) in
+    let there : slice_get slots (k - m) ≡ Some slot =
+    slice_get_read slots (length slots) (k - m) slot refl less (subst (λ n. slot ≡ get_or slots (k - n) slot) gone c.index_mut.ensures.value) in
     rw (← c.self.view_is) (ap (λ es. record { window = c.self.inside.window; entries = es; tally = c.self.inside.tally })
     (ap (λ x. slice_set slots (k - x) c.miss.new.slot) gone ∙ ap (λ x. slice_set slots (k - m) x) c.miss.ensures.noted ∙ note_at m k slots slot le there))

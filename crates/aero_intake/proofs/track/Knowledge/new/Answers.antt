@@ -1,7 +1,7 @@
 use Rattle.std.proofs.Common.{sym, ap}
 use Rattle.std.specs.Prelude.{is_some, min}
 use Rattle.aero_grammar.specs.Reading.{whole_reading}
-use Rattle.aero_intake.proofs.track.Readings.new.Goals as goal
+use Rattle.aero_intake.proofs.track.Knowledge.new.Goals as goal
 
 pub invariant_of-result : goal.invariant_of-result
 invariant_of-result c = record {

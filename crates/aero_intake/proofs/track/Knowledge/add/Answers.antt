@@ -3,7 +3,7 @@ use Rattle.std.specs.Prelude.{is_some, min}
 use Rattle.aero_grammar.specs.Reading.{Reading, whole_reading}
 use Rattle.aero_intake.specs.Held.{parts_in}
 use Rattle.aero_intake.proofs.Decided.{read_after_fault, lines_more, fault_more}
-use Rattle.aero_intake.proofs.track.Readings.add.Goals as goal
+use Rattle.aero_intake.proofs.track.Knowledge.add.Goals as goal
 
 pub invariant_of-self : goal.invariant_of-self
 invariant_of-self c = record {
@@ -17,8 +17,10 @@ pub invariant_of-self-then-not-self : goal.invariant_of-self-then-not-self
 invariant_of-self-then-not-self c =
     let rs = parts_in c.self.inside.held in
     let faultless : is_some (whole_reading rs).fault ≡ false = sym c.self.invariant.fault ∙ c.if-not-self.true in
-    let lines : (whole_reading (parts_in c.add_to.new.held)).lines ≡ (whole_reading rs).lines + c.args.part.lines = ap (λ l. (whole_reading l).lines) c.in_default.ensures.parts ∙ lines_more rs c.args.part faultless in
-    let fault : is_some (whole_reading (parts_in c.add_to.new.held)).fault ≡ is_some c.args.part.fault = ap (λ l. is_some (whole_reading l).fault) c.in_default.ensures.parts ∙ fault_more rs c.args.part faultless in
+    let lines : (whole_reading (parts_in c.add_to.new.held)).lines ≡ (whole_reading rs).lines + c.args.part.lines =
+    ap (λ l. (whole_reading l).lines) c.in_default.ensures.parts ∙ lines_more rs c.args.part faultless in
+    let fault : is_some (whole_reading (parts_in c.add_to.new.held)).fault ≡ is_some c.args.part.fault =
+    ap (λ l. is_some (whole_reading l).fault) c.in_default.ensures.parts ∙ fault_more rs c.args.part faultless in
     record {
       fits = c.in_default.ensures.fits;
       counted = c.in_default.ensures.counted;
@@ -30,7 +32,8 @@ pub invariant_of-self-else-not-self : goal.invariant_of-self-else-not-self
 invariant_of-self-else-not-self c =
     let rs = parts_in c.self.inside.held in
     let faulty : is_some (whole_reading rs).fault ≡ true = sym c.self.invariant.fault ∙ c.if-not-self.false in
-    let same : whole_reading (parts_in c.add_to.new.held) ≡ whole_reading rs = ap whole_reading c.in_default.ensures.parts ∙ read_after_fault rs c.args.part faulty in
+    let same : whole_reading (parts_in c.add_to.new.held) ≡ whole_reading rs = ap whole_reading c.in_default.ensures.parts
+    ∙ read_after_fault rs c.args.part faulty in
     record {
       fits = c.in_default.ensures.fits;
       counted = c.in_default.ensures.counted;

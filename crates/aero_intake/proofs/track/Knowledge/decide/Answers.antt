@@ -1,6 +1,6 @@
 use Rattle.std.proofs.Common.{sym, ◌∙◌}
 use Rattle.aero_intake.proofs.Decisive.{faulty_decides}
-use Rattle.aero_intake.proofs.track.Readings.decide.Goals as goal
+use Rattle.aero_intake.proofs.track.Knowledge.decide.Goals as goal
 
 pub returns-then-have_fault-clause-decisive : goal.returns-then-have_fault-clause-decisive
 returns-then-have_fault-clause-decisive c = λ is_true.

@@ -7,14 +7,14 @@ ghost use Rattle.aero_batch.specs.Steps.{IsStart};
 use crate::inquiry::Inquiry;
 use aero_intake::intake::Intake;
 use aero_intake::plan::Plan;
-use aero_intake::track::{Readings, Track};
+use aero_intake::track::{Knowledge, Track};
 use aero_model::verdict::Ending;
 use std::alloc::{AllocError, Global};
 
 /// How far a run is. The sources are read one after the other, and their verdicts are asked for in
 /// the same order.
 #[derive(Drop)]
-pub struct Progress {
+pub struct Underway {
     pub inquiry: Inquiry,
     /// What is known of each source.
     pub tracks: Vec<Track>,
@@ -29,17 +29,17 @@ pub struct Progress {
     pub ended: Option<Ending>,
 }
 
-impl Progress {
+impl Underway {
     /// Nothing is read yet of so many sources. Where nobody helps, nothing is posted.
     pub fn new(
         alloc: Global,
         plan: &Plan,
         sources: usize,
         is_alone: bool,
-    ) -> Result<Progress, AllocError>
+    ) -> Result<Underway, AllocError>
         ensures { IfOk result (IsStart (terms_of plan.now) sources) }
     {
-        Ok(Progress {
+        Ok(Underway {
             inquiry: Inquiry::new(alloc, is_alone)?,
             tracks: new_tracks(alloc, plan, sources)?,
             read: 0,
@@ -57,7 +57,7 @@ fn new_tracks(alloc: Global, plan: &Plan, sources: usize) -> Result<Vec<Track>, 
 {
     let mut tracks = Vec::with_capacity(alloc, sources)?;
     for i in 0..sources {
-        tracks.push(Track::Arriving(Readings::new(alloc, plan.terms()?)))?;
+        tracks.push(Track::Arriving(Knowledge::new(alloc, plan.terms()?)))?;
     }
     Ok(tracks)
 }

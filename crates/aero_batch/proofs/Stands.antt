@@ -1,5 +1,6 @@
 -- What holds between two steps is kept by each, and says what was written where the run stops.
-use Rattle.std.proofs.Common.{◌≡◌, ℕ, zero, suc, ◌+◌, ◌<◌, ◌≤◌, Bool, true, false, List, [], ◌∷◌, ◌++◌, map, length, take, slice_get, Option, Some, None, Result, Ok, Err, refl, sym, ◌∙◌, ap, ap₂, subst, inl, inr, arith}
+use Rattle.std.proofs.Common.{◌≡◌, ℕ, zero, suc, ◌+◌, ◌<◌, ◌≤◌, Bool, true, false, List, [], ◌∷◌, ◌++◌, map, length, take, slice_get, Option, Some, None}
+use Rattle.std.proofs.Common.{Result, Ok, Err, refl, sym, ◌∙◌, ap, ap₂, subst, inl, inr, arith}
 use Rattle.std.specs.Prelude.{IfOk, IfErr, OnOk, replicate, ◌⊎◌, vec_len}
 use Rattle.std.specs.List.{concat}
 use Rattle.std.proofs.KnownBytes.{Appends-nil, Appends-trans}
@@ -15,12 +16,13 @@ use Rattle.aero_report.specs.declared.form.Form.{Form}
 use Rattle.aero_report.specs.Forms.{source_line_in, source_lines_in, summary_line_in}
 use Rattle.aero_batch.specs.declared.outcome.Cause.{Cause}
 use Rattle.aero_batch.specs.declared.outcome.Cause.TheVariants.{Memory, Write}
-use Rattle.aero_batch.specs.declared.progress.Progress.{Progress}
+use Rattle.aero_batch.specs.declared.underway.Underway.{Underway}
 use Rattle.aero_batch.specs.declared.told.Told.{Told}
 use Rattle.aero_intake.specs.declared.track.Track.{Track}
 use Rattle.aero_intake.specs.declared.track.Track.TheVariants as tracks
 use Rattle.aero_batch.specs.Faults.{fault_of}
-use Rattle.aero_batch.specs.Founds.{Sighted, Found, IsFoundAt, AreOfTheFirst, told, ending_of, faulty_line, lines_of_all, counts_of_all, Took, IsNextText, WasCutOff, IsWritten, WasRun}
+use Rattle.aero_batch.specs.Founds.{Sighted, Found, IsFoundAt, AreOfTheFirst, told, ending_of, faulty_line, lines_of_all, counts_of_all, Took, IsNextText}
+use Rattle.aero_batch.specs.Founds.{WasCutOff, IsWritten, WasRun}
 use Rattle.aero_batch.specs.Holding.{Holds, HasComeFrom, Counted, AreTold, Tells, Stands, HasNumbers, IsBegun, nothing_known}
 use Rattle.aero_batch.specs.Inquiries.{Inquired, AreApart, all_open, open_count}
 use Rattle.aero_intake.specs.Held.{nothing_read}
@@ -51,7 +53,8 @@ get_push (c ∷ xs) x (suc s) y at = elim (get_push xs x s y at) [ inl is ↦ in
 
 -- what is told of one more source
 
-lines_more : (form : Form) (founds : List Found) (f : Found) → lines_of_all form (founds ++ f ∷ []) ≡ lines_of_all form founds ++ source_line_in form f.name f.finding
+lines_more : (form : Form) (founds : List Found) (f : Found) →
+    lines_of_all form (founds ++ f ∷ []) ≡ lines_of_all form founds ++ source_line_in form f.name f.finding
 lines_more form founds f =
     ap (source_lines_in form) (map-append told founds (f ∷ []))
     ∙ (flat_map-append (λ s. source_line_in form s.0 s.1) (map told founds) (told f ∷ [])
@@ -62,8 +65,10 @@ counts_more founds f =
     ap counts_of (map-append (λ x. x.finding) founds (f ∷ [])) ∙ fold-append counted no_counts (map (λ x. x.finding) founds) (f.finding ∷ [])
 
 -- the tracks that may be told are those of sources that have ended
-found_tells : (terms : Terms) (old now : List Sighted) (p : Progress) (tale : ℕ → Story) (place bytes : ℕ) (ending : Ending) (finding : Finding) → Holds terms old now p tale → place < p.read →
-    slice_get p.tracks.items place ≡ Some (tracks.Found bytes ending finding) → (name : List ℕ) → ((b : Sighted) → slice_get old place ≡ Some b → b.name ≡ name) →
+found_tells : (terms : Terms) (old now : List Sighted) (p : Underway) (tale : ℕ → Story) (place bytes : ℕ) (ending : Ending) (finding : Finding) →
+    Holds terms old now p tale → place < p.read →
+    slice_get p.tracks.items place ≡ Some (tracks.Found bytes ending finding) → (name : List ℕ) →
+    ((b : Sighted) → slice_get old place ≡ Some b → b.name ≡ name) →
     Tells terms old place (tale place) (record { name = name; bytes = concat (tale place).pieces; ending = ending; finding = finding })
 found_tells terms old now p tale place bytes ending finding holds below at name named =
     let is = holds.tracked place (tracks.Found bytes ending finding) at in
@@ -78,7 +83,8 @@ found_tells terms old now p tale place bytes ending finding holds below at name 
     }
 
 -- what is told of the first sources was found of them
-found_first : (terms : Terms) (old now : List Sighted) (p : Progress) (tale : ℕ → Story) (founds : List Found) → Holds terms old now p tale → ((s : ℕ) (f : Found) → slice_get founds s ≡ Some f → Tells terms old s (tale s) f) →
+found_first : (terms : Terms) (old now : List Sighted) (p : Underway) (tale : ℕ → Story) (founds : List Found) → Holds terms old now p tale →
+    ((s : ℕ) (f : Found) → slice_get founds s ≡ Some f → Tells terms old s (tale s) f) →
     length founds ≤ p.read → AreOfTheFirst terms old now founds
 found_first terms old now p tale founds holds tells few place f at =
     let within = slice_get_within founds place f at in
@@ -128,10 +134,12 @@ name_then (c ∷ old) (x ∷ now) (suc s) b names was named =
     name_then old now s b rest was named
 
 -- one more source is told
-pub told_stands : (terms : Terms) (form : Form) (old now : List Sighted) (before mid after : Seen) (p : Progress) (a b : Told) (bytes : ℕ) (ending : Ending) (finding : Finding) (name : List ℕ) →
+pub told_stands : (terms : Terms) (form : Form) (old now : List Sighted) (before mid after : Seen) (p : Underway) (a b : Told) (bytes : ℕ) (ending : Ending)
+    (finding : Finding) (name : List ℕ) →
     vec_len a.endings < p.checked → slice_get p.tracks.items (vec_len a.endings) ≡ Some (tracks.Found bytes ending finding) →
     ((x : Sighted) → slice_get now (vec_len a.endings) ≡ Some x → x.name ≡ name) →
-    Took mid after (source_line_in form name finding) → IsOneMore a b bytes ending finding → Stands terms form old now before mid p a → Stands terms form old now before after p b
+    Took mid after (source_line_in form name finding) → IsOneMore a b bytes ending finding → Stands terms form old now before mid p a →
+    Stands terms form old now before after p b
 told_stands terms form old now before mid after p a b bytes ending finding name below at named took more st =
     let t = st.are_told in
     let place = vec_len a.endings in
@@ -139,7 +147,8 @@ told_stands terms form old now before mid after p a b bytes ending finding name 
     let f : Found = record { name = name; bytes = concat (st.tale place).pieces; ending = ending; finding = finding } in
     let is = st.holds.tracked place (tracks.Found bytes ending finding) at in
     let read_below : place < p.read = omega (arith, below, st.counted.checked) in
-    let tells = found_tells terms old now p st.tale place bytes ending finding st.holds read_below at name (λ b was. name_then old now place b st.names was named) in
+    let tells = found_tells terms old now p st.tale place bytes ending finding st.holds read_below at name
+    (λ b was. name_then old now place b st.names was named) in
     record {
       tale = st.tale;
       founds = st.founds ++ f ∷ [];
@@ -150,7 +159,8 @@ told_stands terms form old now before mid after p a b bytes ending finding name 
           | inr is ↦ subst (λ x. Tells terms old s (st.tale s) x) (sym is.1) (subst (λ n. Tells terms old n (st.tale n) f) (same_place ∙ sym is.0) tells)
         ];
         few = omega (arith, length_push st.founds f, below, same_place);
-        took = subst (λ text. Took before after text) (sym (lines_more form st.founds f)) (took_more before mid after (lines_of_all form st.founds) (source_line_in form name finding) t.took took);
+        took = subst (λ text. Took before after text) (sym (lines_more form st.founds f))
+            (took_more before mid after (lines_of_all form st.founds) (source_line_in form name finding) t.took took);
         endings = more.endings ∙ (ap₂ (λ es n. es ++ (n, ending) ∷ []) t.endings is.1 ∙ sym (map-append ending_of st.founds (f ∷ [])));
         counts = more.counts ∙ (ap (λ c. counted c finding) t.counts ∙ sym (counts_more st.founds f));
         total_is = omega (arith, more.counted_one, t.total_is, length_push st.founds f);
@@ -164,7 +174,8 @@ told_stands terms form old now before mid after p a b bytes ending finding name 
 
 -- the run stops: what stands, and why
 
-stopped : (terms : Terms) (form : Form) (old now now' : List Sighted) (before mid after : Seen) (p : Progress) (a : Told) (st : Stands terms form old now before mid p a) (cause : Option Cause) →
+stopped : (terms : Terms) (form : Form) (old now now' : List Sighted) (before mid after : Seen) (p : Underway) (a : Told)
+    (st : Stands terms form old now before mid p a) (cause : Option Cause) →
     ((s : ℕ) → s < p.read → slice_get now' s ≡ slice_get now s) → map (λ x. x.name) now' ≡ map (λ x. x.name) now →
     IsWritten terms form old now' st.founds before after cause → WasRun terms form old now' before after a.endings.items a.faults.items a.counts cause
 stopped terms form old now now' before mid after p a st cause same names written = record {
@@ -181,13 +192,16 @@ stopped terms form old now now' before mid after p a st cause same names written
   written = written;
 }
 
-pub memory_stops : (terms : Terms) (form : Form) (old now now' : List Sighted) (before mid after : Seen) (p : Progress) (a : Told) → Stands terms form old now before mid p a →
+pub memory_stops : (terms : Terms) (form : Form) (old now now' : List Sighted) (before mid after : Seen) (p : Underway) (a : Told) →
+    Stands terms form old now before mid p a →
     ((s : ℕ) → s < p.read → slice_get now' s ≡ slice_get now s) → map (λ x. x.name) now' ≡ map (λ x. x.name) now → Took mid after [] →
     WasRun terms form old now' before after a.endings.items a.faults.items a.counts (Some Memory)
 memory_stops terms form old now now' before mid after p a st same names took =
-    stopped terms form old now now' before mid after p a st (Some Memory) same names (took_nothing before mid after (lines_of_all form st.founds) st.are_told.took took)
+    stopped terms form old now now' before mid after p a st (Some Memory) same names
+    (took_nothing before mid after (lines_of_all form st.founds) st.are_told.took took)
 
-cut_off : (terms : Terms) (form : Form) (old now : List Sighted) (before mid after : Seen) (founds : List Found) (text : List ℕ) → IsNextText terms form old now founds text → Took before mid (lines_of_all form founds) → WasCut mid after text →
+cut_off : (terms : Terms) (form : Form) (old now : List Sighted) (before mid after : Seen) (founds : List Found) (text : List ℕ) →
+    IsNextText terms form old now founds text → Took before mid (lines_of_all form founds) → WasCut mid after text →
     WasCutOff terms form old now founds before after
 cut_off terms form old now before mid after founds text next took cut = record {
   text = text;
@@ -199,9 +213,11 @@ cut_off terms form old now before mid after founds text next took cut = record {
 }
 
 -- a write of the next source's line failed
-pub line_stops : (terms : Terms) (form : Form) (old now : List Sighted) (before mid after : Seen) (p : Progress) (a : Told) (bytes : ℕ) (ending : Ending) (finding : Finding) (name : List ℕ) →
+pub line_stops : (terms : Terms) (form : Form) (old now : List Sighted) (before mid after : Seen) (p : Underway) (a : Told) (bytes : ℕ) (ending : Ending)
+    (finding : Finding) (name : List ℕ) →
     vec_len a.endings < p.checked → slice_get p.tracks.items (vec_len a.endings) ≡ Some (tracks.Found bytes ending finding) →
-    ((x : Sighted) → slice_get now (vec_len a.endings) ≡ Some x → x.name ≡ name) → WasCut mid after (source_line_in form name finding) → Stands terms form old now before mid p a →
+    ((x : Sighted) → slice_get now (vec_len a.endings) ≡ Some x → x.name ≡ name) → WasCut mid after (source_line_in form name finding) →
+    Stands terms form old now before mid p a →
     WasRun terms form old now before after a.endings.items a.faults.items a.counts (Some Write)
 line_stops terms form old now before mid after p a bytes ending finding name below at named cut st =
     let t = st.are_told in
@@ -209,7 +225,8 @@ line_stops terms form old now before mid after p a bytes ending finding name bel
     let same_place : place ≡ length st.founds = a.endings.ok.0 ∙ (ap length t.endings ∙ length-map st.founds ending_of) in
     let f : Found = record { name = name; bytes = concat (st.tale place).pieces; ending = ending; finding = finding } in
     let read_below : place < p.read = omega (arith, below, st.counted.checked) in
-    let tells = found_tells terms old now p st.tale place bytes ending finding st.holds read_below at name (λ b was. name_then old now place b st.names was named) in
+    let tells = found_tells terms old now p st.tale place bytes ending finding st.holds read_below at name
+    (λ b was. name_then old now place b st.names was named) in
     let has = st.holds.ended place read_below in
     let ends : has.ending ≡ ending = the_some has.ending ending (sym has.ended ∙ tells.ending) in
     let same : tells.before ≡ has.before = the_some tells.before has.before (sym tells.was ∙ has.was) in
@@ -225,25 +242,30 @@ line_stops terms form old now before mid after p a bytes ending finding name bel
       };
     } in
     stopped terms form old now now before mid after p a st (Some Write) (λ s less. refl) refl
-    (cut_off terms form old now before mid after st.founds (source_line_in form name finding) (inl (f, subst (λ n. IsFoundAt terms old now n f) same_place is, refl)) t.took cut)
+    (cut_off terms form old now before mid after st.founds (source_line_in form name finding)
+    (inl (f, subst (λ n. IsFoundAt terms old now n f) same_place is, refl)) t.took cut)
 
 findings_told : (founds : List Found) → map (λ s. s.1) (map told founds) ≡ map (λ f. f.finding) founds
 findings_told [] = refl
 findings_told (f ∷ founds) = ap (λ fs. f.finding ∷ fs) (findings_told founds)
 
 -- all sources are told, and the summary is written, or not
-pub summary_stops : (terms : Terms) (form : Form) (old now : List Sighted) (before mid after : Seen) (p : Progress) (a : Told) → vec_len a.endings ≡ length old → Stands terms form old now before mid p a →
-    (r : Result Unit Cause) → TellsText (summary_line_in form a.counts) mid after r → (cause : Option Cause) → cause ≡ cause_of r → WasRun terms form old now before after a.endings.items a.faults.items a.counts cause
+pub summary_stops : (terms : Terms) (form : Form) (old now : List Sighted) (before mid after : Seen) (p : Underway) (a : Told) →
+    vec_len a.endings ≡ length old → Stands terms form old now before mid p a →
+    (r : Result Unit Cause) → TellsText (summary_line_in form a.counts) mid after r → (cause : Option Cause) → cause ≡ cause_of r →
+    WasRun terms form old now before after a.endings.items a.faults.items a.counts cause
 summary_stops terms form old now before mid after p a all st r tells cause is = go r tells cause is
   where
     told_all : length st.founds ≡ length old
     told_all = sym (a.endings.ok.0 ∙ (ap length st.are_told.endings ∙ length-map st.founds ending_of)) ∙ all
 
-    go : (r : Result Unit Cause) → TellsText (summary_line_in form a.counts) mid after r → (cause : Option Cause) → cause ≡ cause_of r → WasRun terms form old now before after a.endings.items a.faults.items a.counts cause
+    go : (r : Result Unit Cause) → TellsText (summary_line_in form a.counts) mid after r → (cause : Option Cause) → cause ≡ cause_of r →
+        WasRun terms form old now before after a.endings.items a.faults.items a.counts cause
     go (Ok u) tells cause is = subst (λ c. WasRun terms form old now before after a.endings.items a.faults.items a.counts c) (sym is)
         (stopped terms form old now now before mid after p a st None (λ s less. refl) refl (
           told_all,
-          subst (λ c. Took before after (lines_of_all form st.founds ++ summary_line_in form c)) (st.are_told.counts ∙ sym (ap counts_of (findings_told st.founds)))
+          subst (λ c. Took before after (lines_of_all form st.founds ++ summary_line_in form c))
+              (st.are_told.counts ∙ sym (ap counts_of (findings_told st.founds)))
               (took_more before mid after (lines_of_all form st.founds) (summary_line_in form a.counts) st.are_told.took tells),
         ))
     go (Err Memory) tells cause is = subst (λ c. WasRun terms form old now before after a.endings.items a.faults.items a.counts c) (sym is)
@@ -254,7 +276,8 @@ summary_stops terms form old now before mid after p a all st r tells cause is = 
         (subst (λ c. WasCut mid after (summary_line_in form c)) st.are_told.counts tells)))
 
 -- what is told stays true where another source's story goes on
-still_told : (terms : Terms) (form : Form) (old : List Sighted) (before mid : Seen) (p q : Progress) (a : Told) (tale new : ℕ → Story) (founds : List Found) → p.checked ≤ p.read → p.checked ≤ q.checked →
+still_told : (terms : Terms) (form : Form) (old : List Sighted) (before mid : Seen) (p q : Underway) (a : Told) (tale new : ℕ → Story) (founds : List Found) →
+    p.checked ≤ p.read → p.checked ≤ q.checked →
     ((s : ℕ) → s < p.read → new s ≡ tale s) → AreTold terms form old before mid p a tale founds → AreTold terms form old before mid q a new founds
 still_told terms form old before mid p q a tale new founds below more same t = record {
   tells = λ s f at.
@@ -276,7 +299,8 @@ slice_get_some (x ∷ xs) zero less = (x, refl)
 slice_get_some (x ∷ xs) (suc i) less = slice_get_some xs i (omega (arith, less))
 
 -- One step keeps what holds.
-pub step_stands : (terms : Terms) (form : Form) (old now after : List Sighted) (before mid : Seen) (p q : Progress) (a : Told) → Steps terms now after p q → map (λ x. x.name) after ≡ map (λ x. x.name) now →
+pub step_stands : (terms : Terms) (form : Form) (old now after : List Sighted) (before mid : Seen) (p q : Underway) (a : Told) → Steps terms now after p q →
+    map (λ x. x.name) after ≡ map (λ x. x.name) now →
     Stands terms form old now before mid p a → Stands terms form old after before mid q a
 step_stands terms form old now after before mid p q a (inl is) names st = record {
   tale = st.tale;
@@ -312,17 +336,18 @@ step_stands terms form old now after before mid p q a (inr (inr is)) names st = 
     go : ReadsOn terms is.before_read is.after_read p q → Stands terms form old after before mid q a
     go (inl (reading, inl takes)) =
         same_tale (taking_holds terms old now after p q st.tale is.before_read is.after_read is.from reading takes st.holds)
-        (taking_counted terms (length old) p q is.before_read is.after_read takes st.counted) (omega (arith, ap (λ (m : Progress). m.checked) takes.new_is))
+        (taking_counted terms (length old) p q is.before_read is.after_read takes st.counted) (omega (arith, ap (λ (m : Underway). m.checked) takes.new_is))
     go (inl (reading, inr notes)) =
         same_tale (noting_holds terms old now after p q st.tale is.before_read is.after_read is.from reading notes st.holds)
-        (noting_counted terms (length old) p q is.before_read is.after_read notes st.counted) (omega (arith, ap (λ (m : Progress). m.checked) notes.new_is))
+        (noting_counted terms (length old) p q is.before_read is.after_read notes st.counted) (omega (arith, ap (λ (m : Underway). m.checked) notes.new_is))
     go (inr (inl (unused, inr passes))) =
         let new = passing_over_holds terms old now after p q st.tale is.before_read is.after_read is.from unused passes st.holds in
         record {
           tale = new.0;
           founds = st.founds;
           holds = new.1;
-          are_told = still_told terms form old before mid p q a st.tale new.0 st.founds st.counted.checked (omega (arith, ap (λ (m : Progress). m.checked) passes.new_is)) new.2 st.are_told;
+          are_told = still_told terms form old before mid p q a st.tale new.0 st.founds st.counted.checked
+              (omega (arith, ap (λ (m : Underway). m.checked) passes.new_is)) new.2 st.are_told;
           counted = passing_counted terms (length old) p q passes st.counted;
           names = names ∙ st.names;
         }
@@ -344,23 +369,27 @@ step_stands terms form old now after before mid p q a (inr (inr is)) names st = 
           tale = new.0;
           founds = st.founds;
           holds = new.1;
-          are_told = still_told terms form old before mid p q a st.tale new.0 st.founds st.counted.checked (omega (arith, passes.ends.checked)) new.2 st.are_told;
+          are_told = still_told terms form old before mid p q a st.tale new.0 st.founds st.counted.checked
+              (omega (arith, passes.ends.checked)) new.2 st.are_told;
           counted = ending_counted terms (length old) p q passes.ending within is.may passes.ends st.counted;
           names = names ∙ st.names;
         }
 
 -- Telling the next source
 
-module _ (terms : Terms) (form : Form) (now : List Sighted) (mid after : Seen) (p : Progress) (a b : Told) (name : List ℕ) (below : vec_len a.endings < p.checked)
+module _ (terms : Terms) (form : Form) (now : List Sighted) (mid after : Seen) (p : Underway) (a b : Told) (name : List ℕ)
+    (below : vec_len a.endings < p.checked)
     (named : (x : Sighted) → slice_get now (vec_len a.endings) ≡ Some x → x.name ≡ name) where
   abbrev KeepsStanding : Result Bool Cause → Type 0
-  KeepsStanding r = IfOk r (λ is_told. is_told ≡ true → (old : List Sighted) (before : Seen) → Stands terms form old now before mid p a → Stands terms form old now before after p b)
+  KeepsStanding r = IfOk r (λ is_told. is_told ≡ true → (old : List Sighted) (before : Seen) → Stands terms form old now before mid p a →
+      Stands terms form old now before after p b)
 
   abbrev Untouched : Result Bool Cause → Type 0
   Untouched r = IfOk r (λ is_told. is_told ≡ false → (after ≡ mid) × (b ≡ a))
 
   abbrev Stops : Result Bool Cause → Type 0
-  Stops r = IfErr r (λ cause. (old : List Sighted) (before : Seen) → Stands terms form old now before mid p a → WasRun terms form old now before after b.endings.items b.faults.items b.counts (Some cause))
+  Stops r = IfErr r (λ cause. (old : List Sighted) (before : Seen) → Stands terms form old now before mid p a →
+      WasRun terms form old now before after b.endings.items b.faults.items b.counts (Some cause))
 
   abbrev Tellings : Result Bool Cause → Type 0
   Tellings r = KeepsStanding r × Untouched r × Stops r
@@ -368,10 +397,14 @@ module _ (terms : Terms) (form : Form) (now : List Sighted) (mid after : Seen) (
   not_told : (after ≡ mid) × (b ≡ a) → Tellings (Ok false)
   not_told same = ((λ e old before st. cc (e)), (λ e. same), tt)
 
-  found_told : (bytes : ℕ) (ending : Ending) (finding : Finding) (r : Result Bool Cause) → slice_get p.tracks.items (vec_len a.endings) ≡ Some (tracks.Found bytes ending finding) →
+  found_told : (bytes : ℕ) (ending : Ending) (finding : Finding) (r : Result Bool Cause) →
+      slice_get p.tracks.items (vec_len a.endings) ≡ Some (tracks.Found bytes ending finding) →
       TellsNext form name (tracks.Found bytes ending finding) mid after a b r → Tellings r
-  found_told bytes ending finding (Ok true) at tells =
-      ((λ e old before st. told_stands terms form old now before mid after p a b bytes ending finding name below at named tells.0 tells.1 st), (λ e. cc (e)), tt)
+  found_told bytes ending finding (Ok true) at tells = (
+    (λ e old before st. told_stands terms form old now before mid after p a b bytes ending finding name below at named tells.0 tells.1 st),
+    (λ e. cc (e)),
+    tt,
+  )
   found_told bytes ending finding (Ok false) at tells = absurd tells
   found_told bytes ending finding (Err Memory) at tells = (
     tt,
@@ -386,20 +419,22 @@ module _ (terms : Terms) (form : Form) (now : List Sighted) (mid after : Seen) (
         (line_stops terms form old now before mid after p a bytes ending finding name below at named tells.0 st),
   )
 
-  pub telling : (track : Track) (r : Result Bool Cause) → slice_get p.tracks.items (vec_len a.endings) ≡ Some track → TellsNext form name track mid after a b r → Tellings r
+  pub telling : (track : Track) (r : Result Bool Cause) → slice_get p.tracks.items (vec_len a.endings) ≡ Some track →
+      TellsNext form name track mid after a b r → Tellings r
   telling (tracks.Found bytes ending finding) r at tells = found_told bytes ending finding r at tells
-  telling (tracks.Arriving readings) (Ok false) at tells = not_told tells
-  telling (tracks.Arriving readings) (Ok true) at tells = absurd tells
-  telling (tracks.Arriving readings) (Err cause) at tells = absurd tells
-  telling (tracks.Arrived bytes blocks readings) (Ok false) at tells = not_told tells
-  telling (tracks.Arrived bytes blocks readings) (Ok true) at tells = absurd tells
-  telling (tracks.Arrived bytes blocks readings) (Err cause) at tells = absurd tells
+  telling (tracks.Arriving known) (Ok false) at tells = not_told tells
+  telling (tracks.Arriving known) (Ok true) at tells = absurd tells
+  telling (tracks.Arriving known) (Err cause) at tells = absurd tells
+  telling (tracks.Arrived bytes blocks known) (Ok false) at tells = not_told tells
+  telling (tracks.Arrived bytes blocks known) (Ok true) at tells = absurd tells
+  telling (tracks.Arrived bytes blocks known) (Err cause) at tells = absurd tells
   telling (tracks.Checking bytes) (Ok false) at tells = not_told tells
   telling (tracks.Checking bytes) (Ok true) at tells = absurd tells
   telling (tracks.Checking bytes) (Err cause) at tells = absurd tells
 
 -- the numbers of what stands
-pub standing_numbers : (terms : Terms) (form : Form) (old now : List Sighted) (before mid : Seen) (p : Progress) (a : Told) → Stands terms form old now before mid p a → HasNumbers terms (length old) p a
+pub standing_numbers : (terms : Terms) (form : Form) (old now : List Sighted) (before mid : Seen) (p : Underway) (a : Told) →
+    Stands terms form old now before mid p a → HasNumbers terms (length old) p a
 standing_numbers terms form old now before mid p a st =
     let same : vec_len a.endings ≡ length st.founds = a.endings.ok.0 ∙ (ap length st.are_told.endings ∙ length-map st.founds ending_of) in
     record {
@@ -417,7 +452,8 @@ get_replicate (suc n) zero x y at = sym (the_some x y at)
 get_replicate (suc n) (suc s) x y at = get_replicate n s x y at
 
 -- before the first step
-pub begun_stands : (terms : Terms) (form : Form) (old : List Sighted) (before : Seen) (p : Progress) (a : Told) → IsBegun terms (length old) p a → Stands terms form old old before before p a
+pub begun_stands : (terms : Terms) (form : Form) (old : List Sighted) (before : Seen) (p : Underway) (a : Told) → IsBegun terms (length old) p a →
+    Stands terms form old old before before p a
 begun_stands terms form old before p a is =
     let start = is.start in
     let count : p.intake.count ≡ 0 = ap (λ (i : Taking). i.count) start.intake in
@@ -484,15 +520,19 @@ refused_at_once terms form old before = record {
 }
 
 -- at the end: all sources are told, and the summary is written, or not
-pub summary_done : (terms : Terms) (form : Form) (old now : List Sighted) (before mid after : Seen) (p : Progress) (a : Told) → vec_len a.endings ≡ length now → Stands terms form old now before mid p a →
+pub summary_done : (terms : Terms) (form : Form) (old now : List Sighted) (before mid after : Seen) (p : Underway) (a : Told) →
+    vec_len a.endings ≡ length now → Stands terms form old now before mid p a →
     (r : Result Unit Cause) → TellsText (summary_line_in form a.counts) mid after r →
-    OnOk r (WasRun terms form old now before after a.endings.items a.faults.items a.counts None) × IfErr r (λ cause. WasRun terms form old now before after a.endings.items a.faults.items a.counts (Some cause))
+    OnOk r (WasRun terms form old now before after a.endings.items a.faults.items a.counts None)
+    × IfErr r (λ cause. WasRun terms form old now before after a.endings.items a.faults.items a.counts (Some cause))
 summary_done terms form old now before mid after p a all st r tells = go r (summary_stops terms form old now before mid after p a told_all st r tells)
   where
     told_all : vec_len a.endings ≡ length old
     told_all = all ∙ (sym (length-map now (λ x. x.name)) ∙ (ap length st.names ∙ length-map old (λ x. x.name)))
 
-    go : (r : Result Unit Cause) → ((cause : Option Cause) → cause ≡ cause_of r → WasRun terms form old now before after a.endings.items a.faults.items a.counts cause) →
-        OnOk r (WasRun terms form old now before after a.endings.items a.faults.items a.counts None) × IfErr r (λ cause. WasRun terms form old now before after a.endings.items a.faults.items a.counts (Some cause))
+    go : (r : Result Unit Cause) → ((cause : Option Cause) → cause ≡ cause_of r →
+        WasRun terms form old now before after a.endings.items a.faults.items a.counts cause) →
+        OnOk r (WasRun terms form old now before after a.endings.items a.faults.items a.counts None)
+        × IfErr r (λ cause. WasRun terms form old now before after a.endings.items a.faults.items a.counts (Some cause))
     go (Ok u) all = (all None refl, tt)
     go (Err cause) all = (tt, all (Some cause) refl)

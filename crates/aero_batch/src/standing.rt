@@ -1,0 +1,10 @@
+//! What stands between two steps of a run.
+use crate::told::Told;
+use crate::underway::Underway;
+
+/// How far a run is, and what was told in it.
+#[derive(Drop)]
+pub struct Standing {
+    pub underway: Underway,
+    pub told: Told,
+}
