@@ -1,11 +1,11 @@
 -- What a search tells stands in the event's way.
-use Rattle.std.proofs.Common.{◌≡◌, ◌≢◌, ◌⊎◌, ℕ, ◌+◌, ◌==◌, ◌&&◌, ◌||◌, not, Bool, true, false, cond, List, Option, Some, None, inl, inr, refl, sym, ◌∙◌, ap, subst, arith}
+use Rattle.std.proofs.Common.{◌≡◌, ◌≢◌, ℕ, ◌==◌, ◌&&◌, ◌||◌, not, Bool, true, false, cond, List, Option, Some, None, refl, sym, ◌∙◌, ap, arith}
 use Rattle.std.specs.Prelude.{IfSome, bytes_eq, ⊤}
-use Rattle.std.proofs.lemmas.Bool.{cases_Bool, and_parts, both_ways, eqb-true}
+use Rattle.std.proofs.lemmas.Bool.{and_parts, both_ways, eqb-true}
 use Rattle.aero_model.specs.declared.verdict.ShapeFault.{ShapeFault}
 use Rattle.aero_model.specs.declared.verdict.ShapeFault.TheVariants.{ThreadJoined, LockHeldByOther, LockNotHeld, ForkSelf, ForkStarted, JoinSelf, EndWithoutBegin}
 use Rattle.aero_model.specs.Named.{Named}
-use Rattle.aero_faults.specs.Before.{is_by, is_end, is_acquire_of, is_release_of, is_fork_of, is_join_of, is_start_of, begins, ends}
+use Rattle.aero_faults.specs.Before.{is_by, is_end, is_acquire_of, is_release_of, is_fork_of, is_join_of, is_start_of}
 use Rattle.aero_faults.specs.Firsts.{CameFirst, deed_of, is_sought, IsFound}
 use Rattle.aero_faults.specs.Holders.{IsHolder}
 use Rattle.aero_faults.specs.Opened.{AreOpen}
@@ -17,9 +17,7 @@ use Rattle.aero_faults.specs.declared.first.First.{First}
 use Rattle.aero_faults.specs.declared.first.Sought.TheVariants.{Joins, Starts}
 use Rattle.aero_faults.specs.declared.holder.Holder.{Holder}
 use Rattle.aero_faults.specs.declared.holder.Holder.TheVariants as holder
-use Rattle.aero_faults.specs.declared.holder.Holding.{Holding}
-use Rattle.aero_faults.specs.declared.hindrance.Hindrance.{Hindrance}
-use Rattle.aero_faults.specs.declared.hindrance.Hindrance.TheVariants.{Held, Free, Acted, Forked, Joined, Itself, NoneOpen}
+use Rattle.aero_faults.specs.declared.hindrance.Hindrance.TheVariants.{Held, Free, Itself, NoneOpen}
 use Rattle.aero_faults.specs.declared.search.Seen.{Seen}
 use Rattle.aero_faults.specs.declared.search.Seen.TheVariants as seen
 use Rattle.aero_faults.proofs.Counts.{same_bytes}

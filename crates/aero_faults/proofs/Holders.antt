@@ -1,18 +1,18 @@
 -- Who holds a lock, with one event more.
-use Rattle.std.proofs.Common.{◌≡◌, ◌≢◌, ◌⊎◌, ℕ, ◌+◌, ◌-◌, ◌<◌, ◌≤◌, ◌&&◌, Bool, true, false, cond, List, [], ◌∷◌, ◌++◌, length, take, inl, inr, refl, sym, ◌∙◌, ap, ap₂, subst, rules, arith, append_assoc}
+use Rattle.std.proofs.Common.{◌≡◌, ◌≢◌, ◌⊎◌, ℕ, ◌+◌, ◌-◌, ◌<◌, ◌≤◌, ◌&&◌, true, false, cond, List, [], ◌∷◌, ◌++◌, length, take, inl, inr, refl, sym, ◌∙◌, ap, subst, arith, append_assoc}
 use Rattle.std.specs.Prelude.{bytes_eq, nat_le}
-use Rattle.std.proofs.lemmas.Bool.{cases_Bool, cases_lt, and_left, and_right, and_from, and_parts, both_ways, leb-true, leb-false}
+use Rattle.std.proofs.lemmas.Bool.{cases_Bool, and_left, and_right, and_from, and_parts, both_ways, leb-true, leb-false}
 use Rattle.std.proofs.lemmas.List.{take_all}
 use Rattle.aero_model.specs.declared.event.Op.{Op}
 use Rattle.aero_model.specs.declared.event.Op.TheVariants.{Acquire, Release}
 use Rattle.aero_model.specs.Named.{Named}
 use Rattle.aero_faults.specs.Before.{is_acquire, is_release, is_acquire_of, is_release_of, is_target, is_by, acquires, releases, held}
 use Rattle.aero_faults.specs.Holders.{Holds, IsFree, HoldsAlone, Clashes, HasClash, IsHolder}
-use Rattle.aero_faults.specs.Holding.{acquired_again, acquired_by, released_once, released_by}
+use Rattle.aero_faults.specs.Holding.{acquired_by, released_by}
 use Rattle.aero_faults.specs.declared.holder.Holder.{Holder}
 use Rattle.aero_faults.specs.declared.holder.Holder.TheVariants.{Nobody, Thread, Unclear}
 use Rattle.aero_faults.specs.declared.holder.Holding.{Holding}
-use Rattle.aero_faults.proofs.Counts.{count_push, count_no, count_yes, same_bytes, are_same, other_bytes, front_of_more}
+use Rattle.aero_faults.proofs.Counts.{count_no, count_yes, same_bytes, are_same, other_bytes, front_of_more}
 
 no_release : (op : Op) → is_acquire op ≡ true → is_release op ≡ false
 no_release Acquire is = refl

@@ -1,4 +1,5 @@
 mod Counts
 mod Explains
 mod Holders
+mod Looking
 mod Parts

@@ -1,5 +1,5 @@
 -- A text that is appended part by part.
-use Rattle.std.proofs.Common.{◌≡◌, ◌≢◌, ◌∙◌, ◌≤◌, ℕ, List, [], ◌++◌, Bool, false, cond, refl, ap, ap₂, sym, append_assoc, append-nil, length, take, arith}
+use Rattle.std.proofs.Common.{◌≡◌, ◌≢◌, ◌∙◌, ◌≤◌, ℕ, List, [], ◌++◌, Bool, false, cond, refl, ap, ap₂, sym, append_assoc, append-nil, length, take}
 use Rattle.std.specs.Prelude.{flat_map, codes, decimal, nat_lt}
 use Rattle.std.proofs.lemmas.Bool.{le-ltb}
 use Rattle.std.proofs.lemmas.List.{take_all}

@@ -1,5 +1,5 @@
 -- The events before one, each with its line, and what they do to a lock, to a thread and to blocks.
-use Rattle.std.specs.Prelude.{◌≡◌, ℕ, ◌-◌, ◌&&◌, ◌||◌, Bool, true, false, List, bytes_eq, count_by, Option, None, Some}
+use Rattle.std.specs.Prelude.{ℕ, ◌-◌, ◌&&◌, ◌||◌, Bool, true, false, List, bytes_eq, count_by, Option, None, Some}
 use Rattle.aero_model.specs.declared.event.Op.{Op}
 use Rattle.aero_model.specs.declared.event.Op.TheVariants.{Acquire, Release, Fork, Join, Begin, End}
 use Rattle.aero_model.specs.Named.{Named}

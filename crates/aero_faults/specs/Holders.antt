@@ -1,5 +1,5 @@
 -- Who holds a lock.
-use Rattle.std.specs.Prelude.{◌≡◌, ◌≢◌, ◌⊎◌, ℕ, ◌+◌, ◌<◌, List, [], ◌∷◌, ◌++◌, take, true}
+use Rattle.std.specs.Prelude.{◌≡◌, ◌≢◌, ◌⊎◌, ℕ, ◌+◌, ◌<◌, List, ◌∷◌, ◌++◌, take, true}
 use Rattle.aero_model.specs.Named.{Named}
 use Rattle.aero_faults.specs.Before.{is_acquire_of, is_release_of, is_by, acquires, releases, held}
 use Rattle.aero_faults.specs.declared.holder.Holder.{Holder}

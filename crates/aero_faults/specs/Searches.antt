@@ -1,5 +1,5 @@
 -- A search for what stands in the way of an event with a fault, and the events before it that it has seen.
-use Rattle.std.specs.Prelude.{◌≡◌, ℕ, ◌==◌, ◌&&◌, not, nat_eq, Bool, true, if◌then◌else◌, List, [], bytes_eq, ⊤, Option, None, Some, unwrap_or}
+use Rattle.std.specs.Prelude.{ℕ, ◌==◌, ◌&&◌, not, if◌then◌else◌, List, [], bytes_eq, ⊤, Option, None, Some, unwrap_or}
 use Rattle.aero_model.specs.declared.verdict.ShapeFault.{ShapeFault}
 use Rattle.aero_model.specs.declared.verdict.ShapeFault.TheVariants.{ThreadJoined, LockHeldByOther, LockNotHeld, ForkSelf, ForkStarted, JoinSelf, EndWithoutBegin}
 use Rattle.aero_model.specs.Named.{Named}

@@ -5,7 +5,7 @@ use Rattle.aero_model.specs.declared.verdict.ShapeFault.{ShapeFault}
 use Rattle.aero_faults.specs.Texts.{line_text, hindrance_text}
 use Rattle.aero_faults.specs.Words.{line_words, shape_words}
 use Rattle.aero_faults.specs.declared.look.Look.{Look}
-use Rattle.aero_faults.specs.declared.look.Look.TheVariants.{Nothing, Line, Event}
+use Rattle.aero_faults.specs.declared.look.Look.TheVariants.{Line, Event}
 
 -- what is told of the line's bytes, or the fault in words
 abbrev pub line_sentence : LineFault → Look → List ℕ

@@ -1,5 +1,5 @@
 -- What is told of a faulty line that was looked at again, byte by byte.
-use Rattle.std.specs.Prelude.{ℕ, ◌+◌, ◌-◌, ◌/◌, ◌%◌, ◌||◌, nat_lt, nat_le, Bool, if◌then◌else◌, List, [], ◌∷◌, ◌++◌, flat_map, length, take, codes, decimal, Option, None, Some}
+use Rattle.std.specs.Prelude.{ℕ, ◌+◌, ◌/◌, ◌%◌, ◌||◌, nat_lt, if◌then◌else◌, List, [], ◌∷◌, ◌++◌, flat_map, length, take, codes, decimal}
 use Rattle.std.specs.List.{position_or_len}
 use Rattle.std.specs.Str.Lines.{strip_carriage_return}
 use Rattle.aero_model.specs.declared.event.Op.{Op}

@@ -36,6 +36,7 @@ pub mod hindrance;
 pub mod holder;
 pub mod look;
 pub mod opened;
+pub mod reading;
 pub mod search;
 pub mod texts;
 pub mod words;

@@ -1,6 +1,5 @@
 use Rattle.std.proofs.Common.{◌++◌, ◌∙◌, ap, ap₂, codes}
 use Rattle.std.proofs.lemmas.Result.{IfOk-equal}
-use Rattle.aero_model.specs.declared.verdict.LineFault.TheVariants.{UnknownOperation}
 use Rattle.aero_grammar.specs.Meaning.{operation_field, operation_word}
 use Rattle.aero_faults.specs.Texts.{shown}
 use Rattle.aero_faults.specs.Words.{line_words}

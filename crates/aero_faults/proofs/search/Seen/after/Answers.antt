@@ -1,4 +1,4 @@
-use Rattle.std.proofs.Common.{◌≡◌, ◌∙◌, ℕ, List, [], ◌∷◌, ◌++◌, ap, subst}
+use Rattle.std.proofs.Common.{◌∙◌, [], ◌∷◌, ◌++◌, ap, subst}
 use Rattle.aero_model.specs.Named.{Named}
 use Rattle.aero_faults.specs.Firsts.{IsFound, is_sought}
 use Rattle.aero_faults.specs.Holders.{IsHolder}
