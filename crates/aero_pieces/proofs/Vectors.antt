@@ -4,6 +4,7 @@ use Rattle.std.specs.Prelude.{codes}
 use Rattle.aero_model.specs.declared.limits.Limits.{Limits}
 use Rattle.aero_model.specs.declared.event.Op.TheVariants.{Read}
 use Rattle.aero_model.specs.declared.verdict.Verdict.TheVariants.{Serializable}
+use Rattle.aero_model.specs.Exempt.{these}
 use Rattle.aero_grammar.specs.Reading.{Reading}
 use Rattle.aero_verdict.proofs.Vectors.{below_suc, none_below, none_of_two}
 use Rattle.aero_pieces.specs.declared.question.Question.{Question}
@@ -39,7 +40,7 @@ greatest =
       most_names = lit≤ tt;
     }
 
-value_of_check : IsValueOf (Check 0 (reading ∷ []) greatest [] false false) (Judged (Serializable 1 0))
+value_of_check : IsValueOf (Check 0 (reading ∷ []) greatest (these []) false false) (Judged (Serializable 1 0))
 value_of_check =
     ∣ (
       record {
