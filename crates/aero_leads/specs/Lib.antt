@@ -1,5 +1,5 @@
 -- To be believed: Standing (for which trace Leads stands), with States and Leads (what that asks of what is kept). What
--- is to be told is said by Judgement of aero_access.
+-- is to be told is said by Judgement of aero_engine.
 -- For proofs alone: Marks and Steps (what an event takes and changes), Indexed, Listed, Seen, Lows, Passed, Single, and what Standing
 -- and States don't name of Kept.
 pub mod Leads
