@@ -66,7 +66,14 @@ impl ByKind for EndingClocks {
         self.clocks.plain(t)
     }
 
-    ghost agrees = { λ engine h stands. record { unspent = stands.unspent; unclosed = stands.unclosed; in_block = stands.state.in_block; begins = stands.state.begins; acted = stands.state.acted } };
+    ghost agrees = { λ engine h stands.
+        record {
+          unspent = stands.unspent;
+          unclosed = stands.unclosed;
+          in_block = stands.state.in_block;
+          begins = stands.state.begins;
+          acted = stands.state.acted;
+        } };
 }
 
 impl Engine for EndingClocks {

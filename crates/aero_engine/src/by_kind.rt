@@ -100,8 +100,9 @@ pub trait ByKind {
     ghost agrees: { (engine : Self) (h : List Numbered) → stands_for engine h → AgreesWith (view engine) h };
 }
 
-/// The least thread whose open block closes a telling cycle with this event, if there is one, for
-/// `Engine::judge`.
+/// Takes the next event by the call of its kind, as `Engine::judge` asks: the least thread whose open block
+/// closes a telling cycle with it, or `None` where there is no telling cycle. `Spent` says that memory was
+/// refused; then the engine can only be let go.
 pub fn judge<E: ByKind>(
     engine: &mut E,
     event: &Numbered,

@@ -7,5 +7,7 @@ use Rattle.aero_engine.proofs.by_kind.join_idle.Goals as goal
 
 pub returns : goal.returns
 returns g c = λ h judged judges after.
-    plain_follows (g.E.ByKind.stands_for c.args.engine.now) h c.args.event.now judged judges IdleJoin after (λ trace. IfOk c.pass.result (Tells (g.E.ByKind.stands_for c.pass.new.engine) trace (length h)))
-    (λ same. c.pass.ensures h judged.what same.standing same.well_formed (idle_here (g.E.ByKind.stands_for c.args.engine.now) h c.args.event.now judged judges IdleJoin after refl))
+    let stands = g.E.ByKind.stands_for c.args.engine.now in
+    plain_follows stands h c.args.event.now judged judges IdleJoin after
+    (λ trace. IfOk c.pass.result (Tells (g.E.ByKind.stands_for c.pass.new.engine) trace (length h)))
+    (λ same. c.pass.ensures h judged.what same.standing same.well_formed (idle_here stands h c.args.event.now judged judges IdleJoin after refl))
