@@ -16,6 +16,7 @@ enum Step {
     Front,
     Settle,
     SettleWithQuestion,
+    Open,
     Tally,
 }
 
@@ -151,6 +152,13 @@ fn push_front(words: &mut String, gather: &Gather) -> bool {
     }
 }
 
+// How many questions are open, and the number of the oldest one's ticket.
+fn push_open(alloc: Global, words: &mut String, gather: &Gather) -> bool {
+    push_number(alloc, words, gather.len() as u64)
+        && words.push_str(" open from ").is_ok()
+        && push_number(alloc, words, gather.oldest_ticket().number)
+}
+
 fn push_tally(alloc: Global, words: &mut String, tally: Tally) -> bool {
     words.push_str("asked ").is_ok()
         && push_number(alloc, words, tally.asked)
@@ -184,6 +192,7 @@ fn push_answer(alloc: Global, words: &mut String, gather: &mut Gather, step: Ste
         Step::Front => push_front(words, gather),
         Step::Settle => push_settled(alloc, words, gather),
         Step::SettleWithQuestion => push_settled_with_question(alloc, words, gather),
+        Step::Open => push_open(alloc, words, gather),
         Step::Tally => push_tally(alloc, words, gather.tally()),
     }
 }
@@ -247,17 +256,20 @@ static ONLY_THE_FIRST_ANSWER_TO_AN_OPEN_QUESTION_IS_KEPT: [Row; 15] = [
     (Step::Tally, "asked 2, kept 1, done here 1"),
 ];
 
-static VALUES_COME_IN_THE_ORDER_OF_THE_QUESTIONS: [Row; 13] = [
+static VALUES_COME_IN_THE_ORDER_OF_THE_QUESTIONS: [Row; 16] = [
+    (Step::Open, "0 open from 0"),
     (Step::Ask("T1|r(x)"), "ticket 0"),
     (Step::Ask("T1|w(x)"), "ticket 1"),
     (Step::Ask("T1|begin"), "ticket 2"),
     (Step::Ask("T1|r(x)"), "ticket 3"),
+    (Step::Open, "4 open from 0"),
     (Step::Miss(3), "true"),
     (Step::Accept("T1|begin"), "Kept"),
     (Step::Accept("T1|r(x)"), "Kept"),
     (Step::Accept("T1|w(x)"), "Kept"),
     (Step::Settle, "Read(0)"),
     (Step::Settle, "Write(0)"),
+    (Step::Open, "2 open from 2"),
     (Step::Settle, "Begin(None)"),
     (Step::Settle, "Read(0)"),
     (Step::Tally, "asked 4, kept 3, done here 1"),
