@@ -16,7 +16,7 @@ use Rattle.aero_program.specs.declared.failure.Failure.{Failure}
 use Rattle.aero_program.specs.declared.input.Input.{Input}
 use Rattle.aero_program.specs.Answers.{Ends, WasJudged}
 use Rattle.aero_program.specs.Command.{AreLimitsFor, are_words, listed_by}
-use Rattle.aero_program.specs.Notes.{noted_of_all}
+use Rattle.aero_program.specs.Notes.{AreShown, Remark, noted_of_all}
 use Rattle.aero_program.proofs.Noting.{are_faulty, are_noted}
 use Rattle.aero_program.specs.Sightings.{AreNames, bytes_known, sighting, source_sightings}
 use Rattle.aero_program.specs.Status.{end_of_run}
@@ -41,10 +41,10 @@ pub judged : {S O F : Type 0} (known : Input S O F → Option (List ℕ)) (confi
     → AreNames config.files given names → map (sighted known) was ≡ source_sightings config.files given names → lent ≡ was → now ≡ new
     → WasRun terms made (map (sighted known) lent) (map (sighted known) new) before.writer between.writer endings faults counts cause
     → between.unflushed ≡ before.unflushed → WasFlushed between after fault → end ≡ end_of_run config.fail_open cause counts fault
-    → Ends (noted_of_all (are_words config.files) now (if config.long then [] else endings) faults) end told told_after status
+    → (remarks : List Remark) → map (λ r. r.noted) remarks ≡ noted_of_all (are_words config.files) now (if config.long then [] else endings) faults → AreShown remarks → Ends remarks end told told_after status
     → WasJudged config given before after told told_after status
 judged known config given limits names was lent new now before between after endings faults counts cause fault end told told_after status terms made
-    on_terms in_form are named seen is_was is_new run same flushed ended ends =
+    on_terms in_form are named seen is_was is_new run same flushed ended remarks on_noted shown_all ends =
     let sightings : List Sighted = source_sightings config.files given names in
     let wanted : Terms = asking limits (listed_by config.except.items config.only.items) config.order config.explain in
     let words : Bool = are_words config.files in
@@ -73,6 +73,8 @@ judged known config given limits names was lent new now before between after end
       of_names = names_noted words known new noted_endings faults ∙ ran.names ∙ names_of_sightings (bytes_known config.files given) names;
       are_noted = are_noted words new noted_endings faults;
       are_faulty = are_faulty words new noted_endings faults;
-      ends = subst (λ l. Ends (noted_of_all words l noted_endings faults) (end_of_run config.fail_open cause counts fault) told told_after status) is_new
-          (subst (λ e. Ends (noted_of_all words now noted_endings faults) e told told_after status) ended ends);
+      remarks = remarks;
+      on_noted = on_noted ∙ ap (λ l. noted_of_all words l noted_endings faults) is_new;
+      are_shown = shown_all;
+      ends = subst (λ e. Ends remarks e told told_after status) ended ends;
     }

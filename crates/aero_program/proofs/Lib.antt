@@ -3,6 +3,7 @@ mod Fronts
 mod Helping
 mod Interruptions
 mod Judged
+mod Looking
 mod Names
 mod Noting
 mod Parts

@@ -1,19 +1,21 @@
 -- What was noted of the sources, one after another.
-use Rattle.std.proofs.Common.{◌≡◌, ◌∙◌, ℕ, zero, suc, Bool, false, List, [], ◌∷◌, ◌++◌, length, get_or, nat_lt, Option, None, Some, Result, inl, inr, ap, sym, subst, refl}
+use Rattle.std.proofs.Common.{◌≡◌, ◌∙◌, ℕ, zero, suc, Bool, false, List, [], ◌∷◌, ◌++◌, length, get_or, nat_lt, Option, None, Some, Result, Ok, Err, map, append_assoc, inl, inr, ap, sym, subst, refl}
 use Rattle.std.specs.Borrow.{Bor}
 use Rattle.std.specs.Option.{option_copied}
 use Rattle.std.specs.Prelude.{slice_get, is_some, IfSome, IfOk}
 use Rattle.std.proofs.lemmas.Bool.{cases_lt, lt-ltb, ltb-true}
 use Rattle.std.proofs.lemmas.Option.{slice_get_past, slice_get_read}
-use Rattle.std.proofs.lemmas.List.{append-nil}
+use Rattle.std.proofs.lemmas.List.{append-nil, map-append}
 use Rattle.std.proofs.lemmas.Grind.{flat_map-append}
 use Rattle.aero_model.specs.declared.verdict.Ending.{Ending}
 use Rattle.aero_batch.specs.declared.outcome.FaultyLine.{FaultyLine}
 use Rattle.aero_intake.specs.declared.source.Source.{Source}
 use Rattle.aero_program.specs.declared.input.Input.{Input}
-use Rattle.aero_program.specs.Notes.{AreFaulty, AreNoted, Noted, fault_told, note, noted_of, noted_of_all, notes, was_too_large}
+use Rattle.aero_program.specs.Notes.{AreFaulty, AreNoted, AreNotes, AreShown, GrowsBy, Noted, Remark, fault_told, note, noted_of, noted_of_all, notes, was_too_large}
+use Rattle.aero_program.specs.Looks.{ShowsAs}
+use Rattle.aero_faults.specs.declared.look.Look.TheVariants.{Nothing}
 
-one_more : {S O F : Type 0} (words : Bool) (sources : List (Source (Input S O F))) (source : Source (Input S O F)) (endings : List (ℕ × Ending)) (faults : List (Option FaultyLine))
+pub one_more : {S O F : Type 0} (words : Bool) (sources : List (Source (Input S O F))) (source : Source (Input S O F)) (endings : List (ℕ × Ending)) (faults : List (Option FaultyLine))
     → noted_of_all words (sources ++ source ∷ []) endings faults
     ≡ noted_of_all words sources endings faults ++ noted_of words source (was_too_large (slice_get endings (length sources))) (fault_told (slice_get faults (length sources))) ∷ []
 one_more words [] source [] [] = refl
@@ -25,14 +27,30 @@ one_more words (first ∷ more) source [] (fault ∷ faults) = ap (λ l. noted_o
 one_more words (first ∷ more) source (ending ∷ rest) [] = ap (λ l. noted_of words first (was_too_large (Some ending)) None ∷ l) (one_more words more source rest [])
 one_more words (first ∷ more) source (ending ∷ rest) (fault ∷ faults) = ap (λ l. noted_of words first (was_too_large (Some ending)) fault ∷ l) (one_more words more source rest faults)
 
+-- nothing is told of no sources
+pub no_notes : AreNotes [] []
+no_notes = record { remarks = []; are = refl; shown = tt; told = refl }
+
+shown_more : (remarks : List Remark) (remark : Remark) → AreShown remarks → ShowsAs remark.noted.fault remark.look → AreShown (remarks ++ remark ∷ [])
+shown_more [] remark all last = (last, tt)
+shown_more (first ∷ more) remark all last = (all.0, shown_more more remark all.1 last)
+
 -- the lines on one source more
-pub notes_one_more : {S O F : Type 0} (words : Bool) (sources : List (Source (Input S O F))) (source : Source (Input S O F)) (endings : List (ℕ × Ending)) (faults : List (Option FaultyLine))
-    → notes (noted_of_all words (sources ++ source ∷ []) endings faults)
-    ≡ notes (noted_of_all words sources endings faults) ++ note (noted_of words source (was_too_large (slice_get endings (length sources))) (fault_told (slice_get faults (length sources))))
-notes_one_more words sources source endings faults =
-    let last = noted_of words source (was_too_large (slice_get endings (length sources))) (fault_told (slice_get faults (length sources))) in
-    ap notes (one_more words sources source endings faults) ∙ flat_map-append note (noted_of_all words sources endings faults) (last ∷ [])
-    ∙ ap (λ l. notes (noted_of_all words sources endings faults) ++ l) (append-nil (note last))
+pub notes_grown : (noted : List Noted) (n : Noted) (old new : List ℕ) → AreNotes noted old → GrowsBy old new n → AreNotes (noted ++ n ∷ []) new
+notes_grown noted n old new before grows =
+    let last : Remark = record { noted = n; look = grows.look } in
+    record {
+      remarks = before.remarks ++ last ∷ [];
+      are = map-append (λ r. r.noted) before.remarks (last ∷ []) ∙ ap (λ l. l ++ n ∷ []) before.are;
+      shown = shown_more before.remarks last before.shown grows.shown;
+      told = grows.grown ∙ ap (λ l. l ++ note last) before.told
+          ∙ sym (flat_map-append note before.remarks (last ∷ []) ∙ ap (λ l. notes before.remarks ++ l) (append-nil (note last)));
+    }
+
+-- the parts of the lines on a source
+pub four_parts : (old a b c d one two three four : List ℕ) → one ≡ old ++ a → two ≡ one ++ b → three ≡ two ++ c → four ≡ three ++ d → four ≡ old ++ (a ++ (b ++ (c ++ d)))
+four_parts old a b c d one two three four p q r s =
+    s ∙ ap (λ l. l ++ d) (r ∙ ap (λ l. l ++ c) (q ∙ ap (λ l. l ++ b) p)) ∙ append_assoc ((old ++ a) ++ b) c d ∙ append_assoc (old ++ a) b (c ++ d) ∙ append_assoc old a (b ++ (c ++ d))
 
 abbrev large_in : Option Noted → Bool
 large_in None = false
@@ -78,12 +96,41 @@ looked_up None xs i none value = elim (cases_lt i (length xs)) [
 ]
 looked_up (Some x) xs i some value = sym (slice_get_read xs (length xs) i x.now refl (ltb-true i (length xs) (sym some)) value)
 
+-- what was noted, with what second looks showed
+pub record Remarks {T E : Type 0} (items : T → List ℕ) (noted : List Noted) (result : Result T E) : Type 0 where
+  pub remarks : List Remark
+  pub are : map (λ r. r.noted) remarks ≡ noted
+  pub shown : AreShown remarks
+  pub told : IfOk result (λ text. items text ≡ notes remarks)
+
+unseen : Noted → Remark
+unseen n = record { noted = n; look = Nothing }
+
+unseen_are : (noted : List Noted) → map (λ r. r.noted) (map unseen noted) ≡ noted
+unfolding unseen
+unseen_are [] = refl
+unseen_are (n ∷ more) = ap (λ l. n ∷ l) (unseen_are more)
+
+nothing_shown : (fault : Option FaultyLine) → ShowsAs fault Nothing
+nothing_shown None = tt
+nothing_shown (Some faulty) = tt
+
+unseen_shown : (noted : List Noted) → AreShown (map unseen noted)
+unfolding unseen
+unseen_shown [] = tt
+unseen_shown (n ∷ more) = (nothing_shown n.fault, unseen_shown more)
+
+remarks_on : {T E : Type 0} (items : T → List ℕ) (noted : List Noted) (result : Result T E) → IfOk result (λ text. AreNotes noted (items text)) → Remarks items noted result
+remarks_on items noted (Ok text) h = record { remarks = h.remarks; are = h.are; shown = h.shown; told = h.told }
+remarks_on items noted (Err e) h = record { remarks = map unseen noted; are = unseen_are noted; shown = unseen_shown noted; told = tt }
+
 -- the lines on the sources, by endings and faults that are the same
 pub noted_as : {S O F T E : Type 0} (items : T → List ℕ) (is words : Bool) (sources : List (Source (Input S O F)))
     (given endings : List (ℕ × Ending)) (told faults : List (Option FaultyLine))
     → is ≡ words → given ≡ endings → told ≡ faults → (result : Result T E)
-    → IfOk result (λ text. items text ≡ notes (noted_of_all is sources given told)) → IfOk result (λ text. items text ≡ notes (noted_of_all words sources endings faults))
+    → IfOk result (λ text. AreNotes (noted_of_all is sources given told) (items text)) → Remarks items (noted_of_all words sources endings faults) result
 noted_as items is words sources given endings told faults known same told_same result h =
-    subst (λ w. IfOk result (λ text. items text ≡ notes (noted_of_all w sources endings faults))) known
-    (subst (λ fs. IfOk result (λ text. items text ≡ notes (noted_of_all is sources endings fs))) told_same
-    (subst (λ es. IfOk result (λ text. items text ≡ notes (noted_of_all is sources es told))) same h))
+    remarks_on items (noted_of_all words sources endings faults) result
+    (subst (λ w. IfOk result (λ text. AreNotes (noted_of_all w sources endings faults) (items text))) known
+    (subst (λ fs. IfOk result (λ text. AreNotes (noted_of_all is sources endings fs) (items text))) told_same
+    (subst (λ es. IfOk result (λ text. AreNotes (noted_of_all is sources es told) (items text))) same h)))

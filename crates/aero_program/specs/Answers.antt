@@ -19,7 +19,7 @@ use Rattle.aero_program.specs.declared.listing.Unlisted.{Unlisted}
 use Rattle.aero_program.specs.declared.listing.Unlisted.TheVariants as unlisted
 use Rattle.aero_program.specs.Command.{AreLimitsFor, are_words, list_path, listed_by}
 use Rattle.aero_program.specs.Failure.{cut_failure, failure_of, failure_status, line_of}
-use Rattle.aero_program.specs.Notes.{AreFaulty, AreNoted, Noted, note_line, notes}
+use Rattle.aero_program.specs.Notes.{AreFaulty, AreNoted, AreShown, Noted, Remark, note_line, notes}
 use Rattle.aero_program.specs.Reasons.{reason_words}
 use Rattle.aero_program.specs.Sightings.{AreNames, AreUnlisted, source_sightings}
 use Rattle.aero_program.specs.Status.{end_of_help, end_of_run}
@@ -70,11 +70,11 @@ Stops (stop.Refused refused.Memory) shown shown_after told told_after status = (
 Stops (stop.Unread unread) shown shown_after told told_after status = (shown_after ≡ shown) × Fails (failure_of unread) told told_after status
 
 -- After a run: the notes on the sources go out on standard error, and then why the program fails, where it does. Where memory is refused for the notes, there are none, and the program fails.
-abbrev pub Ends : List Noted → Result ℕ Failure → Seen → Seen → ℕ → Type 0
-Ends noted (Ok wanted) told told_after status =
-    (IsTold told told_after (notes noted) × (status ≡ wanted)) ⊎ Fails failure.Memory told told_after status
-Ends noted (Err why) told told_after status =
-    (IsTold told told_after (notes noted ++ line_of why) × (status ≡ failure_status why)) ⊎ Fails why told told_after status
+abbrev pub Ends : List Remark → Result ℕ Failure → Seen → Seen → ℕ → Type 0
+Ends remarks (Ok wanted) told told_after status =
+    (IsTold told told_after (notes remarks) × (status ≡ wanted)) ⊎ Fails failure.Memory told told_after status
+Ends remarks (Err why) told told_after status =
+    (IsTold told told_after (notes remarks ++ line_of why) × (status ≡ failure_status why)) ⊎ Fails why told told_after status
 
 -- What the configuration asks for was judged: its sources, under the limits that it asks for, blocks that its labels leave out as no transactions. The report in its form went out on standard output, as every run's does, and a flush and the ends of the run decide.
 pub record WasJudged (config : Config) (given : Option (List ℕ)) (shown shown_after : Shown) (told told_after : Seen) (status : ℕ) : Type 0 where
@@ -96,7 +96,10 @@ pub record WasJudged (config : Config) (given : Option (List ℕ)) (shown shown_
   pub of_names : map (λ n. n.name) noted ≡ names
   pub are_noted : AreNoted (are_words config.files) (if config.long then [] else endings) noted
   pub are_faulty : AreFaulty faults noted
-  pub ends : Ends noted (end_of_run config.fail_open cause counts fault) told told_after status
+  pub remarks : List Remark
+  pub on_noted : map (λ r. r.noted) remarks ≡ noted
+  pub are_shown : AreShown remarks
+  pub ends : Ends remarks (end_of_run config.fail_open cause counts fault) told told_after status
 
 -- how it is told that there are no sources, since the list with their names, at this path, can't be had
 abbrev pub TellsUnlisted : (path : List ℕ) → Unlisted → Seen → Seen → ℕ → Type 0

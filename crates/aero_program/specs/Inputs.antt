@@ -1,5 +1,5 @@
 -- How far an input has come, and what one read does to that.
-use Rattle.std.specs.Prelude.{◌≡◌, ◌<◌, ◌+◌, ℕ, List, length, Option, None, Result, Ok, Err, ⊤, IsErr, is_err, if◌then◌else◌, string_bytes}
+use Rattle.std.specs.Prelude.{◌≡◌, ◌<◌, ◌+◌, ℕ, List, length, Option, None, Result, Ok, Err, ⊤, IsErr, is_err, if◌then◌else◌, option_map, string_bytes}
 use Rattle.std.specs.Io.KnownBytes.{ReadConsumes}
 use Rattle.aero_model.specs.CallCounts.{Seen, moves_nothing}
 use Rattle.aero_program.specs.declared.input.Input.{Input}
@@ -35,6 +35,10 @@ start_of input = start_bytes input.start
 -- why the first read that failed did
 abbrev pub reason_of : {S O F : Type 0} → Input S O F → Option Reason
 reason_of input = input.reason
+
+-- the path at which the file can be opened again, if it is a file at a path
+abbrev pub again_of : {S O F : Type 0} → Input S O F → Option (List ℕ)
+again_of input = option_map string_bytes input.again
 
 -- a reader of which nothing was read
 abbrev pub unread : Option (List ℕ) → Seen

@@ -1,4 +1,4 @@
--- To be believed: Answers (what goes out, and the exit status), with Failure, Status, Streams, Faults and Notes. Also
+-- To be believed: Answers (what goes out, and the exit status), with Failure, Status, Streams, Faults, Notes and Looks. Also
 -- Command (the limits and the line on progress), Inputs (files and standard input), Sightings and Listing (the names of
 -- the sources), Retries and Calls (calls that were interrupted), Starts, Reasons and Sizes. Nothing here serves proofs alone.
 pub mod Answers
@@ -8,6 +8,7 @@ pub mod Failure
 pub mod Faults
 pub mod Inputs
 pub mod Listing
+pub mod Looks
 pub mod Notes
 pub mod Reasons
 pub mod Retries

@@ -1,17 +1,19 @@
 -- The lines on the sources on standard error, each with the byte 10 that ends it.
-use Rattle.std.specs.Prelude.{◌≡◌, ◌==◌, ◌&&◌, ℕ, Bool, true, false, List, [], ◌∷◌, ◌++◌, Option, None, Some, codes, decimal, bytes_eq, flat_map, if◌then◌else◌, slice_get}
+use Rattle.std.specs.Prelude.{◌≡◌, ◌==◌, ◌&&◌, ℕ, Bool, true, false, List, [], ◌∷◌, ◌++◌, Option, None, Some, codes, decimal, bytes_eq, flat_map, map, ⊤, if◌then◌else◌, slice_get}
 use Rattle.aero_model.specs.CallCounts.{inner_of}
 use Rattle.aero_model.specs.declared.verdict.Ending.{Ending}
 use Rattle.aero_model.specs.declared.verdict.Ending.TheVariants as endings
 use Rattle.aero_batch.specs.declared.outcome.Fault.{Fault}
 use Rattle.aero_batch.specs.declared.outcome.Fault.TheVariants.{Malformed, IllFormed}
 use Rattle.aero_batch.specs.declared.outcome.FaultyLine.{FaultyLine}
-use Rattle.aero_faults.specs.Words.{line_words, shape_words}
+use Rattle.aero_faults.specs.declared.look.Look.{Look}
+use Rattle.aero_faults.specs.Sentences.{line_sentence, shape_sentence}
 use Rattle.aero_intake.specs.declared.source.Source.{Source}
 use Rattle.aero_program.specs.declared.input.Input.{Input}
 use Rattle.aero_program.specs.declared.reason.Reason.{Reason}
 use Rattle.aero_program.specs.declared.reason.Reason.TheVariants.{System, Unnumbered, NotUtf8}
 use Rattle.aero_program.specs.Inputs.{start_of, reason_of}
+use Rattle.aero_program.specs.Looks.{ShowsAs}
 use Rattle.aero_program.specs.Reasons.{reason_words}
 use Rattle.aero_program.specs.Starts.{byte_order_mark}
 
@@ -90,26 +92,50 @@ abbrev pub size_line : List ℕ → (too_large : Bool) → List ℕ
 size_line name true = note_line name (codes "over 1073741824 bytes: --long judges sources of any size")
 size_line name false = []
 
--- what is wrong with a faulty line, in words
-abbrev pub words_of : Fault → List ℕ
-words_of (Malformed fault) = line_words fault
-words_of (IllFormed fault) = shape_words fault
+-- what is told of a faulty line, by what a second look showed
+abbrev pub sentence_of : Fault → Look → List ℕ
+sentence_of (Malformed fault) look = line_sentence fault look
+sentence_of (IllFormed fault) look = shape_sentence fault look
 
 -- a line on a line of a source
 abbrev pub line_note : List ℕ → (line : ℕ) → List ℕ → List ℕ
 line_note name line words = codes "aerodrome: " ++ name ++ codes ":" ++ decimal line ++ codes ": " ++ words ++ 10 ∷ []
 
 -- what is wrong with the source's faulty line
-abbrev pub fault_line : List ℕ → Option FaultyLine → List ℕ
-fault_line name None = []
-fault_line name (Some faulty) = line_note name faulty.line (words_of faulty.fault)
+abbrev pub fault_line : List ℕ → Option FaultyLine → Look → List ℕ
+fault_line name None look = []
+fault_line name (Some faulty) look = line_note name faulty.line (sentence_of faulty.fault look)
+
+-- what was noted of a source, and what a second look at its faulty line showed
+pub record Remark : Type 0 where
+  pub noted : Noted
+  pub look : Look
+
+-- each look shows what is told of it
+abbrev pub AreShown : List Remark → Type 0
+AreShown [] = ⊤
+AreShown (remark ∷ more) = ShowsAs remark.noted.fault remark.look × AreShown more
 
 -- the lines on a source
-abbrev pub note : Noted → List ℕ
-note noted =
+abbrev pub note : Remark → List ℕ
+note remark =
+    let noted = remark.noted in
     mark_line noted.name (bytes_eq noted.start byte_order_mark)
-    ++ (reason_line noted.is_word noted.name noted.reason ++ (size_line noted.name noted.too_large ++ fault_line noted.name noted.fault))
+    ++ (reason_line noted.is_word noted.name noted.reason ++ (size_line noted.name noted.too_large ++ fault_line noted.name noted.fault remark.look))
 
 -- the lines on all sources, in order
-abbrev pub notes : List Noted → List ℕ
+abbrev pub notes : List Remark → List ℕ
 notes all = flat_map note all
+
+-- the text is the lines on sources of which this was noted
+pub record AreNotes (noted : List Noted) (text : List ℕ) : Type 0 where
+  pub remarks : List Remark
+  pub are : map (λ r. r.noted) remarks ≡ noted
+  pub shown : AreShown remarks
+  pub told : text ≡ notes remarks
+
+-- a text that grew by the lines on a source of which this was noted
+pub record GrowsBy (old new : List ℕ) (noted : Noted) : Type 0 where
+  pub look : Look
+  pub shown : ShowsAs noted.fault look
+  pub grown : new ≡ old ++ note (record { noted = noted; look = look })

@@ -5,7 +5,7 @@ ghost use Rattle.aero_batch.specs.Founds.{Took};
 ghost use Rattle.aero_program.specs.Answers.{AnswersTo, Ends, Fails, Helps, Judges, Stops, TellsUnlisted};
 ghost use Rattle.aero_program.specs.declared.failure.Failure.TheVariants.{Memory};
 ghost use Rattle.aero_program.specs.declared.listing.Unlisted.TheVariants.{Unread};
-ghost use Rattle.aero_program.specs.Notes.{Noted, notes as notes_on};
+ghost use Rattle.aero_program.specs.Notes.{Remark, notes as notes_on};
 ghost use Rattle.aero_program.specs.Retries.{tried_by};
 ghost use Rattle.aero_program.specs.Streams.{WasCut, shown_by};
 
@@ -15,6 +15,7 @@ use crate::files::Opener;
 use crate::input::Input;
 use crate::lasting::flush_fault;
 use crate::listing::Unlisted;
+use crate::looker::Looker;
 use crate::notes::{notes_of, reason_note};
 use crate::output::Output;
 use crate::reason::Reason;
@@ -101,7 +102,14 @@ fn judge<
     let flushed = output.flush();
     let end = status_after(&outcome, &flushed, fail_open);
     let endings = noted(&outcome.endings, long);
-    let notes = notes_of(alloc, sources, endings, &outcome.faults, asked.are_words());
+    let looker = Looker::new(alloc, files);
+    let notes = notes_of(
+        &looker,
+        sources,
+        endings,
+        &outcome.faults,
+        asked.are_words(),
+    );
     finish(end, notes, errors)
 }
 
@@ -142,7 +150,7 @@ fn finish<E: Write>(
     notes: Result<Vec<u8>, AllocError>,
     errors: &mut Counting<E>,
 ) -> u8
-    ensures { (noted : List Noted) → IfOk notes (λ text. text.items ≡ notes_on noted) → Ends noted end (seen_by E.contents errors.old) (seen_by E.contents errors.new) result }
+    ensures { (remarks : List Remark) → IfOk notes (λ text. text.items ≡ notes_on remarks) → Ends remarks end (seen_by E.contents errors.old) (seen_by E.contents errors.new) result }
 {
     let Ok(notes) = notes else {
         return match end {

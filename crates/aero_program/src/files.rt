@@ -20,6 +20,10 @@ pub trait Opener {
     fn open(&self, path: &str) -> io::Result<Self::File>
         ensures worked { IfOk result (λ _. can_open path.now) };
 
+    /// Opens it again once the run is over, which no meter hears of.
+    fn open_again(&self, path: &str) -> io::Result<Self::File>
+        ensures worked { IfOk result (λ _. can_open path.now) };
+
     /// Whether there is a plain file at the path, of which no read waits.
     fn is_plain(&self, path: &str) -> bool;
 }
@@ -31,6 +35,10 @@ impl<O: Opener> Opener for &O {
 
     fn open(&self, path: &str) -> io::Result<O::File> {
         (**self).open(path)
+    }
+
+    fn open_again(&self, path: &str) -> io::Result<O::File> {
+        (**self).open_again(path)
     }
 
     fn is_plain(&self, path: &str) -> bool {
@@ -65,13 +73,17 @@ impl<F: Files> Opener for FilesOf<F> {
         File::open(&self.files, path)
     }
 
+    fn open_again(&self, path: &str) -> io::Result<F::File> {
+        self.open(path)
+    }
+
     fn is_plain(&self, path: &str) -> bool {
         Path::new(path).is_file(&self.files)
     }
 }
 
 /// The files that an `O` opens, each of which is one source: it tells the meter, if there is one, what
-/// is read of it, and that it has been read where it can't be opened.
+/// is read of it, and that it has been read where it can't be opened. One that is opened again tells nothing.
 #[derive(Drop)]
 pub struct MeteredFiles<'a, O> {
     opener: O,
@@ -99,6 +111,11 @@ impl<'a, O: Opener> Opener for MeteredFiles<'a, O> {
                 Err(error)
             }
         }
+    }
+
+    fn open_again(&self, path: &str) -> io::Result<Metered<'a, O::File>> {
+        let file = self.opener.open_again(path)?;
+        Ok(Metered::new(file, None))
     }
 
     fn is_plain(&self, path: &str) -> bool {

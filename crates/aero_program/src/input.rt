@@ -23,6 +23,7 @@ pub struct Input<S, O: Opener> {
     stage: Stage<S, O>,
     start: Start,
     reason: Option<Reason>,
+    again: Option<String>,
 }
 
 // How far an input has come.
@@ -37,8 +38,8 @@ enum Stage<S, O: Opener> {
 }
 
 impl<S: Read + Drop, O: Opener + Drop> Input<S, O> {
-    ghost use Rattle.std.specs.Prelude.{◌≡◌, [], Some, None, IfOk, bytes_eq};
-    ghost use Rattle.aero_program.specs.Inputs.{standing_of, start_of, reason_of, unread, Standard, Unopened, Failed};
+    ghost use Rattle.std.specs.Prelude.{◌≡◌, [], Some, None, IfOk, bytes_eq, option_map};
+    ghost use Rattle.aero_program.specs.Inputs.{again_of, standing_of, start_of, reason_of, unread, Standard, Unopened, Failed};
     ghost use Rattle.aero_program.specs.declared.reason.Reason.TheVariants.{NotUtf8};
     ghost use Rattle.aero_program.specs.Starts.{byte_order_mark};
 
@@ -47,8 +48,14 @@ impl<S: Read + Drop, O: Opener + Drop> Input<S, O> {
         ensures standing { standing_of S.remaining result ≡ Standard (unread (S.remaining stdin)) }
         ensures start { start_of result ≡ [] }
         ensures reason { reason_of result ≡ None }
+        ensures again { again_of result ≡ None }
     {
-        Input::at(Stage::Standard(Retrying::new(stdin)))
+        Input {
+            stage: Stage::Standard(Retrying::new(stdin)),
+            start: Start::Nothing,
+            reason: None,
+            again: None,
+        }
     }
 
     /// The file at the path, which isn't touched yet. `-` is a path like any other.
@@ -56,9 +63,16 @@ impl<S: Read + Drop, O: Opener + Drop> Input<S, O> {
         ensures standing { IfOk result (λ input. standing_of S.remaining input ≡ Unopened path.now) }
         ensures start { IfOk result (λ input. start_of input ≡ []) }
         ensures reason { IfOk result (λ input. reason_of input ≡ None) }
+        ensures again { IfOk result (λ input. again_of input ≡ Some path.now) }
     {
+        let again = String::from_str(alloc, path)?;
         let path = String::from_str(alloc, path)?;
-        Ok(Input::at(Stage::Unopened(files, path)))
+        Ok(Input {
+            stage: Stage::Unopened(files, path),
+            start: Start::Nothing,
+            reason: None,
+            again: Some(again),
+        })
     }
 
     /// A file whose name isn't UTF-8, and which can't be opened for that.
@@ -66,23 +80,13 @@ impl<S: Read + Drop, O: Opener + Drop> Input<S, O> {
         ensures standing { standing_of S.remaining result ≡ Failed }
         ensures start { start_of result ≡ [] }
         ensures reason { reason_of result ≡ Some NotUtf8 }
+        ensures again { again_of result ≡ None }
     {
         Input {
             stage: Stage::Failed(ErrorKind::InvalidFilename),
             start: Start::Nothing,
             reason: Some(Reason::NotUtf8),
-        }
-    }
-
-    fn at(stage: Stage<S, O>) -> Input<S, O>
-        ensures stage { result.stage ≡ stage }
-        ensures start { start_of result ≡ [] }
-        ensures reason { reason_of result ≡ None }
-    {
-        Input {
-            stage,
-            start: Start::Nothing,
-            reason: None,
+            again: None,
         }
     }
 
@@ -98,6 +102,16 @@ impl<S: Read + Drop, O: Opener + Drop> Input<S, O> {
         ensures { result ≡ reason_of self.now }
     {
         self.reason
+    }
+
+    /// The path at which its file can be opened again, if it is a file at a path.
+    pub fn again(&self) -> Option<&str>
+        ensures { option_map (λ path. path.now) result ≡ again_of self.now }
+    {
+        match &self.again {
+            Some(path) => Some(path.as_str()),
+            None => None,
+        }
     }
 }
 

@@ -53,6 +53,7 @@ pub mod files;
 pub mod input;
 mod lasting;
 pub mod listing;
+pub mod looker;
 pub mod notes;
 pub mod output;
 pub mod reason;

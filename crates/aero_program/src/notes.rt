@@ -1,15 +1,16 @@
 //! What the program has to tell of its sources beside the report, on standard error.
 ghost use Rattle.std.specs.Prelude.{◌≡◌, ◌++◌, IfOk, OnOk, bytes_eq, codes};
 ghost use Rattle.std.specs.Option.{option_copied};
-ghost use Rattle.aero_program.specs.Notes.{fault_line, fault_told, is_missing, line_note, note, note_line, noted_of, noted_of_all, notes, mark_line, reason_line, reason_text, size_line, was_too_large, words_of};
+ghost use Rattle.aero_program.specs.Notes.{AreNotes, GrowsBy, fault_line, fault_told, is_missing, line_note, note_line, noted_of, noted_of_all, mark_line, reason_line, reason_text, sentence_of, size_line, was_too_large};
 ghost use Rattle.aero_program.specs.Reasons.{reason_words};
 
 use crate::files::Opener;
 use crate::input::Input;
+use crate::looker::Looker;
 use crate::reason::Reason;
 use aero_batch::outcome::{Fault, FaultyLine};
 use aero_batch::source::Source;
-use aero_faults::words::{line_words, shape_words};
+use aero_faults::look::{Look, append_ill_formed, append_malformed};
 use aero_model::verdict::Ending;
 use itoa::Buffer;
 use std::alloc::{AllocError, Global};
@@ -17,36 +18,43 @@ use std::io::Read;
 
 /// The lines on the sources, in order: of each that it starts with a byte order mark, if it does,
 /// then why its first read that failed did, if one did, then how it is judged all the same, if it
-/// was too large, and then what is wrong with its faulty line, if it has one. The endings are those of
-/// the first sources, each with how many bytes came, and the faults are theirs. Where the names are FILE
-/// words, one `-` that names no file is told what would be read without it.
+/// was too large, and then what is wrong with its faulty line, if it has one, as far as a second look
+/// at its file shows it. The endings are those of the first sources, each with how many bytes came, and
+/// the faults are theirs. Where the names are FILE words, one `-` that names no file is told what would
+/// be read without it.
 ///
 /// # Errors
 ///
-/// `AllocError` where memory is refused.
-pub fn notes_of<S: Read + Drop, F: Opener + Drop>(
-    alloc: Global,
+/// `AllocError` where memory is refused. Where it is refused to a second look, the line on the fault has
+/// its words alone.
+pub fn notes_of<S: Read + Drop, F: Opener + Drop, G: Opener>(
+    looker: &Looker<'_, G>,
     sources: Vec<Source<Input<S, F>>>,
     endings: &[(u64, Ending)],
     faults: &[Option<FaultyLine>],
     are_words: bool,
 ) -> Result<Vec<u8>, AllocError>
-    ensures { IfOk result (λ text. text.items ≡ notes (noted_of_all are_words sources.items endings.now faults.now)) }
+    ensures { IfOk result (λ text. AreNotes (noted_of_all are_words sources.items endings.now faults.now) text.items) }
 {
-    let mut text = Vec::new(alloc);
+    let mut text = Vec::new(looker.alloc);
     let mut place = 0usize;
     for source in sources {
         let fault = fault_of(faults.get(place));
-        append_notes(
-            &mut text,
-            source,
-            is_too_large(endings.get(place)),
+        let found = Found {
+            too_large: is_too_large(endings.get(place)),
             fault,
-            are_words,
-        )?;
+        };
+        append_notes(&mut text, looker, source, found, are_words)?;
         place += 1;
     }
     Ok(text)
+}
+
+// What a run found of a source, beside its line in the report: whether it was too large, and its faulty line.
+#[derive(Clone, Copy)]
+struct Found {
+    too_large: bool,
+    fault: Option<FaultyLine>,
 }
 
 // Whether the reading of a source ended as too large. One that the run didn't come to has no ending.
@@ -66,21 +74,23 @@ fn fault_of(fault: Option<&Option<FaultyLine>>) -> Option<FaultyLine>
     }
 }
 
-fn append_notes<S: Read + Drop, F: Opener + Drop>(
+fn append_notes<S: Read + Drop, F: Opener + Drop, G: Opener>(
     text: &mut Vec<u8>,
+    looker: &Looker<'_, G>,
     source: Source<Input<S, F>>,
-    too_large: bool,
-    fault: Option<FaultyLine>,
+    found: Found,
     is_word: bool,
 ) -> Result<(), AllocError>
-    ensures { OnOk result (text.new.items ≡ text.old.items ++ note (noted_of is_word source too_large fault)) }
+    ensures { OnOk result (GrowsBy text.old.items text.new.items (noted_of is_word source found.too_large found.fault)) }
 {
     let Source { name, reader, .. } = source;
     let input = reader.into_inner();
     append_mark(text, &name, input.has_mark())?;
     append_reason(text, &name, input.reason(), is_word)?;
-    append_size(text, &name, too_large)?;
-    append_fault(text, &name, fault)
+    append_size(text, &name, found.too_large)?;
+    let seen = looker.look(input.again(), found.fault);
+    append_fault(text, &name, found.fault, &seen)?;
+    Ok(())
 }
 
 fn append_mark(text: &mut Vec<u8>, name: &[u8], has_mark: bool) -> Result<(), AllocError>
@@ -165,38 +175,44 @@ fn append_fault(
     text: &mut Vec<u8>,
     name: &[u8],
     fault: Option<FaultyLine>,
+    look: &Look,
 ) -> Result<(), AllocError>
-    ensures { OnOk result (text.new.items ≡ text.old.items ++ fault_line name.now fault) }
+    ensures { OnOk result (text.new.items ≡ text.old.items ++ fault_line name.now fault look.now) }
 {
     match fault {
         None => Ok(()),
-        Some(FaultyLine { line, fault }) => append_line_at(text, name, line, fault_words(fault)),
+        Some(faulty) => append_faulty(text, name, faulty, look),
     }
 }
 
-// The fault in words.
-fn fault_words(fault: Fault) -> &'static str
-    ensures { result.now ≡ words_of fault }
-{
-    match fault {
-        Fault::Malformed(fault) => line_words(fault),
-        Fault::IllFormed(fault) => shape_words(fault),
-    }
-}
-
-// A line on a line of the source of this name.
-fn append_line_at(text: &mut Vec<u8>, name: &[u8], line: u32, words: &str) -> Result<(), AllocError>
-    ensures { OnOk result (text.new.items ≡ text.old.items ++ line_note name.now line words.now) }
+// The line on a faulty line of the source of this name.
+fn append_faulty(
+    text: &mut Vec<u8>,
+    name: &[u8],
+    faulty: FaultyLine,
+    look: &Look,
+) -> Result<(), AllocError>
+    ensures { OnOk result (text.new.items ≡ text.old.items ++ line_note name.now faulty.line (sentence_of faulty.fault look.now)) }
 {
     let mut buffer = Buffer::new();
     text.extend_from_slice(b"aerodrome: ")?;
     text.extend_from_slice(name)?;
     text.extend_from_slice(b":")?;
-    text.extend_from_slice(buffer.format(line).as_bytes())?;
+    text.extend_from_slice(buffer.format(faulty.line).as_bytes())?;
     text.extend_from_slice(b": ")?;
-    text.extend_from_slice(words.as_bytes())?;
+    append_sentence(text, faulty.fault, look)?;
     text.extend_from_slice(b"\n")?;
     Ok(())
+}
+
+// What is told of the fault.
+fn append_sentence(text: &mut Vec<u8>, fault: Fault, look: &Look) -> Result<(), AllocError>
+    ensures { OnOk result (text.new.items ≡ text.old.items ++ sentence_of fault look.now) }
+{
+    match fault {
+        Fault::Malformed(fault) => append_malformed(text, fault, look),
+        Fault::IllFormed(fault) => append_ill_formed(text, fault, look),
+    }
 }
 
 // A line on the source of this name.

@@ -1,3 +1,4 @@
+mod again;
 mod named;
 mod pipes;
 pub(crate) mod sources;
@@ -203,7 +204,7 @@ fn inputs_fail_at_each_read_or_are_read_to_their_ends(rt: HostRuntime) -> Result
 // reads of standard input once its text has come, writes to standard output and standard error once they
 // have taken so many bytes, and flushes of standard output. Writes fail with one kind, and flushes with one.
 #[derive(Clone, Copy)]
-struct Damage {
+pub(crate) struct Damage {
     reads: u32,
     room: usize,
     writes: u32,
@@ -215,7 +216,7 @@ struct Damage {
     flush_kind: ErrorKind,
 }
 
-const SOUND: Damage = Damage {
+pub(crate) const SOUND: Damage = Damage {
     reads: 0,
     room: 200,
     writes: 0,
@@ -235,7 +236,7 @@ const LEFT: Damage = Damage {
 };
 
 // What one call is to answer: what goes out on standard output and standard error, and the status.
-type Wanted = (&'static [u8], &'static [u8], u8);
+pub(crate) type Wanted = (&'static [u8], &'static [u8], u8);
 
 fn output_of(alloc: Global, damage: &Damage) -> Interrupted<Narrow> {
     let narrow = Narrow {
@@ -262,7 +263,10 @@ fn errors_of(alloc: Global, damage: &Damage) -> Interrupted<Narrow> {
 }
 
 // Whether a call answers so, where standard input has this text.
-fn is_answered<R: AllocGlobal + Threads + Wait + Copy + Drop + Send + 'static, F: Opener + Drop>(
+pub(crate) fn is_answered<
+    R: AllocGlobal + Threads + Wait + Copy + Drop + Send + 'static,
+    F: Opener + Drop,
+>(
     rt: R,
     files: &F,
     asked: Result<Config, Stop>,
@@ -292,7 +296,7 @@ fn is_answered<R: AllocGlobal + Threads + Wait + Copy + Drop + Send + 'static, F
 }
 
 // Asks for a file, or for standard input where there is none.
-fn config_of(alloc: Global, file: Option<&str>, order: bool) -> Result<Config, Fail> {
+pub(crate) fn config_of(alloc: Global, file: Option<&str>, order: bool) -> Result<Config, Fail> {
     let Some(file) = file else {
         return Ok(config_for(alloc, Sources::Standard(None), order, false));
     };

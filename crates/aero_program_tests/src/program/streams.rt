@@ -190,6 +190,10 @@ impl Opener for Drawer {
         })
     }
 
+    fn open_again(&self, path: &str) -> io::Result<Text> {
+        self.open(path)
+    }
+
     fn is_plain(&self, path: &str) -> bool {
         path.starts_with("p")
     }
@@ -230,7 +234,73 @@ impl Opener for Shelf {
         Ok(Interrupted::new(text, self.times))
     }
 
+    fn open_again(&self, path: &str) -> io::Result<Interrupted<Text>> {
+        self.open(path)
+    }
+
     fn is_plain(&self, _path: &str) -> bool {
         false
+    }
+}
+
+// Files that all have one text. When they are opened again they have others, in turn, each behind which so many reads
+// fail, or the open fails. They are plain, or none is.
+#[derive(Drop)]
+pub(crate) struct Changing {
+    pub(crate) first: &'static [u8],
+    pub(crate) later: [Option<&'static [u8]>; 2],
+    pub(crate) failures: u32,
+    pub(crate) are_plain: bool,
+    turn: AtomicU64,
+}
+
+impl Changing {
+    pub(crate) fn new(
+        first: &'static [u8],
+        later: [Option<&'static [u8]>; 2],
+        failures: u32,
+        are_plain: bool,
+    ) -> Changing {
+        Changing {
+            first,
+            later,
+            failures,
+            are_plain,
+            turn: AtomicU64::new(0),
+        }
+    }
+}
+
+impl Opener for Changing {
+    ghost can_open = { λ _. ⊤ };
+
+    type File = Text;
+
+    fn open(&self, _path: &str) -> io::Result<Text> {
+        Ok(Text {
+            left: self.first,
+            failures: 0,
+        })
+    }
+
+    fn open_again(&self, _path: &str) -> io::Result<Text> {
+        let turn = self.turn.load(Ordering::SeqCst);
+        self.turn.store(1, Ordering::SeqCst);
+        let later = if turn == 0 {
+            self.later[0]
+        } else {
+            self.later[1]
+        };
+        match later {
+            Some(left) => Ok(Text {
+                left,
+                failures: self.failures,
+            }),
+            None => Err(io::Error::from_raw_os_error(13)),
+        }
+    }
+
+    fn is_plain(&self, _path: &str) -> bool {
+        self.are_plain
     }
 }

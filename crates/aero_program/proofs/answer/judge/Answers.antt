@@ -27,6 +27,8 @@ returns g c =
     let named : AreNames config.files given names = subst (λ (s : Sources). AreNames s given names) asked_is c.in-Ok-sources_of.ensures.names in
     let seen = c.in-Ok-sources_of.ensures.sighted ∙ ap (λ (s : Sources). source_sightings s given names) asked_is in
     let words_are = c.are_words.ensures ∙ ap are_words asked_is in
+    let told = noted_as (λ text. text.items) c.are_words.result (are_words config.files) _ c.noted-endings.result.now (if config.long then [] else c.run-outcome.result.endings.items) c.deref-2.result.now c.run-outcome.result.faults.items
+    words_are (c.noted-endings.ensures ∙ ap (λ l. if config.long then [] else l) c.deref.ensures.value) c.deref-2.ensures.value c.notes_of-notes.result c.notes_of-notes.ensures in
     inl (judged (λ input. bytes_left (standing_of g.S.Read.remaining input)) config given
     c.in-Ok-into_plan.plan.limits names c.in-Ok-sources_of.sources.items c.deref_mut.result.now c.run-outcome.new.sources _
     (shown_by g.O.Write.contents c.args.output.now)
@@ -45,9 +47,7 @@ returns g c =
       faults = c.flush-flushed.ensures.faults;
       unflushed = c.flush-flushed.ensures.unflushed ∙ ap (λ b. c.args.output.now.unflushed.number + (if b then 1 else 0)) (is_fault error_kind c.flush-flushed.result);
     })
-    c.status_after-end.ensures (c.finish.ensures (noted_of_all (are_words config.files) _ (if config.long then [] else c.run-outcome.result.endings.items) c.run-outcome.result.faults.items)
-    (noted_as (λ text. text.items) c.are_words.result (are_words config.files) _ c.noted-endings.result.now (if config.long then [] else c.run-outcome.result.endings.items) c.deref-2.result.now c.run-outcome.result.faults.items
-    words_are (c.noted-endings.ensures ∙ ap (λ l. if config.long then [] else l) c.deref.ensures.value) c.deref-2.ensures.value c.notes_of-notes.result c.notes_of-notes.ensures)))
+    c.status_after-end.ensures told.remarks told.are told.shown (c.finish.ensures told.remarks told.told))
 
 pub run-outcome-requires-after_bounds : goal.run-outcome-requires-after_bounds
 run-outcome-requires-after_bounds g c = λ κs within.

@@ -1,10 +1,10 @@
 use Rattle.std.proofs.Common.{◌≡◌, length}
-use Rattle.aero_program.specs.Notes.{noted_of_all, notes}
+use Rattle.aero_program.specs.Notes.{AreNotes, noted_of_all}
 use Rattle.aero_program.proofs.notes.notes_of.Given as goal
 
 -- the lines on the sources so far, and how many these are
 abbrev pub invariant-loop-source : goal.invariant-loop-source
 invariant-loop-source g l = record {
-  text : l.text.items ≡ notes (noted_of_all l.are_words l.yielded l.endings l.faults);
+  text : AreNotes (noted_of_all l.are_words l.yielded l.endings l.faults) l.text.items;
   place : l.place ≡ length l.yielded;
 }

@@ -1,0 +1,101 @@
+// What a second look at the faulty line of a file shows.
+use crate::program::streams::{Changing, EVER};
+use crate::program::{SOUND, Wanted, config_of, is_answered};
+use std::alloc::AllocGlobal;
+use std::sync::Wait;
+use std::thread::Threads;
+
+const HELD: &[u8] = b"T1|acq(l)\nT2|acq(l)\n";
+
+const HELD_REPORT: &[u8] = b"f:2: ill-formed: LockHeldByOther\n\
+    traces 1: serializable 0, open 0, violations 0, faults 1\n";
+
+const HELD_WORDS: &[u8] = b"aerodrome: f:2: another thread holds the lock\n";
+
+const HELD_SENTENCE: &[u8] = b"aerodrome: f:2: T2 acquires l, which T1 holds since line 1\n";
+
+const UNKNOWN: &[u8] = b"T1|w(x)\nT1|rd(x)";
+
+const UNKNOWN_REPORT: &[u8] = b"f:2: malformed: UnknownOperation\n\
+    traces 1: serializable 0, open 0, violations 0, faults 1\n";
+
+const UNKNOWN_WORDS: &[u8] = b"aerodrome: f:2: no such operation\n";
+
+const UNKNOWN_SENTENCE: &[u8] = b"aerodrome: f:2: no such operation: rd\n";
+
+// What a file has when it is opened again, once and then once more, how many reads fail behind that, whether it is a
+// plain one, and what is told of its fault.
+type Row = ([Option<&'static [u8]>; 2], u32, bool, &'static [u8]);
+
+static HELD_ROWS: [Row; 10] = [
+    ([Some(HELD), Some(HELD)], 0, true, HELD_SENTENCE),
+    ([Some(HELD), Some(HELD)], EVER, true, HELD_SENTENCE),
+    ([Some(HELD), Some(HELD)], 0, false, HELD_WORDS),
+    ([None, Some(HELD)], 0, true, HELD_WORDS),
+    ([Some(HELD), None], 0, true, HELD_WORDS),
+    ([Some(b"T1|acq(l)\n"), Some(HELD)], EVER, true, HELD_WORDS),
+    ([Some(b"T1|acq(l)\n"), Some(HELD)], 0, true, HELD_WORDS),
+    (
+        [Some(HELD), Some(b"T1|acq(l)\nT2|acq(m)\n")],
+        0,
+        true,
+        HELD_WORDS,
+    ),
+    ([Some(HELD), Some(b"T1\nT2|acq(l)\n")], 0, true, HELD_WORDS),
+    (
+        [Some(HELD), Some(b"T1|w(l)\nT2|acq(l)\n")],
+        0,
+        true,
+        HELD_WORDS,
+    ),
+];
+
+static UNKNOWN_ROWS: [Row; 6] = [
+    ([Some(UNKNOWN), None], 0, true, UNKNOWN_SENTENCE),
+    ([Some(UNKNOWN), None], 0, false, UNKNOWN_WORDS),
+    ([Some(UNKNOWN), None], EVER, true, UNKNOWN_WORDS),
+    ([Some(b"T1|w(x)\nT1|r(x)\n"), None], 0, true, UNKNOWN_WORDS),
+    ([Some(b"T1|w(x)\nT1\n"), None], 0, true, UNKNOWN_WORDS),
+    ([Some(b""), None], 0, true, UNKNOWN_WORDS),
+];
+
+// Whether the fault of a file with this text is told so.
+fn is_told<R: AllocGlobal + Threads + Wait + Copy + Drop + Send + 'static>(
+    rt: R,
+    text: &'static [u8],
+    report: &'static [u8],
+    row: &Row,
+) -> Option<bool> {
+    let config = config_of(rt.alloc(), Some("f"), false).ok()?;
+    let files = Changing::new(text, row.0, row.1, row.2);
+    let wanted: Wanted = (report, row.3, 2);
+    Some(is_answered(rt, &files, Ok(config), b"", &SOUND, wanted))
+}
+
+fn first_held<R: AllocGlobal + Threads + Wait + Copy + Drop + Send + 'static>(
+    rt: R,
+) -> Option<usize> {
+    for i in 0..HELD_ROWS.len() {
+        if is_told(rt, HELD, HELD_REPORT, &HELD_ROWS[i]) != Some(true) {
+            return Some(i);
+        }
+    }
+    None
+}
+
+fn first_unknown<R: AllocGlobal + Threads + Wait + Copy + Drop + Send + 'static>(
+    rt: R,
+) -> Option<usize> {
+    for i in 0..UNKNOWN_ROWS.len() {
+        if is_told(rt, UNKNOWN, UNKNOWN_REPORT, &UNKNOWN_ROWS[i]) != Some(true) {
+            return Some(i);
+        }
+    }
+    None
+}
+
+// A sentence is told where the file is still there with that fault on that line, and else the fault in words.
+#[test]
+fn a_fault_is_told_as_a_second_look_shows_it(rt: HostRuntime) {
+    assert!(rt; (first_held(rt), first_unknown(rt)) == (None, None));
+}
