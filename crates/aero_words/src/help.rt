@@ -56,10 +56,9 @@ characters; a label that begins with - as --except=LABEL";
 
 pub const ONLY: &str = "Label of the only blocks that are transactions";
 
-pub const LONG_ONLY: &str =
-    "Blocks that begin with begin(LABEL) are transactions, and no others are:
-neither those with another label nor those without one. May be given
-for up to 64 labels. Not with --except";
+pub const LONG_ONLY: &str = "Only blocks that begin with begin(LABEL) are transactions: no block
+with another label is one, and none without a label. May be given for
+up to 64 labels. Not with --except";
 
 pub const ONLY_WITH_EXCEPT: &str =
     "the argument '--only <LABEL>' cannot be used with '--except <LABEL>'";

@@ -1,7 +1,8 @@
 // What a second look at the faulty line of a file shows.
 use crate::program::streams::{Changing, EVER};
-use crate::program::{SOUND, Wanted, config_of, is_answered};
-use std::alloc::AllocGlobal;
+use crate::program::{SOUND, Wanted, config_for, is_answered, one_file};
+use aero_program::command::{Config, Sources};
+use std::alloc::{AllocError, AllocGlobal, Global};
 use std::sync::Wait;
 use std::thread::Threads;
 
@@ -59,6 +60,12 @@ static UNKNOWN_ROWS: [Row; 6] = [
     ([Some(b""), None], 0, true, UNKNOWN_WORDS),
 ];
 
+// The file `f` alone.
+fn asked(alloc: Global) -> Result<Config, AllocError> {
+    let files = one_file(alloc, "f")?;
+    Ok(config_for(alloc, Sources::Files(files), false, false))
+}
+
 // Whether the fault of a file with this text is told so.
 fn is_told<R: AllocGlobal + Threads + Wait + Copy + Drop + Send + 'static>(
     rt: R,
@@ -66,7 +73,7 @@ fn is_told<R: AllocGlobal + Threads + Wait + Copy + Drop + Send + 'static>(
     report: &'static [u8],
     row: &Row,
 ) -> Option<bool> {
-    let config = config_of(rt.alloc(), Some("f"), false).ok()?;
+    let config = asked(rt.alloc()).ok()?;
     let files = Changing::new(text, row.0, row.1, row.2);
     let wanted: Wanted = (report, row.3, 2);
     Some(is_answered(rt, &files, Ok(config), b"", &SOUND, wanted))
