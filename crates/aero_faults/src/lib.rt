@@ -25,6 +25,9 @@
 //!   released: `Holder::after`.
 //! - The first event that joined a thread, or with which it came too late to fork it: `first_after`. How many blocks of a
 //!   thread are open: `opened_after`.
+//! - What a second reading of a text shows at a faulty line is there: the line with that fault, or its event and what
+//!   stands in its way after those before it. `line_at`; `malformed_look`, `ill_formed_look`. That something is shown
+//!   where it is there, tests show.
 //! - The sentences are byte by byte as defined: `append_malformed`, `append_ill_formed`; `append_line`,
 //!   `append_hindrance`; `line_words`, `shape_words`.
 #![tactic(auto)]

@@ -38,6 +38,9 @@
 //! - It never fails with an interruption, and finds the end exactly where the stream does. What is read or written is
 //!   the stream's, where its type tells its bytes: `lasting`, `idle`, `bytes`.
 //! - The notes on byte order marks, failed reads, sizes and faulty lines: `notes_of`. The system's words: `Reason::of`, `words`.
+//! - A faulty line is told as a second look at the file shows it, or else in words: `notes_of`. Such a look shows the fault
+//!   that the run found, on its line, and something only of a file that can be opened: `Looker::look`, `look_at`. That it
+//!   shows something where it can is only tested.
 //! - After how many milliseconds the line on progress is shown first, if ever: `Progress::first_after`.
 //!
 //! No contract says how often a stream is flushed: tests show that standard output is, once and behind all that it has.
