@@ -1,5 +1,5 @@
 // What a second look at the faulty line of a file shows.
-use crate::program::streams::{Changing, EVER};
+use crate::program::streams::{Again, Changing, EVER};
 use crate::program::{SOUND, Wanted, config_for, is_answered, one_file};
 use aero_program::command::{Config, Sources};
 use std::alloc::{AllocError, AllocGlobal, Global};
@@ -24,40 +24,29 @@ const UNKNOWN_WORDS: &[u8] = b"aerodrome: f:2: no such operation\n";
 
 const UNKNOWN_SENTENCE: &[u8] = b"aerodrome: f:2: no such operation: rd\n";
 
-// What a file has when it is opened again, once and then once more, how many reads fail behind that, whether it is a
-// plain one, and what is told of its fault.
-type Row = ([Option<&'static [u8]>; 2], u32, bool, &'static [u8]);
+// What a file has when it is opened again, and what is told of its fault.
+type Row = (Again, &'static [u8]);
 
 static HELD_ROWS: [Row; 10] = [
-    ([Some(HELD), Some(HELD)], 0, true, HELD_SENTENCE),
-    ([Some(HELD), Some(HELD)], EVER, true, HELD_SENTENCE),
-    ([Some(HELD), Some(HELD)], 0, false, HELD_WORDS),
-    ([None, Some(HELD)], 0, true, HELD_WORDS),
-    ([Some(HELD), None], 0, true, HELD_WORDS),
-    ([Some(b"T1|acq(l)\n"), Some(HELD)], EVER, true, HELD_WORDS),
-    ([Some(b"T1|acq(l)\n"), Some(HELD)], 0, true, HELD_WORDS),
-    (
-        [Some(HELD), Some(b"T1|acq(l)\nT2|acq(m)\n")],
-        0,
-        true,
-        HELD_WORDS,
-    ),
-    ([Some(HELD), Some(b"T1\nT2|acq(l)\n")], 0, true, HELD_WORDS),
-    (
-        [Some(HELD), Some(b"T1|w(l)\nT2|acq(l)\n")],
-        0,
-        true,
-        HELD_WORDS,
-    ),
+    ((HELD, HELD, 2, 0, true), HELD_SENTENCE),
+    ((HELD, HELD, 2, EVER, true), HELD_SENTENCE),
+    ((HELD, HELD, 2, 0, false), HELD_WORDS),
+    ((HELD, HELD, 0, 0, true), HELD_WORDS),
+    ((HELD, HELD, 1, 0, true), HELD_WORDS),
+    ((b"T1|acq(l)\n", HELD, 2, EVER, true), HELD_WORDS),
+    ((b"T1|acq(l)\n", HELD, 2, 0, true), HELD_WORDS),
+    ((HELD, b"T1|acq(l)\nT2|acq(m)\n", 2, 0, true), HELD_WORDS),
+    ((HELD, b"T1\nT2|acq(l)\n", 2, 0, true), HELD_WORDS),
+    ((HELD, b"T1|w(l)\nT2|acq(l)\n", 2, 0, true), HELD_WORDS),
 ];
 
 static UNKNOWN_ROWS: [Row; 6] = [
-    ([Some(UNKNOWN), None], 0, true, UNKNOWN_SENTENCE),
-    ([Some(UNKNOWN), None], 0, false, UNKNOWN_WORDS),
-    ([Some(UNKNOWN), None], EVER, true, UNKNOWN_WORDS),
-    ([Some(b"T1|w(x)\nT1|r(x)\n"), None], 0, true, UNKNOWN_WORDS),
-    ([Some(b"T1|w(x)\nT1\n"), None], 0, true, UNKNOWN_WORDS),
-    ([Some(b""), None], 0, true, UNKNOWN_WORDS),
+    ((UNKNOWN, b"", 1, 0, true), UNKNOWN_SENTENCE),
+    ((UNKNOWN, b"", 1, 0, false), UNKNOWN_WORDS),
+    ((UNKNOWN, b"", 1, EVER, true), UNKNOWN_WORDS),
+    ((b"T1|w(x)\nT1|r(x)\n", b"", 1, 0, true), UNKNOWN_WORDS),
+    ((b"T1|w(x)\nT1\n", b"", 1, 0, true), UNKNOWN_WORDS),
+    ((b"", b"", 1, 0, true), UNKNOWN_WORDS),
 ];
 
 // The file `f` alone.
@@ -74,8 +63,8 @@ fn is_told<R: AllocGlobal + Threads + Wait + Copy + Drop + Send + 'static>(
     row: &Row,
 ) -> Option<bool> {
     let config = asked(rt.alloc()).ok()?;
-    let files = Changing::new(text, row.0, row.1, row.2);
-    let wanted: Wanted = (report, row.3, 2);
+    let files = Changing::new(text, &row.0);
+    let wanted: Wanted = (report, row.1, 2);
     Some(is_answered(rt, &files, Ok(config), b"", &SOUND, wanted))
 }
 

@@ -243,29 +243,31 @@ impl Opener for Shelf {
     }
 }
 
-// Files that all have one text. When they are opened again they have others, in turn, each behind which so many reads
-// fail, or the open fails. They are plain, or none is.
+// What files have when they are opened again: the text at the first such open and at each later one, how many of these
+// opens work, how many reads fail behind the text, and whether the files are plain ones.
+pub(crate) type Again = (&'static [u8], &'static [u8], u32, u32, bool);
+
+// Files that all have one text, and others when they are opened again.
 #[derive(Drop)]
 pub(crate) struct Changing {
-    pub(crate) first: &'static [u8],
-    pub(crate) later: [Option<&'static [u8]>; 2],
-    pub(crate) failures: u32,
-    pub(crate) are_plain: bool,
+    first: &'static [u8],
+    again: &'static [u8],
+    last: &'static [u8],
+    opens: u32,
+    failures: u32,
+    are_plain: bool,
     turn: AtomicU64,
 }
 
 impl Changing {
-    pub(crate) fn new(
-        first: &'static [u8],
-        later: [Option<&'static [u8]>; 2],
-        failures: u32,
-        are_plain: bool,
-    ) -> Changing {
+    pub(crate) fn new(first: &'static [u8], later: &Again) -> Changing {
         Changing {
             first,
-            later,
-            failures,
-            are_plain,
+            again: later.0,
+            last: later.1,
+            opens: later.2,
+            failures: later.3,
+            are_plain: later.4,
             turn: AtomicU64::new(0),
         }
     }
@@ -285,19 +287,15 @@ impl Opener for Changing {
 
     fn open_again(&self, _path: &str) -> io::Result<Text> {
         let turn = self.turn.load(Ordering::SeqCst);
-        self.turn.store(1, Ordering::SeqCst);
-        let later = if turn == 0 {
-            self.later[0]
-        } else {
-            self.later[1]
-        };
-        match later {
-            Some(left) => Ok(Text {
-                left,
-                failures: self.failures,
-            }),
-            None => Err(io::Error::from_raw_os_error(13)),
+        if turn >= u64::from(self.opens) {
+            return Err(io::Error::from_raw_os_error(13));
         }
+        self.turn.store(turn.saturating_add(1), Ordering::SeqCst);
+        let left = if turn == 0 { self.again } else { self.last };
+        Ok(Text {
+            left,
+            failures: self.failures,
+        })
     }
 
     fn is_plain(&self, _path: &str) -> bool {
