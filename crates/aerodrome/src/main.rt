@@ -42,7 +42,7 @@ use std::thread::Threads;
 use std::time::Clock;
 
 // How many bytes `keep_freed_memory` takes.
-const ROOM: usize = 16 << 20;
+const ROOM: usize = 1 << 20;
 
 fn main(rt: HostRuntime) -> ExitCode {
     keep_freed_memory(rt.alloc());
