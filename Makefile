@@ -1,13 +1,15 @@
 # `make` proves what the program needs and builds bin/aerodrome; `make test` is the whole gate.
 # Both need the kit's command rt on the path. `make logger` builds what logs C and C++ programs, with gcc or clang alone.
+# `make library` proves the library for C and builds it, which needs ar too.
 PREFIX ?= /usr/local
-# What the program is made of: no edit that must fail, and no crate of tests.
-CRATES := $(filter-out %_tests,$(wildcard crates/*))
+# What the program is made of: no edit that must fail, no crate of tests, and not the library for C.
+CRATES := $(filter-out %_tests crates/aero_c,$(wildcard crates/*))
 SOURCES := HANDLES crates.txt $(shell find $(wildcard $(CRATES:=/src) $(CRATES:=/specs) $(CRATES:=/proofs)) -type f)
+LIBRARY := $(shell find $(wildcard crates/aero_c/src crates/aero_c/specs crates/aero_c/proofs) -type f)
 
 LOGGER := $(wildcard logger/*)
 
-.PHONY: all logger test install clean
+.PHONY: all library logger test install clean
 
 all: bin/aerodrome
 
@@ -20,6 +22,11 @@ logger: lib/aerodrome/libaerodrome-log.a
 lib/aerodrome/libaerodrome-log.a: $(LOGGER)
 	@logger/build .
 
+library: lib/aerodrome/libaerodrome.a
+
+lib/aerodrome/libaerodrome.a: $(SOURCES) $(LIBRARY)
+	@tools/build library
+
 # `rt ci`, and then the cases, the checks of printed orders and cycles, and the pages, by what stands in tests/, on the program that it built.
 test:
 	@tests/all
@@ -29,6 +36,9 @@ install: bin/aerodrome
 	install -D -m 644 docs/aerodrome.1 $(DESTDIR)$(PREFIX)/share/man/man1/aerodrome.1
 	install -D -m 644 completions/aerodrome.bash $(DESTDIR)$(PREFIX)/share/bash-completion/completions/aerodrome
 	install -D -m 644 completions/_aerodrome $(DESTDIR)$(PREFIX)/share/zsh/site-functions/_aerodrome
+	@if [ -f lib/aerodrome/libaerodrome.a ]; then \
+	install -D -m 644 lib/aerodrome/libaerodrome.a $(DESTDIR)$(PREFIX)/lib/aerodrome/libaerodrome.a; \
+	install -D -m 644 include/aerodrome.h $(DESTDIR)$(PREFIX)/include/aerodrome.h; fi
 	@if command -v $${CC:-gcc} > /dev/null; then logger/build $(DESTDIR)$(PREFIX); \
 	else echo "no $${CC:-gcc} here: the logger isn't installed"; fi
 

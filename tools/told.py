@@ -4,7 +4,7 @@ import os
 import re
 
 NO_RT = (
-    "no command rt on the path: it is of the Rattle kit, whose version here is rattle-kit-13b (`rt version` says it). "
+    "no command rt on the path: it is of the Rattle kit, whose version here is rattle-kit-13f (`rt version` says it). "
     "Whoever gave you this source has the kit; put the kit's bin/ on the path."
 )
 

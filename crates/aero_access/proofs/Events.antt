@@ -1,6 +1,6 @@
 -- What each event does to threads and a table.
 use Rattle.std.proofs.Common.{◌≡◌, ◌≢◌, ◌⊎◌, inl, inr, ⊎_elim, ℕ, List, [], ◌∷◌, ◌++◌, Some, refl, sym, ap, ◌∙◌, arith}
-use Rattle.std.specs.Prelude.{◌↔◌, IsTrue, ◌==◌, ◌&&◌, ◌||◌, Bool, true, false, if◌then◌else◌, slice_get, slice_set}
+use Rattle.std.specs.Prelude.{◌↔◌, IsTrue, ◌==◌, ◌&&◌, ◌||◌, Bool, true, false, if◌then◌else◌, slice_get, slice_set, Contains}
 use Rattle.std.proofs.lemmas.Bool.{cases_eq, eq-eqb, ne_eqb, cond-true, cond-false, and_right}
 use Rattle.aero_clock.specs.Numbers.{number_at}
 use Rattle.aero_model.specs.declared.numbered.Numbered.{Numbered}
@@ -8,12 +8,12 @@ use Rattle.aero_model.specs.declared.numbered.What.{What}
 use Rattle.aero_model.specs.declared.numbered.What.TheVariants.{Read, Write, Acquire, Release}
 use Rattle.aero_model.specs.Blocks.{is_begin, is_end}
 use Rattle.aero_model.specs.Shape.{is_fork_of, IsWellFormed}
+use Rattle.aero_model.proofs.Elements.{none_in, first_or_rest}
 use Rattle.aero_engine.specs.declared.slot.Slot.{Slot}
 use Rattle.aero_engine.specs.declared.slot.Slot.TheVariants.{OfThread, LastWrite, LastRead, LastRelease}
 use Rattle.aero_engine.specs.Slots.{of_slot}
-use Rattle.aero_engine.specs.Takes.{Among, takes_only_own, plain, read, acquire}
+use Rattle.aero_engine.specs.Takes.{takes_only_own, plain, read, acquire}
 use Rattle.aero_engine.specs.Events.{event}
-use Rattle.aero_engine.proofs.Taken.{among_first}
 use Rattle.aero_engine.proofs.LongerTraces.{no_end, no_begin}
 use Rattle.aero_access.specs.declared.thread.Thread.{Thread}
 use Rattle.aero_access.specs.declared.table.Table.{Table}
@@ -130,8 +130,8 @@ module _ (threads : List Thread) (table : Table) (t : ℕ) (th : Thread) (at : s
   acquire_answer l taken false closing takes same = acquire_moves l taken (λ c. not_true false refl (closing.1 c)) (takes refl) same
 
   -- an event that takes no clock but its thread's own
-  pub plain_none : (s : Slot) → Among s (OfThread t ∷ []) → s ≢ OfThread t → ⊥
-  plain_none s m other = ⊎_elim other (λ a. elim a [ ]) (among_first s (OfThread t) [] m)
+  pub plain_none : (s : Slot) → Contains (OfThread t ∷ []) s → s ≢ OfThread t → ⊥
+  plain_none s m other = ⊎_elim other (λ a. absurd (none_in a)) (first_or_rest (OfThread t) [] m)
 
   pub plain_moves : (what : What) → takes_only_own what ≡ true → is_end what ≡ false → is_begin what ≡ false → (after : State) → ((h : List Numbered) → IsStateOf (state_in threads table) h → IsWellFormed (h ++ event t what ∷ []) → IsStep (state_in threads table) (acting after t) (event t what) (number_at th.clock) false) → Moves (state_in threads table) after (event t what) false
   plain_moves what own ends begins after step = record {

@@ -1,6 +1,6 @@
 -- A fork, a join, an outermost begin, and events without a clock rule.
 use Rattle.std.proofs.Common.{◌≡◌, ◌≢◌, ◌⊎◌, inl, inr, ⊎_elim, ℕ, zero, suc, ◌+◌, ◌-◌, ◌^◌, ◌<◌, ◌≤◌, List, [], ◌∷◌, ◌++◌, length, Some, None, refl, sym, ap, ◌∙◌, le_refl, arith}
-use Rattle.std.specs.Prelude.{Result, Ok, Err, OnOk, IsSome, ◌↔◌, IsTrue, ◌==◌, ◌&&◌, ◌||◌, Bool, true, false, if◌then◌else◌, slice_get, slice_set, is_some}
+use Rattle.std.specs.Prelude.{Result, Ok, Err, OnOk, IsSome, ◌↔◌, IsTrue, ◌==◌, ◌&&◌, ◌||◌, Bool, true, false, if◌then◌else◌, slice_get, slice_set, is_some, Contains}
 use Rattle.std.specs.List.{list_any}
 use Rattle.std.proofs.lemmas.Bool.{cases_eq, both_ways, eqb-true, eq-eqb, ne_eqb, ltb-false, cond-true, cond-false, and_right, and_from, or_cases, or_left, or_right}
 use Rattle.std.proofs.lemmas.Option.{same_Some}
@@ -11,15 +11,15 @@ use Rattle.aero_model.specs.declared.numbered.What.{What}
 use Rattle.aero_model.specs.declared.numbered.What.TheVariants.{Fork, Join, Begin, End, Exempt}
 use Rattle.aero_model.specs.Blocks.{is_begin, is_end, by_thread, depth, opens, closes}
 use Rattle.aero_model.specs.Shape.{is_fork_of, has_acted, IsWellFormed}
+use Rattle.aero_model.proofs.Elements.{none_in, here, there, first_or_rest}
 use Rattle.aero_model.proofs.Stability.{agree_front, depth_same}
 use Rattle.aero_model.proofs.WellFormed.{well_formed_front}
 use Rattle.aero_engine.specs.declared.slot.Slot.{Slot}
 use Rattle.aero_engine.specs.declared.slot.Slot.TheVariants.{OfThread, LastWrite, LastRead, LastRelease}
 use Rattle.aero_engine.specs.Slots.{of_slot}
-use Rattle.aero_engine.specs.Takes.{Among, here, there, HasActed, Takes, plain, join, idle_join}
+use Rattle.aero_engine.specs.Takes.{HasActed, Takes, plain, join, idle_join}
 use Rattle.aero_engine.specs.Takes as taking
 use Rattle.aero_engine.specs.Events.{event, IsIdle}
-use Rattle.aero_engine.proofs.Taken.{among_first}
 use Rattle.aero_engine.proofs.ThreadSlots.{forked_none}
 use Rattle.aero_engine.proofs.LongerTraces.{slice_get-push, last_event_same, no_end, no_begin}
 use Rattle.aero_engine.proofs.Rules.{own_count}
@@ -154,7 +154,7 @@ module _ (threads : List Thread) (table : Table) (t : ℕ) (th : Thread) (at : s
         let closed = closed_to th.begin (number_at copy) closes in
         record {
           told = λ h stands ok is.
-              closing_told w h (event t (Join u)) ok stands _ (joins h stands) (no_end h t (Join u) refl) (OfThread u) (there here) other_slot (inside_is ∙ closed.0)
+              closing_told w h (event t (Join u)) ok stands _ (joins h stands) (no_end h t (Join u) refl) (OfThread u) (there (OfThread t) (OfThread u ∷ []) (here [])) other_slot (inside_is ∙ closed.0)
               (λ v. omega (arith, begin_is v, closed.1 v, copied v, ap (λ o. thread_clock o v) at_u));
           stands = λ h stands ok is. cc;
         }
@@ -173,16 +173,16 @@ module _ (threads : List Thread) (table : Table) (t : ℕ) (th : Thread) (at : s
           (none_judged w h (event t (Join u)) ok stands _ (joins h stands) (no_end h t (Join u) refl) none);
     }
       where
-        none : (s : Slot) → Among s (OfThread t ∷ OfThread u ∷ []) → s ≢ OfThread t → w.in_block t ≡ true → ((v : ℕ) → w.begin_clock t v ≤ w.clock s v) → ⊥
+        none : (s : Slot) → Contains (OfThread t ∷ OfThread u ∷ []) s → s ≢ OfThread t → w.in_block t ≡ true → ((v : ℕ) → w.begin_clock t v ≤ w.clock s v) → ⊥
         none s among apart inside at_most =
             ⊎_elim apart
             (λ m.
             ⊎_elim
             (λ e. passes (closed_from th.begin (number_at copy) (sym inside_is ∙ inside)
             (λ v. omega (arith, begin_is v, at_most v, ap (λ r. w.clock r v) e, copied v, ap (λ o. thread_clock o v) at_u))))
-            (λ a. elim a [ ])
-            (among_first s (OfThread u) [] m))
-            (among_first s (OfThread t) (OfThread u ∷ []) among)
+            (λ a. absurd (none_in a))
+            (first_or_rest (OfThread u) [] m))
+            (first_or_rest (OfThread t) (OfThread u ∷ []) among)
 
     pub join_answer : (new : Thread) (closes : Bool) → (IsTrue closes ↔ IsClosedBy th.begin (number_at copy)) → (closes ≡ false → TakesClock th new (number_at copy)) → HasSameBlock th new → Moves w (state_in (slice_set threads t new) table) (event t (Join u)) closes
     join_answer new true closing takes same = join_closes _ (closing.0 refl)

@@ -1,6 +1,6 @@
 -- Steps of threads and a table, by what the code does to one thread and one slot.
 use Rattle.std.proofs.Common.{◌≡◌, ◌≢◌, ◌⊎◌, inl, inr, ⊎_elim, ℕ, ◌≤◌, List, [], ◌∷◌, ◌++◌, length, Option, Some, None, refl, sym, ap, ◌∙◌, subst, le_refl, arith}
-use Rattle.std.specs.Prelude.{◌==◌, ◌&&◌, Bool, true, false, if◌then◌else◌, slice_get, slice_set, is_some}
+use Rattle.std.specs.Prelude.{◌==◌, ◌&&◌, Bool, true, false, if◌then◌else◌, slice_get, slice_set, is_some, Contains}
 use Rattle.std.proofs.lemmas.Bool.{cases_eq, both_ways, eqb-true, eq-eqb, ne_eqb, cond-true, cond-false, and_right}
 use Rattle.std.proofs.lemmas.Option.{slice_get_within, same_Some}
 use Rattle.aero_clock.specs.declared.clock.Clock.{Clock}
@@ -9,18 +9,18 @@ use Rattle.aero_model.specs.declared.numbered.Numbered.{Numbered}
 use Rattle.aero_model.specs.declared.numbered.What.{What}
 use Rattle.aero_model.specs.Blocks.{is_begin, is_end, closes}
 use Rattle.aero_model.specs.Shape.{IsWellFormed}
+use Rattle.aero_model.proofs.Elements.{none_in, here, there, first_or_rest}
 use Rattle.aero_model.proofs.Stability.{Agree, agree_front}
 use Rattle.aero_engine.specs.declared.slot.Slot.{Slot}
 use Rattle.aero_engine.specs.declared.slot.Slot.TheVariants.{OfThread, LastWrite, LastRead, LastRelease}
 use Rattle.aero_engine.specs.Slots.{of_slot, last_event}
-use Rattle.aero_engine.specs.Takes.{Among, here, there, Takes, IfForeign, nobodys, its_own, foreign}
+use Rattle.aero_engine.specs.Takes.{Takes, IfForeign, nobodys, its_own, foreign}
 use Rattle.aero_engine.specs.Clocks.{greatest}
 use Rattle.aero_engine.specs.Judgement.{IsTold}
 use Rattle.aero_engine.specs.Events.{actor_at, thread_of, event}
 use Rattle.aero_engine.proofs.LastEvents.{is_last}
 use Rattle.aero_engine.proofs.LongerTraces.{last_event_same, no_end, no_begin}
 use Rattle.aero_engine.proofs.Written.{slice_get-set}
-use Rattle.aero_engine.proofs.Taken.{among_first}
 use Rattle.aero_access.specs.declared.kept.Kept.{Kept}
 use Rattle.aero_access.specs.declared.thread.Thread.{Thread}
 use Rattle.aero_access.specs.declared.table.Table.{Table}
@@ -132,13 +132,13 @@ greatest-foreign clocks t s (Some k) u h = go (k.thread == t)
     go true = refl
     go false = omega (arith, h)
 
-pub among_foreign : (t : ℕ) (s r : Slot) (a : Option ℕ) → Among r (foreign_slot t s a) → (v : ℕ) × (a ≡ Some v) × (v ≢ t) × (r ≡ s)
-among_foreign t s r None m = elim m [ ]
+pub among_foreign : (t : ℕ) (s r : Slot) (a : Option ℕ) → Contains (foreign_slot t s a) r → (v : ℕ) × (a ≡ Some v) × (v ≢ t) × (r ≡ s)
+among_foreign t s r None m = absurd (none_in m)
 among_foreign t s r (Some v) m = go (v == t) refl m
   where
-    go : (b : Bool) → (v == t) ≡ b → Among r (if b then [] else s ∷ []) → (u : ℕ) × (Some v ≡ Some u) × (u ≢ t) × (r ≡ s)
-    go true e m = elim m [ ]
-    go false e m = (v, refl, λ h. both_ways (v == t) e (eq-eqb v t h), ⊎_elim (λ i. i) (λ a. elim a [ ]) (among_first r s [] m))
+    go : (b : Bool) → (v == t) ≡ b → Contains (if b then [] else s ∷ []) r → (u : ℕ) × (Some v ≡ Some u) × (u ≢ t) × (r ≡ s)
+    go true e m = absurd (none_in m)
+    go false e m = (v, refl, λ h. both_ways (v == t) e (eq-eqb v t h), ⊎_elim (λ i. i) (λ a. absurd (none_in a)) (first_or_rest s [] m))
 
 -- an event that takes the clock of one slot beside its thread's own
 module _ (threads : List Thread) (table : Table) (t : ℕ) (th : Thread) (at : slice_get threads t ≡ Some th) (what : What) (slot : Slot) (kept : is_kept slot ≡ true) (no_ends : is_end what ≡ false) (no_begins : is_begin what ≡ false) where
@@ -177,11 +177,11 @@ module _ (threads : List Thread) (table : Table) (t : ℕ) (th : Thread) (at : s
         go h stands ok (Some k) e c =
             let closed = closed_to th.begin (number_at k.clock) c.1 in
             closing_told w h (event t what) ok stands _ (taken_slots h stands) (no_end h t what no_ends) slot
-            (there (among k e c.0)) other_slot (inside_is ∙ closed.0)
+            (there (OfThread t) (foreign_slot t slot (w.actor slot)) (among k e c.0)) other_slot (inside_is ∙ closed.0)
             (λ u. omega (arith, begin_is u, closed.1 u, clock_is u, ap (λ o. kept_clock o u) e))
           where
-            among : (k : Kept) → kept_of table slot ≡ Some k → k.thread ≢ t → Among slot (foreign_slot t slot (w.actor slot))
-            among k e ne = subst (λ ss. Among slot ss) (sym (ap (λ o. foreign_slot t slot (kept_thread o)) e ∙ cond-false (k.thread == t) _ _ (ne_eqb k.thread t ne))) here
+            among : (k : Kept) → kept_of table slot ≡ Some k → k.thread ≢ t → Contains (foreign_slot t slot (w.actor slot)) slot
+            among k e ne = subst (λ ss. Contains ss slot) (sym (ap (λ o. foreign_slot t slot (kept_thread o)) e ∙ cond-false (k.thread == t) _ _ (ne_eqb k.thread t ne))) (here [])
 
     -- where it does not, and the thread has taken it
     pub last_passes : (after : State) (new : Thread) → ¬ ClosesLast th.begin t (kept_of table slot) → TakesClock th new (last_but t (kept_of table slot)) → IsStep w (acting after t) (event t what) (number_at new.clock) false → Moves w after (event t what) false
@@ -194,8 +194,8 @@ module _ (threads : List Thread) (table : Table) (t : ℕ) (th : Thread) (at : s
           (none_judged w h (event t what) ok stands _ (taken_slots h stands) (no_end h t what no_ends) none);
     }
       where
-        none : (s : Slot) → Among s (OfThread t ∷ foreign_slot t slot (w.actor slot)) → s ≢ OfThread t → w.in_block t ≡ true → ((u : ℕ) → w.begin_clock t u ≤ w.clock s u) → ⊥
-        none s among other inside at_most = ⊎_elim other (λ m. go (among_foreign t slot s (w.actor slot) m) (kept_of table slot) refl) (among_first s (OfThread t) _ among)
+        none : (s : Slot) → Contains (OfThread t ∷ foreign_slot t slot (w.actor slot)) s → s ≢ OfThread t → w.in_block t ≡ true → ((u : ℕ) → w.begin_clock t u ≤ w.clock s u) → ⊥
+        none s among other inside at_most = ⊎_elim other (λ m. go (among_foreign t slot s (w.actor slot) m) (kept_of table slot) refl) (first_or_rest (OfThread t) (foreign_slot t slot (w.actor slot)) among)
           where
             go : ((v : ℕ) × (w.actor slot ≡ Some v) × (v ≢ t) × (s ≡ slot)) → (o : Option Kept) → kept_of table slot ≡ o → ⊥
             go m None e = let z : None ≡ Some m.0 = sym (ap kept_thread e) ∙ m.1 in cc

@@ -1,6 +1,6 @@
 -- What is kept of a trace, after one more event that is no outermost end.
 use Rattle.std.proofs.Common.{◌≡◌, ◌≢◌, ◌⊎◌, inl, inr, ⊎_elim, ℕ, suc, ◌+◌, ◌<◌, ◌≤◌, List, [], ◌∷◌, ◌++◌, length, Option, Some, None, refl, sym, ap, ◌∙◌, subst, le_refl, arith, length-append}
-use Rattle.std.specs.Prelude.{◌==◌, ◌&&◌, ◌||◌, nat_lt, Bool, true, false, if◌then◌else◌}
+use Rattle.std.specs.Prelude.{◌==◌, ◌&&◌, ◌||◌, nat_lt, Bool, true, false, if◌then◌else◌, Contains}
 use Rattle.std.proofs.lemmas.Bool.{cases_Bool, cases_eq, both_ways, eqb-true, eq-eqb, ne_eqb, ltb-true, ltb-false, lt-ltb, le-ltb, cond-true, cond-false, and_left, and_parts}
 use Rattle.std.proofs.lemmas.List.Folds.{list_any-append}
 use Rattle.aero_model.specs.declared.numbered.Numbered.{Numbered}
@@ -12,7 +12,7 @@ use Rattle.aero_model.proofs.Begins.{open_number}
 use Rattle.aero_engine.specs.declared.slot.Slot.{Slot}
 use Rattle.aero_engine.specs.declared.slot.Slot.TheVariants.{OfThread}
 use Rattle.aero_engine.specs.Slots.{of_slot, last_event}
-use Rattle.aero_engine.specs.Takes.{Among, Takes}
+use Rattle.aero_engine.specs.Takes.{Takes}
 use Rattle.aero_engine.specs.Clocks.{Clock, AreSound, MissNothing, IsBeginClock, greatest, new_clock, new_clocks}
 use Rattle.aero_engine.specs.Judgement.{IsJudged, IsTold, IsUntold}
 use Rattle.aero_engine.specs.Events.{actor_at, thread_of}
@@ -80,14 +80,14 @@ module _ (old : State) (before : List Numbered) (e : Numbered) (ok : IsWellForme
 
   module _ (ss : List Slot) (takes : Takes more n e ss) (no_end : closes more e.thread n ≡ false) where
     -- a clock that closes a cycle is judged
-    pub closing_told : (s : Slot) → Among s ss → s ≢ OfThread e.thread → old.in_block e.thread ≡ true → ((u : ℕ) → old.begin_clock e.thread u ≤ old.clock s u) → IsTold more n (Some e.thread)
+    pub closing_told : (s : Slot) → Contains ss s → s ≢ OfThread e.thread → old.in_block e.thread ≡ true → ((u : ℕ) → old.begin_clock e.thread u ≤ old.clock s u) → IsTold more n (Some e.thread)
     closing_told s among other inside at_most =
         let b = begun e.thread inside in
         (told_push before e ok old.clock stands.untold ss takes no_end (Some e.thread)).0
         (refl, record { is_open = b.is_open; slot = s; among = among; other = other; counted = omega (arith, b.counts, at_most e.thread) })
 
     -- where none does, the event is not judged
-    pub none_judged : ((s : Slot) → Among s ss → s ≢ OfThread e.thread → old.in_block e.thread ≡ true → ((u : ℕ) → old.begin_clock e.thread u ≤ old.clock s u) → ⊥) → ¬ IsJudged more n e.thread old.clock ss
+    pub none_judged : ((s : Slot) → Contains ss s → s ≢ OfThread e.thread → old.in_block e.thread ≡ true → ((u : ℕ) → old.begin_clock e.thread u ≤ old.clock s u) → ⊥) → ¬ IsJudged more n e.thread old.clock ss
     none_judged none j =
         let inside = is_inside e.thread j.is_open in
         none j.slot j.among j.other inside (go (last_event more n j.slot) refl (begun e.thread inside))

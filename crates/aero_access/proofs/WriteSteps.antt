@@ -1,23 +1,24 @@
 -- A write, which takes the clocks of the last write and of all other readers.
 use Rattle.std.proofs.Common.{◌≡◌, ◌≢◌, ⊎_elim, ℕ, zero, suc, ◌<◌, ◌≤◌, List, [], ◌∷◌, ◌++◌, length, max, Option, Some, None, refl, sym, ap, ◌∙◌, subst, le_refl, arith, map}
-use Rattle.std.specs.Prelude.{◌==◌, Bool, true, false, if◌then◌else◌, slice_get, slice_set, is_some, find}
+use Rattle.std.specs.Prelude.{◌==◌, Bool, true, false, if◌then◌else◌, slice_get, slice_set, is_some, find, Contains}
 use Rattle.std.proofs.lemmas.Bool.{cases_Bool, both_ways, eqb-true, eq-eqb, ne_eqb, cond-true, cond-false}
+use Rattle.std.proofs.lemmas.List.Elements.{Contains-append_left, Contains-append_right, Contains-append_cases}
 use Rattle.std.proofs.lemmas.Option.{same_Some}
 use Rattle.aero_clock.specs.Numbers.{number_at}
 use Rattle.aero_model.specs.declared.numbered.Numbered.{Numbered}
 use Rattle.aero_model.specs.declared.numbered.What.TheVariants.{Read, Write}
 use Rattle.aero_model.specs.Shape.{IsWellFormed}
+use Rattle.aero_model.proofs.Elements.{none_in, here, there, first_or_rest, Contains-map, Contains-map_from}
 use Rattle.aero_model.proofs.Stability.{Agree, agree_front}
 use Rattle.aero_engine.specs.declared.slot.Slot.{Slot}
 use Rattle.aero_engine.specs.declared.slot.Slot.TheVariants.{OfThread, LastWrite, LastRead}
 use Rattle.aero_engine.specs.Slots.{of_slot}
-use Rattle.aero_engine.specs.Takes.{Among, here, there, Takes, write, AreReaders}
+use Rattle.aero_engine.specs.Takes.{Takes, write, AreReaders}
 use Rattle.aero_engine.specs.Clocks.{greatest}
 use Rattle.aero_engine.specs.Judgement.{IsTold}
 use Rattle.aero_engine.specs.Events.{actor_at, thread_of, event}
 use Rattle.aero_engine.proofs.LastEvents.{is_last, to_read, last_covers}
 use Rattle.aero_engine.proofs.LongerTraces.{last_event_same, no_end, no_begin}
-use Rattle.aero_engine.proofs.Taken.{among_first, among_left, among_right, among_map, among_parts, among_of_map}
 use Rattle.aero_access.specs.declared.kept.Kept.{Kept}
 use Rattle.aero_access.specs.declared.readers.Readers.{Readers}
 use Rattle.aero_access.specs.declared.thread.Thread.{Thread}
@@ -38,23 +39,23 @@ abbrev pub threads_but : ℕ → List Kept → List ℕ
 threads_but t [] = []
 threads_but t (k ∷ ks) = if k.thread == t then threads_but t ks else k.thread ∷ threads_but t ks
 
-not_among : (t : ℕ) (ks : List Kept) → Among t (threads_but t ks) → ⊥
-not_among t [] m = elim m [ ]
+not_among : (t : ℕ) (ks : List Kept) → Contains (threads_but t ks) t → ⊥
+not_among t [] m = none_in m
 not_among t (k ∷ ks) m = go (k.thread == t) refl m (not_among t ks)
   where
-    go : (b : Bool) → (k.thread == t) ≡ b → Among t (if b then threads_but t ks else k.thread ∷ threads_but t ks) → (Among t (threads_but t ks) → ⊥) → ⊥
+    go : (b : Bool) → (k.thread == t) ≡ b → Contains (if b then threads_but t ks else k.thread ∷ threads_but t ks) t → (Contains (threads_but t ks) t → ⊥) → ⊥
     go true e m rest = rest m
-    go false e m rest = ⊎_elim (λ h. both_ways (k.thread == t) e (eq-eqb k.thread t (sym h))) rest (among_first t k.thread (threads_but t ks) m)
+    go false e m rest = ⊎_elim (λ h. both_ways (k.thread == t) e (eq-eqb k.thread t (sym h))) rest (first_or_rest k.thread (threads_but t ks) m)
 
-among_threads : (t : ℕ) (ks : List Kept) (i : ℕ) (k : Kept) → slice_get ks i ≡ Some k → k.thread ≢ t → Among k.thread (threads_but t ks)
+among_threads : (t : ℕ) (ks : List Kept) (i : ℕ) (k : Kept) → slice_get ks i ≡ Some k → k.thread ≢ t → Contains (threads_but t ks) k.thread
 among_threads t [] i k at ne = cc
 among_threads t (x ∷ ks) i k at ne = go i at (x.thread == t) refl (λ j h. among_threads t ks j k h ne)
   where
-    go : (i : ℕ) → slice_get (x ∷ ks) i ≡ Some k → (b : Bool) → (x.thread == t) ≡ b → ((j : ℕ) → slice_get ks j ≡ Some k → Among k.thread (threads_but t ks)) → Among k.thread (if b then threads_but t ks else x.thread ∷ threads_but t ks)
+    go : (i : ℕ) → slice_get (x ∷ ks) i ≡ Some k → (b : Bool) → (x.thread == t) ≡ b → ((j : ℕ) → slice_get ks j ≡ Some k → Contains (threads_but t ks) k.thread) → Contains (if b then threads_but t ks else x.thread ∷ threads_but t ks) k.thread
     go zero at true e rest = absurd (ne (ap (λ (a : Kept). a.thread) (sym (same_Some x k at)) ∙ eqb-true x.thread t e))
-    go zero at false e rest = subst (λ v. Among v (x.thread ∷ threads_but t ks)) (ap (λ (a : Kept). a.thread) (same_Some x k at)) here
+    go zero at false e rest = subst (λ v. Contains (x.thread ∷ threads_but t ks) v) (ap (λ (a : Kept). a.thread) (same_Some x k at)) (here (threads_but t ks))
     go (suc i) at true e rest = rest i at
-    go (suc i) at false e rest = there (rest i at)
+    go (suc i) at false e rest = there x.thread (threads_but t ks) (rest i at)
 
 -- each of them is of one that is kept
 record OneOf (t : ℕ) (ks : List Kept) (v : ℕ) : Type 0 where
@@ -67,17 +68,17 @@ record OneOf (t : ℕ) (ks : List Kept) (v : ℕ) : Type 0 where
 one_more : (t v : ℕ) (k : Kept) (ks : List Kept) → OneOf t ks v → OneOf t (k ∷ ks) v
 one_more t v k ks o = record { place = suc o.place; one = o.one; one_at = o.one_at; by = o.by; other = o.other }
 
-one_of : (t : ℕ) (ks : List Kept) (v : ℕ) → Among v (threads_but t ks) → OneOf t ks v
-one_of t [] v m = elim m [ ]
+one_of : (t : ℕ) (ks : List Kept) (v : ℕ) → Contains (threads_but t ks) v → OneOf t ks v
+one_of t [] v m = absurd (none_in m)
 one_of t (k ∷ ks) v m = go (k.thread == t) refl m (one_of t ks v)
   where
-    go : (b : Bool) → (k.thread == t) ≡ b → Among v (if b then threads_but t ks else k.thread ∷ threads_but t ks) → (Among v (threads_but t ks) → OneOf t ks v) → OneOf t (k ∷ ks) v
+    go : (b : Bool) → (k.thread == t) ≡ b → Contains (if b then threads_but t ks else k.thread ∷ threads_but t ks) v → (Contains (threads_but t ks) v → OneOf t ks v) → OneOf t (k ∷ ks) v
     go true e m rest = one_more t v k ks (rest m)
     go false e m rest =
         ⊎_elim
         (λ h. record { place = 0; one = k; one_at = refl; by = sym h; other = λ same. both_ways (k.thread == t) e (eq-eqb k.thread t (sym h ∙ same)) })
         (λ a. one_more t v k ks (rest a))
-        (among_first v k.thread (threads_but t ks) m)
+        (first_or_rest k.thread (threads_but t ks) m)
 
 -- the greatest of their clocks
 greatest-readers : (clocks : Slot → ℕ → ℕ) (t x : ℕ) (u : ℕ) (ks : List Kept) → ((i : ℕ) (k : Kept) → slice_get ks i ≡ Some k → clocks (LastRead x k.thread) u ≡ number_at k.clock u) → greatest clocks (map (LastRead x) (threads_but t ks)) u ≡ greatest_but t ks u
@@ -128,7 +129,7 @@ module _ (threads : List Thread) (table : Table) (t : ℕ) (th : Thread) (at : s
       agree : Agree (length h) h more
       agree = agree_front (length h) h (event t (Write x) ∷ []) (le_refl (length h))
 
-      all : (q : ℕ) (f : Numbered) → q < length h → slice_get more q ≡ Some f → f.what ≡ Read x → f.thread ≢ t → Among f.thread (threads_but t ks)
+      all : (q : ℕ) (f : Numbered) → q < length h → slice_get more q ≡ Some f → f.what ≡ Read x → f.thread ≢ t → Contains (threads_but t ks) f.thread
       all q f below at_f what other =
           let c = last_covers (of_slot (LastRead x f.thread)) more (length h) q f at_f (to_read x f what) below in
           let l = is_last (of_slot (LastRead x f.thread)) more (length h) c.0 c.1 in
@@ -137,12 +138,12 @@ module _ (threads : List Thread) (table : Table) (t : ℕ) (th : Thread) (at : s
           in
           go (find (is_by f.thread) ks) refl l.event.thread is
         where
-          go : (o : Option Kept) → find (is_by f.thread) ks ≡ o → (v : ℕ) → kept_thread o ≡ Some v → Among f.thread (threads_but t ks)
+          go : (o : Option Kept) → find (is_by f.thread) ks ≡ o → (v : ℕ) → kept_thread o ≡ Some v → Contains (threads_but t ks) f.thread
           go None e v is = cc
           go (Some k) e v is =
               let place = found_among ks f.thread k e in
               let by = find_by ks f.thread k e in
-              subst (λ m. Among m (threads_but t ks)) by (among_threads t ks place.0 k place.1 (λ same. other (sym by ∙ same)))
+              subst (λ m. Contains (threads_but t ks) m) by (among_threads t ks place.0 k place.1 (λ same. other (sym by ∙ same)))
 
   taken_slots : (h : List Numbered) → IsStateOf w h → Takes (h ++ event t (Write x) ∷ []) (length h) (event t (Write x)) (OfThread t ∷ slots)
   taken_slots h stands = write x _ (threads_but t ks) refl (if_foreign w h (event t (Write x)) stands t (LastWrite x) refl) (are_readers h stands)
@@ -162,11 +163,11 @@ module _ (threads : List Thread) (table : Table) (t : ℕ) (th : Thread) (at : s
       go h stands ok (Some k) e c =
           let closed = closed_to th.begin (number_at k.clock) c.1 in
           closing_told w h (event t (Write x)) ok stands _ (taken_slots h stands) (no_end h t (Write x) refl) (LastWrite x)
-          (there (among_left (LastWrite x) _ _ (among k e c.0))) (λ e. cc) (inside_is ∙ closed.0)
+          (there (OfThread t) slots (Contains-append_left (foreign_slot t (LastWrite x) (w.actor (LastWrite x))) (map (LastRead x) (threads_but t ks)) (LastWrite x) (among k e c.0))) (λ e. cc) (inside_is ∙ closed.0)
           (λ u. omega (arith, begin_is u, closed.1 u, ap (λ o. kept_clock o u) e))
         where
-          among : (k : Kept) → kept_of table (LastWrite x) ≡ Some k → k.thread ≢ t → Among (LastWrite x) (foreign_slot t (LastWrite x) (w.actor (LastWrite x)))
-          among k e ne = subst (λ ss. Among (LastWrite x) ss) (sym (ap (λ o. foreign_slot t (LastWrite x) (kept_thread o)) e ∙ cond-false (k.thread == t) _ _ (ne_eqb k.thread t ne))) here
+          among : (k : Kept) → kept_of table (LastWrite x) ≡ Some k → k.thread ≢ t → Contains (foreign_slot t (LastWrite x) (w.actor (LastWrite x))) (LastWrite x)
+          among k e ne = subst (λ ss. Contains ss (LastWrite x)) (sym (ap (λ o. foreign_slot t (LastWrite x) (kept_thread o)) e ∙ cond-false (k.thread == t) _ _ (ne_eqb k.thread t ne))) (here [])
 
   -- where a reader's clock does
   pub reader_closes : (after : State) → ClosesOne th.begin t ks → Moves w after (event t (Write x)) true
@@ -174,7 +175,7 @@ module _ (threads : List Thread) (table : Table) (t : ℕ) (th : Thread) (at : s
     told = λ h stands ok is.
         let closed = closed_to th.begin (number_at c.one.clock) c.closed in
         closing_told w h (event t (Write x)) ok stands _ (taken_slots h stands) (no_end h t (Write x) refl) (LastRead x c.one.thread)
-        (there (among_right (LastRead x c.one.thread) _ _ (among_map (LastRead x) c.one.thread _ (among_threads t ks c.place c.one c.at c.other)))) (λ e. cc) (inside_is ∙ closed.0)
+        (there (OfThread t) slots (Contains-append_right (foreign_slot t (LastWrite x) (w.actor (LastWrite x))) (map (LastRead x) (threads_but t ks)) (LastRead x c.one.thread) (Contains-map (LastRead x) (threads_but t ks) c.one.thread (among_threads t ks c.place c.one c.at c.other)))) (λ e. cc) (inside_is ∙ closed.0)
         (λ u. omega (arith, begin_is u, closed.1 u, clock_of_reader c.place c.one c.at u));
     stands = λ h stands ok is. cc;
   }
@@ -223,7 +224,7 @@ module _ (threads : List Thread) (table : Table) (t : ℕ) (th : Thread) (at : s
                 (λ u. omega (arith, begin_is u, at_most u, ap (λ r. w.clock r u) m.3, ap (λ o. kept_clock o u) e)),
           ))
 
-      of_reader : (s : Slot) → w.in_block t ≡ true → ((u : ℕ) → w.begin_clock t u ≤ w.clock s u) → (v : ℕ) × Among v (threads_but t ks) × (s ≡ LastRead x v) → ⊥
+      of_reader : (s : Slot) → w.in_block t ≡ true → ((u : ℕ) → w.begin_clock t u ≤ w.clock s u) → (v : ℕ) × Contains (threads_but t ks) v × (LastRead x v ≡ s) → ⊥
       of_reader s inside at_most m =
           let o = one_of t ks m.0 m.1 in
           none_closes.none o.place o.one o.one_at (λ e. o.other (sym o.by ∙ e))
@@ -231,12 +232,12 @@ module _ (threads : List Thread) (table : Table) (t : ℕ) (th : Thread) (at : s
           (closed_from th.begin (number_at o.one.clock) (sym inside_is ∙ inside)
           (λ u. omega (arith, begin_is u, at_most u, ap (λ r. w.clock r u) m.2, ap (λ v. w.clock (LastRead x v) u) o.by, clock_of_reader o.place o.one o.one_at u))))
 
-      none : (s : Slot) → Among s (OfThread t ∷ slots) → s ≢ OfThread t → w.in_block t ≡ true → ((u : ℕ) → w.begin_clock t u ≤ w.clock s u) → ⊥
+      none : (s : Slot) → Contains (OfThread t ∷ slots) s → s ≢ OfThread t → w.in_block t ≡ true → ((u : ℕ) → w.begin_clock t u ≤ w.clock s u) → ⊥
       none s among other inside at_most =
           ⊎_elim other
           (λ m.
           ⊎_elim
           (λ f. of_last s inside at_most (among_foreign t (LastWrite x) s (w.actor (LastWrite x)) f) (kept_of table (LastWrite x)) refl)
-          (λ r. of_reader s inside at_most (among_of_map (LastRead x) s (threads_but t ks) r))
-          (among_parts s (foreign_slot t (LastWrite x) (w.actor (LastWrite x))) (map (LastRead x) (threads_but t ks)) m))
-          (among_first s (OfThread t) slots among)
+          (λ r. of_reader s inside at_most (Contains-map_from (LastRead x) (threads_but t ks) s r))
+          (Contains-append_cases (foreign_slot t (LastWrite x) (w.actor (LastWrite x))) (map (LastRead x) (threads_but t ks)) s m))
+          (first_or_rest (OfThread t) slots among)

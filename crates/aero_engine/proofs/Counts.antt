@@ -1,11 +1,12 @@
 -- Sound and complete clocks by what places reach, and what a thread's own blocks reach.
-use Rattle.std.proofs.Common.{◌≡◌, ◌⊎◌, ℕ, suc, ◌<◌, ◌≤◌, inl, inr, ⊎_elim, List, [], ◌∷◌, Some, sym, ap, ◌∙◌, subst, arith}
-use Rattle.std.specs.Prelude.{slice_get, true, false}
+use Rattle.std.proofs.Common.{◌≡◌, ◌⊎◌, ℕ, zero, suc, ◌<◌, ◌≤◌, inl, inr, ⊎_elim, List, [], ◌∷◌, Some, sym, ap, ◌∙◌, subst, arith}
+use Rattle.std.specs.Prelude.{slice_get, Contains, true, false}
 use Rattle.std.proofs.lemmas.Bool.{cases_lt, both_ways, and_parts}
 use Rattle.std.proofs.lemmas.Option.{same_Some}
 use Rattle.aero_model.specs.declared.numbered.Numbered.{Numbered}
 use Rattle.aero_model.specs.Blocks.{is_end, closes, blocks, Transaction, Block}
 use Rattle.aero_model.specs.Graph.{same_thread}
+use Rattle.aero_model.proofs.Elements.{none_in, here, there}
 use Rattle.aero_model.proofs.Reach.{Reach, reach_trans, reach_from_within, reach_more}
 use Rattle.aero_model.proofs.Places.{in_block}
 use Rattle.aero_model.proofs.Ends.{is_by, begin_in}
@@ -13,7 +14,6 @@ use Rattle.aero_model.proofs.Begins.{blocks_rise, begin_of, begin_inside}
 use Rattle.aero_model.proofs.Next.{cases_closes}
 use Rattle.aero_model.proofs.Walks.{Reaches, reaches_from_leads, leads_from_reaches}
 use Rattle.aero_engine.specs.declared.slot.Slot.{Slot}
-use Rattle.aero_engine.specs.Takes.{Among, here, there}
 use Rattle.aero_engine.specs.Clocks.{Clock, IsSound, MissesNothing, greatest}
 use Rattle.aero_engine.proofs.Sources.{reach_later, Latest, reach_latest}
 
@@ -61,16 +61,17 @@ reaches_begun trace n t k j r =
     omega (arith, h.number, blocks_rise trace t (suc r.from) n (reach_from_within trace n r.from j r.reach))
 
 -- the greatest of some clocks
-pub greatest_above : (clocks : Slot → Clock) (s : Slot) (ss : List Slot) (u : ℕ) → Among s ss → clocks s u ≤ greatest clocks ss u
-greatest_above clocks s _ u (here {ss = ss}) = omega arith
-greatest_above clocks s _ u (there {r = r} {ss = ss} a) = omega (arith, greatest_above clocks s ss u a)
+pub greatest_above : (clocks : Slot → Clock) (s : Slot) (ss : List Slot) (u : ℕ) → Contains ss s → clocks s u ≤ greatest clocks ss u
+greatest_above clocks s [] u a = absurd (none_in a)
+greatest_above clocks s (r ∷ ss) u (zero, l, e) = omega (arith, ap (λ q. clocks q u) e)
+greatest_above clocks s (r ∷ ss) u (suc k, l, e) = omega (arith, greatest_above clocks s ss u (k, omega arith, e))
 
-pub greatest_least : (clocks : Slot → Clock) (ss : List Slot) (u k : ℕ) → 0 < k → k ≤ greatest clocks ss u → (s : Slot) × Among s ss × (k ≤ clocks s u)
+pub greatest_least : (clocks : Slot → Clock) (ss : List Slot) (u k : ℕ) → 0 < k → k ≤ greatest clocks ss u → (s : Slot) × Contains ss s × (k ≤ clocks s u)
 greatest_least clocks [] u k pos le = absurd (omega arith)
 greatest_least clocks (s ∷ ss) u k pos le =
     ⊎_elim
-    (λ l. (s, here, omega arith))
-    (λ l. let r = greatest_least clocks ss u k pos (omega arith) in (r.0, there r.1, r.2))
+    (λ l. (s, here ss, omega arith))
+    (λ l. let r = greatest_least clocks ss u k pos (omega arith) in (r.0, there s ss r.1, r.2))
     (cases_lt k (suc (clocks s u)))
 
 -- an event that is no outermost end of its own thread is none of any thread

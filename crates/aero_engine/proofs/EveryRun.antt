@@ -1,17 +1,18 @@
 -- Each event takes the clocks of some slots, so each run has clocks.
 use Rattle.std.proofs.Common.{◌≡◌, ◌≢◌, ◌⊎◌, ℕ, zero, suc, ◌≤◌, inl, inr, ⊎_elim, List, [], ◌∷◌, length, Option, Some, None, refl, sym, ◌∙◌, ap, subst, arith}
-use Rattle.std.specs.Prelude.{true, false, slice_get}
+use Rattle.std.specs.Prelude.{true, false, slice_get, Contains}
 use Rattle.std.proofs.lemmas.Bool.{cases_eq, cases_Bool, eqb-true, eq-eqb, both_ways}
 use Rattle.std.proofs.lemmas.Option.{same_Some}
 use Rattle.aero_model.specs.declared.numbered.Numbered.{Numbered}
 use Rattle.aero_model.specs.declared.numbered.What.{What}
 use Rattle.aero_model.specs.declared.numbered.What.TheVariants.{Read, Write, Acquire, Release, Fork, Join, Begin, End, Exempt}
 use Rattle.aero_model.specs.Blocks.{closes}
+use Rattle.aero_model.proofs.Elements.{none_in, here, there, first_or_rest}
 use Rattle.aero_model.proofs.Telling.{event_at}
 use Rattle.aero_engine.specs.declared.slot.Slot.{Slot}
 use Rattle.aero_engine.specs.declared.slot.Slot.TheVariants.{LastWrite, LastRelease}
 use Rattle.aero_engine.specs.Slots.{is_read_of, of_slot, last_of, last_event}
-use Rattle.aero_engine.specs.Takes.{Among, here, there, takes_only_own, HasActed, IfForeign, nobodys, its_own, foreign, AreReaders, Takes, plain, read, write, acquire, join, idle_join}
+use Rattle.aero_engine.specs.Takes.{takes_only_own, HasActed, IfForeign, nobodys, its_own, foreign, AreReaders, Takes, plain, read, write, acquire, join, idle_join}
 use Rattle.aero_engine.specs.Clocks.{Clock, greatest, new_clocks, end_clocks, Clocked, start, event, end}
 use Rattle.aero_engine.proofs.LastEvents.{is_last, last_covers}
 use Rattle.aero_engine.proofs.ThreadSlots.{is_of}
@@ -40,11 +41,11 @@ module _ (trace : List Numbered) (n : ℕ) where
 
 -- the threads but t that have read the variable
 readers : (trace : List Numbered) (t x n : ℕ) → (us : List ℕ) × AreReaders trace n t x us
-readers trace t x zero = ([], record { all = λ q f l. absurd (omega arith); apart = λ a. elim a [ ] })
+readers trace t x zero = ([], record { all = λ q f l. absurd (omega arith); apart = none_in })
 readers trace t x (suc n) = go (slice_get trace n) refl (readers trace t x n)
   where
     -- an event that adds no reader
-    same : (us : List ℕ) → AreReaders trace n t x us → ((f : Numbered) → slice_get trace n ≡ Some f → f.what ≡ Read x → f.thread ≢ t → Among f.thread us) → (us : List ℕ) × AreReaders trace (suc n) t x us
+    same : (us : List ℕ) → AreReaders trace n t x us → ((f : Numbered) → slice_get trace n ≡ Some f → f.what ≡ Read x → f.thread ≢ t → Contains us f.thread) → (us : List ℕ) × AreReaders trace (suc n) t x us
     same us old at_end =
         (us, record { all = λ q f l at h other. ⊎_elim (λ k. at_end f (ap (slice_get trace) (sym k) ∙ at) h other) (λ k. old.all q f (omega arith) at h other) (cases_eq q n); apart = old.apart })
 
@@ -53,19 +54,12 @@ readers trace t x (suc n) = go (slice_get trace n) refl (readers trace t x n)
       f.thread ∷ us,
       record {
         all = λ q g l at' h apart. ⊎_elim
-            (λ k. let e = same_Some f g (sym at ∙ ap (slice_get trace) (sym k) ∙ at') in subst (λ (a : Numbered). Among a.thread (f.thread ∷ us)) e here)
-            (λ k. there (old.all q g (omega arith) at' h apart))
+            (λ k. let e = same_Some f g (sym at ∙ ap (slice_get trace) (sym k) ∙ at') in subst (λ (a : Numbered). Contains (f.thread ∷ us) a.thread) e (here us))
+            (λ k. there f.thread us (old.all q g (omega arith) at' h apart))
             (cases_eq q n);
-        apart = λ a. not_among a;
+        apart = λ a. ⊎_elim (λ k. other (sym k)) (λ b. old.apart b) (first_or_rest f.thread us a);
       },
     )
-      where
-        first : (v : ℕ) (vs : List ℕ) → Among t (v ∷ vs) → (t ≡ v) ⊎ Among t vs
-        first _ _ here = inl refl
-        first _ _ (there a) = inr a
-
-        not_among : ¬ Among t (f.thread ∷ us)
-        not_among a = ⊎_elim (λ k. other (sym k)) (λ b. old.apart b) (first f.thread us a)
 
     go : (o : Option Numbered) → slice_get trace n ≡ o → (us : List ℕ) × AreReaders trace n t x us → (us : List ℕ) × AreReaders trace (suc n) t x us
     go None at (us, old) = same us old (λ f at'. absurd (let e = sym at ∙ at' in cc))

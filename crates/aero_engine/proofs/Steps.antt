@@ -1,6 +1,6 @@
 -- Clocks after an event that is not an outermost end.
 use Rattle.std.proofs.Common.{◌≡◌, ◌≢◌, ℕ, suc, ◌+◌, ◌<◌, ◌≤◌, ◌⊎◌, inl, inr, ⊎_elim, List, Option, Some, None, refl, sym, ap, ◌∙◌, subst, arith}
-use Rattle.std.specs.Prelude.{Bool, true, false, ◌==◌, if◌then◌else◌, slice_get}
+use Rattle.std.specs.Prelude.{Bool, true, false, ◌==◌, if◌then◌else◌, slice_get, Contains}
 use Rattle.std.proofs.lemmas.Bool.{cases_lt, cases_eq, cases_Bool, eq-eqb, ne_eqb}
 use Rattle.std.proofs.lemmas.Option.{same_Some}
 use Rattle.aero_model.specs.declared.numbered.Numbered.{Numbered}
@@ -15,7 +15,6 @@ use Rattle.aero_model.proofs.Next.{reach_before, reach_last}
 use Rattle.aero_model.proofs.Walks.{Reaches}
 use Rattle.aero_engine.specs.declared.slot.Slot.{Slot}
 use Rattle.aero_engine.specs.Slots.{of_slot, last_event}
-use Rattle.aero_engine.specs.Takes.{Among}
 use Rattle.aero_engine.specs.Clocks.{Clock, IsSound, MissesNothing, AreSound, MissNothing, greatest, raised, new_clock, new_clocks}
 use Rattle.aero_engine.proofs.LastEvents.{is_last, last_new, last_kept}
 use Rattle.aero_engine.proofs.Taken.{Stand}
@@ -86,7 +85,7 @@ module _ (trace : List Numbered) (n : ℕ) (e : Numbered) (at : slice_get trace 
       go (Some q) h = (q, h)
 
   -- a block that the greatest of the clocks counts reaches the last event of a slot
-  taken : AreSound trace n clocks → (u k : ℕ) → 0 < k → k ≤ M u → (s : Slot) × (q : ℕ) × Among s ss × (last_event trace n s ≡ Some q) × Reaches trace n (Block u k) q
+  taken : AreSound trace n clocks → (u k : ℕ) → 0 < k → k ≤ M u → (s : Slot) × (q : ℕ) × Contains ss s × (last_event trace n s ≡ Some q) × Reaches trace n (Block u k) q
   taken sound u k pos le =
       let g = greatest_least clocks ss u k pos le in
       let q = counted sound g.0 u k pos g.2 in

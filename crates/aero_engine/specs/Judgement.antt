@@ -1,11 +1,11 @@
 -- What the clocks say of the event at place n, and what is to be told.
-use Rattle.std.specs.Prelude.{◌≡◌, ◌≢◌, ℕ, suc, ◌<◌, ◌≤◌, true, false, List, length, Option, Some, None, slice_get}
+use Rattle.std.specs.Prelude.{◌≡◌, ◌≢◌, ℕ, suc, ◌<◌, ◌≤◌, true, false, List, length, Contains, Option, Some, None, slice_get}
 use Rattle.aero_model.specs.declared.numbered.Numbered.{Numbered}
 use Rattle.aero_model.specs.Blocks.{depth, closes, blocks}
 use Rattle.aero_model.specs.Cycle.{HasTellingCycle, IsOpener, IsClosing}
 use Rattle.aero_engine.specs.declared.slot.Slot.{Slot}
 use Rattle.aero_engine.specs.declared.slot.Slot.TheVariants.{OfThread}
-use Rattle.aero_engine.specs.Takes.{Among, Takes}
+use Rattle.aero_engine.specs.Takes.{Takes}
 use Rattle.aero_engine.specs.Clocks.{Clock, AreSound, MissNothing, greatest, new_clocks, end_clocks}
 
 module _ (trace : List Numbered) (n t : ℕ) (clocks : Slot → Clock) where
@@ -13,7 +13,7 @@ module _ (trace : List Numbered) (n t : ℕ) (clocks : Slot → Clock) where
   pub record IsJudged (ss : List Slot) : Type 0 where
     pub is_open : 0 < depth trace t n
     pub slot : Slot
-    pub among : Among slot ss
+    pub among : Contains ss slot
     pub other : slot ≢ OfThread t
     pub counted : blocks trace t n ≤ clocks slot t
 

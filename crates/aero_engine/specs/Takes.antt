@@ -1,16 +1,11 @@
 -- Which slots' clocks an event takes.
-use Rattle.std.specs.Prelude.{◌≡◌, ◌≢◌, ℕ, ◌<◌, Bool, true, false, List, [], ◌∷◌, ◌++◌, map, Some, None, slice_get}
+use Rattle.std.specs.Prelude.{◌≡◌, ◌≢◌, ℕ, ◌<◌, Bool, true, false, List, [], ◌∷◌, ◌++◌, map, Contains, Some, None, slice_get}
 use Rattle.aero_model.specs.declared.numbered.Numbered.{Numbered}
 use Rattle.aero_model.specs.declared.numbered.What.{What}
 use Rattle.aero_model.specs.declared.numbered.What.TheVariants.{Read, Write, Acquire, Join}
 use Rattle.aero_engine.specs.declared.slot.Slot.{Slot}
 use Rattle.aero_engine.specs.declared.slot.Slot.TheVariants.{OfThread, LastWrite, LastRead, LastRelease}
 use Rattle.aero_engine.specs.Slots.{last_event}
-
--- the element is in the list
-pub data Among {A : Type 0} (s : A) : List A → Type 0 where
-  here : {ss : List A} → Among s (s ∷ ss)
-  there : {r : A} {ss : List A} → Among s ss → Among s (r ∷ ss)
 
 -- the event takes no clock but its thread's own: a begin or an end, exempt or not, a release or a fork
 abbrev pub takes_only_own : What → Bool
@@ -37,8 +32,8 @@ module _ (trace : List Numbered) (n : ℕ) where
 
   -- each read of the variable among the first n events is of a thread of the list or of t, and t is not in the list
   pub record AreReaders (t x : ℕ) (us : List ℕ) : Type 0 where
-    pub all : (q : ℕ) (f : Numbered) → q < n → slice_get trace q ≡ Some f → f.what ≡ Read x → f.thread ≢ t → Among f.thread us
-    pub apart : ¬ Among t us
+    pub all : (q : ℕ) (f : Numbered) → q < n → slice_get trace q ≡ Some f → f.what ≡ Read x → f.thread ≢ t → Contains us f.thread
+    pub apart : ¬ Contains us t
 
   -- the slots whose clocks event e at place n takes
   pub data Takes (e : Numbered) : List Slot → Type 0 where

@@ -1,7 +1,8 @@
 -- What is told of a faulty line that was looked at again, byte by byte.
-use Rattle.std.specs.Prelude.{ℕ, ◌+◌, ◌/◌, ◌%◌, ◌||◌, nat_lt, if◌then◌else◌, List, [], ◌∷◌, ◌++◌, flat_map, length, take, codes, decimal}
+use Rattle.std.specs.Prelude.{ℕ, ◌+◌, nat_lt, if◌then◌else◌, List, [], ◌++◌, flat_map, length, take, codes, decimal}
 use Rattle.std.specs.List.{position_or_len}
 use Rattle.std.specs.Str.Lines.{strip_carriage_return}
+use Rattle.aero_shown.specs.Shown.{shown_byte}
 use Rattle.aero_model.specs.declared.event.Op.{Op}
 use Rattle.aero_model.specs.declared.event.Op.TheVariants.{Read, Write, Acquire, Release, Fork, Join, Begin, End}
 use Rattle.aero_model.specs.declared.verdict.LineFault.{LineFault}
@@ -15,14 +16,6 @@ use Rattle.aero_faults.specs.Searches.{target_of}
 use Rattle.aero_faults.specs.Words.{line_words}
 use Rattle.aero_faults.specs.declared.hindrance.Hindrance.{Hindrance}
 use Rattle.aero_faults.specs.declared.hindrance.Hindrance.TheVariants.{Held, Free, Acted, Forked, Joined, Itself, NoneOpen}
-
--- 0 to 9, then a to f
-abbrev pub hex_digit : ℕ → ℕ
-hex_digit n = if nat_lt n 10 then 48 + n else 87 + n
-
--- a byte as itself, or as \xNN where it is a control byte or from 128 on
-abbrev pub shown_byte : ℕ → List ℕ
-shown_byte b = if nat_lt b 32 || nat_lt 126 b then codes "\\x" ++ hex_digit (b / 16) ∷ hex_digit (b % 16) ∷ [] else b ∷ []
 
 -- the first 200 of the bytes, and two dots where there are more
 abbrev pub shown : List ℕ → List ℕ

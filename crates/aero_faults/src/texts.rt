@@ -2,7 +2,8 @@
 ghost use Rattle.std.specs.Prelude.{◌≡◌, ◌++◌, ◌<◌, ◌≤◌, codes, decimal, flat_map, take, length, nat_lt, if◌then◌else◌, [], ◌∷◌, OnOk};
 ghost use Rattle.std.specs.Str.Lines.{strip_carriage_return};
 ghost use Rattle.aero_faults.specs.Words.{line_words as line_words_of};
-ghost use Rattle.aero_faults.specs.Texts.{bad_place as bad_place_in, deed_text, hex_digit as hex_digit_of, hindrance_text, line_text, shown, shown_byte, verb as verb_of};
+ghost use Rattle.aero_shown.specs.Shown.{shown_byte};
+ghost use Rattle.aero_faults.specs.Texts.{bad_place as bad_place_in, deed_text, hindrance_text, line_text, shown, verb as verb_of};
 
 use crate::fields::{bad_place, operation_word, without_return};
 use crate::hindrance::Hindrance;
@@ -10,6 +11,7 @@ use crate::search::target_of;
 use crate::words::line_words;
 use aero_model::event::{Event, Op};
 use aero_model::verdict::{LineFault, ShapeFault};
+use aero_shown::append_byte;
 use itoa::Buffer;
 use std::alloc::AllocError;
 
@@ -81,29 +83,6 @@ fn append_bytes(text: &mut Vec<u8>, bytes: &[u8]) -> Result<(), AllocError>
         append_byte(text, *byte)?;
     }
     Ok(())
-}
-
-// The byte, or `\xNN` in its place.
-fn append_byte(text: &mut Vec<u8>, byte: u8) -> Result<(), AllocError>
-    ensures { OnOk result (text.new.items ≡ text.old.items ++ shown_byte byte) }
-{
-    if byte < 32 || byte > 126 {
-        text.extend_from_slice(&[b'\\', b'x', hex_digit(byte / 16), hex_digit(byte % 16)])
-    } else {
-        text.extend_from_slice(&[byte])
-    }
-}
-
-// 0 to 9, then a to f.
-fn hex_digit(number: u8) -> u8
-    requires { number < 16 }
-    ensures { result ≡ hex_digit_of number }
-{
-    if number < 10 {
-        b'0' + number
-    } else {
-        b'a' - 10 + number
-    }
 }
 
 /// Adds what is told of an ill-formed event and of what stands in its way.

@@ -12,6 +12,7 @@ use Rattle.aero_model.specs.Named.{stands_alone}
 use Rattle.aero_model.specs.Names.{is_bad_byte}
 use Rattle.aero_grammar.specs.Meaning.{Means, meaning, is_bar, is_blank, is_parenthesis, is_long_name, label_in, operation_of, target_bytes, target_of, trimmed}
 use Rattle.aero_grammar.specs.Short.{IsShort}
+use Rattle.aero_grammar.proofs.Places.{position_or_len-le}
 
 -- the first place among fewer elements
 place_step : (b : Bool) (a c n : ℕ) → a ≡ min c n → cond (not b) (1 + a) 0 ≡ min (cond (not b) (1 + c) 0) (suc n)
@@ -24,6 +25,15 @@ place_among p (suc n) zero xs le all = absurd (omega (arith, le))
 place_among p (suc n) (suc m) [] le all = absurd (omega (arith, all))
 place_among p (suc n) (suc m) (x ∷ xs) le all =
     place_step (p x) (position_or_len p (take n xs)) (position_or_len p (take m xs)) n (place_among p n m xs (omega (arith, le)) (omega (arith, all)))
+
+-- the first place near the front of a line is the first of the line
+pub found_near : (p : ℕ → Bool) (n m at : ℕ) (xs : List ℕ) → n ≤ m → m ≤ length xs → at ≡ position_or_len p (take n xs) → at < n → at ≡ position_or_len p (take m xs)
+found_near p n m at xs le all is below = omega (arith, place_among p n m xs le all, is, below)
+
+-- so it is where it is the end
+pub ends_near : (p : ℕ → Bool) (rest limit at : ℕ) (xs : List ℕ) → rest ≤ length xs → limit ≡ min rest 32 → at ≡ position_or_len p (take limit xs) → at < 32 → at ≡ position_or_len p (take rest xs)
+ends_near p rest limit at xs all near is few =
+    omega (arith, place_among p limit rest xs (omega (arith, near)) all, near, is, few, position_or_len-le p (take rest xs), length-take rest xs)
 
 -- the field between two places of a line
 pub field_between : (text : List ℕ) (end bar more : ℕ) → bar < end → bar ≡ position_or_len is_bar (take end text) → more ≤ end - (bar + 1) → more ≡ position_or_len is_bar (take (end - (bar + 1)) (drop (bar + 1) text)) →
@@ -58,7 +68,7 @@ no_return line some good =
     ne_eqb (slice_index line (length line - 1)) 13 (λ is. cc)
 
 -- what a line with these fields means
-pub short_meaning : (line thread field : List ℕ) (op : Op) (target : Option (List ℕ)) → length line < 32 → list_any is_bad_byte line ≡ false → list_any is_bar line ≡ true
+pub short_meaning : (line thread field : List ℕ) (op : Op) (target : Option (List ℕ)) → length line ≤ 4096 → list_any is_bad_byte line ≡ false → list_any is_bar line ≡ true
     → thread ≡ before_first is_bar line → trimmed thread ≡ thread → 0 < length thread → length thread < 32
     → field ≡ before_first is_bar (after_first is_bar line) → IsShort field op target
     → meaning line ≡ Means (record { thread = thread; op = op; target = target })

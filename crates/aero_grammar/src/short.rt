@@ -1,5 +1,5 @@
-//! Lines of the common shape, read with few tests that a processor can't guess: each of their places
-//! is found in 32 bytes at once.
+//! Lines of the common shape, read with few tests that a processor can't guess: the places of their fields
+//! are found in 32 bytes at once.
 ghost use Rattle.std.specs.Prelude.{◌≡◌, ◌<◌, ◌≤◌, ◌+◌, ◌==◌, ◌∷◌, length, take, drop, map, true, false, Some, IfSome, IsTrue, option_copied, if◌then◌else◌};
 ghost use Rattle.std.specs.List.{list_any, position_or_len, before_first, after_first};
 ghost use Rattle.std.specs.Int.{w64, to_le_bytes, trailing_zeros};
@@ -14,7 +14,9 @@ ghost use Rattle.aero_grammar.specs.Short.{IsShort, IsSign, word_of};
 
 use crate::bytes::is_blank;
 use crate::words::Words;
+use aero_model::bytes::MOST_LINE_BYTES;
 use aero_model::event::Op;
+use memchr::memchr;
 use std::simd::prelude::*;
 
 const LANES: usize = 32;
@@ -31,7 +33,7 @@ pub struct ShortLine<'a> {
 }
 
 // The first line of a text in which no byte is bad but those that end lines. It is told only where it has
-// an event, fewer than 32 bytes, and no blanks round its fields.
+// an event, up to 4,096 bytes, and first fields of fewer than 32 each, without blanks round them.
 #[inline(always)]
 pub fn short_line(text: &[u8]) -> Option<ShortLine<'_>>
     requires { list_any is_unfit text.now ≡ false }
@@ -43,10 +45,7 @@ pub fn short_line(text: &[u8]) -> Option<ShortLine<'_>>
     if text.len() < FEWEST_BYTES {
         return None;
     }
-    let end = place_in(b'\n', text, 0, LANES);
-    if end == LANES {
-        return None;
-    }
+    let end = line_end(text)?;
     let words = short_words(text, end)?;
     Some(ShortLine {
         line: &text[..end],
@@ -55,11 +54,47 @@ pub fn short_line(text: &[u8]) -> Option<ShortLine<'_>>
     })
 }
 
+// The place of the byte 10 that ends the first line of such a text, where that has up to 4,096 bytes, and, where it has
+// 32 or more, a `|` among the first 32.
+#[inline(always)]
+fn line_end(text: &[u8]) -> Option<usize>
+    requires wide { 64 ≤ length text.now }
+    requires clean { list_any is_unfit text.now ≡ false }
+    ensures lines { IfSome result (λ end. lines_of text.now ≡ take end text.now ∷ lines_of (drop (end + 1) text.now)) }
+    ensures good { IfSome result (λ end. list_any is_bad_byte (take end text.now) ≡ false) }
+    ensures within { IfSome result (λ end. end < length text.now) }
+    ensures few { IfSome result (λ end. end ≤ 4096) }
+{
+    let end = place_in(b'\n', text, 0, LANES);
+    if end < LANES {
+        return Some(end);
+    }
+    if place_in(b'|', text, 0, LANES) == LANES {
+        return None;
+    }
+    far_line_end(text)
+}
+
+// The place of the byte 10 that ends the first line of such a text, where that has up to 4,096 bytes.
+fn far_line_end(text: &[u8]) -> Option<usize>
+    requires clean { list_any is_unfit text.now ≡ false }
+    ensures lines { IfSome result (λ end. lines_of text.now ≡ take end text.now ∷ lines_of (drop (end + 1) text.now)) }
+    ensures good { IfSome result (λ end. list_any is_bad_byte (take end text.now) ≡ false) }
+    ensures within { IfSome result (λ end. end < length text.now) }
+    ensures few { IfSome result (λ end. end ≤ 4096) }
+{
+    match memchr(b'\n', text) {
+        Some(end) if end <= MOST_LINE_BYTES => Some(end),
+        _ => None,
+    }
+}
+
 // The words of the line that ends at this place.
 #[inline(always)]
 fn short_words(text: &[u8], end: usize) -> Option<Words<'_>>
     requires wide { 64 ≤ length text.now }
-    requires near { end < 32 }
+    requires within { end < length text.now }
+    requires few { end ≤ 4096 }
     requires good { list_any is_bad_byte (take end text.now) ≡ false }
     ensures { IfSome result (λ w. meaning (take end text.now) ≡ Means (named_of w)) }
 {
@@ -72,11 +107,11 @@ fn short_words(text: &[u8], end: usize) -> Option<Words<'_>>
 }
 
 // What stands before the first `|` of that line, what stands between it and the next, or the end, and the
-// eight bytes behind the first `|` as one number.
+// eight bytes behind the first `|` as one number. It is told only where both have fewer than 32 bytes.
 #[inline(always)]
 fn short_fields(text: &[u8], end: usize) -> Option<(&[u8], &[u8], u64)>
     requires wide { 64 ≤ length text.now }
-    requires near { end < 32 }
+    requires within { end < length text.now }
     ensures barred { IfSome result (λ f. list_any is_bar (take end text.now) ≡ true) }
     ensures thread { IfSome result (λ f. f.0.now ≡ before_first is_bar (take end text.now)) }
     ensures short { IfSome result (λ f. length f.0.now < 32) }
@@ -84,12 +119,17 @@ fn short_fields(text: &[u8], end: usize) -> Option<(&[u8], &[u8], u64)>
     ensures within { IfSome result (λ f. length f.1.now < 32) }
     ensures word { IfSome result (λ f. take (length f.1.now) (to_le_bytes w64 f.2) ≡ take 8 f.1.now) }
 {
-    let bar = place_in(b'|', text, 0, end);
-    if bar == end {
+    let near = end.min(LANES);
+    let bar = place_in(b'|', text, 0, near);
+    if bar == near {
         return None;
     }
     let behind = bar + 1;
-    let more = place_in(b'|', text, behind, end - behind);
+    let limit = (end - behind).min(LANES);
+    let more = place_in(b'|', text, behind, limit);
+    if more == LANES {
+        return None;
+    }
     let word = word_at(text, behind)?;
     Some((&text[..bar], &text[behind..behind + more], word))
 }

@@ -28,6 +28,7 @@
 //! - A `Live` has exactly the parts that came, in order, on the terms that it began with: `Live::new`, `feed`, `parts`,
 //!   `rules`, `order`; `len`. `finish` gives what is found of exactly them: the verdict, and the serial order where that
 //!   is asked for and the verdict is `Serializable`. So does its `Judge`: `new`, `feed`, `feed_rest`, `finish`.
+//! - With each block that comes a `Live` judges two: one waits less than before, if one did: `Live::new`, `feed`, `waiting`.
 //! - Kept or judged as they came, the parts of a source are those that its blocks gave, on the terms that it began
 //!   with: `Knowledge::new`, `add`, `len`. With the block that makes them more than so many events the source turns
 //!   live, unless a violation is to be explained, and it stays so: `Knowledge::add`, `take_value`.

@@ -1,5 +1,5 @@
 //! A source that is judged as it comes.
-ghost use Rattle.std.specs.Prelude.{◌≡◌, ◌++◌, ◌∷◌, [], length, is_some, IfOk, IfSome, OnOk};
+ghost use Rattle.std.specs.Prelude.{◌≡◌, ◌++◌, ◌∷◌, [], ◌-◌, length, is_some, IfOk, IfSome, OnOk};
 ghost use Rattle.aero_verdict.specs.Fed.{IsCertain};
 ghost use Rattle.aero_verdict.specs.Finding.{IsTraceFinding};
 ghost use Rattle.aero_intake.specs.Lives.{watched_by, unexplained};
@@ -32,6 +32,7 @@ impl Model for Live {
 
     ghost view = { λ l. record {
       parts = (watched_by l.judge).parts ++ l.waiting.items;
+      waiting = length l.waiting.items;
       rules = (watched_by l.judge).rules;
       order = (watched_by l.judge).order;
       certain = (watched_by l.judge).certain;
@@ -45,6 +46,7 @@ impl Live {
     /// that memory was refused.
     pub fn new(alloc: Global, terms: &Terms, kept: Vec<Parsed>) -> Result<Live, AllocError>
         ensures parts { IfOk result (λ live. live.parts ≡ kept.items) }
+        ensures waiting { IfOk result (λ live. live.waiting ≡ length kept.items) }
         ensures rules { IfOk result (λ live. live.rules ≡ terms.now.rules) }
         ensures order { IfOk result (λ live. live.order ≡ terms.now.order) }
     {
@@ -56,11 +58,12 @@ impl Live {
         })
     }
 
-    /// Takes what the next block says, and judges the next two that wait, with the same labels as at first. An
-    /// `AllocError` says that memory was refused.
+    /// Takes what the next block says, and judges the next two that wait, with the same labels as at first: one waits
+    /// less than before, if one did. An `AllocError` says that memory was refused.
     pub fn feed(&mut self, part: Parsed, except: &Except) -> Result<(), AllocError>
         requires { except.now ≡ self.old.rules.labels }
         ensures parts { OnOk result (self.new.parts ≡ self.old.parts ++ part ∷ []) }
+        ensures waiting { OnOk result (self.new.waiting ≡ self.old.waiting - 1) }
         ensures rules { self.new.rules ≡ self.old.rules }
         ensures order { self.new.order ≡ self.old.order }
     {
@@ -123,6 +126,7 @@ fn judge_next(
 ) -> Result<(), AllocError>
     requires { except.now ≡ (watched_by judge.old).rules.labels }
     ensures parts { (watched_by judge.new).parts ++ waiting.new.items ≡ (watched_by judge.old).parts ++ waiting.old.items }
+    ensures waiting { length waiting.new.items ≡ length waiting.old.items - 1 }
     ensures rules { (watched_by judge.new).rules ≡ (watched_by judge.old).rules }
     ensures order { (watched_by judge.new).order ≡ (watched_by judge.old).order }
 {

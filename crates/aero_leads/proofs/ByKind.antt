@@ -1,6 +1,6 @@
 -- The rows after an event, by what it does.
 use Rattle.std.proofs.Common.{◌≡◌, ◌≢◌, ℕ, suc, ◌⊎◌, inl, inr, ⊎_elim, List, [], ◌∷◌, Option, Some, None, refl, sym, ap, ap₂, ◌∙◌, subst}
-use Rattle.std.specs.Prelude.{Bool, true, false, ◌==◌, ◌&&◌, ◌||◌, if◌then◌else◌, is_some, slice_get}
+use Rattle.std.specs.Prelude.{Bool, true, false, ◌==◌, ◌&&◌, ◌||◌, if◌then◌else◌, is_some, slice_get, Contains}
 use Rattle.std.proofs.lemmas.Bool.{cases_eq, cases_Bool, and_parts, and_from, and_left, and_right, or_left, or_right, eq-eqb, ne_eqb, cond-true, cond-false}
 use Rattle.std.proofs.lemmas.Option.{same_Some}
 use Rattle.aero_model.specs.declared.numbered.Numbered.{Numbered}
@@ -8,11 +8,12 @@ use Rattle.aero_model.specs.declared.numbered.What.{What}
 use Rattle.aero_model.specs.declared.numbered.What.TheVariants.{Begin, Fork}
 use Rattle.aero_model.specs.Blocks.{is_begin, is_end, by_thread, depth, opens, closes}
 use Rattle.aero_model.specs.Shape.{is_fork_of, IsWellFormed}
+use Rattle.aero_model.proofs.Elements.{here, there}
 use Rattle.aero_model.proofs.Depths.{opening_at}
 use Rattle.aero_model.proofs.Ends.{is_by}
 use Rattle.aero_engine.specs.declared.slot.Slot.TheVariants.{OfThread}
 use Rattle.aero_engine.specs.Slots.{of_slot}
-use Rattle.aero_engine.specs.Takes.{Among, here, there, takes_only_own}
+use Rattle.aero_engine.specs.Takes.{takes_only_own}
 use Rattle.aero_engine.proofs.Counts.{quiet_from}
 use Rattle.aero_leads.specs.Leads.{Rows, is_led, IsFirst, AreFirst}
 use Rattle.aero_leads.specs.Marks.{Mark, TakesMarks}
@@ -50,19 +51,19 @@ module _ (n t : ℕ) where
   take_own m rows w = cond-true (t == t) _ _ (eq-eqb t t refl)
 
   -- other threads' marks are led as before
-  led_same : (m : Mark) (rows : Rows) (w : ℕ) (ms : List Mark) → ((k : Mark) → Among k ms → k.thread ≢ t) → led_by (take_rows n t m rows) w ms ≡ led_by rows w ms
+  led_same : (m : Mark) (rows : Rows) (w : ℕ) (ms : List Mark) → ((k : Mark) → Contains ms k → k.thread ≢ t) → led_by (take_rows n t m rows) w ms ≡ led_by rows w ms
   led_same m rows w [] others = refl
-  led_same m rows w (k ∷ ms) others = ap₂ (λ r b. is_led r k.place || b) (take_other m rows k.thread w (others k here)) (led_same m rows w ms (λ j a. others j (there a)))
+  led_same m rows w (k ∷ ms) others = ap₂ (λ r b. is_led r k.place || b) (take_other m rows k.thread w (others k (here ms))) (led_same m rows w ms (λ j a. others j (there k ms a)))
 
-  pub taken_own : (ms : List Mark) (rows : Rows) (w : ℕ) → ((k : Mark) → Among k ms → k.thread ≢ t) → taken_rows n t ms rows t w ≡ gains (rows t w) (led_by rows w ms) n
+  pub taken_own : (ms : List Mark) (rows : Rows) (w : ℕ) → ((k : Mark) → Contains ms k → k.thread ≢ t) → taken_rows n t ms rows t w ≡ gains (rows t w) (led_by rows w ms) n
   taken_own [] rows w others = go (rows t w)
     where
       go : (r : Option ℕ) → r ≡ gains r false n
       go None = refl
       go (Some p) = refl
   taken_own (m ∷ ms) rows w others =
-      taken_own ms (take_rows n t m rows) w (λ j a. others j (there a))
-      ∙ ap₂ (λ r b. gains r b n) (take_own m rows w) (led_same m rows w ms (λ j a. others j (there a)))
+      taken_own ms (take_rows n t m rows) w (λ j a. others j (there m ms a))
+      ∙ ap₂ (λ r b. gains r b n) (take_own m rows w) (led_same m rows w ms (λ j a. others j (there m ms a)))
       ∙ gains_more (rows t w) (is_led (rows m.thread w) m.place) (led_by rows w ms) n
 
 module _ (trace : List Numbered) (n : ℕ) (e : Numbered) (at : slice_get trace n ≡ Some e) (rows : Rows) where
@@ -85,7 +86,7 @@ module _ (trace : List Numbered) (n : ℕ) (e : Numbered) (at : slice_get trace 
   not_own o h k = ap (λ b. b || is_fork_of o e.what) (ne_eqb t o (λ j. h (sym j))) ∙ k
 
   -- an event that begins nothing and forks nothing
-  module _ (ms : List Mark) (others : (k : Mark) → Among k ms → k.thread ≢ t) (shut : opens trace t n ≡ false) (no_fork : (u : ℕ) → is_fork_of u e.what ≡ false) where
+  module _ (ms : List Mark) (others : (k : Mark) → Contains ms k → k.thread ≢ t) (shut : opens trace t n ≡ false) (no_fork : (u : ℕ) → is_fork_of u e.what ≡ false) where
     all_shut : (w : ℕ) → opens trace w n ≡ false
     all_shut w = ⊎_elim (λ h. subst (λ v. opens trace v n ≡ false) (sym h) shut) (others_shut w) (cases_eq w t)
 

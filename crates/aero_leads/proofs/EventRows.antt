@@ -1,12 +1,13 @@
 -- The rows after an event that ends no block.
-use Rattle.std.proofs.Common.{◌≡◌, ℕ, suc, ◌+◌, ◌<◌, ◌≤◌, ◌⊎◌, inl, inr, ⊎_elim, List, [], ◌∷◌, Option, Some, None, refl, sym, ap, ◌∙◌, subst, arith}
-use Rattle.std.specs.Prelude.{Bool, true, false, ◌||◌, is_some, slice_get}
+use Rattle.std.proofs.Common.{◌≡◌, ℕ, zero, suc, ◌+◌, ◌<◌, ◌≤◌, ◌⊎◌, inl, inr, ⊎_elim, List, [], ◌∷◌, Option, Some, None, refl, sym, ap, ◌∙◌, subst, arith}
+use Rattle.std.specs.Prelude.{Bool, true, false, ◌||◌, is_some, slice_get, Contains}
 use Rattle.std.proofs.lemmas.Bool.{cases_lt, cases_Bool, both_ways, or_cases, or_left, or_right, cond-true, cond-false}
 use Rattle.std.proofs.lemmas.Option.{same_Some}
 use Rattle.aero_model.specs.declared.numbered.Numbered.{Numbered}
 use Rattle.aero_model.specs.Blocks.{depth, opens, closes, blocks, Transaction, Block, transaction}
 use Rattle.aero_model.specs.Graph.{Conflict, same_thread, forks}
 use Rattle.aero_model.specs.Shape.{IsWellFormed}
+use Rattle.aero_model.proofs.Elements.{none_in, here, there}
 use Rattle.aero_model.proofs.Reach.{stay, on, reach_from_within}
 use Rattle.aero_model.proofs.Places.{in_block, block_from}
 use Rattle.aero_model.proofs.Depths.{AtOpening, AtClosing, AtOther, step}
@@ -16,7 +17,6 @@ use Rattle.aero_model.proofs.Next.{reach_from_last, reach_before, reach_last}
 use Rattle.aero_model.proofs.Walks.{Reaches, leads_from_reaches}
 use Rattle.aero_engine.specs.declared.slot.Slot.TheVariants.{OfThread}
 use Rattle.aero_engine.specs.Slots.{of_slot}
-use Rattle.aero_engine.specs.Takes.{Among, here, there}
 use Rattle.aero_engine.proofs.LastEvents.{of_thread}
 use Rattle.aero_engine.proofs.Sources.{latest, acted_by_block}
 use Rattle.aero_engine.proofs.Counts.{reaches_on, reaches_more, own_latest}
@@ -27,17 +27,18 @@ use Rattle.aero_leads.proofs.FirstPlaces.{first_some, first_of, first_reaches, f
 use Rattle.aero_leads.proofs.Marked.{ReachesOwn, ReachesMark, ReachesPassed, Stood, taken_place, last_place}
 
 -- marks and what leads to them
-pub led_mark : (rows : Rows) (w : ℕ) (ms : List Mark) → led_by rows w ms ≡ true → (m : Mark) × Among m ms × (is_led (rows m.thread w) m.place ≡ true)
+pub led_mark : (rows : Rows) (w : ℕ) (ms : List Mark) → led_by rows w ms ≡ true → (m : Mark) × Contains ms m × (is_led (rows m.thread w) m.place ≡ true)
 led_mark rows w [] h = absurd (cc)
 led_mark rows w (m ∷ ms) h =
     ⊎_elim
-    (λ k. (m, here, k))
-    (λ k. let r = led_mark rows w ms k in (r.0, there r.1, r.2))
+    (λ k. (m, here ms, k))
+    (λ k. let r = led_mark rows w ms k in (r.0, there m ms r.1, r.2))
     (or_cases (is_led (rows m.thread w) m.place) (led_by rows w ms) h)
 
-pub mark_led : (rows : Rows) (w : ℕ) (m : Mark) (ms : List Mark) → Among m ms → is_led (rows m.thread w) m.place ≡ true → led_by rows w ms ≡ true
-mark_led rows w m _ (here {ss = ms}) h = or_left _ _ h
-mark_led rows w m _ (there {r = r} {ss = ms} a) h = or_right (is_led (rows r.thread w) r.place) _ (mark_led rows w m ms a h)
+pub mark_led : (rows : Rows) (w : ℕ) (m : Mark) (ms : List Mark) → Contains ms m → is_led (rows m.thread w) m.place ≡ true → led_by rows w ms ≡ true
+mark_led rows w m [] a h = absurd (none_in a)
+mark_led rows w m (r ∷ ms) (zero, l, e) h = or_left _ _ (subst (λ (k : Mark). is_led (rows k.thread w) k.place ≡ true) (sym e) h)
+mark_led rows w m (r ∷ ms) (suc k, l, e) h = or_right (is_led (rows r.thread w) r.place) _ (mark_led rows w m ms (k, omega arith, e) h)
 
 is_led_none : (r : Option ℕ) (p : ℕ) → r ≡ None → is_led r p ≡ false
 is_led_none r p h = ap (λ o. is_led o p) h

@@ -1,19 +1,19 @@
 -- The marks of the events that are kept, and what leads to them.
 use Rattle.std.proofs.Common.{◌≡◌, ◌≢◌, ◌⊎◌, inl, inr, ⊎_elim, ℕ, zero, suc, ◌<◌, List, [], ◌∷◌, ◌++◌, length, Option, Some, None, refl, sym, ap, ap₂, ◌∙◌, subst, le_refl, arith}
-use Rattle.std.specs.Prelude.{◌==◌, ◌&&◌, ◌||◌, not, Bool, true, false, if◌then◌else◌, slice_get}
+use Rattle.std.specs.Prelude.{◌==◌, ◌&&◌, ◌||◌, not, Bool, true, false, if◌then◌else◌, slice_get, Contains}
 use Rattle.std.proofs.lemmas.Bool.{cases_eq, cases_lt, both_ways, and_parts, eqb-true, eq-eqb, ne_eqb, lt-ltb, le-ltb, le-leb, lt-leb, cond-true, cond-false}
+use Rattle.std.proofs.lemmas.List.Elements.{Contains-append_left, Contains-append_right, Contains-append_cases}
 use Rattle.std.proofs.lemmas.Option.{same_Some}
 use Rattle.aero_model.specs.declared.numbered.Numbered.{Numbered}
 use Rattle.aero_engine.specs.declared.slot.Slot.{Slot}
 use Rattle.aero_engine.specs.declared.slot.Slot.TheVariants.{LastWrite, LastRead}
 use Rattle.aero_model.specs.Blocks.{blocks, Block}
+use Rattle.aero_model.proofs.Elements.{none_in, here, there, first_or_rest}
 use Rattle.aero_model.proofs.Walks.{reaches_from_leads}
 use Rattle.aero_engine.specs.Slots.{of_slot, is_read_of, last_event}
 use Rattle.aero_engine.specs.Events.{thread_of}
-use Rattle.aero_engine.specs.Takes.{Among, here, there}
 use Rattle.aero_engine.proofs.LastEvents.{is_last, to_thread}
 use Rattle.aero_engine.proofs.LongerTraces.{last_event_same}
-use Rattle.aero_engine.proofs.Taken.{among_left, among_right, among_first, among_parts}
 use Rattle.aero_leads.specs.declared.last.Last.{Last}
 use Rattle.aero_leads.specs.Leads.{Rows, is_led, IsUnled}
 use Rattle.aero_leads.specs.Marks.{Mark, mark, IsPassed, IfOther, nobodys, its_own, other, IsReadAt, AreReads}
@@ -68,31 +68,31 @@ pub led_marks : (rows : Rows) (t w : ℕ) (ls : List Last) → leads_to_any rows
 led_marks rows t w [] = refl
 led_marks rows t w (l ∷ ls) = ap₂ (λ a b. a || b) (led_at rows t w l.thread l.count) (led_marks rows t w ls) ∙ sym (led_append rows w (mark_at t l.thread l.count) (marks_of t ls))
 
-among_at : (t u c : ℕ) (m : Mark) → Among m (mark_at t u c) → (u ≢ t) × (m.thread ≡ u) × (c ≡ suc m.place)
-among_at t u zero m a = elim a [ ]
+among_at : (t u c : ℕ) (m : Mark) → Contains (mark_at t u c) m → (u ≢ t) × (m.thread ≡ u) × (c ≡ suc m.place)
+among_at t u zero m a = absurd (none_in a)
 among_at t u (suc p) m a = go (u == t) refl a
   where
-    go : (b : Bool) → u == t ≡ b → Among m (if b then [] else mark u p ∷ []) → (u ≢ t) × (m.thread ≡ u) × (suc p ≡ suc m.place)
-    go true e a = elim a [ ]
+    go : (b : Bool) → u == t ≡ b → Contains (if b then [] else mark u p ∷ []) m → (u ≢ t) × (m.thread ≡ u) × (suc p ≡ suc m.place)
+    go true e a = absurd (none_in a)
     go false e a = ⊎_elim
         (λ same. ((λ h. both_ways (u == t) e (eq-eqb u t h)), ap (λ (k : Mark). k.thread) same, ap (λ (k : Mark). suc k.place) (sym same)))
-        (λ more. elim more [ ])
-        (among_first m (mark u p) [] a)
+        (λ more. absurd (none_in more))
+        (first_or_rest (mark u p) [] a)
 
-pub among_marks : (t : ℕ) (ls : List Last) (m : Mark) → Among m (marks_of t ls) → (l : Last) × Among l ls × (m.thread ≡ l.thread) × (l.count ≡ suc m.place) × (m.thread ≢ t)
-among_marks t [] m a = elim a [ ]
+pub among_marks : (t : ℕ) (ls : List Last) (m : Mark) → Contains (marks_of t ls) m → (l : Last) × Contains ls l × (m.thread ≡ l.thread) × (l.count ≡ suc m.place) × (m.thread ≢ t)
+among_marks t [] m a = absurd (none_in a)
 among_marks t (l ∷ ls) m a = ⊎_elim
-    (λ k. let r = among_at t l.thread l.count m k in (l, here, r.1, r.2, λ h. r.0 (sym r.1 ∙ h)))
-    (λ k. let r = among_marks t ls m k in (r.0, there r.1, r.2, r.3, r.4))
-    (among_parts m (mark_at t l.thread l.count) (marks_of t ls) a)
+    (λ k. let r = among_at t l.thread l.count m k in (l, here ls, r.1, r.2, λ h. r.0 (sym r.1 ∙ h)))
+    (λ k. let r = among_marks t ls m k in (r.0, there l ls r.1, r.2, r.3, r.4))
+    (Contains-append_cases (mark_at t l.thread l.count) (marks_of t ls) m a)
 
-pub marks_among : (t u q : ℕ) (ls : List Last) → u ≢ t → Among (last u (suc q)) ls → Among (mark u q) (marks_of t ls)
-marks_among t u q [] ne a = elim a [ ]
+pub marks_among : (t u q : ℕ) (ls : List Last) → u ≢ t → Contains ls (last u (suc q)) → Contains (marks_of t ls) (mark u q)
+marks_among t u q [] ne a = absurd (none_in a)
 marks_among t u q (l ∷ ls) ne a = ⊎_elim
-    (λ same. among_left (mark u q) (mark_at t l.thread l.count) (marks_of t ls)
-    (subst (λ (k : Last). Among (mark u q) (mark_at t k.thread k.count)) same (subst (λ ms. Among (mark u q) ms) (sym (cond-false (u == t) _ _ (ne_eqb u t ne))) here)))
-    (λ more. among_right (mark u q) (mark_at t l.thread l.count) (marks_of t ls) (marks_among t u q ls ne more))
-    (among_first (last u (suc q)) l ls a)
+    (λ same. Contains-append_left (mark_at t l.thread l.count) (marks_of t ls) (mark u q)
+    (subst (λ (k : Last). Contains (mark_at t k.thread k.count) (mark u q)) same (subst (λ ms. Contains ms (mark u q)) (sym (cond-false (u == t) _ _ (ne_eqb u t ne))) (here []))))
+    (λ more. Contains-append_right (mark_at t l.thread l.count) (marks_of t ls) (mark u q) (marks_among t u q ls ne more))
+    (first_or_rest l ls a)
 
 module _ (old : State) (before : List Numbered) (e : Numbered) (stands : IsStateOf old before) where
   abbrev more : List Numbered

@@ -1,21 +1,22 @@
 -- The marks that an event takes stand for all that conflicts with it.
 use Rattle.std.proofs.Common.{◌≡◌, ◌≢◌, ℕ, ◌<◌, ◌≤◌, ◌⊎◌, inl, inr, ⊎_elim, List, [], ◌∷◌, ◌++◌, Option, Some, None, refl, sym, ap, ◌∙◌, subst, arith}
-use Rattle.std.specs.Prelude.{◌==◌, true, slice_get}
+use Rattle.std.specs.Prelude.{◌==◌, true, slice_get, Contains}
 use Rattle.std.proofs.lemmas.Bool.{cases_lt, cases_eq, eqb-true, and_parts}
+use Rattle.std.proofs.lemmas.List.Elements.{Contains-append_left, Contains-append_right, Contains-append_cases}
 use Rattle.std.proofs.lemmas.Option.{same_Some}
 use Rattle.aero_model.specs.declared.numbered.Numbered.{Numbered}
 use Rattle.aero_model.specs.declared.numbered.What.TheVariants.{Read, Write, Acquire, Join}
 use Rattle.aero_model.specs.Graph.{Conflict, read_write}
 use Rattle.aero_model.specs.Shape.{IsWellFormed}
+use Rattle.aero_model.proofs.Elements.{none_in, here, first_or_rest}
 use Rattle.aero_model.proofs.Reach.{Reach, stay, reach_trans}
 use Rattle.aero_model.proofs.WellFormed.{joins_other}
 use Rattle.aero_engine.specs.declared.slot.Slot.{Slot}
 use Rattle.aero_engine.specs.declared.slot.Slot.TheVariants.{OfThread, LastWrite, LastRead, LastRelease}
 use Rattle.aero_engine.specs.Slots.{is_read_of, of_slot, last_event}
-use Rattle.aero_engine.specs.Takes.{Among, here, takes_only_own, HasActed}
+use Rattle.aero_engine.specs.Takes.{takes_only_own, HasActed}
 use Rattle.aero_engine.proofs.LastEvents.{read_is, write_is, to_thread, IsLast, is_last}
 use Rattle.aero_engine.proofs.Sources.{Source, own, read, write, write_after_read, acquire, join, source_conflicts, Covered, covered, latest, reach_latest, reach_later}
-use Rattle.aero_engine.proofs.Taken.{among_left, among_right, among_first, among_parts}
 use Rattle.aero_leads.specs.Leads.{IsPlaceOf}
 use Rattle.aero_leads.specs.Marks.{Mark, mark, IsPassed, IfOther, nobodys, its_own, other, IsReadAt, AreReads, TakesMarks}
 use Rattle.aero_leads.specs.Marks as takes
@@ -36,7 +37,7 @@ pub record ReachesOwn (trace : List Numbered) (n : ℕ) (e : Numbered) (p : ℕ)
 
 pub record ReachesMark (trace : List Numbered) (n : ℕ) (ms : List Mark) (p : ℕ) : Type 0 where
   pub it : Mark
-  pub among : Among it ms
+  pub among : Contains ms it
   pub reach : Reach trace n p it.place
 
 -- place p reaches one to which no open block leads
@@ -46,7 +47,7 @@ pub record ReachesPassed (trace : List Numbered) (n p : ℕ) : Type 0 where
   pub reach : Reach trace n p place
 
 pub record Stood (trace : List Numbered) (n : ℕ) (e : Numbered) (ms : List Mark) : Type 0 where
-  pub each : (m : Mark) → Among m ms → IsTaken trace n e m
+  pub each : (m : Mark) → Contains ms m → IsTaken trace n e m
   pub all : (p : ℕ) → Conflict trace p n → ReachesOwn trace n e p ⊎ (ReachesMark trace n ms p ⊎ ReachesPassed trace n p)
 
 pub taken_place : (trace : List Numbered) (n : ℕ) (e : Numbered) (m : Mark) → IsTaken trace n e m → IsPlaceOf trace n m.thread m.place
@@ -66,7 +67,7 @@ module _ (trace : List Numbered) (ok : IsWellFormed trace) (n : ℕ) (e : Number
   way_from ms p q to (inr (inr w)) = inr (inr (record { place = w.place; passed = w.passed; reach = reach_trans trace n p q w.place to w.reach }))
 
   -- from the last event of each source there is a way
-  stood_from : (ms : List Mark) → ((m : Mark) → Among m ms → IsTaken trace n e m) → ((s : Slot) (q : ℕ) → Source trace n e s → last_event trace n s ≡ Some q → Way ms q) → Stood trace n e ms
+  stood_from : (ms : List Mark) → ((m : Mark) → Contains ms m → IsTaken trace n e m) → ((s : Slot) (q : ℕ) → Source trace n e s → last_event trace n s ≡ Some q → Way ms q) → Stood trace n e ms
   stood_from ms each ways = record { each = each; all = λ p c. found p (covered trace ok n e at p c) }
     where
       found : (p : ℕ) → Covered trace ok n e at p → Way ms p
@@ -84,18 +85,18 @@ module _ (trace : List Numbered) (ok : IsWellFormed trace) (n : ℕ) (e : Number
       inl (record { place = k.place; last = k.last; reach = reach_latest trace n e.thread k q f l at_q h })
 
   -- a mark itself
-  mark_way : (ms : List Mark) (o q : ℕ) → q < n → Among (mark o q) ms → Way ms q
+  mark_way : (ms : List Mark) (o q : ℕ) → q < n → Contains ms (mark o q) → Way ms q
   mark_way ms o q l a = inr (inl (record { it = mark o q; among = a; reach = stay l }))
 
   -- a slot's last event, if it is of another thread
-  other_each : (s : Slot) (ms : List Mark) → Source trace n e s → IfOther trace n e.thread s ms → (m : Mark) → Among m ms → IsTaken trace n e m
-  other_each s _ source (nobodys last) m a = elim a [ ]
-  other_each s _ source (its_own q f last at_q h) m a = elim a [ ]
+  other_each : (s : Slot) (ms : List Mark) → Source trace n e s → IfOther trace n e.thread s ms → (m : Mark) → Contains ms m → IsTaken trace n e m
+  other_each s _ source (nobodys last) m a = absurd (none_in a)
+  other_each s _ source (its_own q f last at_q h) m a = absurd (none_in a)
   other_each s _ source (other q f last at_q h) m a =
       ⊎_elim
       (λ k. subst (IsTaken trace n e) (sym k) (record { event = f; event_at = at_q; thread = refl; apart = h; conflict = source_conflicts trace ok n e at s q source last }))
-      (λ b. elim b [ ])
-      (among_first m (mark f.thread q) [] a)
+      (λ b. absurd (none_in b))
+      (first_or_rest (mark f.thread q) [] a)
 
   other_way : (s : Slot) (ms : List Mark) (q : ℕ) → IfOther trace n e.thread s ms → last_event trace n s ≡ Some q → Way ms q
   other_way s _ q (nobodys none) last = cc
@@ -104,11 +105,11 @@ module _ (trace : List Numbered) (ok : IsWellFormed trace) (n : ℕ) (e : Number
       subst (Way []) (same_Some p q (sym last_p ∙ last)) (by_own [] p f r.below at_p h)
   other_way s _ q (other p f last_p at_p h) last =
       let r = is_last (of_slot s) trace n p last_p in
-      subst (Way (mark f.thread p ∷ [])) (same_Some p q (sym last_p ∙ last)) (mark_way (mark f.thread p ∷ []) f.thread p r.below here)
+      subst (Way (mark f.thread p ∷ [])) (same_Some p q (sym last_p ∙ last)) (mark_way (mark f.thread p ∷ []) f.thread p r.below (here []))
 
   -- nothing is taken of others
   stood_alone : ((s : Slot) → Source trace n e s → s ≡ OfThread e.thread) → Stood trace n e []
-  stood_alone only = stood_from [] (λ m a. elim a [ ]) (λ s q source last. own_way [] q (subst (λ r. last_event trace n r ≡ Some q) (only s source) last))
+  stood_alone only = stood_from [] (λ m a. absurd (none_in a)) (λ s q source last. own_way [] q (subst (λ r. last_event trace n r ≡ Some q) (only s source) last))
 
   -- one slot's last event, if it is of another thread
   stood_one : (s : Slot) (ms : List Mark) → Source trace n e s → ((r : Slot) → Source trace n e r → (r ≡ OfThread e.thread) ⊎ (r ≡ s)) → IfOther trace n e.thread s ms → Stood trace n e ms
@@ -175,7 +176,7 @@ module _ (trace : List Numbered) (ok : IsWellFormed trace) (n : ℕ) (e : Number
         let parts = and_parts (g.event.thread == u) (is_read_of x g.event.what) g.passed in
         (g.event, g.below, g.event_at, eqb-true g.event.thread u parts.0, read_is x g.event.what parts.1)
 
-    read_each : (m : Mark) → Among m rs → IsTaken trace n e m
+    read_each : (m : Mark) → Contains rs m → IsTaken trace n e m
     read_each m a =
         let r = reads.each m a in
         let g : IsReadAt trace n x m.thread m.place = r.1 in
@@ -189,7 +190,7 @@ module _ (trace : List Numbered) (ok : IsWellFormed trace) (n : ℕ) (e : Number
 
     left : (q : ℕ) → Way ms q → Way (ms ++ rs) q
     left q (inl w) = inl w
-    left q (inr (inl w)) = inr (inl (record { it = w.it; among = among_left w.it ms rs w.among; reach = w.reach }))
+    left q (inr (inl w)) = inr (inl (record { it = w.it; among = Contains-append_left ms rs w.it w.among; reach = w.reach }))
     left q (inr (inr w)) = inr (inr w)
 
     -- a last read is a mark, or reaches the last write
@@ -200,7 +201,7 @@ module _ (trace : List Numbered) (ok : IsWellFormed trace) (n : ℕ) (e : Number
         g = by_reader u q last
 
         marked : u ≢ e.thread → ((p : ℕ) → last_event trace n (LastWrite x) ≡ Some p → p < q) → Way (ms ++ rs) q
-        marked apart after = ⊎_elim (λ a. mark_way (ms ++ rs) u q g.1 (among_right (mark u q) ms rs a)) (λ passed. inr (inr (record { place = q; passed = passed; reach = stay g.1 }))) (reads.all u q apart last after)
+        marked apart after = ⊎_elim (λ a. mark_way (ms ++ rs) u q g.1 (Contains-append_right ms rs (mark u q) a)) (λ passed. inr (inr (record { place = q; passed = passed; reach = stay g.1 }))) (reads.all u q apart last after)
 
         go : u ≢ e.thread → (w : Option ℕ) → last_event trace n (LastWrite x) ≡ w → Way (ms ++ rs) q
         go apart None none = marked apart (λ p some. cc)
@@ -217,7 +218,7 @@ module _ (trace : List Numbered) (ok : IsWellFormed trace) (n : ℕ) (e : Number
     stood_write : Stood trace n e (ms ++ rs)
     stood_write =
         stood_from (ms ++ rs)
-        (λ m a. ⊎_elim (other_each (LastWrite x) ms (write x h) iff m) (read_each m) (among_parts m ms rs a))
+        (λ m a. ⊎_elim (other_each (LastWrite x) ms (write x h) iff m) (read_each m) (Contains-append_cases ms rs m a))
         (λ s q source last. ⊎_elim
         (λ k. own_way (ms ++ rs) q (subst (λ z. last_event trace n z ≡ Some q) k last))
         (λ k. ⊎_elim

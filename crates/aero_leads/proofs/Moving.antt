@@ -1,12 +1,11 @@
 -- How what is kept moves with an event that begins and ends no block.
 use Rattle.std.proofs.Common.{◌≡◌, ◌≢◌, ◌↔◌, inl, ⊎_elim, ℕ, suc, ◌+◌, ◌<◌, List, [], ◌∷◌, ◌++◌, length, Option, Some, None, refl, sym, ap, ap₂, ◌∙◌, arith}
-use Rattle.std.specs.Prelude.{◌==◌, ◌&&◌, ◌||◌, Bool, true, false, if◌then◌else◌}
+use Rattle.std.specs.Prelude.{◌==◌, ◌&&◌, ◌||◌, Bool, true, false, if◌then◌else◌, Contains}
 use Rattle.std.proofs.lemmas.Bool.{cases_eq, both_ways, eq-eqb, ne_eqb, cond-true, cond-false}
 use Rattle.aero_model.specs.declared.numbered.Numbered.{Numbered}
 use Rattle.aero_model.specs.Blocks.{opens, closes}
 use Rattle.aero_model.specs.Shape.{is_release_of, is_fork_of, IsWellFormed}
 use Rattle.aero_engine.specs.Slots.{is_read_of, is_write_of}
-use Rattle.aero_engine.specs.Takes.{Among}
 use Rattle.aero_engine.specs.Judgement.{IsTold}
 use Rattle.aero_engine.proofs.LongerTraces.{slice_get-push}
 use Rattle.aero_leads.specs.declared.last.Last.{Last}
@@ -84,7 +83,7 @@ module _ (old : State) (h : List Numbered) (e : Numbered) (stands : IsStateOf ol
         (first_as more (suc n) (taken_rows n e.thread taken.marks old.rows) new.rows same (first_taken more ok n e (slice_get-push h e) old.rows first taken.marks taken.ends taken.begins no_fork taken.takes))
         ((tells None).0 (λ c. both_ways _ none_led (taken.same e.thread ∙ c.1)))
       where
-        others : (k : Mark) → Among k taken.marks → k.thread ≢ e.thread
+        others : (k : Mark) → Contains taken.marks k → k.thread ≢ e.thread
         others k a = let i = (stood more ok n e (slice_get-push h e) taken.marks taken.takes).each k a in i.apart
 
         still : (u q : ℕ) → q < n → IsUnled old.rows u q → IsUnled new.rows u q

@@ -1,22 +1,22 @@
 -- What a read leaves of the reads of its variable.
 use Rattle.std.proofs.Common.{◌≡◌, ◌≢◌, ◌⊎◌, inl, inr, ⊎_elim, ℕ, suc, ◌<◌, List, [], ◌∷◌, ◌++◌, refl, sym, ap, ◌∙◌, subst, arith}
-use Rattle.std.specs.Prelude.{◌==◌, Bool, true, false, if◌then◌else◌}
+use Rattle.std.specs.Prelude.{◌==◌, Bool, true, false, if◌then◌else◌, Contains}
 use Rattle.std.proofs.lemmas.Bool.{cases_eq, cases_Bool, eq-eqb, ne_eqb, cond-false}
 use Rattle.aero_engine.specs.Events.{event}
-use Rattle.aero_engine.specs.Takes.{Among, here}
-use Rattle.aero_engine.proofs.Taken.{among_left, among_right, among_first, among_parts}
+use Rattle.std.proofs.lemmas.List.Elements.{Contains-append_left, Contains-append_right, Contains-append_cases}
 use Rattle.aero_model.specs.declared.numbered.What.TheVariants.{Read}
+use Rattle.aero_model.proofs.Elements.{none_in, here, first_or_rest}
 use Rattle.aero_leads.specs.declared.last.Last.{Last}
 use Rattle.aero_leads.specs.Kept.{last, is_below, if_any, AreKept}
 use Rattle.aero_leads.specs.States.{State}
 use Rattle.aero_leads.proofs.StateSteps.{AreNoted, AreReadsAfter}
 
-if_any_is : (l k : Last) → Among l (if_any k) → l ≡ k
+if_any_is : (l k : Last) → Contains (if_any k) l → l ≡ k
 if_any_is l k a = go (k.count == 0) a
   where
-    go : (b : Bool) → Among l (if b then [] else k ∷ []) → l ≡ k
-    go true m = elim m [ ]
-    go false m = ⊎_elim (λ same. same) (λ m. elim m [ ]) (among_first l k [] m)
+    go : (b : Bool) → Contains (if b then [] else k ∷ []) l → l ≡ k
+    go true m = absurd (none_in m)
+    go false m = ⊎_elim (λ same. same) (λ m. absurd (none_in m)) (first_or_rest k [] m)
 
 any_there : (l : Last) → 0 < l.count → if_any l ≡ l ∷ []
 any_there l h = cond-false (l.count == 0) _ _ (ne_eqb l.count 0 (λ e. absurd (omega (arith, h, e))))
@@ -28,26 +28,26 @@ module _ (old : State) (t x : ℕ) (others : List Last) (latest : Last) (kept : 
   abbrev put : List Last
   put = others ++ (if kept then latest ∷ [] else [])
 
-  put_each : (l : Last) → Among l put → Among l (old.reads x)
-  put_each l a = subst (λ ls. Among l ls) (sym reads_are) (⊎_elim
-      (λ m. among_left l others (if_any latest) m)
-      (λ m. among_right l others (if_any latest) (of_latest (cases_Bool kept) m))
-      (among_parts l others (if kept then latest ∷ [] else []) a))
+  put_each : (l : Last) → Contains put l → Contains (old.reads x) l
+  put_each l a = subst (λ ls. Contains ls l) (sym reads_are) (⊎_elim
+      (λ m. Contains-append_left others (if_any latest) l m)
+      (λ m. Contains-append_right others (if_any latest) l (of_latest (cases_Bool kept) m))
+      (Contains-append_cases others (if kept then latest ∷ [] else []) l a))
     where
-      of_latest : (kept ≡ true) ⊎ (kept ≡ false) → Among l (if kept then latest ∷ [] else []) → Among l (if_any latest)
-      of_latest (inl e) m = subst (λ ls. Among l ls) (sym (any_there latest (there e))) (subst (λ b. Among l (if b then latest ∷ [] else [])) e m)
-      of_latest (inr e) m = elim (subst (λ b. Among l (if b then latest ∷ [] else [])) e m) [ ]
+      of_latest : (kept ≡ true) ⊎ (kept ≡ false) → Contains (if kept then latest ∷ [] else []) l → Contains (if_any latest) l
+      of_latest (inl e) m = subst (λ ls. Contains ls l) (sym (any_there latest (there e))) (subst (λ b. Contains (if b then latest ∷ [] else []) l) e m)
+      of_latest (inr e) m = absurd (none_in (subst (λ b. Contains (if b then latest ∷ [] else []) l) e m))
 
-  put_all : (l : Last) → Among l (old.reads x) → l.thread ≢ t → Among l put ⊎ ((w : ℕ) → is_below (old.rows l.thread w) l.count ≡ false)
+  put_all : (l : Last) → Contains (old.reads x) l → l.thread ≢ t → Contains put l ⊎ ((w : ℕ) → is_below (old.rows l.thread w) l.count ≡ false)
   put_all l a ne = ⊎_elim
-      (λ m. inl (among_left l others (if kept then latest ∷ [] else []) m))
+      (λ m. inl (Contains-append_left others (if kept then latest ∷ [] else []) l m))
       (λ m. of_latest (cases_Bool kept) (if_any_is l latest m))
-      (among_parts l others (if_any latest) (subst (λ ls. Among l ls) reads_are a))
+      (Contains-append_cases others (if_any latest) l (subst (λ ls. Contains ls l) reads_are a))
     where
-      of_latest : (kept ≡ true) ⊎ (kept ≡ false) → l ≡ latest → Among l put ⊎ ((w : ℕ) → is_below (old.rows l.thread w) l.count ≡ false)
+      of_latest : (kept ≡ true) ⊎ (kept ≡ false) → l ≡ latest → Contains put l ⊎ ((w : ℕ) → is_below (old.rows l.thread w) l.count ≡ false)
       of_latest (inl e) same =
-          inl (among_right l others (if kept then latest ∷ [] else [])
-          (subst (λ b. Among l (if b then latest ∷ [] else [])) (sym e) (subst (λ (k : Last). Among l (k ∷ [])) same here)))
+          inl (Contains-append_right others (if kept then latest ∷ [] else []) l
+          (subst (λ b. Contains (if b then latest ∷ [] else []) l) (sym e) (subst (λ (k : Last). Contains (k ∷ []) l) same (here []))))
       of_latest (inr e) same = inr (λ w.
           ap (λ (k : Last). is_below (old.rows k.thread w) k.count) same
           ∙ passed e (λ h. ne (ap (λ (k : Last). k.thread) same ∙ h)) w)
@@ -62,13 +62,13 @@ module _ (old : State) (t x : ℕ) (others : List Last) (latest : Last) (kept : 
 
       noted_left : AreNoted old.rows t old.now (old.reads x) (left ++ latest_read ∷ [])
       noted_left = record {
-        latest = among_right latest_read left (latest_read ∷ []) here;
+        latest = Contains-append_right left (latest_read ∷ []) latest_read (here []);
         each = λ l a. ⊎_elim
             (λ m. inl (put_each l (are.each l m)))
-            (λ m. ⊎_elim (λ e. inr e) (λ m. elim m [ ]) (among_first l latest_read [] m))
-            (among_parts l left (latest_read ∷ []) a);
+            (λ m. ⊎_elim (λ e. inr e) (λ m. absurd (none_in m)) (first_or_rest latest_read [] m))
+            (Contains-append_cases left (latest_read ∷ []) l a);
         all = λ l a ne. ⊎_elim
-            (λ m. let c = are.all l m ne in inl (c.0, among_left c.0 left (latest_read ∷ []) c.1, c.2, c.3))
+            (λ m. let c = are.all l m ne in inl (c.0, Contains-append_left left (latest_read ∷ []) c.0 c.1, c.2, c.3))
             (λ k. inr k)
             (put_all l a ne);
       }

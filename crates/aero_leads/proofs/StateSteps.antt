@@ -1,6 +1,6 @@
 -- What is kept of a trace, after one more event.
 use Rattle.std.proofs.Common.{◌≡◌, ◌≢◌, ◌⊎◌, inl, inr, ⊎_elim, ℕ, zero, suc, ◌+◌, ◌<◌, ◌≤◌, List, [], ◌∷◌, ◌++◌, length, Option, None, Some, refl, sym, ap, ap₂, ◌∙◌, subst, le_refl, arith, length-append}
-use Rattle.std.specs.Prelude.{◌==◌, ◌&&◌, ◌||◌, nat_lt, Bool, true, false, if◌then◌else◌}
+use Rattle.std.specs.Prelude.{◌==◌, ◌&&◌, ◌||◌, nat_lt, Bool, true, false, if◌then◌else◌, Contains}
 use Rattle.std.proofs.lemmas.Bool.{cases_Bool, cases_eq, eq-eqb, ne_eqb, lt-ltb, le-ltb, lt-leb, ltb-false, cond-true, cond-false, and_left, and_right, and_from}
 use Rattle.std.proofs.lemmas.Option.{same_Some}
 use Rattle.std.proofs.lemmas.List.Folds.{list_any-append}
@@ -8,6 +8,7 @@ use Rattle.aero_model.specs.declared.numbered.Numbered.{Numbered}
 use Rattle.aero_model.specs.Blocks.{is_begin, is_end, by_thread, depth, opens, closes, blocks}
 use Rattle.aero_model.specs.Cycle.{HasTellingCycle}
 use Rattle.aero_model.specs.Shape.{is_release_of, has_acted}
+use Rattle.aero_model.proofs.Elements.{none_in}
 use Rattle.aero_model.proofs.Stability.{Agree, agree_front, depth_same, blocks_same}
 use Rattle.aero_model.proofs.Depths.{step, AtOpening, AtClosing, AtOther}
 use Rattle.aero_model.proofs.Telling.{telling_back}
@@ -15,7 +16,6 @@ use Rattle.aero_engine.specs.declared.slot.Slot.{Slot}
 use Rattle.aero_engine.specs.declared.slot.Slot.TheVariants.{LastWrite, LastRead, LastRelease}
 use Rattle.aero_engine.specs.Slots.{of_slot, is_read_of, is_write_of, last_event}
 use Rattle.aero_engine.specs.Events.{thread_of}
-use Rattle.aero_engine.specs.Takes.{Among}
 use Rattle.aero_engine.proofs.LastEvents.{read_is, is_last, last_covers, last_new, last_kept}
 use Rattle.aero_engine.proofs.LongerTraces.{slice_get-push, last_event_same}
 use Rattle.aero_leads.specs.declared.last.Last.{Last}
@@ -27,9 +27,9 @@ use Rattle.aero_leads.proofs.FirstPlaces.{rows_same}
 
 -- the reads of a variable after one more by thread t: that one, and some that cover those by other threads, but some to which nothing leads
 pub record AreNoted (rows : Rows) (t n : ℕ) (old new : List Last) : Type 0 where
-  pub latest : Among (last t (suc n)) new
-  pub each : (l : Last) → Among l new → Among l old ⊎ (l ≡ last t (suc n))
-  pub all : (l : Last) → Among l old → l.thread ≢ t → IsCovered new l ⊎ ((w : ℕ) → is_below (rows l.thread w) l.count ≡ false)
+  pub latest : Contains new (last t (suc n))
+  pub each : (l : Last) → Contains new l → Contains old l ⊎ (l ≡ last t (suc n))
+  pub all : (l : Last) → Contains old l → l.thread ≢ t → IsCovered new l ⊎ ((w : ℕ) → is_below (rows l.thread w) l.count ≡ false)
 
 -- the reads of variable x after event e
 abbrev pub AreReadsAfter : State → Numbered → ℕ → List Last → Type 0
@@ -111,16 +111,16 @@ module _ (old : State) (before : List Numbered) (e : Numbered) (stands : IsState
         no_read : (u : ℕ) → is_read_of x e.what ≡ false → of_slot (LastRead x u) e ≡ false
         no_read u b = and_right (e.thread == u) (is_read_of x e.what) b
 
-        still_read : (l : Last) → Among l (old.reads x) → (p : ℕ) × (l.count ≡ suc p) × IsReadAt more (length more) x l.thread p
+        still_read : (l : Last) → Contains (old.reads x) l → (p : ℕ) × (l.count ≡ suc p) × IsReadAt more (length more) x l.thread p
         still_read l a = let i = was.each l a in (i.0, i.1, read_on (length more) (omega (arith, length_more)) x l.thread i.0 i.2)
 
         -- a last read before the event is a kept one, or nothing leads to it
-        before_all : (u q : ℕ) → last_event before n (LastRead x u) ≡ Some q → ((p : ℕ) → last_event before n (LastWrite x) ≡ Some p → p < q) → Among (last u (suc q)) (old.reads x) ⊎ IsUnled rows u q
+        before_all : (u q : ℕ) → last_event before n (LastRead x u) ≡ Some q → ((p : ℕ) → last_event before n (LastWrite x) ≡ Some p → p < q) → Contains (old.reads x) (last u (suc q)) ⊎ IsUnled rows u q
         before_all u q at after = ⊎_elim (λ a. inl a) (λ k. inr (still u q (is_last (of_slot (LastRead x u)) before n q at).below k)) (was.all u q at after)
 
         written : is_write_of x e.what ≡ true → AreReadsSince more rows x []
         written b = record {
-          each = λ l a. elim a [ ];
+          each = λ l a. absurd (none_in a);
           all = λ u q at after.
               let less = after n (new_last (LastWrite x) b) in
               let i = is_last (of_slot (LastRead x u)) more (length more) q at in
@@ -128,10 +128,10 @@ module _ (old : State) (before : List Numbered) (e : Numbered) (stands : IsState
         }
 
         -- a read that is kept and is no earlier than a last one is that one
-        covering : (u q : ℕ) → e.thread ≢ u → last_event before n (LastRead x u) ≡ Some q → AreNoted old.rows e.thread n (old.reads x) new → IsCovered new (last u (suc q)) → Among (last u (suc q)) new
+        covering : (u q : ℕ) → e.thread ≢ u → last_event before n (LastRead x u) ≡ Some q → AreNoted old.rows e.thread n (old.reads x) new → IsCovered new (last u (suc q)) → Contains new (last u (suc q))
         covering u q ne at noted c = by (noted.each c.0 c.1)
           where
-            by : Among c.0 (old.reads x) ⊎ (c.0 ≡ last e.thread (suc n)) → Among (last u (suc q)) new
+            by : Contains (old.reads x) c.0 ⊎ (c.0 ≡ last e.thread (suc n)) → Contains new (last u (suc q))
             by (inr same) = absurd (ne (sym (ap (λ (l : Last). l.thread) same) ∙ c.2))
             by (inl a) =
                 let k = c.0 in
@@ -140,7 +140,7 @@ module _ (old : State) (before : List Numbered) (e : Numbered) (stands : IsState
                 let v = last_covers (of_slot (LastRead x u)) before n r.0 i.event i.event_at (and_from _ _ (eq-eqb i.event.thread u (i.thread ∙ c.2)) (ap (is_read_of x) i.reads ∙ eq-eqb x x refl)) i.below in
                 let place : q ≡ v.0 = same_Some q v.0 (sym at ∙ v.1) in
                 let count : k.count ≡ suc q = omega (arith, c.3, r.1, v.2, place) in
-                subst (λ (l : Last). Among l new) (ap₂ last c.2 count) c.1
+                subst (λ (l : Last). Contains new l) (ap₂ last c.2 count) c.1
 
         read : is_write_of x e.what ≡ false → is_read_of x e.what ≡ true → AreNoted old.rows e.thread n (old.reads x) new → AreReadsSince more rows x new
         read quiet b noted = record {
@@ -151,7 +151,7 @@ module _ (old : State) (before : List Numbered) (e : Numbered) (stands : IsState
           all = λ u q at after. ⊎_elim
               (λ same.
               let place : n ≡ q = same_Some n q (sym (new_last (LastRead x u) (and_from _ _ (eq-eqb e.thread u same) b)) ∙ at) in
-              inl (subst (λ (l : Last). Among l new) (ap₂ (λ (v m : ℕ). last v (suc m)) same place) noted.latest))
+              inl (subst (λ (l : Last). Contains new l) (ap₂ (λ (v m : ℕ). last v (suc m)) same place) noted.latest))
               (λ ne.
               let at_before : last_event before n (LastRead x u) ≡ Some q = sym (kept_last (LastRead x u) (other_read u ne)) ∙ at in
               ⊎_elim

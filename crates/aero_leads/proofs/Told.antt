@@ -1,6 +1,6 @@
 -- What the rows name is what the clocks name, and so what is to be told.
 use Rattle.std.proofs.Common.{◌≡◌, ◌≢◌, ◌↔◌, ℕ, ◌<◌, ◌≤◌, ◌⊎◌, ⊎_elim, List, Option, Some, None, refl, sym, ap, ◌∙◌, subst, arith}
-use Rattle.std.specs.Prelude.{true, false, is_some, slice_get}
+use Rattle.std.specs.Prelude.{true, false, is_some, slice_get, Contains}
 use Rattle.std.proofs.lemmas.Option.{same_Some, slice_get_within}
 use Rattle.aero_model.specs.declared.numbered.Numbered.{Numbered}
 use Rattle.aero_model.specs.Blocks.{depth, closes, blocks, Transaction, Block}
@@ -16,7 +16,6 @@ use Rattle.aero_model.proofs.Telling.{none_returns}
 use Rattle.aero_engine.specs.declared.slot.Slot.{Slot}
 use Rattle.aero_engine.specs.declared.slot.Slot.TheVariants.{OfThread}
 use Rattle.aero_engine.specs.Slots.{of_slot, last_event}
-use Rattle.aero_engine.specs.Takes.{Among}
 use Rattle.aero_engine.specs.Clocks.{Clock, AreSound, MissNothing, Clocked}
 use Rattle.aero_engine.specs.Judgement.{IsJudged, IsJudgedAtEnd, IsTold}
 use Rattle.aero_engine.specs.Judgement as clocks_say
@@ -117,7 +116,7 @@ module _ (trace : List Numbered) (ok : IsWellFormed trace) (n : ℕ) (rows : Row
       counted = last_counted f.slot t f.place f.last (reaches_on trace n x m.place f.place r f.reach);
     }
       where
-        l : (m : Mark) × Among m ms × (is_led (rows m.thread t) m.place ≡ true)
+        l : (m : Mark) × Contains ms m × (is_led (rows m.thread t) m.place ≡ true)
         l = led_mark rows t ms h
 
         m : Mark

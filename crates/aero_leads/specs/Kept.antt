@@ -1,6 +1,5 @@
 -- What contracts see of what the engine keeps.
-use Rattle.std.specs.Prelude.{◌≡◌, ◌≢◌, ℕ, ◌+◌, ◌*◌, ◌^◌, ◌≤◌, nat_lt, not, ◌==◌, ◌&&◌, ◌||◌, Bool, true, false, if◌then◌else◌, List, [], ◌∷◌, ◌++◌, filter, Option, Some, None, is_some, slice_get}
-use Rattle.aero_engine.specs.Takes.{Among}
+use Rattle.std.specs.Prelude.{◌≡◌, ◌≢◌, ℕ, ◌+◌, ◌*◌, ◌^◌, ◌≤◌, nat_lt, not, ◌==◌, ◌&&◌, ◌||◌, Bool, true, false, if◌then◌else◌, List, [], ◌∷◌, ◌++◌, filter, Option, Some, None, is_some, slice_get, Contains}
 use Rattle.aero_leads.specs.declared.row.Lead.{Lead}
 use Rattle.aero_leads.specs.declared.last.Last.{Last}
 use Rattle.aero_leads.specs.declared.thread.Thread.{Thread}
@@ -136,17 +135,17 @@ reads_but t ls = filter (λ (l : Last). not (l.thread == t)) ls
 
 -- the reads have one by the same thread that is no earlier
 abbrev pub IsCovered : List Last → Last → Type 0
-IsCovered ls l = (k : Last) × Among k ls × (k.thread ≡ l.thread) × (l.count ≤ k.count)
+IsCovered ls l = (k : Last) × Contains ls k × (k.thread ≡ l.thread) × (l.count ≤ k.count)
 
 -- some of the reads are left, and cover all of them
 pub record AreCompacted (old new : List Last) : Type 0 where
-  pub each : (l : Last) → Among l new → Among l old
-  pub all : (l : Last) → Among l old → IsCovered new l
+  pub each : (l : Last) → Contains new l → Contains old l
+  pub all : (l : Last) → Contains old l → IsCovered new l
 
 -- some of the reads are left, and cover all of them that aren't by thread t
 pub record AreKept (t : ℕ) (old new : List Last) : Type 0 where
-  pub each : (l : Last) → Among l new → Among l old
-  pub all : (l : Last) → Among l old → l.thread ≢ t → IsCovered new l
+  pub each : (l : Last) → Contains new l → Contains old l
+  pub all : (l : Last) → Contains old l → l.thread ≢ t → IsCovered new l
 
 -- the place of a read in the order by threads, and by counts where these are the same
 abbrev pub rank : Last → ℕ

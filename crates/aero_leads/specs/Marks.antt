@@ -1,5 +1,5 @@
 -- Which last events an event takes: of each, the thread that made it and its place.
-use Rattle.std.specs.Prelude.{◌≡◌, ◌≢◌, ℕ, ◌<◌, ◌⊎◌, true, List, [], ◌∷◌, ◌++◌, Some, None, slice_get}
+use Rattle.std.specs.Prelude.{◌≡◌, ◌≢◌, ℕ, ◌<◌, ◌⊎◌, true, List, [], ◌∷◌, ◌++◌, Some, None, slice_get, Contains}
 use Rattle.aero_model.specs.declared.numbered.Numbered.{Numbered}
 use Rattle.aero_model.specs.declared.numbered.What.TheVariants.{Read, Write, Acquire, Join}
 use Rattle.aero_model.specs.Blocks.{depth, blocks, Block}
@@ -7,7 +7,7 @@ use Rattle.aero_model.specs.Graph.{LeadsTo}
 use Rattle.aero_engine.specs.declared.slot.Slot.{Slot}
 use Rattle.aero_engine.specs.declared.slot.Slot.TheVariants.{OfThread, LastWrite, LastRead, LastRelease}
 use Rattle.aero_engine.specs.Slots.{last_event}
-use Rattle.aero_engine.specs.Takes.{Among, takes_only_own, HasActed}
+use Rattle.aero_engine.specs.Takes.{takes_only_own, HasActed}
 
 pub record Mark : Type 0 where
   pub thread : ℕ
@@ -37,8 +37,8 @@ module _ (trace : List Numbered) (n : ℕ) where
 
   -- reads of the variable by threads other than t, and all last ones that come after its last write and to which an open block leads
   pub record AreReads (t x : ℕ) (ms : List Mark) : Type 0 where
-    pub each : (m : Mark) → Among m ms → (m.thread ≢ t) × IsReadAt x m.thread m.place
-    pub all : (u q : ℕ) → u ≢ t → last_event trace n (LastRead x u) ≡ Some q → ((p : ℕ) → last_event trace n (LastWrite x) ≡ Some p → p < q) → Among (mark u q) ms ⊎ IsPassed q
+    pub each : (m : Mark) → Contains ms m → (m.thread ≢ t) × IsReadAt x m.thread m.place
+    pub all : (u q : ℕ) → u ≢ t → last_event trace n (LastRead x u) ≡ Some q → ((p : ℕ) → last_event trace n (LastWrite x) ≡ Some p → p < q) → Contains ms (mark u q) ⊎ IsPassed q
 
   -- what event e at place n takes of other threads
   pub data TakesMarks (e : Numbered) : List Mark → Type 0 where

@@ -1,5 +1,5 @@
 -- What a trace says of what is kept of it.
-use Rattle.std.specs.Prelude.{◌≡◌, ◌==◌, ℕ, zero, suc, ◌<◌, ◌⊎◌, nat_lt, Bool, true, false, if◌then◌else◌, List, ◌++◌, ◌∷◌, [], length, Some, None}
+use Rattle.std.specs.Prelude.{◌≡◌, ◌==◌, ℕ, zero, suc, ◌<◌, ◌⊎◌, nat_lt, Bool, true, false, if◌then◌else◌, List, ◌++◌, ◌∷◌, [], length, Some, None, Contains}
 use Rattle.aero_model.specs.declared.numbered.Numbered.{Numbered}
 use Rattle.aero_model.specs.Blocks.{depth, blocks}
 use Rattle.aero_model.specs.Cycle.{HasTellingCycle}
@@ -7,7 +7,6 @@ use Rattle.aero_model.specs.Shape.{has_acted, IsWellFormed}
 use Rattle.aero_engine.specs.declared.slot.Slot.{Slot}
 use Rattle.aero_engine.specs.declared.slot.Slot.TheVariants.{LastWrite, LastRead, LastRelease}
 use Rattle.aero_engine.specs.Slots.{last_event}
-use Rattle.aero_engine.specs.Takes.{Among}
 use Rattle.aero_engine.specs.Events.{actor_at}
 use Rattle.aero_engine.specs.Judgement.{IsTold}
 use Rattle.aero_leads.specs.declared.last.Last.{Last}
@@ -41,8 +40,8 @@ module _ (trace : List Numbered) where
 
   -- reads of the variable, and all last ones that come after its last write and to which an open block may lead
   pub record AreReadsSince (rows : Rows) (x : ℕ) (ls : List Last) : Type 0 where
-    pub each : (l : Last) → Among l ls → (p : ℕ) × (l.count ≡ suc p) × IsReadAt trace (length trace) x l.thread p
-    pub all : (u q : ℕ) → last_event trace (length trace) (LastRead x u) ≡ Some q → ((p : ℕ) → last_event trace (length trace) (LastWrite x) ≡ Some p → p < q) → Among (last u (suc q)) ls ⊎ IsUnled rows u q
+    pub each : (l : Last) → Contains ls l → (p : ℕ) × (l.count ≡ suc p) × IsReadAt trace (length trace) x l.thread p
+    pub all : (u q : ℕ) → last_event trace (length trace) (LastRead x u) ≡ Some q → ((p : ℕ) → last_event trace (length trace) (LastWrite x) ≡ Some p → p < q) → Contains ls (last u (suc q)) ⊎ IsUnled rows u q
 
 -- the state agrees with the trace, and there is no telling cycle
 pub record IsStateOf (w : State) (trace : List Numbered) : Type 0 where

@@ -1,13 +1,14 @@
 -- The serial order exists, and has every transaction where no cycle is: what doesn't stand has an edge to it from what doesn't stand either, and so on until one comes again.
-use Rattle.std.proofs.Common.{◌≡◌, ℕ, zero, suc, ◌+◌, ◌<◌, List, [], ◌∷◌, ◌++◌, length, map, Some, inl, inr, refl, sym, ◌∙◌, ap, subst, arith}
-use Rattle.std.specs.Prelude.{slice_get}
-use Rattle.std.proofs.lemmas.Option.{same_Some}
+use Rattle.std.proofs.Common.{◌≡◌, ℕ, zero, suc, ◌+◌, ◌<◌, List, [], ◌∷◌, ◌++◌, length, map, Some, inl, inr, refl, sym, ◌∙◌, subst, arith}
+use Rattle.std.specs.Prelude.{slice_get, Contains}
+use Rattle.std.proofs.lemmas.Option.{slice_get_within, get_or_from_slice_get}
 use Rattle.std.proofs.lemmas.List.{length_push}
 use Rattle.aero_model.specs.declared.numbered.Numbered.{Numbered}
 use Rattle.aero_model.specs.Blocks.{Transaction, transaction}
 use Rattle.aero_model.specs.Cycle.{IsSerializable}
-use Rattle.aero_model.specs.Graph.{Edge, Edges, IsAmong, last_transaction}
+use Rattle.aero_model.specs.Graph.{Edge, Edges, last_transaction}
 use Rattle.aero_model.specs.Serial.{IsFirstPlace, Stands, IsReady, IsNext, GrowsBy, IsSerialOrder, IsComplete}
+use Rattle.aero_model.proofs.Elements.{none_in, there, first_or_rest, Contains-map}
 use Rattle.aero_model.proofs.Searching.{Decided, search_below}
 use Rattle.aero_model.proofs.Places.{cases_transaction}
 use Rattle.aero_model.proofs.Distinct.{AreOnce, AreBelow, few, once_more, below_more}
@@ -18,25 +19,23 @@ module _ (trace : List Numbered) where
   abbrev of_place : ℕ → Transaction
   of_place n = transaction trace n
 
-  decided_among : (x : Transaction) (ys : List Transaction) → Decided (IsAmong x ys)
-  decided_among x [] = inr (λ h. h)
+  decided_among : (x : Transaction) (ys : List Transaction) → Decided (Contains ys x)
+  decided_among x [] = inr none_in
   decided_among x (y ∷ ys) = go (cases_transaction x y) (decided_among x ys)
     where
-      go : Decided (x ≡ y) → Decided (IsAmong x ys) → Decided (IsAmong x (y ∷ ys))
-      go (inl e) _ = inl (inl e)
-      go (inr d) (inl m) = inl (inr m)
-      go (inr d) (inr m) = inr (λ h. elim h [ inl e ↦ d e | inr k ↦ m k ])
+      go : Decided (x ≡ y) → Decided (Contains ys x) → Decided (Contains (y ∷ ys) x)
+      go (inl e) _ = inl (0, omega arith, sym e)
+      go (inr d) (inl m) = inl (there y ys m)
+      go (inr d) (inr m) = inr (λ h. elim (first_or_rest y ys h) [ inl e ↦ d e | inr k ↦ m k ])
 
-  among_at : (q : ℕ) (qs : List ℕ) (i : ℕ) → slice_get qs i ≡ Some q → IsAmong (of_place q) (map of_place qs)
-  among_at q [] i at = absurd (cc)
-  among_at q (p ∷ ps) zero at = inl (ap of_place (sym (same_Some p q at)))
-  among_at q (p ∷ ps) (suc i) at = inr (among_at q ps i at)
+  among_at : (q : ℕ) (qs : List ℕ) (i : ℕ) → slice_get qs i ≡ Some q → Contains (map of_place qs) (of_place q)
+  among_at q qs i at = Contains-map of_place qs q (i, slice_get_within qs i q at, get_or_from_slice_get qs i q q at)
 
   -- the edges up to one of the transactions
-  up_to : (x z : Transaction) (ys : List Transaction) → Edges trace (length trace) x ys → IsAmong z (x ∷ ys) → (rest : List Transaction) × Edges trace (length trace) x rest × (last_transaction x rest ≡ z)
-  up_to x z ys edges (inl e) = ([], tt, sym e)
-  up_to x z [] edges (inr m) = elim m [ ]
-  up_to x z (y ∷ ys) edges (inr m) = let r = up_to y z ys edges.1 m in (y ∷ r.0, (edges.0, r.1), r.2)
+  up_to : (x z : Transaction) (ys : List Transaction) → Edges trace (length trace) x ys → Contains (x ∷ ys) z → (rest : List Transaction) × Edges trace (length trace) x rest × (last_transaction x rest ≡ z)
+  up_to x z ys edges (zero, l, e) = ([], tt, e)
+  up_to x z [] edges (suc k, l, e) = absurd (omega arith)
+  up_to x z (y ∷ ys) edges (suc k, l, e) = let r = up_to y z ys edges.1 (k, omega arith, e) in (y ∷ r.0, (edges.0, r.1), r.2)
 
   module _ (order : List ℕ) (stuck : (n : ℕ) → ¬ IsReady trace order n) (serial : IsSerializable trace (length trace)) where
     -- what doesn't stand comes after what doesn't stand either

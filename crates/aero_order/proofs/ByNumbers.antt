@@ -1,5 +1,5 @@
 -- The order of the numbers along near edges is the serial order.
-use Rattle.std.proofs.Common.{◌≡◌, ◌≢◌, ℕ, zero, suc, ◌<◌, List, [], ◌∷◌, ◌++◌, length, map, get_or, Some, inl, inr, refl, sym, ◌∙◌, ap, subst, arith}
+use Rattle.std.proofs.Common.{◌≡◌, ◌≢◌, ℕ, ◌<◌, List, [], ◌∷◌, ◌++◌, length, map, get_or, Some, inl, inr, refl, sym, ◌∙◌, ap, subst, arith}
 use Rattle.std.specs.Prelude.{slice_get, Contains}
 use Rattle.std.proofs.lemmas.Bool.{cases_order}
 use Rattle.std.proofs.lemmas.List.{map-append}
@@ -10,6 +10,7 @@ use Rattle.aero_model.specs.Blocks.{Transaction, transaction}
 use Rattle.aero_model.specs.Graph.{Edge}
 use Rattle.aero_model.specs.Serial.{IsFirstPlace, Stands, IsReady, IsNext, GrowsBy, IsSerialOrder}
 use Rattle.aero_model.specs.Shape.{IsWellFormed}
+use Rattle.aero_model.proofs.Elements.{Contains-map, Contains-map_from}
 use Rattle.aero_model.proofs.Places.{cases_transaction}
 use Rattle.aero_model.proofs.Ready.{one_first, place_of}
 use Rattle.aero_model.proofs.SerialOrders.{Sound, sound_nil, sound_next}
@@ -17,20 +18,6 @@ use Rattle.aero_order.specs.Near.{Near, Chain, one, further}
 use Rattle.aero_order.specs.TransactionNumbers.{AreFirsts, HasNumber, AreEdges}
 use Rattle.aero_order.specs.Order.{IsFree, IsLeastFree, GoesOnWith, IsOrder}
 use Rattle.aero_order.proofs.Chains.{near_conflict, conflict_chain}
-
--- an element of a list after a function
-pub Contains-map : (f : ℕ → ℕ) (xs : List ℕ) (x : ℕ) → Contains xs x → Contains (map f xs) (f x)
-Contains-map f [] x (k, l, e) = absurd (omega arith)
-Contains-map f (y ∷ ys) x (zero, l, e) = (0, omega arith, ap f e)
-Contains-map f (y ∷ ys) x (suc k, l, e) = let c = Contains-map f ys x (k, omega arith, e) in (suc c.0, omega (arith, c.1), c.2)
-
-pub Contains-map_from : (f : ℕ → ℕ) (xs : List ℕ) (y : ℕ) → Contains (map f xs) y → (x : ℕ) × Contains xs x × (f x ≡ y)
-Contains-map_from f [] y (k, l, e) = absurd (omega arith)
-Contains-map_from f (z ∷ zs) y (zero, l, e) = (z, (0, omega arith, refl), e)
-Contains-map_from f (z ∷ zs) y (suc k, l, e) =
-    let r = Contains-map_from f zs y (k, omega arith, e) in
-    let c = r.1 in
-    (r.0, (suc c.0, omega (arith, c.1), c.2), r.2)
 
 module _ (trace : List Numbered) (ok : IsWellFormed trace) (firsts : List ℕ) (are : AreFirsts trace firsts) (edges : List (ℕ × ℕ)) (leads : AreEdges trace firsts edges) where
   abbrev of_place : ℕ → Transaction

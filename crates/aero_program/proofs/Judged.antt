@@ -1,5 +1,5 @@
 -- A run, a flush and what was told after it, as one.
-use Rattle.std.proofs.Common.{◌≡◌, ◌∙◌, ℕ, Bool, if◌then◌else◌, List, [], ◌∷◌, map, Option, Result, ap, subst, refl}
+use Rattle.std.proofs.Common.{◌≡◌, ◌∙◌, ℕ, if◌then◌else◌, List, [], ◌∷◌, map, Option, Result, ap, subst, refl}
 use Rattle.std.specs.declared.io.ErrorKind.{ErrorKind}
 use Rattle.aero_model.specs.declared.limits.Limits.{Limits}
 use Rattle.aero_model.specs.declared.verdict.Counts.{Counts}
@@ -14,8 +14,9 @@ use Rattle.aero_intake.specs.declared.source.Source.{Source}
 use Rattle.aero_program.specs.declared.command.Config.{Config}
 use Rattle.aero_program.specs.declared.failure.Failure.{Failure}
 use Rattle.aero_program.specs.declared.input.Input.{Input}
+use Rattle.aero_program.specs.declared.notes.Naming.{Naming}
 use Rattle.aero_program.specs.Answers.{Ends, WasJudged}
-use Rattle.aero_program.specs.Command.{AreLimitsFor, are_words, listed_by}
+use Rattle.aero_program.specs.Command.{AreLimitsFor, are_words, form_on, listed_by}
 use Rattle.aero_program.specs.Notes.{AreShown, Remark, noted_of_all}
 use Rattle.aero_program.proofs.Noting.{are_faulty, are_noted}
 use Rattle.aero_program.specs.Sightings.{AreNames, bytes_known, sighting, source_sightings}
@@ -26,7 +27,7 @@ names_of_sightings : (known : Option (List ℕ)) (names : List (List ℕ)) → m
 names_of_sightings known [] = refl
 names_of_sightings known (name ∷ more) = ap (λ l. name ∷ l) (names_of_sightings known more)
 
-names_noted : {S O F : Type 0} (words : Bool) (known : Input S O F → Option (List ℕ)) (sources : List (Source (Input S O F))) (endings : List (ℕ × Ending)) (faults : List (Option FaultyLine))
+names_noted : {S O F : Type 0} (words : Naming) (known : Input S O F → Option (List ℕ)) (sources : List (Source (Input S O F))) (endings : List (ℕ × Ending)) (faults : List (Option FaultyLine))
     → map (λ n. n.name) (noted_of_all words sources endings faults) ≡ map (λ s. s.name) (map (sighted known) sources)
 names_noted words known [] endings faults = refl
 names_noted words known (source ∷ more) [] [] = ap (λ l. source.name.items ∷ l) (names_noted words known more [] [])
@@ -37,20 +38,21 @@ names_noted words known (source ∷ more) (ending ∷ rest) (fault ∷ faults) =
 pub judged : {S O F : Type 0} (known : Input S O F → Option (List ℕ)) (config : Config) (given : Option (List ℕ)) (limits : Limits) (names : List (List ℕ))
     (was lent new now : List (Source (Input S O F))) (before between after : Shown) (endings : List (ℕ × Ending)) (faults : List (Option FaultyLine)) (counts : Counts) (cause : Option Cause)
     (fault : Option ErrorKind) (end : Result ℕ Failure) (told told_after : Seen) (status : ℕ) (terms : Terms) (made : Form)
-    → terms ≡ asking limits (listed_by config.except.items config.only.items) config.order config.explain → made ≡ config.form → AreLimitsFor config.long limits
+    → terms ≡ asking limits (listed_by config.except.items config.only.items) config.order config.explain → made ≡ form_on config.terminals config.form → AreLimitsFor config.long limits
     → AreNames config.files given names → map (sighted known) was ≡ source_sightings config.files given names → lent ≡ was → now ≡ new
     → WasRun terms made (map (sighted known) lent) (map (sighted known) new) before.writer between.writer endings faults counts cause
     → between.unflushed ≡ before.unflushed → WasFlushed between after fault → end ≡ end_of_run config.fail_open cause counts fault
-    → (remarks : List Remark) → map (λ r. r.noted) remarks ≡ noted_of_all (are_words config.files) now (if config.long then [] else endings) faults → AreShown remarks → Ends remarks end told told_after status
+    → (remarks : List Remark) → map (λ r. r.noted) remarks ≡ noted_of_all (record { are_words = are_words config.files; on_terminal = config.terminals.errors }) now (if config.long then [] else endings) faults → AreShown remarks → Ends remarks end told told_after status
     → WasJudged config given before after told told_after status
 judged known config given limits names was lent new now before between after endings faults counts cause fault end told told_after status terms made
     on_terms in_form are named seen is_was is_new run same flushed ended remarks on_noted shown_all ends =
     let sightings : List Sighted = source_sightings config.files given names in
     let wanted : Terms = asking limits (listed_by config.except.items config.only.items) config.order config.explain in
-    let words : Bool = are_words config.files in
+    let words : Naming = record { are_words = are_words config.files; on_terminal = config.terminals.errors } in
+    let form : Form = form_on config.terminals config.form in
     let seen_lent : map (sighted known) lent ≡ sightings = ap (map (sighted known)) is_was ∙ seen in
-    let ran : WasRun wanted config.form sightings (map (sighted known) new) before.writer between.writer endings faults counts cause =
-    subst (λ r. WasRun r config.form sightings (map (sighted known) new) before.writer between.writer endings faults counts cause) on_terms
+    let ran : WasRun wanted form sightings (map (sighted known) new) before.writer between.writer endings faults counts cause =
+    subst (λ r. WasRun r form sightings (map (sighted known) new) before.writer between.writer endings faults counts cause) on_terms
     (subst (λ (f : Form). WasRun terms f sightings (map (sighted known) new) before.writer between.writer endings faults counts cause) in_form
     (subst (λ old. WasRun terms made old (map (sighted known) new) before.writer between.writer endings faults counts cause) seen_lent run)) in
     let noted_endings : List (ℕ × Ending) = if config.long then [] else endings in

@@ -9,3 +9,4 @@ mod Noting
 mod Parts
 mod Sizing
 mod Tells
+mod Wording

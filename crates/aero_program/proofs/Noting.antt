@@ -11,11 +11,12 @@ use Rattle.aero_model.specs.declared.verdict.Ending.{Ending}
 use Rattle.aero_batch.specs.declared.outcome.FaultyLine.{FaultyLine}
 use Rattle.aero_intake.specs.declared.source.Source.{Source}
 use Rattle.aero_program.specs.declared.input.Input.{Input}
+use Rattle.aero_program.specs.declared.notes.Naming.{Naming}
 use Rattle.aero_program.specs.Notes.{AreFaulty, AreNoted, AreNotes, AreShown, GrowsBy, Noted, Remark, fault_told, note, noted_of, noted_of_all, notes, was_too_large}
 use Rattle.aero_program.specs.Looks.{ShowsAs}
 use Rattle.aero_faults.specs.declared.look.Look.TheVariants.{Nothing}
 
-pub one_more : {S O F : Type 0} (words : Bool) (sources : List (Source (Input S O F))) (source : Source (Input S O F)) (endings : List (ℕ × Ending)) (faults : List (Option FaultyLine))
+pub one_more : {S O F : Type 0} (words : Naming) (sources : List (Source (Input S O F))) (source : Source (Input S O F)) (endings : List (ℕ × Ending)) (faults : List (Option FaultyLine))
     → noted_of_all words (sources ++ source ∷ []) endings faults
     ≡ noted_of_all words sources endings faults ++ noted_of words source (was_too_large (slice_get endings (length sources))) (fault_told (slice_get faults (length sources))) ∷ []
 one_more words [] source [] [] = refl
@@ -56,27 +57,31 @@ abbrev large_in : Option Noted → Bool
 large_in None = false
 large_in (Some noted) = noted.too_large
 
-abbrev word_in : Bool → Option Noted → Bool
-word_in words None = words
+abbrev word_in : Naming → Option Noted → Bool
+word_in words None = words.are_words
 word_in words (Some noted) = noted.is_word
+
+abbrev terminal_in : Naming → Option Noted → Bool
+terminal_in words None = words.on_terminal
+terminal_in words (Some noted) = noted.on_terminal
 
 abbrev fault_in : Option Noted → Option FaultyLine
 fault_in None = None
 fault_in (Some noted) = noted.fault
 
-pub are_noted : {S O F : Type 0} (words : Bool) (sources : List (Source (Input S O F))) (endings : List (ℕ × Ending)) (faults : List (Option FaultyLine))
+pub are_noted : {S O F : Type 0} (words : Naming) (sources : List (Source (Input S O F))) (endings : List (ℕ × Ending)) (faults : List (Option FaultyLine))
     → AreNoted words endings (noted_of_all words sources endings faults)
 are_noted words [] endings faults at n is = absurd (cc)
-are_noted words (source ∷ more) [] [] zero n is = (sym (ap large_in is), sym (ap (word_in words) is))
+are_noted words (source ∷ more) [] [] zero n is = (sym (ap large_in is), sym (ap (word_in words) is), sym (ap (terminal_in words) is))
 are_noted words (source ∷ more) [] [] (suc at) n is = are_noted words more [] [] at n is
-are_noted words (source ∷ more) [] (fault ∷ faults) zero n is = (sym (ap large_in is), sym (ap (word_in words) is))
+are_noted words (source ∷ more) [] (fault ∷ faults) zero n is = (sym (ap large_in is), sym (ap (word_in words) is), sym (ap (terminal_in words) is))
 are_noted words (source ∷ more) [] (fault ∷ faults) (suc at) n is = are_noted words more [] faults at n is
-are_noted words (source ∷ more) (ending ∷ rest) [] zero n is = (sym (ap large_in is), sym (ap (word_in words) is))
+are_noted words (source ∷ more) (ending ∷ rest) [] zero n is = (sym (ap large_in is), sym (ap (word_in words) is), sym (ap (terminal_in words) is))
 are_noted words (source ∷ more) (ending ∷ rest) [] (suc at) n is = are_noted words more rest [] at n is
-are_noted words (source ∷ more) (ending ∷ rest) (fault ∷ faults) zero n is = (sym (ap large_in is), sym (ap (word_in words) is))
+are_noted words (source ∷ more) (ending ∷ rest) (fault ∷ faults) zero n is = (sym (ap large_in is), sym (ap (word_in words) is), sym (ap (terminal_in words) is))
 are_noted words (source ∷ more) (ending ∷ rest) (fault ∷ faults) (suc at) n is = are_noted words more rest faults at n is
 
-pub are_faulty : {S O F : Type 0} (words : Bool) (sources : List (Source (Input S O F))) (endings : List (ℕ × Ending)) (faults : List (Option FaultyLine))
+pub are_faulty : {S O F : Type 0} (words : Naming) (sources : List (Source (Input S O F))) (endings : List (ℕ × Ending)) (faults : List (Option FaultyLine))
     → AreFaulty faults (noted_of_all words sources endings faults)
 are_faulty words [] endings faults at n is = absurd (cc)
 are_faulty words (source ∷ more) [] [] zero n is = sym (ap fault_in is)
@@ -125,7 +130,7 @@ remarks_on items noted (Ok text) h = record { remarks = h.remarks; are = h.are; 
 remarks_on items noted (Err e) h = record { remarks = map unseen noted; are = unseen_are noted; shown = unseen_shown noted; told = tt }
 
 -- the lines on the sources, by endings and faults that are the same
-pub noted_as : {S O F T E : Type 0} (items : T → List ℕ) (is words : Bool) (sources : List (Source (Input S O F)))
+pub noted_as : {S O F T E : Type 0} (items : T → List ℕ) (is words : Naming) (sources : List (Source (Input S O F)))
     (given endings : List (ℕ × Ending)) (told faults : List (Option FaultyLine))
     → is ≡ words → given ≡ endings → told ≡ faults → (result : Result T E)
     → IfOk result (λ text. AreNotes (noted_of_all is sources given told) (items text)) → Remarks items (noted_of_all words sources endings faults) result

@@ -1,5 +1,5 @@
 -- What the program does with what its words ask for: what goes out on standard output and standard error, and the exit status.
-use Rattle.std.specs.Prelude.{◌≡◌, ◌⊎◌, ℕ, if◌then◌else◌, List, [], ◌++◌, map, Option, Result, Ok, Err, string_bytes}
+use Rattle.std.specs.Prelude.{◌≡◌, ◌⊎◌, ℕ, Bool, if◌then◌else◌, List, [], ◌++◌, map, Option, Result, Ok, Err, string_bytes}
 use Rattle.std.specs.declared.io.ErrorKind.{ErrorKind}
 use Rattle.aero_model.specs.declared.limits.Limits.{Limits}
 use Rattle.aero_model.specs.declared.verdict.Counts.{Counts}
@@ -9,6 +9,8 @@ use Rattle.aero_verdict.specs.Finding.{asking}
 use Rattle.aero_batch.specs.declared.outcome.Cause.{Cause}
 use Rattle.aero_batch.specs.declared.outcome.FaultyLine.{FaultyLine}
 use Rattle.aero_batch.specs.Founds.{Sighted, Took, WasRun}
+use Rattle.aero_program.specs.declared.arguments.Unread.{Unread}
+use Rattle.aero_program.specs.declared.arguments.Unread.TheVariants as unread
 use Rattle.aero_program.specs.declared.command.Config.{Config}
 use Rattle.aero_program.specs.declared.command.Refused.TheVariants as refused
 use Rattle.aero_program.specs.declared.command.Stop.{Stop}
@@ -17,9 +19,9 @@ use Rattle.aero_program.specs.declared.failure.Failure.{Failure}
 use Rattle.aero_program.specs.declared.failure.Failure.TheVariants as failure
 use Rattle.aero_program.specs.declared.listing.Unlisted.{Unlisted}
 use Rattle.aero_program.specs.declared.listing.Unlisted.TheVariants as unlisted
-use Rattle.aero_program.specs.Command.{AreLimitsFor, are_words, list_path, listed_by}
-use Rattle.aero_program.specs.Failure.{cut_failure, failure_of, failure_status, line_of}
-use Rattle.aero_program.specs.Notes.{AreFaulty, AreNoted, AreShown, Noted, Remark, note_line, notes}
+use Rattle.aero_program.specs.Command.{AreLimitsFor, are_words, form_on, list_path, listed_by}
+use Rattle.aero_program.specs.Failure.{cut_failure, failure_status, line_of, word_line}
+use Rattle.aero_program.specs.Notes.{AreFaulty, AreNoted, AreShown, Noted, Remark, note_line, notes, said_on}
 use Rattle.aero_program.specs.Reasons.{reason_words}
 use Rattle.aero_program.specs.Sightings.{AreNames, AreUnlisted, source_sightings}
 use Rattle.aero_program.specs.Status.{end_of_help, end_of_run}
@@ -58,6 +60,15 @@ abbrev pub Helps : List ℕ → Shown → Shown → Seen → Seen → ℕ → Ty
 Helps text shown shown_after told told_after status =
     WasHelped text shown shown_after told told_after status ⊎ HelpWasCut text shown shown_after told told_after status
 
+-- the word that isn't UTF-8 is told, or else, where memory is refused for that, that there is one
+abbrev pub TellsWord : (word : List ℕ) → Seen → Seen → ℕ → Type 0
+TellsWord word told told_after status = (IsTold told told_after (word_line word) × (status ≡ 3)) ⊎ Fails failure.NotUtf8 told told_after status
+
+-- why the words can't be had is told
+abbrev pub TellsNoWords : Unread → Seen → Seen → ℕ → Type 0
+TellsNoWords (unread.NotUtf8 word) told told_after status = TellsWord word.items told told_after status
+TellsNoWords unread.Memory told told_after status = Fails failure.Memory told told_after status
+
 -- Why nothing is judged: all but the help goes out on standard error alone.
 abbrev pub Stops : Stop → Shown → Shown → Seen → Seen → ℕ → Type 0
 Stops (stop.Refused (refused.Help text)) shown shown_after told told_after status = Helps (string_bytes text) shown shown_after told told_after status
@@ -67,7 +78,7 @@ Stops (stop.Refused refused.TooManyFiles) shown shown_after told told_after stat
 Stops (stop.Refused refused.BadLabel) shown shown_after told told_after status = (shown_after ≡ shown) × Fails failure.BadLabel told told_after status
 Stops (stop.Refused refused.TooManyLabels) shown shown_after told told_after status = (shown_after ≡ shown) × Fails failure.TooManyLabels told told_after status
 Stops (stop.Refused refused.Memory) shown shown_after told told_after status = (shown_after ≡ shown) × Fails failure.Memory told told_after status
-Stops (stop.Unread unread) shown shown_after told told_after status = (shown_after ≡ shown) × Fails (failure_of unread) told told_after status
+Stops (stop.Unread why) shown shown_after told told_after status = (shown_after ≡ shown) × TellsNoWords why told told_after status
 
 -- After a run: the notes on the sources go out on standard error, and then why the program fails, where it does. Where memory is refused for the notes, there are none, and the program fails.
 abbrev pub Ends : List Remark → Result ℕ Failure → Seen → Seen → ℕ → Type 0
@@ -88,13 +99,13 @@ pub record WasJudged (config : Config) (given : Option (List ℕ)) (shown shown_
   pub faults : List (Option FaultyLine)
   pub counts : Counts
   pub cause : Option Cause
-  pub ran : WasRun (asking limits (listed_by config.except.items config.only.items) config.order config.explain) config.form (source_sightings config.files given names) sources shown.writer between.writer endings faults counts cause
+  pub ran : WasRun (asking limits (listed_by config.except.items config.only.items) config.order config.explain) (form_on config.terminals config.form) (source_sightings config.files given names) sources shown.writer between.writer endings faults counts cause
   pub same : between.unflushed ≡ shown.unflushed
   pub fault : Option ErrorKind
   pub flushed : WasFlushed between shown_after fault
   pub noted : List Noted
   pub of_names : map (λ n. n.name) noted ≡ names
-  pub are_noted : AreNoted (are_words config.files) (if config.long then [] else endings) noted
+  pub are_noted : AreNoted (record { are_words = are_words config.files; on_terminal = config.terminals.errors }) (if config.long then [] else endings) noted
   pub are_faulty : AreFaulty faults noted
   pub remarks : List Remark
   pub on_noted : map (λ r. r.noted) remarks ≡ noted
@@ -102,16 +113,16 @@ pub record WasJudged (config : Config) (given : Option (List ℕ)) (shown shown_
   pub ends : Ends remarks (end_of_run config.fail_open cause counts fault) told told_after status
 
 -- how it is told that there are no sources, since the list with their names, at this path, can't be had
-abbrev pub TellsUnlisted : (path : List ℕ) → Unlisted → Seen → Seen → ℕ → Type 0
-TellsUnlisted path (unlisted.Unread reason) told told_after status = IsTold told told_after (note_line path (reason_words reason)) × (status ≡ 3)
-TellsUnlisted path unlisted.TooMany told told_after status = Fails failure.TooManyFiles told told_after status
-TellsUnlisted path unlisted.Memory told told_after status = Fails failure.Memory told told_after status
+abbrev pub TellsUnlisted : (on_terminal : Bool) → (path : List ℕ) → Unlisted → Seen → Seen → ℕ → Type 0
+TellsUnlisted on_terminal path (unlisted.Unread reason) told told_after status = IsTold told told_after (note_line (said_on on_terminal path) (reason_words reason)) × (status ≡ 3)
+TellsUnlisted on_terminal path unlisted.TooMany told told_after status = Fails failure.TooManyFiles told told_after status
+TellsUnlisted on_terminal path unlisted.Memory told told_after status = Fails failure.Memory told told_after status
 
 -- there are no sources, and that is told
 pub record WasUnlisted (config : Config) (given : Option (List ℕ)) (told told_after : Seen) (status : ℕ) : Type 0 where
   pub why : Unlisted
   pub are : AreUnlisted config.files given why
-  pub tells : TellsUnlisted (list_path config.files) why told told_after status
+  pub tells : TellsUnlisted config.terminals.errors (list_path config.files) why told told_after status
 
 -- or memory was refused before that
 abbrev pub Judges : Config → Option (List ℕ) → Shown → Shown → Seen → Seen → ℕ → Type 0

@@ -2,10 +2,13 @@
 use Rattle.std.specs.Prelude.{◌≡◌, ◌^◌, ◌==◌, if◌then◌else◌, ℕ, Bool, false, true, List, [], length, map, Option, Some, None, string_bytes, vec_len}
 use Rattle.aero_model.specs.declared.limits.Limits.{Limits}
 use Rattle.aero_model.specs.Exempt.{Listed, these, all_but}
+use Rattle.aero_report.specs.declared.form.Form.{Form}
+use Rattle.aero_report.specs.declared.form.Form.TheVariants.{Text, Terminal}
 use Rattle.aero_program.specs.declared.command.Progress.{Progress}
 use Rattle.aero_program.specs.declared.command.Progress.TheVariants.{Auto, Always, Never}
 use Rattle.aero_program.specs.declared.command.Sources.{Sources}
 use Rattle.aero_program.specs.declared.command.Sources.TheVariants as sources
+use Rattle.aero_program.specs.declared.command.Terminals.{Terminals}
 
 -- the files that words name, in order
 abbrev pub files_named : Sources → List (List ℕ)
@@ -53,6 +56,11 @@ AreLong limits = (limits.bytes ≡ 2 ^ 46) × (limits.lines ≡ 4000000000) × (
 abbrev pub AreLimitsFor : (long : Bool) → Limits → Type 0
 AreLimitsFor false limits = AreGreatest limits
 AreLimitsFor true limits = AreLong limits
+
+-- the form of a report on standard output: a text is one for a terminal where that is one
+abbrev pub form_on : Terminals → Form → Form
+form_on terminals Text = if terminals.output then Terminal else Text
+form_on terminals form = form
 
 -- after how many milliseconds the line on progress is shown first, where standard error is a terminal, or isn't
 abbrev pub shown_after : Progress → Bool → Option ℕ

@@ -2,8 +2,7 @@
 use Rattle.std.specs.Prelude.{ℕ, List, [], ◌∷◌, ◌++◌, Option, Some, None, codes}
 use Rattle.std.specs.declared.io.ErrorKind.{ErrorKind}
 use Rattle.std.specs.declared.io.ErrorKind.TheVariants.{BrokenPipe}
-use Rattle.aero_program.specs.declared.arguments.Unread.{Unread}
-use Rattle.aero_program.specs.declared.arguments.Unread.TheVariants as unread
+use Rattle.aero_shown.specs.Shown.{shown_text}
 use Rattle.aero_program.specs.declared.failure.Failure.{Failure}
 use Rattle.aero_program.specs.declared.failure.Failure.TheVariants.{Memory, Write, Closed, TooManyFiles, BadLabel, TooManyLabels, NotUtf8}
 
@@ -27,10 +26,9 @@ failure_status BadLabel = 3
 failure_status TooManyLabels = 3
 failure_status NotUtf8 = 3
 
--- the words that can't be had stop the program so
-abbrev pub failure_of : Unread → Failure
-failure_of unread.NotUtf8 = NotUtf8
-failure_of unread.Memory = Memory
+-- the line on a word that isn't UTF-8
+abbrev pub word_line : List ℕ → List ℕ
+word_line word = codes "aerodrome: a word is not UTF-8: " ++ (shown_text word ++ 10 ∷ [])
 
 -- a write or a flush that fails so stops the program so
 abbrev pub write_failure : ErrorKind → Failure

@@ -1,7 +1,8 @@
 -- To be believed: Answers (what goes out, and the exit status), with Failure, Status, Streams, Faults, Notes and Looks. Also
 -- Command (the limits and the line on progress), Inputs (files and standard input), Sightings and Listing (the names of
--- the sources), Retries and Calls (calls that were interrupted), Starts, Reasons and Sizes. Nothing here serves proofs alone.
+-- the sources), Arguments (the words), Retries and Calls (calls that were interrupted), Starts, Reasons and Sizes. Nothing here serves proofs alone.
 pub mod Answers
+pub mod Arguments
 pub mod Calls
 pub mod Command
 pub mod Failure

@@ -9,7 +9,9 @@ use Rattle.aero_batch.specs.declared.outcome.FaultyLine.{FaultyLine}
 use Rattle.aero_faults.specs.declared.look.Look.{Look}
 use Rattle.aero_faults.specs.Sentences.{line_sentence, shape_sentence}
 use Rattle.aero_intake.specs.declared.source.Source.{Source}
+use Rattle.aero_shown.specs.Shown.{shown_text}
 use Rattle.aero_program.specs.declared.input.Input.{Input}
+use Rattle.aero_program.specs.declared.notes.Naming.{Naming}
 use Rattle.aero_program.specs.declared.reason.Reason.{Reason}
 use Rattle.aero_program.specs.declared.reason.Reason.TheVariants.{System, Unnumbered, NotUtf8}
 use Rattle.aero_program.specs.Inputs.{start_of, reason_of}
@@ -17,10 +19,11 @@ use Rattle.aero_program.specs.Looks.{ShowsAs}
 use Rattle.aero_program.specs.Reasons.{reason_words}
 use Rattle.aero_program.specs.Starts.{byte_order_mark}
 
--- what was noted of a source: its name, whether that is a FILE word, the first three bytes that came, why the first read that failed did, whether it had more bytes than a source may have that isn't long, and its faulty line
+-- what was noted of a source: its name, whether that is a FILE word, whether a terminal is told of it, the first three bytes that came, why the first read that failed did, whether it had more bytes than a source may have that isn't long, and its faulty line
 pub record Noted : Type 0 where
   pub name : List ℕ
   pub is_word : Bool
+  pub on_terminal : Bool
   pub start : List ℕ
   pub reason : Option Reason
   pub too_large : Bool
@@ -36,32 +39,38 @@ abbrev pub fault_told : Option (Option FaultyLine) → Option FaultyLine
 fault_told None = None
 fault_told (Some fault) = fault
 
-abbrev pub noted_of : {S O F : Type 0} → (is_word : Bool) → Source (Input S O F) → (too_large : Bool) → Option FaultyLine → Noted
-noted_of is_word source too_large fault = record {
+abbrev pub noted_of : {S O F : Type 0} → Naming → Source (Input S O F) → (too_large : Bool) → Option FaultyLine → Noted
+noted_of naming source too_large fault = record {
   name = source.name.items;
-  is_word = is_word;
+  is_word = naming.are_words;
+  on_terminal = naming.on_terminal;
   start = start_of (inner_of source.reader);
   reason = reason_of (inner_of source.reader);
   too_large = too_large;
   fault = fault;
 }
 
--- what was noted of the sources, whose names are FILE words, or aren't, whose readings ended so, and of which these faulty lines were told, as far as the run came
-abbrev pub noted_of_all : {S O F : Type 0} → (are_words : Bool) → List (Source (Input S O F)) → List (ℕ × Ending) → List (Option FaultyLine) → List Noted
-noted_of_all are_words [] endings faults = []
-noted_of_all are_words (source ∷ more) [] [] = noted_of are_words source false None ∷ noted_of_all are_words more [] []
-noted_of_all are_words (source ∷ more) [] (fault ∷ faults) = noted_of are_words source false fault ∷ noted_of_all are_words more [] faults
-noted_of_all are_words (source ∷ more) (ending ∷ rest) [] = noted_of are_words source (was_too_large (Some ending)) None ∷ noted_of_all are_words more rest []
-noted_of_all are_words (source ∷ more) (ending ∷ rest) (fault ∷ faults) = noted_of are_words source (was_too_large (Some ending)) fault ∷ noted_of_all are_words more rest faults
+-- what was noted of the sources, whose names are to be told so, whose readings ended so, and of which these faulty lines were told, as far as the run came
+abbrev pub noted_of_all : {S O F : Type 0} → Naming → List (Source (Input S O F)) → List (ℕ × Ending) → List (Option FaultyLine) → List Noted
+noted_of_all naming [] endings faults = []
+noted_of_all naming (source ∷ more) [] [] = noted_of naming source false None ∷ noted_of_all naming more [] []
+noted_of_all naming (source ∷ more) [] (fault ∷ faults) = noted_of naming source false fault ∷ noted_of_all naming more [] faults
+noted_of_all naming (source ∷ more) (ending ∷ rest) [] = noted_of naming source (was_too_large (Some ending)) None ∷ noted_of_all naming more rest []
+noted_of_all naming (source ∷ more) (ending ∷ rest) (fault ∷ faults) = noted_of naming source (was_too_large (Some ending)) fault ∷ noted_of_all naming more rest faults
 
--- the sources were noted as too large whose readings ended so, and all as FILE words, or none
-abbrev pub AreNoted : (are_words : Bool) → List (ℕ × Ending) → List Noted → Type 0
-AreNoted are_words endings noted =
-    (at : ℕ) (n : Noted) → slice_get noted at ≡ Some n → (n.too_large ≡ was_too_large (slice_get endings at)) × (n.is_word ≡ are_words)
+-- the sources were noted as too large whose readings ended so, all as FILE words, or none, and all for a terminal, or none
+abbrev pub AreNoted : Naming → List (ℕ × Ending) → List Noted → Type 0
+AreNoted naming endings noted =
+    (at : ℕ) (n : Noted) → slice_get noted at ≡ Some n
+    → (n.too_large ≡ was_too_large (slice_get endings at)) × (n.is_word ≡ naming.are_words) × (n.on_terminal ≡ naming.on_terminal)
 
 -- the sources were noted with the faulty lines that were told
 abbrev pub AreFaulty : List (Option FaultyLine) → List Noted → Type 0
 AreFaulty faults noted = (at : ℕ) (n : Noted) → slice_get noted at ≡ Some n → n.fault ≡ fault_told (slice_get faults at)
+
+-- bytes that others chose, as they are told: a terminal is shown no control characters of theirs
+abbrev pub said_on : (terminal : Bool) → List ℕ → List ℕ
+said_on terminal bytes = if terminal then shown_text bytes else bytes
 
 abbrev pub note_line : List ℕ → List ℕ → List ℕ
 note_line name words = codes "aerodrome: " ++ name ++ codes ": " ++ words ++ 10 ∷ []
@@ -101,10 +110,15 @@ sentence_of (IllFormed fault) look = shape_sentence fault look
 abbrev pub line_note : List ℕ → (line : ℕ) → List ℕ → List ℕ
 line_note name line words = codes "aerodrome: " ++ name ++ codes ":" ++ decimal line ++ codes ": " ++ words ++ 10 ∷ []
 
--- what is wrong with the source's faulty line
-abbrev pub fault_line : List ℕ → Option FaultyLine → Look → List ℕ
-fault_line name None look = []
-fault_line name (Some faulty) look = line_note name faulty.line (sentence_of faulty.fault look)
+-- the same of a source that may have none
+abbrev pub sentence_on : Option FaultyLine → Look → List ℕ
+sentence_on None look = []
+sentence_on (Some faulty) look = sentence_of faulty.fault look
+
+-- what is wrong with the source's faulty line, in this sentence
+abbrev pub fault_line : List ℕ → Option FaultyLine → List ℕ → List ℕ
+fault_line name None sentence = []
+fault_line name (Some faulty) sentence = line_note name faulty.line sentence
 
 -- what was noted of a source, and what a second look at its faulty line showed
 pub record Remark : Type 0 where
@@ -120,8 +134,10 @@ AreShown (remark ∷ more) = ShowsAs remark.noted.fault remark.look × AreShown 
 abbrev pub note : Remark → List ℕ
 note remark =
     let noted = remark.noted in
-    mark_line noted.name (bytes_eq noted.start byte_order_mark)
-    ++ (reason_line noted.is_word noted.name noted.reason ++ (size_line noted.name noted.too_large ++ fault_line noted.name noted.fault remark.look))
+    let name = said_on noted.on_terminal noted.name in
+    let sentence = said_on noted.on_terminal (sentence_on noted.fault remark.look) in
+    mark_line name (bytes_eq noted.start byte_order_mark)
+    ++ (reason_line noted.is_word name noted.reason ++ (size_line name noted.too_large ++ fault_line name noted.fault sentence))
 
 -- the lines on all sources, in order
 abbrev pub notes : List Remark → List ℕ

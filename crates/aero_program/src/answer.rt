@@ -2,21 +2,22 @@
 ghost use Rattle.std.specs.Prelude.{◌≡◌, ◌⊎◌, List, [], if◌then◌else◌, IfOk, OnOk, OnErr};
 ghost use Rattle.aero_model.specs.CallCounts.{seen_by};
 ghost use Rattle.aero_batch.specs.Founds.{Took};
-ghost use Rattle.aero_program.specs.Answers.{AnswersTo, Ends, Fails, Helps, Judges, Stops, TellsUnlisted};
+ghost use Rattle.aero_program.specs.Answers.{AnswersTo, Ends, Fails, Helps, Judges, Stops, TellsNoWords, TellsUnlisted, TellsWord};
 ghost use Rattle.aero_program.specs.declared.failure.Failure.TheVariants.{Memory};
 ghost use Rattle.aero_program.specs.declared.listing.Unlisted.TheVariants.{Unread};
 ghost use Rattle.aero_program.specs.Notes.{Remark, notes as notes_on};
 ghost use Rattle.aero_program.specs.Retries.{tried_by};
 ghost use Rattle.aero_program.specs.Streams.{WasCut, shown_by};
 
+use crate::arguments;
 use crate::command::{Config, Refused, Stop};
-use crate::failure::Failure;
+use crate::failure::{Failure, odd_word_line};
 use crate::files::Opener;
 use crate::input::Input;
 use crate::lasting::flush_fault;
 use crate::listing::Unlisted;
 use crate::looker::Looker;
-use crate::notes::{notes_of, reason_note};
+use crate::notes::{Naming, notes_of, reason_note};
 use crate::output::Output;
 use crate::reason::Reason;
 use crate::retrying::Retrying;
@@ -63,7 +64,7 @@ pub fn answer<
 {
     match asked {
         Ok(config) => judge(rt, alloc, config, files, stdin, output, errors),
-        Err(stop) => tell_stop(&stop, output, errors),
+        Err(stop) => tell_stop(alloc, &stop, output, errors),
     }
 }
 
@@ -91,46 +92,57 @@ fn judge<
     };
     let long = config.long;
     let fail_open = config.fail_open;
+    let on_terminal = config.terminals.errors;
     let Ok((plan, asked)) = config.into_plan(alloc) else {
         return fail(Failure::Memory, errors);
     };
     let mut sources = match sources_of(alloc, files, stdin, &asked) {
         Ok(sources) => sources,
-        Err(why) => return tell_unlisted(alloc, asked.list_path(), why, errors),
+        Err(why) => return tell_unlisted(alloc, asked.list_path(), why, on_terminal, errors),
     };
     let outcome = run(rt, alloc, &mut sources, &mut output.writer, &plan, gate);
     let flushed = output.flush();
     let end = status_after(&outcome, &flushed, fail_open);
     let endings = noted(&outcome.endings, long);
     let looker = Looker::new(alloc, files);
-    let notes = notes_of(
-        &looker,
-        sources,
-        endings,
-        &outcome.faults,
-        asked.are_words(),
-    );
+    let naming = Naming {
+        are_words: asked.are_words(),
+        on_terminal,
+    };
+    let notes = notes_of(&looker, sources, endings, &outcome.faults, naming);
     finish(end, notes, errors)
 }
 
 // Tells why there are no sources, where the list with their names, at this path, can't be had.
-fn tell_unlisted<E: Write>(alloc: Global, path: &str, why: Unlisted, errors: &mut Counting<E>) -> u8
-    ensures { TellsUnlisted path.now why (seen_by E.contents errors.old) (seen_by E.contents errors.new) result
+fn tell_unlisted<E: Write>(
+    alloc: Global,
+    path: &str,
+    why: Unlisted,
+    on_terminal: bool,
+    errors: &mut Counting<E>,
+) -> u8
+    ensures { TellsUnlisted on_terminal path.now why (seen_by E.contents errors.old) (seen_by E.contents errors.new) result
         ⊎ Fails Memory (seen_by E.contents errors.old) (seen_by E.contents errors.new) result }
 {
     match why {
-        Unlisted::Unread(reason) => tell_unread(alloc, path, reason, errors),
+        Unlisted::Unread(reason) => tell_unread(alloc, path, reason, on_terminal, errors),
         Unlisted::TooMany => fail(Failure::TooManyFiles, errors),
         Unlisted::Memory => fail(Failure::Memory, errors),
     }
 }
 
 // Tells why the list at this path couldn't be opened or read.
-fn tell_unread<E: Write>(alloc: Global, path: &str, reason: Reason, errors: &mut Counting<E>) -> u8
-    ensures { TellsUnlisted path.now (Unread reason) (seen_by E.contents errors.old) (seen_by E.contents errors.new) result
+fn tell_unread<E: Write>(
+    alloc: Global,
+    path: &str,
+    reason: Reason,
+    on_terminal: bool,
+    errors: &mut Counting<E>,
+) -> u8
+    ensures { TellsUnlisted on_terminal path.now (Unread reason) (seen_by E.contents errors.old) (seen_by E.contents errors.new) result
         ⊎ Fails Memory (seen_by E.contents errors.old) (seen_by E.contents errors.new) result }
 {
-    let Ok(line) = reason_note(alloc, path.as_bytes(), reason) else {
+    let Ok(line) = reason_note(alloc, path.as_bytes(), reason, on_terminal) else {
         return fail(Failure::Memory, errors);
     };
     let _ = tell(errors, &line);
@@ -170,6 +182,7 @@ fn finish<E: Write>(
 
 // Tells why nothing is judged: the help on standard output, all else on standard error.
 fn tell_stop<O: Write, E: Write>(
+    alloc: Global,
     stop: &Stop,
     output: &mut Output<O>,
     errors: &mut Counting<E>,
@@ -187,8 +200,29 @@ fn tell_stop<O: Write, E: Write>(
         Stop::Refused(Refused::BadLabel) => fail(Failure::BadLabel, errors),
         Stop::Refused(Refused::TooManyLabels) => fail(Failure::TooManyLabels, errors),
         Stop::Refused(Refused::Memory) => fail(Failure::Memory, errors),
-        Stop::Unread(unread) => fail(Failure::from(*unread), errors),
+        Stop::Unread(why) => tell_no_words(alloc, why, errors),
     }
+}
+
+// Tells why the words can't be had.
+fn tell_no_words<E: Write>(alloc: Global, why: &arguments::Unread, errors: &mut Counting<E>) -> u8
+    ensures { TellsNoWords why.now (seen_by E.contents errors.old) (seen_by E.contents errors.new) result }
+{
+    match why {
+        arguments::Unread::NotUtf8(word) => tell_odd_word(alloc, word, errors),
+        arguments::Unread::Memory => fail(Failure::Memory, errors),
+    }
+}
+
+// Tells which word isn't UTF-8.
+fn tell_odd_word<E: Write>(alloc: Global, word: &[u8], errors: &mut Counting<E>) -> u8
+    ensures { TellsWord word.now (seen_by E.contents errors.old) (seen_by E.contents errors.new) result }
+{
+    let Ok(line) = odd_word_line(alloc, word) else {
+        return fail(Failure::NotUtf8, errors);
+    };
+    let _ = tell(errors, &line);
+    3
 }
 
 fn tell_help<O: Write, E: Write>(text: &str, output: &mut Output<O>, errors: &mut Counting<E>) -> u8

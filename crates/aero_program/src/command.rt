@@ -1,6 +1,6 @@
 //! What a command line asks for, or why nothing is judged.
 ghost use Rattle.std.specs.Prelude.{◌≡◌, ◌<◌, ◌≤◌, ◌^◌, ◌&&◌, false, IfOk, length, map, nat_lt, string_bytes, vec_len};
-ghost use Rattle.aero_program.specs.Command.{AreLimitsFor, are_counted, are_words, count_named, files_named, list_path, listed_by, shown_after};
+ghost use Rattle.aero_program.specs.Command.{AreLimitsFor, are_counted, are_words, count_named, files_named, form_on, list_path, listed_by, shown_after};
 
 use crate::arguments::Unread;
 use aero_batch::plan::Plan;
@@ -37,6 +37,8 @@ pub struct Config {
     /// Whether open blocks make the exit status 1, as a violation does.
     pub fail_open: bool,
     pub form: Form,
+    /// Which of the standard streams are terminals. The command line doesn't say it: it knows of none.
+    pub terminals: Terminals,
     /// No report, note or status depends on it.
     pub progress: Progress,
     ghost some_workers: { 0 < workers },
@@ -48,6 +50,13 @@ pub struct Config {
     ghost most_only: { vec_len only ≤ 64 },
     ghost one_list: { (nat_lt 0 (vec_len except) && nat_lt 0 (vec_len only)) ≡ false },
     ghost no_long_order: { (long && order) ≡ false },
+}
+
+/// Which of the standard streams are terminals. On one, names are shown without control characters.
+#[derive(Clone, Copy, Debug, PartialEq, Eq)]
+pub struct Terminals {
+    pub output: bool,
+    pub errors: bool,
 }
 
 /// What is to be judged.
@@ -124,8 +133,18 @@ impl Progress {
 }
 
 impl Config {
+    /// The same on these terminals.
+    pub fn on(self, terminals: Terminals) -> Config
+        ensures { result ≡ record self { terminals = terminals } }
+    {
+        let mut config = self;
+        config.terminals = terminals;
+        config
+    }
+
     /// The plan of a run that does what is asked for, under the greatest limits, or those of long
-    /// sources where these are asked for, and what it is to judge.
+    /// sources where these are asked for, and what it is to judge. A text is one for a terminal where
+    /// standard output is one.
     pub fn into_plan(self, alloc: Global) -> Result<(Plan, Sources), AllocError>
         ensures workers { IfOk result (λ made. made.0.workers ≡ self.workers) }
         ensures piece { IfOk result (λ made. made.0.piece ≡ self.piece) }
@@ -133,7 +152,7 @@ impl Config {
         ensures except { IfOk result (λ made. made.0.except ≡ listed_by self.except.items self.only.items) }
         ensures order { IfOk result (λ made. made.0.order ≡ self.order) }
         ensures explain { IfOk result (λ made. made.0.explain ≡ self.explain) }
-        ensures form { IfOk result (λ made. made.0.form ≡ self.form) }
+        ensures form { IfOk result (λ made. made.0.form ≡ form_on self.terminals self.form) }
         ensures files { IfOk result (λ made. made.1 ≡ self.files) }
     {
         let except = except_of(self.except, self.only);
@@ -145,7 +164,25 @@ impl Config {
         } else {
             plan
         };
-        Ok((plan.with_form(self.form), self.files))
+        let form = form_on(self.terminals, self.form);
+        Ok((plan.with_form(form), self.files))
+    }
+}
+
+// The form of a report on standard output.
+fn form_on(terminals: Terminals, form: Form) -> Form
+    ensures { result ≡ form_on terminals form }
+{
+    match form {
+        Form::Text => {
+            if terminals.output {
+                Form::Terminal
+            } else {
+                Form::Text
+            }
+        }
+        Form::Terminal => Form::Terminal,
+        Form::Json => Form::Json,
     }
 }
 

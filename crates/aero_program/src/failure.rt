@@ -1,9 +1,9 @@
 //! Why the program stops without a whole report, apart from what the words' reader says itself.
-ghost use Rattle.std.specs.Prelude.{◌≡◌};
-ghost use Rattle.aero_program.specs.Failure.{cut_failure, failure_status, line_of, write_failure};
+ghost use Rattle.std.specs.Prelude.{◌≡◌, IfOk};
+ghost use Rattle.aero_program.specs.Failure.{cut_failure, failure_status, line_of, word_line, write_failure};
 
-use crate::arguments::Unread;
-use std::alloc::AllocError;
+use aero_shown::append_text;
+use std::alloc::{AllocError, Global};
 use std::io::ErrorKind;
 
 /// Why the program stops without a whole report. For each but `Closed` it writes one line to standard error.
@@ -21,7 +21,7 @@ pub enum Failure {
     BadLabel,
     /// The command line gives more than 64 labels.
     TooManyLabels,
-    /// A word of the command line is not UTF-8.
+    /// A word of the command line is not UTF-8, and memory was refused for the line that names it.
     NotUtf8,
 }
 
@@ -85,16 +85,17 @@ impl From<AllocError> for Failure {
     }
 }
 
-impl From<Unread> for Failure {
-    ghost use Rattle.std.specs.Prelude.{◌≡◌};
-    ghost use Rattle.aero_program.specs.Failure.{failure_of};
-
-    ghost from_gives = { λ unread failure. failure ≡ failure_of unread };
-
-    fn from(unread: Unread) -> Failure {
-        match unread {
-            Unread::NotUtf8 => Failure::NotUtf8,
-            Unread::Memory => Failure::Memory,
-        }
-    }
+/// The line on a word of the command line that isn't UTF-8, with its line end: the word is shown without control
+/// characters, and each byte that is no character as `\xNN`.
+///
+/// # Errors
+///
+/// `AllocError` where memory is refused.
+pub fn odd_word_line(alloc: Global, word: &[u8]) -> Result<Vec<u8>, AllocError>
+    ensures { IfOk result (λ line. line.items ≡ word_line word.now) }
+{
+    let mut line = Vec::from_slice(alloc, b"aerodrome: a word is not UTF-8: ")?;
+    append_text(&mut line, word)?;
+    line.push(b'\n')?;
+    Ok(line)
 }

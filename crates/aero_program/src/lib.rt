@@ -18,8 +18,11 @@
 //!   `answer`. No contract says that it returns.
 //! - The status after a run and a flush, or why the program fails: `status`, `status_after`. The line and the status of
 //!   each failure: `Failure::line`, `status`.
+//! - The texts of words, or the first that isn't UTF-8: `texts_of`. That the word of a refusal isn't: `words_of`. Its line:
+//!   `odd_word_line`.
 //! - A plan is what the command line asks for, with its labels. Its limits are the greatest, or those of long sources
-//!   where `Config.long` is set: `Config::into_plan`, `limits`, and a clause for each other field.
+//!   where `Config.long` is set, and a text is one for a terminal where standard output is one: `Config::into_plan`, `limits`,
+//!   `form`, and a clause for each other field.
 //! - A `Config` lies within its ranges, and never has both `long` and `order`: `no_long_order`.
 //! - There is a source for each word, named as it, whose reader stands unopened for that word's file, or for each name
 //!   in a list, or standard input under its name: `sources_of`, `names`, `readers`, `reasons`, `sighted`.
@@ -37,12 +40,14 @@
 //!   `flush`.
 //! - It never fails with an interruption, and finds the end exactly where the stream does. What is read or written is
 //!   the stream's, where its type tells its bytes: `lasting`, `idle`, `bytes`.
-//! - The notes on byte order marks, failed reads, sizes and faulty lines: `notes_of`. The system's words: `Reason::of`, `words`.
+//! - The notes on byte order marks, failed reads, sizes and faulty lines, as they are shown where standard error is a
+//!   terminal: `notes_of`, `reason_note`. The system's words: `Reason::of`, `words`.
 //! - A faulty line is told as a second look at the file shows it, or else in words: `notes_of`. Such a look shows the fault
 //!   that the run found, on its line, and something only of a file that can be opened: `Looker::look`, `look_at`. That it
 //!   shows something where it can is only tested.
 //! - After how many milliseconds the line on progress is shown first, if ever: `Progress::first_after`.
 //!
+//! No contract says which words there are, or whether a stream is a terminal: `words_of` asks, and `Config::on` is told.
 //! No contract says how often a stream is flushed: tests show that standard output is, once and behind all that it has.
 //! No contract says which bytes the files of an `Opener` have. Of `FilesOf` and `MeteredFiles` none says more than the
 //! types of their files do: a `Metered` one reads as the file within.

@@ -1,7 +1,7 @@
 //! What the program has to tell of its sources beside the report, on standard error.
 ghost use Rattle.std.specs.Prelude.{◌≡◌, ◌++◌, IfOk, OnOk, bytes_eq, codes};
 ghost use Rattle.std.specs.Option.{option_copied};
-ghost use Rattle.aero_program.specs.Notes.{AreNotes, GrowsBy, fault_line, fault_told, is_missing, line_note, note_line, noted_of, noted_of_all, mark_line, reason_line, reason_text, sentence_of, size_line, was_too_large};
+ghost use Rattle.aero_program.specs.Notes.{AreNotes, GrowsBy, fault_line, fault_told, is_missing, line_note, note_line, noted_of, noted_of_all, mark_line, reason_line, reason_text, said_on, sentence_of, sentence_on, size_line, was_too_large};
 ghost use Rattle.aero_program.specs.Reasons.{reason_words};
 
 use crate::files::Opener;
@@ -12,16 +12,26 @@ use aero_batch::outcome::{Fault, FaultyLine};
 use aero_batch::source::Source;
 use aero_faults::look::{Look, append_ill_formed, append_malformed};
 use aero_model::verdict::Ending;
+use aero_shown::append_text;
 use itoa::Buffer;
 use std::alloc::{AllocError, Global};
 use std::io::Read;
+
+/// How the names of sources are told.
+#[derive(Clone, Copy, Debug, PartialEq, Eq)]
+pub struct Naming {
+    /// Whether they are FILE words.
+    pub are_words: bool,
+    /// Whether a terminal is told, which is shown no control characters of theirs.
+    pub on_terminal: bool,
+}
 
 /// The lines on the sources, in order: of each that it starts with a byte order mark, if it does,
 /// then why its first read that failed did, if one did, then how it is judged all the same, if it
 /// was too large, and then what is wrong with its faulty line, if it has one, as far as a second look
 /// at its file shows it. The endings are those of the first sources, each with how many bytes came, and
 /// the faults are theirs. Where the names are FILE words, one `-` that names no file is told what would
-/// be read without it.
+/// be read without it. A terminal is shown no control characters of names and of lines.
 ///
 /// # Errors
 ///
@@ -32,9 +42,9 @@ pub fn notes_of<S: Read + Drop, F: Opener + Drop, G: Opener>(
     sources: Vec<Source<Input<S, F>>>,
     endings: &[(u64, Ending)],
     faults: &[Option<FaultyLine>],
-    are_words: bool,
+    naming: Naming,
 ) -> Result<Vec<u8>, AllocError>
-    ensures { IfOk result (λ text. AreNotes (noted_of_all are_words sources.items endings.now faults.now) text.items) }
+    ensures { IfOk result (λ text. AreNotes (noted_of_all naming sources.items endings.now faults.now) text.items) }
 {
     let mut text = Vec::new(looker.alloc);
     let mut place = 0usize;
@@ -44,7 +54,7 @@ pub fn notes_of<S: Read + Drop, F: Opener + Drop, G: Opener>(
             too_large: is_too_large(endings.get(place)),
             fault,
         };
-        append_notes(&mut text, looker, source, found, are_words)?;
+        append_notes(&mut text, looker, source, found, naming)?;
         place += 1;
     }
     Ok(text)
@@ -79,18 +89,33 @@ fn append_notes<S: Read + Drop, F: Opener + Drop, G: Opener>(
     looker: &Looker<'_, G>,
     source: Source<Input<S, F>>,
     found: Found,
-    is_word: bool,
+    naming: Naming,
 ) -> Result<(), AllocError>
-    ensures { OnOk result (GrowsBy text.old.items text.new.items (noted_of is_word source found.too_large found.fault)) }
+    ensures { OnOk result (GrowsBy text.old.items text.new.items (noted_of naming source found.too_large found.fault)) }
 {
     let Source { name, reader, .. } = source;
     let input = reader.into_inner();
+    let name = said(looker.alloc, name, naming.on_terminal)?;
     append_mark(text, &name, input.has_mark())?;
-    append_reason(text, &name, input.reason(), is_word)?;
+    append_reason(text, &name, input.reason(), naming.are_words)?;
     append_size(text, &name, found.too_large)?;
     let seen = looker.look(input.again(), found.fault);
-    append_fault(text, &name, found.fault, &seen)?;
+    let sentence = sentence_on(looker.alloc, found.fault, &seen)?;
+    let sentence = said(looker.alloc, sentence, naming.on_terminal)?;
+    append_fault(text, &name, found.fault, &sentence)?;
     Ok(())
+}
+
+// Bytes that others chose, as they are told.
+fn said(alloc: Global, bytes: Vec<u8>, on_terminal: bool) -> Result<Vec<u8>, AllocError>
+    ensures { IfOk result (λ text. text.items ≡ said_on on_terminal bytes.items) }
+{
+    if !on_terminal {
+        return Ok(bytes);
+    }
+    let mut text = Vec::new(alloc);
+    append_text(&mut text, &bytes)?;
+    Ok(text)
 }
 
 fn append_mark(text: &mut Vec<u8>, name: &[u8], has_mark: bool) -> Result<(), AllocError>
@@ -158,16 +183,24 @@ fn append_size(text: &mut Vec<u8>, name: &[u8], too_large: bool) -> Result<(), A
     )
 }
 
-/// The line that says why what has this name couldn't be opened or read.
+/// The line that says why what has this name couldn't be opened or read. A terminal is shown no control characters
+/// of the name.
 ///
 /// # Errors
 ///
 /// `AllocError` where memory is refused.
-pub fn reason_note(alloc: Global, name: &[u8], reason: Reason) -> Result<Vec<u8>, AllocError>
-    ensures { IfOk result (λ text. text.items ≡ note_line name.now (reason_words reason)) }
+pub fn reason_note(
+    alloc: Global,
+    name: &[u8],
+    reason: Reason,
+    on_terminal: bool,
+) -> Result<Vec<u8>, AllocError>
+    ensures { IfOk result (λ text. text.items ≡ note_line (said_on on_terminal name.now) (reason_words reason)) }
 {
+    let name = Vec::from_slice(alloc, name)?;
+    let name = said(alloc, name, on_terminal)?;
     let mut text = Vec::new(alloc);
-    append_line(&mut text, name, reason.words())?;
+    append_line(&mut text, &name, reason.words())?;
     Ok(text)
 }
 
@@ -175,13 +208,13 @@ fn append_fault(
     text: &mut Vec<u8>,
     name: &[u8],
     fault: Option<FaultyLine>,
-    look: &Look,
+    sentence: &[u8],
 ) -> Result<(), AllocError>
-    ensures { OnOk result (text.new.items ≡ text.old.items ++ fault_line name.now fault look.now) }
+    ensures { OnOk result (text.new.items ≡ text.old.items ++ fault_line name.now fault sentence.now) }
 {
     match fault {
         None => Ok(()),
-        Some(faulty) => append_faulty(text, name, faulty, look),
+        Some(faulty) => append_faulty(text, name, faulty.line, sentence),
     }
 }
 
@@ -189,23 +222,41 @@ fn append_fault(
 fn append_faulty(
     text: &mut Vec<u8>,
     name: &[u8],
-    faulty: FaultyLine,
-    look: &Look,
+    line: u32,
+    sentence: &[u8],
 ) -> Result<(), AllocError>
-    ensures { OnOk result (text.new.items ≡ text.old.items ++ line_note name.now faulty.line (sentence_of faulty.fault look.now)) }
+    ensures { OnOk result (text.new.items ≡ text.old.items ++ line_note name.now line sentence.now) }
 {
     let mut buffer = Buffer::new();
     text.extend_from_slice(b"aerodrome: ")?;
     text.extend_from_slice(name)?;
     text.extend_from_slice(b":")?;
-    text.extend_from_slice(buffer.format(faulty.line).as_bytes())?;
+    text.extend_from_slice(buffer.format(line).as_bytes())?;
     text.extend_from_slice(b": ")?;
-    append_sentence(text, faulty.fault, look)?;
+    text.extend_from_slice(sentence)?;
     text.extend_from_slice(b"\n")?;
     Ok(())
 }
 
-// What is told of the fault.
+// What is told of the fault, if there is one.
+fn sentence_on(alloc: Global, fault: Option<FaultyLine>, look: &Look) -> Result<Vec<u8>, AllocError>
+    ensures { IfOk result (λ text. text.items ≡ sentence_on fault look.now) }
+{
+    match fault {
+        None => Ok(Vec::new(alloc)),
+        Some(faulty) => sentence_of(alloc, faulty.fault, look),
+    }
+}
+
+fn sentence_of(alloc: Global, fault: Fault, look: &Look) -> Result<Vec<u8>, AllocError>
+    ensures { IfOk result (λ text. text.items ≡ sentence_of fault look.now) }
+{
+    let mut text = Vec::new(alloc);
+    append_sentence(&mut text, fault, look)?;
+    Ok(text)
+}
+
+// What is told of a fault.
 fn append_sentence(text: &mut Vec<u8>, fault: Fault, look: &Look) -> Result<(), AllocError>
     ensures { OnOk result (text.new.items ≡ text.old.items ++ sentence_of fault look.now) }
 {

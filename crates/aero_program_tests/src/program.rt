@@ -14,7 +14,7 @@ use aero_model::counting::Counting;
 use aero_model::verdict::Counts;
 use aero_program::answer::answer;
 use aero_program::arguments::{Unread, words_of};
-use aero_program::command::{Config, Form, Progress, Refused, Sources, Stop};
+use aero_program::command::{Config, Form, Progress, Refused, Sources, Stop, Terminals};
 use aero_program::failure::Failure;
 use aero_program::files::{FilesOf, Opener};
 use aero_program::input::Input;
@@ -159,15 +159,24 @@ fn words_come_without_the_program_s_name_as_utf_8_alone(rt: HostRuntime) -> Resu
     assert_eq!(rt; words[0].as_str(), "--workers");
     assert_eq!(rt; words[1].as_str(), "\u{e9}");
 
-    let refused: [[&'static [u8]; 3]; 2] = [
-        [b"aerodrome", b"a", b"b\xff"],
-        [b"aerodrome", b"\xc3", b"--help"],
+    let refused: [([&'static [u8]; 3], &'static [u8]); 3] = [
+        ([b"aerodrome", b"a", b"b\xff"], b"b\xff"),
+        ([b"aerodrome", b"\xc3", b"--help"], b"\xc3"),
+        ([b"\xff", b"caf\xe9", b"\xff"], b"caf\xe9"),
     ];
-    for arguments in refused {
+    for (arguments, word) in refused {
         let given = Given { arguments };
-        assert!(rt; matches!(words_of(rt.alloc(), &given), Err(Unread::NotUtf8)));
+        assert!(rt; is_refused_for(rt.alloc(), &given, word));
     }
     Ok(())
+}
+
+// Whether the words are refused since this one isn't UTF-8.
+fn is_refused_for(alloc: Global, given: &Given, word: &[u8]) -> bool {
+    match words_of(alloc, given) {
+        Err(Unread::NotUtf8(odd)) => odd.as_slice() == word,
+        _ => false,
+    }
 }
 
 // A file that isn't there can't be opened, a folder can't be read; what can is read to its end.
@@ -326,6 +335,10 @@ fn config_for(alloc: Global, sources: Sources, order: bool, fail_open: bool) -> 
         long: false,
         fail_open,
         form: Form::Text,
+        terminals: Terminals {
+            output: false,
+            errors: false,
+        },
         progress: Progress::Auto,
     }
 }
@@ -649,9 +662,13 @@ fn what_is_not_judged_is_told(rt: HostRuntime) -> Result<(), Fail> {
         ),
         (Stop::Refused(Refused::Memory), SOUND, memory),
         (
-            Stop::Unread(Unread::NotUtf8),
+            Stop::Unread(Unread::NotUtf8(Vec::from_slice(alloc, b"caf\xe9\n\xc3\xa9")?)),
             SOUND,
-            (b"", b"aerodrome: a word is not UTF-8\n", 3),
+            (
+                b"",
+                b"aerodrome: a word is not UTF-8: caf\\xe9\\x0a\xc3\xa9\n",
+                3,
+            ),
         ),
         (Stop::Unread(Unread::Memory), SOUND, memory),
     ];

@@ -1,12 +1,13 @@
 //! The report in the form that is asked for.
 ghost use Rattle.std.specs.Prelude.{◌≡◌, IfOk, OnOk};
-ghost use Rattle.aero_report.specs.Forms.{source_line_in, summary_line_in, IsReadable};
+ghost use Rattle.aero_report.specs.Forms.{shown_source_line, source_line_in, summary_line_in, IsReadable};
 ghost use Rattle.aero_report.specs.Json.{source_value, summary_value};
 
 use crate::objects::{source_object, summary_object};
 use crate::summary::summary_text;
 use crate::texts::trace_text;
 use aero_model::verdict::{Counts, Finding};
+use aero_shown::{append_lines, append_text};
 use std::alloc::{AllocError, Global};
 
 /// The form of a report.
@@ -14,6 +15,8 @@ use std::alloc::{AllocError, Global};
 pub enum Form {
     /// Lines for people.
     Text,
+    /// The same lines on a terminal: what is no character of a name, or a control character, is shown as `\xNN`.
+    Terminal,
     /// A JSON object on a line for each source, and one for the summary.
     Json,
 }
@@ -21,7 +24,7 @@ pub enum Form {
 /// What is said of a source: its name as its bytes stand, and what was found of it, with a newline
 /// behind each line.
 ///
-/// As JSON it is one line. A name is a string where its bytes are UTF-8, and else an object with them
+/// For a terminal no byte of a name is a control character. As JSON it is one line. A name is a string where its bytes are UTF-8, and else an object with them
 /// in Base64. Lines of a trace count from 1. Fails only where memory runs out.
 pub fn source_text(
     alloc: Global,
@@ -34,6 +37,7 @@ pub fn source_text(
 {
     match form {
         Form::Text => trace_text(alloc, name, finding),
+        Form::Terminal => shown_trace_text(alloc, name, finding),
         Form::Json => source_object(alloc, name, finding),
     }
 }
@@ -48,7 +52,18 @@ pub fn totals_text(alloc: Global, form: Form, counts: &Counts) -> Result<Vec<u8>
     ensures readable { OnOk result (IsReadable form (summary_value counts.now)) }
 {
     match form {
-        Form::Text => summary_text(alloc, counts),
+        Form::Text | Form::Terminal => summary_text(alloc, counts),
         Form::Json => summary_object(alloc, counts),
     }
+}
+
+// The lines of a source as a terminal is shown them.
+fn shown_trace_text(alloc: Global, name: &[u8], finding: &Finding) -> Result<Vec<u8>, AllocError>
+    ensures { IfOk result (λ text. text.items ≡ shown_source_line name.now finding.now) }
+{
+    let behind = trace_text(alloc, b"", finding)?;
+    let mut text = Vec::new(alloc);
+    append_text(&mut text, name)?;
+    append_lines(&mut text, &behind)?;
+    Ok(text)
 }

@@ -7,7 +7,8 @@
 //! to a counting writer, and says how many bytes went out where a write failed. The lines stand byte
 //! by byte in `specs/Texts.antt`.
 //!
-//! `source_text` and `totals_text` make the same in the `Form` that is asked for. As JSON a source is an object
+//! `source_text` and `totals_text` make the same in the `Form` that is asked for. For a terminal names are shown
+//! without control characters, by `aero_shown`. As JSON a source is an object
 //! on a line, and so is the summary. Their members stand in order in `specs/Json.antt`.
 //!
 //! ```text
@@ -30,7 +31,7 @@
 //! - The line of a source, with its name, its finding and the steps of its order or of its cycle, is byte by byte as
 //!   defined: `trace_text`.
 //! - So is the summary of what was counted: `summary_text`.
-//! - In each form both are as defined: `source_text`, `totals_text`. A line of JSON is a document by the grammar of the
+//! - In each form both are as defined, for a terminal too: `source_text`, `totals_text`. A line of JSON is a document by the grammar of the
 //!   `json` crate, and means the value that is defined: `readable`.
 //! - All bytes go out, or exactly the prefix that is told, and then a write failed: `put`, `all_written`, `no_fault`;
 //!   `cut_written`, `cut_short`, `cut_at_fault`.

@@ -3,7 +3,7 @@
 //!
 //! A crate with tests is proved twice, with them and without, so they stand here, above all of the
 //! crates, and each is proved once. A module has the tests of the crate that it is named for, and
-//! `objects` those of the report as JSON. It has nothing for other crates.
+//! `objects` those of the report as JSON, and `shown` those of names on a terminal. It has nothing for other crates.
 #![tactic(auto)]
 
 #[cfg(test)]
@@ -20,6 +20,8 @@ mod objects;
 mod pieces;
 #[cfg(test)]
 mod report;
+#[cfg(test)]
+mod shown;
 #[cfg(test)]
 mod stage;
 #[cfg(test)]

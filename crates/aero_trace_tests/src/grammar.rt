@@ -233,7 +233,7 @@ fn first_misread_of_long(alloc: Global, rows: &[LongRow]) -> Option<usize> {
     None
 }
 
-static LONG: [LongRow; 10] = [
+static LONG: [LongRow; 21] = [
     ("T0|begin(#)", b'a', 255, "T0 Begin #"),
     ("T0|begin(#)", b'a', 256, "T0 Begin"),
     ("T0|begin(#)", b'a', 300, "T0 Begin"),
@@ -244,6 +244,29 @@ static LONG: [LongRow; 10] = [
     ("#", 0, 4097, "TooLong"),
     ("#", b' ', 4097, "TooLong"),
     ("#", b' ', 4096, "blank"),
+    // Places behind the second bar, with which the line has 31, 32, 33, 4,096 and 4,097 bytes.
+    ("T0|r(x)|#", b'a', 23, "T0 Read x"),
+    ("T0|r(x)|#", b'a', 24, "T0 Read x"),
+    ("T0|r(x)|#", b'a', 25, "T0 Read x"),
+    ("T0|r(x)|#", b'|', 4088, "T0 Read x"),
+    ("T0|r(x)|#", b'a', 4089, "TooLong"),
+    ("T0 |w(x) |#", b' ', 40, "T0 Write x"),
+    // Fields of 31 and 32 bytes in front of such a place.
+    ("#|r(x)|at/a/place/in/a/file.c:123", b't', 31, "# Read x"),
+    ("#|r(x)|at/a/place/in/a/file.c:123", b't', 32, "# Read x"),
+    (
+        "T0|acq(#)|at/a/place/in/a/file.c:123",
+        b'l',
+        26,
+        "T0 Acquire #",
+    ),
+    (
+        "T0|acq(#)|at/a/place/in/a/file.c:123",
+        b'l',
+        27,
+        "T0 Acquire #",
+    ),
+    ("T0|acq()|#", b'a', 40, "MissingTarget"),
 ];
 
 #[test]

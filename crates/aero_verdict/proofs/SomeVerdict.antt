@@ -1,6 +1,6 @@
 -- Each list of parts has a verdict: the clocks of the events decide whether there is a telling cycle.
 use Rattle.std.proofs.Common.{◌≡◌, ◌≢◌, ◌⊎◌, ℕ, zero, suc, ◌+◌, ◌<◌, ◌≤◌, true, false, List, [], ◌∷◌, length, take, drop, Option, Some, None, option_map, inl, inr, refl, sym, ◌∙◌, ap, subst, le_refl, arith}
-use Rattle.std.specs.Prelude.{slice_get, is_some}
+use Rattle.std.specs.Prelude.{slice_get, is_some, Contains}
 use Rattle.std.proofs.lemmas.Bool.{cases_Bool, cases_eq, cases_lt}
 use Rattle.std.proofs.lemmas.Option.{same_Some}
 use Rattle.aero_model.specs.declared.numbered.Numbered.{Numbered}
@@ -16,6 +16,7 @@ use Rattle.aero_model.specs.Named.{Named}
 use Rattle.aero_model.specs.Numbering.{number_of, tables_of}
 use Rattle.aero_model.specs.Shape.{IsWellFormed, IsLawful, fault_at}
 use Rattle.aero_model.proofs.Begins.{begin_of, begin_inside}
+use Rattle.aero_model.proofs.Elements.{none_in, here, there, first_or_rest}
 use Rattle.aero_model.proofs.Ends.{begun, begin_in}
 use Rattle.aero_model.proofs.Exempt.{judged_at}
 use Rattle.aero_model.proofs.Lawful.{lawful_well_formed}
@@ -25,7 +26,7 @@ use Rattle.aero_engine.specs.declared.slot.Slot.{Slot}
 use Rattle.aero_engine.specs.declared.slot.Slot.TheVariants.{OfThread, LastWrite, LastRead, LastRelease}
 use Rattle.aero_engine.specs.Clocks.{Clock}
 use Rattle.aero_engine.specs.Judgement.{IsJudged, IsJudgedAtEnd, Passed, start, event, end}
-use Rattle.aero_engine.specs.Takes.{Among, here, there, Takes}
+use Rattle.aero_engine.specs.Takes.{Takes}
 use Rattle.aero_engine.proofs.EveryRun.{takes_some}
 use Rattle.aero_engine.proofs.Rules.{passed_none, passed_told, passed_told_at_end}
 use Rattle.aero_grammar.specs.Reading.{Reading}
@@ -45,19 +46,21 @@ is_own (LastRelease l) t = inr (λ e. cc)
 
 -- whether one of the slots but the thread's own counts so many of its blocks
 abbrev Counting : ℕ → ℕ → (Slot → Clock) → List Slot → Type 0
-Counting t k clocks ss = (s : Slot) × Among s ss × (s ≢ OfThread t) × (k ≤ clocks s t)
+Counting t k clocks ss = (s : Slot) × Contains ss s × (s ≢ OfThread t) × (k ≤ clocks s t)
 
-counting_first : (t k : ℕ) (clocks : Slot → Clock) (s r : Slot) (ss : List Slot) → Among s (r ∷ ss) → (s ≢ OfThread t) → (k ≤ clocks s t) → ((r ≢ OfThread t) × (k ≤ clocks r t)) ⊎ Counting t k clocks ss
-counting_first t k clocks _ r ss here other counted = inl (other, counted)
-counting_first t k clocks s r ss (there among) other counted = inr (s, among, other, counted)
+counting_first : (t k : ℕ) (clocks : Slot → Clock) (s r : Slot) (ss : List Slot) → Contains (r ∷ ss) s → (s ≢ OfThread t) → (k ≤ clocks s t) → ((r ≢ OfThread t) × (k ≤ clocks r t)) ⊎ Counting t k clocks ss
+counting_first t k clocks s r ss among other counted = elim (first_or_rest r ss among) [
+  | inl same ↦ inl (λ own. other (same ∙ own), subst (λ q. k ≤ clocks q t) same counted)
+  | inr later ↦ inr (s, later, other, counted)
+]
 
 is_counting : (t k : ℕ) (clocks : Slot → Clock) (ss : List Slot) → Decided (Counting t k clocks ss)
-is_counting t k clocks [] = inr (λ h. elim h.1 [ ])
+is_counting t k clocks [] = inr (λ h. none_in h.1)
 is_counting t k clocks (r ∷ ss) = go (is_own r t) (cases_lt (clocks r t) k) (is_counting t k clocks ss)
   where
     go : (r ≡ OfThread t) ⊎ (r ≢ OfThread t) → (clocks r t < k) ⊎ (k ≤ clocks r t) → Decided (Counting t k clocks ss) → Decided (Counting t k clocks (r ∷ ss))
-    go _ _ (inl (s, among, other, counted)) = inl (s, there among, other, counted)
-    go (inr other) (inr counted) (inr none) = inl (r, here, other, counted)
+    go _ _ (inl (s, among, other, counted)) = inl (s, there r ss among, other, counted)
+    go (inr other) (inr counted) (inr none) = inl (r, here ss, other, counted)
     go (inl own) _ (inr none) = inr (λ h. elim (counting_first t k clocks h.0 r ss h.1 h.2 h.3) [ inl first ↦ first.0 own | inr later ↦ none later ])
     go (inr other) (inl less) (inr none) = inr (λ h. elim (counting_first t k clocks h.0 r ss h.1 h.2 h.3) [ inl first ↦ omega (arith, first.1, less) | inr later ↦ none later ])
 

@@ -150,7 +150,8 @@ path like any other; each word after `--` is a FILE";
 
 pub const REPORT: &str =
     "The report, on standard output: a line for each trace, in order, and one on
-all of them. NAME is the FILE's word or its name in a list, byte by byte.
+all of them. NAME is the FILE's word or its name in a list, byte by byte. A
+terminal shows control characters, and bytes that aren't UTF-8, as \\xNN.
   NAME: serializable (E events, B blocks)
       All B blocks have ended, and behave as if each had run alone. With
       --order a line for each transaction follows, in a serial order.

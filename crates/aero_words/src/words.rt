@@ -11,7 +11,7 @@ ghost use Rattle.aero_words.specs.Words.{IsRead, ReadsFlag, ReadsWithin};
 use crate::help;
 use aero_model::except::MOST_LABELS;
 use aero_model::name::{Name, NameFault};
-pub use aero_program::command::{Config, Form, MOST_FILES, Progress, Refused, Sources};
+pub use aero_program::command::{Config, Form, MOST_FILES, Progress, Refused, Sources, Terminals};
 use clap::builder::ValueParser;
 use clap::error::ErrorKind;
 use clap::{Arg, ArgAction, ArgMatches, Command, Error, value_parser};
@@ -232,6 +232,10 @@ fn settle(alloc: Global, matches: &ArgMatches<'_>) -> Result<Config, Refused>
         long,
         fail_open: flag_in(matches, "fail-open"),
         form,
+        terminals: Terminals {
+            output: false,
+            errors: false,
+        },
         progress: progress_in(matches),
     })
 }

@@ -6,7 +6,7 @@ ghost use Rattle.aero_worker.specs.Shifts.{lists_of, number_of, Tells};
 
 use crate::gate::Gate;
 use crate::reply::Reply;
-use crate::seed::{hire, make_seeds};
+use crate::seed::{Staff, hire, make_seeds};
 use crate::shift::{Channels, Honest, LET_GO, Shift};
 use aero_pieces::question::Question;
 use aero_stage::{Full, Job, Poster, Taker, stage};
@@ -184,10 +184,10 @@ impl Crew {
         ensures posted { IfOk result (λ crew. crew.posted ≡ []) }
         ensures workers { IfOk result (λ crew. crew.workers ≤ n) }
     {
-        let (mut poster, takers) = queue_for(alloc, n)?;
+        let (poster, takers) = queue_for(alloc, n)?;
         let left = Vec::with_capacity(alloc, PLACES as usize)?;
-        let mut by_worker = Vec::with_capacity(alloc, n as usize)?;
-        let mut running = Vec::with_capacity(alloc, n as usize)?;
+        let by_worker = Vec::with_capacity(alloc, n as usize)?;
+        let running = Vec::with_capacity(alloc, n as usize)?;
         // A place for the reply to each job that may be posted and of each worker: a send takes no memory.
         let (sender, replies) = crossbeam_channel::bounded(alloc, (PLACES + n) as usize)?;
         let (let_go, last) = crossbeam_channel::bounded(alloc, LET_GO as usize)?;
@@ -197,17 +197,19 @@ impl Crew {
         };
         let mut seeds = make_seeds(alloc, &poster, takers, &channels, &gate)?;
         drop(channels);
+        let mut staff = Staff {
+            poster,
+            running,
+            by_worker,
+        };
         while let Some(seed) = seeds.pop() {
-            hire(
-                rt,
-                alloc,
-                stack,
-                &mut poster,
-                &mut running,
-                &mut by_worker,
-                seed,
-            );
+            hire(rt, alloc, stack, &mut staff, seed);
         }
+        let Staff {
+            poster,
+            running,
+            by_worker,
+        } = staff;
         Ok(Crew {
             poster,
             running,

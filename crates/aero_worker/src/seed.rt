@@ -4,7 +4,7 @@ ghost use Rattle.aero_stage.specs.Ends.{new_taker};
 ghost use Rattle.aero_worker.specs.Shifts.{lists_of, IsShiftOf, Tells};
 
 use crate::gate::Gate;
-use crate::shift::{Channels, Honest, Shift, work};
+use crate::shift::{Channels, Honest, Shift, Tools, work};
 use aero_stage::{Poster, Taker};
 use std::alloc::{AllocError, Global};
 use std::snapshot::Snapshot;
@@ -16,10 +16,18 @@ use std::thread::{Builder, PromisedHandle, Threads};
 #[derive(Drop)]
 pub(crate) struct Seed<G: Drop> {
     pub(crate) taker: Taker,
-    channels: Channels,
-    gate: Arc<G>,
-    unused: Arc<AtomicBool>,
+    tools: Tools<G>,
     flag: Arc<AtomicBool>,
+}
+
+// The workers that are hired, and the queue of their jobs.
+#[derive(Drop)]
+pub(crate) struct Staff {
+    pub(crate) poster: Poster,
+    // Those that run.
+    pub(crate) running: Vec<PromisedHandle<Shift, Honest>>,
+    // Of those that have ended, the numbers of the jobs that each took.
+    pub(crate) by_worker: Vec<Vec<u64>>,
 }
 
 fn make_seed<G: Gate + Drop>(
@@ -34,9 +42,11 @@ fn make_seed<G: Gate + Drop>(
     let flag = Arc::try_clone(&unused)?;
     Ok(Seed {
         taker,
-        channels: channels.try_clone()?,
-        gate: Arc::try_clone(gate)?,
-        unused,
+        tools: Tools {
+            channels: channels.try_clone()?,
+            gate: Arc::try_clone(gate)?,
+            unused,
+        },
         flag,
     })
 }
@@ -66,51 +76,43 @@ pub(crate) fn hire<G: Gate + Drop + 'static, R: Threads + Wait + Copy + Send + '
     rt: R,
     alloc: Global,
     stack: usize,
-    poster: &mut Poster,
-    running: &mut Vec<PromisedHandle<Shift, Honest>>,
-    by_worker: &mut Vec<Vec<u64>>,
+    staff: &mut Staff,
     seed: Seed<G>,
 )
-    requires seed { seed.taker ≡ new_taker poster.old.stage }
-    requires stage { All (λ h. h.promise.0.value.stage ≡ poster.old.stage) running.old.items }
-    requires tells { Tells (lists_of by_worker.old.items) poster.old.desk.kept }
-    requires takers { 0 < poster.old.desk.takers }
-    requires handles { vec_len running.old < vec_capacity running.old }
-    requires lists { vec_len by_worker.old < vec_capacity by_worker.old }
-    ensures stage { All (λ h. h.promise.0.value.stage ≡ poster.old.stage) running.new.items }
-    ensures tells { Tells (lists_of by_worker.new.items) poster.new.desk.kept }
-    ensures takers { poster.new.desk.takers + vec_len running.old + 1 ≡ poster.old.desk.takers + vec_len running.new }
-    ensures few { vec_len running.new + vec_len by_worker.new ≤ vec_len running.old + vec_len by_worker.old + 1 }
-    ensures handles { vec_capacity running.new ≡ vec_capacity running.old }
-    ensures lists { vec_capacity by_worker.new ≡ vec_capacity by_worker.old }
-    ensures rest { poster.new ≡ record poster.old { desk = record poster.old.desk { kept = poster.new.desk.kept; takers = poster.new.desk.takers } } }
+    requires seed { seed.taker ≡ new_taker staff.old.poster.stage }
+    requires stage { All (λ h. h.promise.0.value.stage ≡ staff.old.poster.stage) staff.old.running.items }
+    requires tells { Tells (lists_of staff.old.by_worker.items) staff.old.poster.desk.kept }
+    requires takers { 0 < staff.old.poster.desk.takers }
+    requires handles { vec_len staff.old.running < vec_capacity staff.old.running }
+    requires lists { vec_len staff.old.by_worker < vec_capacity staff.old.by_worker }
+    ensures stage { All (λ h. h.promise.0.value.stage ≡ staff.old.poster.stage) staff.new.running.items }
+    ensures tells { Tells (lists_of staff.new.by_worker.items) staff.new.poster.desk.kept }
+    ensures takers { staff.new.poster.desk.takers + vec_len staff.old.running + 1 ≡ staff.old.poster.desk.takers + vec_len staff.new.running }
+    ensures few { vec_len staff.new.running + vec_len staff.new.by_worker ≤ vec_len staff.old.running + vec_len staff.old.by_worker + 1 }
+    ensures handles { vec_capacity staff.new.running ≡ vec_capacity staff.old.running }
+    ensures lists { vec_capacity staff.new.by_worker ≡ vec_capacity staff.old.by_worker }
+    ensures rest { staff.new.poster ≡ record staff.old.poster { desk = record staff.old.poster.desk { kept = staff.new.poster.desk.kept; takers = staff.new.poster.desk.takers } } }
 {
-    let Seed {
-        taker,
-        channels,
-        gate,
-        unused,
-        flag,
-    } = seed;
+    let Seed { taker, tools, flag } = seed;
     let promise = Honest(Snapshot::of(&taker));
     let shift = move || -> Shift
         requires { taker.hand.jobs ≡ [] }
         ensures { IsShiftOf taker result }
     {
         let own = taker;
-        work(&rt, alloc, own, &channels, &*gate, &*unused)
+        work(&rt, alloc, own, &tools)
     };
     match Builder::new()
         .stack_size(stack)
         .spawn_with(&rt, promise, shift)
     {
-        Ok(handle) => running.push_reserved(handle),
+        Ok(handle) => staff.running.push_reserved(handle),
         Err(refused) => {
             flag.store(true, Ordering::SeqCst);
             let Shift { taker, numbers } = (refused.value)();
-            poster.rejoin(taker);
+            staff.poster.rejoin(taker);
             if !numbers.is_empty() {
-                by_worker.push_reserved(numbers);
+                staff.by_worker.push_reserved(numbers);
             }
         }
     }

@@ -33,6 +33,15 @@ impl Channels {
     }
 }
 
+// What a worker works with.
+#[derive(Drop)]
+pub(crate) struct Tools<G: Drop> {
+    pub(crate) channels: Channels,
+    pub(crate) gate: Arc<G>,
+    // Whether it is to take no job.
+    pub(crate) unused: Arc<AtomicBool>,
+}
+
 // What a worker gives back: its Taker, and the numbers of the jobs that it took, in order.
 #[derive(Drop)]
 pub(crate) struct Shift {
@@ -72,29 +81,31 @@ fn note(numbers: &mut Vec<u64>, job: &Job)
 
 // Replies to a job, and lets it go. What was let go before is freed first, since the answer may take long, and then
 // what was let go meanwhile.
-fn serve<G: Gate, R: Wait>(rt: &R, alloc: Global, channels: &Channels, gate: &G, job: Job) {
-    free_all(rt, &channels.let_go);
-    tell(rt, &channels.replies, reply_to(alloc, gate, &job));
+fn serve<G: Gate + Drop, R: Wait>(rt: &R, alloc: Global, tools: &Tools<G>, job: Job) {
+    free_all(rt, &tools.channels.let_go);
+    tell(
+        rt,
+        &tools.channels.replies,
+        reply_to(alloc, &*tools.gate, &job),
+    );
     drop(job);
-    free_all(rt, &channels.let_go);
+    free_all(rt, &tools.channels.let_go);
 }
 
 // Takes jobs and replies to them until there are none, or memory for one number more is refused.
 // With the flag set it takes none.
-pub(crate) fn work<G: Gate, R: Wait>(
+pub(crate) fn work<G: Gate + Drop, R: Wait>(
     rt: &R,
     alloc: Global,
     taker: Taker,
-    channels: &Channels,
-    gate: &G,
-    unused: &AtomicBool,
+    tools: &Tools<G>,
 ) -> Shift
     requires { taker.hand.jobs ≡ [] }
     ensures { IsShiftOf taker result }
 {
     let mut taker = taker;
     let mut numbers = Vec::new(alloc);
-    if unused.load(Ordering::SeqCst) {
+    if tools.unused.load(Ordering::SeqCst) {
         return Shift { taker, numbers };
     }
     for _ in rt.forever() {
@@ -105,7 +116,7 @@ pub(crate) fn work<G: Gate, R: Wait>(
             break;
         };
         note(&mut numbers, &job);
-        serve(rt, alloc, channels, gate, job);
+        serve(rt, alloc, tools, job);
     }
     Shift { taker, numbers }
 }

@@ -10,7 +10,8 @@
 //!
 //! The sources are the files that the command line names, or else standard input. `aero_words` reads
 //! the command line, and `aero_program::answer` does what it asks for, beside the line on progress of
-//! `aero_progress`.
+//! `aero_progress`. Names are shown without control characters where standard output is a terminal, and
+//! standard error where that is one.
 //!
 //! # What is proved
 //!
@@ -22,7 +23,7 @@
 use aero_model::counting::Counting;
 use aero_program::answer::answer;
 use aero_program::arguments::words_of;
-use aero_program::command::{Config, Stop, TICK};
+use aero_program::command::{Config, Stop, TICK, Terminals};
 use aero_program::files::{FilesOf, MeteredFiles};
 use aero_program::output::Output;
 use aero_program::retrying::Retrying;
@@ -52,8 +53,12 @@ fn main(rt: HostRuntime) -> ExitCode {
         output: rt.stdout(),
         errors: rt.stderr(),
     };
-    let asked = asked_by(&rt);
-    let surface = if rt.stderr().is_terminal() {
+    let terminals = Terminals {
+        output: rt.stdout().is_terminal(),
+        errors: rt.stderr().is_terminal(),
+    };
+    let asked = asked_by(&rt, terminals);
+    let surface = if terminals.errors {
         Surface::Terminal
     } else {
         Surface::Other
@@ -74,10 +79,11 @@ fn keep_freed_memory(alloc: Global) {
     let _room: Result<Vec<u8>, AllocError> = Vec::with_capacity(alloc, ROOM);
 }
 
-// What the words of the command line ask for.
-fn asked_by<R: Runtime + AllocGlobal>(rt: &R) -> Result<Config, Stop> {
+// What the words of the command line ask for, on these terminals.
+fn asked_by<R: Runtime + AllocGlobal>(rt: &R, terminals: Terminals) -> Result<Config, Stop> {
     let words = words_of(rt.alloc(), rt)?;
-    Ok(settle_words(rt.alloc(), &words)?)
+    let config = settle_words(rt.alloc(), &words)?;
+    Ok(config.on(terminals))
 }
 
 // What shows on the line how far the run has come, if that is asked for and can be had, and if it is known how many

@@ -4,7 +4,7 @@ ghost use Rattle.aero_program.specs.Command.{count_named};
 
 use crate::program::streams::{EVER, Shelf};
 use crate::program::{Damage, SOUND, WRITE, Wanted, config_for, is_answered};
-use aero_program::command::Sources;
+use aero_program::command::{Sources, Terminals};
 use std::sync::Wait;
 use std::test::Fail;
 use std::thread::Threads;
@@ -71,6 +71,63 @@ fn standard_input_has_the_name_that_is_given(rt: HostRuntime) -> Result<(), Fail
         assert!(rt; is_named_so(rt, Sources::Standard(Some(name)), &row));
     }
     Ok(())
+}
+
+// Whether standard output and standard error are terminals, and what goes out on each.
+type Shown = (bool, bool, &'static [u8], &'static [u8]);
+
+const PLAIN: &[u8] = b"a\n\xc3\xa9: broken after 8 bytes\n\
+    traces 1: serializable 0, open 0, violations 0, faults 1\n";
+
+const PLAIN_NOTE: &[u8] = b"aerodrome: a\n\xc3\xa9: Input/output error\n";
+
+const SHOWN: &[u8] = b"a\\x0a\xc3\xa9: broken after 8 bytes\n\
+    traces 1: serializable 0, open 0, violations 0, faults 1\n";
+
+const SHOWN_NOTE: &[u8] = b"aerodrome: a\\x0a\xc3\xa9: Input/output error\n";
+
+static SHOWN_ROWS: [Shown; 4] = [
+    (false, false, PLAIN, PLAIN_NOTE),
+    (true, false, SHOWN, PLAIN_NOTE),
+    (false, true, PLAIN, SHOWN_NOTE),
+    (true, true, SHOWN, SHOWN_NOTE),
+];
+
+// Whether standard input, which fails behind its text, is told so under the name.
+fn is_shown_so<R: AllocGlobal + Threads + Wait + Copy + Drop + Send + 'static>(
+    rt: R,
+    row: &Shown,
+) -> bool {
+    let Ok(name) = String::from_str(rt.alloc(), "a\n\u{e9}") else {
+        return false;
+    };
+    let terminals = Terminals {
+        output: row.0,
+        errors: row.1,
+    };
+    let config = config_for(rt.alloc(), Sources::Standard(Some(name)), false, false).on(terminals);
+    let shelf = Shelf::new(WRITE, 0, 0, 0);
+    let damage = Damage { reads: 1, ..SOUND };
+    is_answered(rt, &shelf, Ok(config), WRITE, &damage, (row.2, row.3, 2))
+}
+
+// The first row that doesn't hold.
+fn first_misshown<R: AllocGlobal + Threads + Wait + Copy + Drop + Send + 'static>(
+    rt: R,
+    rows: &[Shown],
+) -> Option<usize> {
+    for i in 0..rows.len() {
+        if !is_shown_so(rt, &rows[i]) {
+            return Some(i);
+        }
+    }
+    None
+}
+
+// Each stream shows names as it is itself.
+#[test]
+fn names_are_shown_on_terminals(rt: HostRuntime) {
+    assert_eq!(rt; first_misshown(rt, &SHOWN_ROWS), None);
 }
 
 // The files whose names stand in a list, which is standard input or a file. Where it can't be had nothing is

@@ -1,6 +1,6 @@
 use Rattle.std.proofs.Common.{◌≡◌, ◌++◌, take}
 use Rattle.std.specs.Prelude.{flat_map}
-use Rattle.aero_faults.specs.Texts.{shown_byte}
+use Rattle.aero_shown.specs.Shown.{shown_byte}
 use Rattle.aero_faults.proofs.texts.append_bytes.Given as goal
 
 -- the bytes so far

@@ -9,5 +9,5 @@ returns c =
     let line = take c.args.end c.args.text.now in
     let fields = c.in_ok-thread.ensures in
     short_meaning line c.in_ok-thread.thread.now c.in_ok-thread.field.now c.in_ok-op.op (option_copied c.in_ok-op.target)
-    (omega (arith, length-take c.args.end c.args.text.now, c.requires.near)) c.requires.good fields.barred
+    (omega (arith, length-take c.args.end c.args.text.now, c.requires.few)) c.requires.good fields.barred
     fields.thread (c.if-not-is_trimmed.ensures.trimmed refl) (c.if-not-is_trimmed.ensures.some refl) fields.short fields.field c.in_ok-op.ensures

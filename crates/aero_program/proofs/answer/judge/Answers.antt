@@ -1,10 +1,11 @@
-use Rattle.std.proofs.Common.{◌≡◌, ◌≤◌, ◌^◌, ◌∙◌, ◌+◌, ap, sym, subst, inl, inr, map, length, arith, refl, if◌then◌else◌, [], List, ℕ}
+use Rattle.std.proofs.Common.{Bool, ◌≡◌, ◌≤◌, ◌^◌, ◌∙◌, ◌+◌, ap, sym, subst, inl, inr, map, length, arith, refl, if◌then◌else◌, [], List, ℕ}
 use Rattle.std.proofs.lemmas.List.{with_items_is}
 use Rattle.aero_model.specs.CallCounts.{seen_by}
 use Rattle.std.specs.IoError.{error_kind}
 use Rattle.aero_verdict.specs.Finding.{asking}
 use Rattle.aero_intake.specs.PlanTerms.{terms_of}
 use Rattle.aero_program.specs.declared.command.Sources.{Sources}
+use Rattle.aero_program.specs.declared.notes.Naming.{Naming}
 use Rattle.aero_program.specs.Answers.{TellsUnlisted}
 use Rattle.aero_program.specs.Command.{are_words, count_named, list_path}
 use Rattle.aero_program.specs.Inputs.{bytes_left, standing_of}
@@ -26,8 +27,9 @@ returns g c =
     let names : List (List ℕ) = map (λ s. s.name.items) c.in-Ok-sources_of.sources.items in
     let named : AreNames config.files given names = subst (λ (s : Sources). AreNames s given names) asked_is c.in-Ok-sources_of.ensures.names in
     let seen = c.in-Ok-sources_of.ensures.sighted ∙ ap (λ (s : Sources). source_sightings s given names) asked_is in
-    let words_are = c.are_words.ensures ∙ ap are_words asked_is in
-    let told = noted_as (λ text. text.items) c.are_words.result (are_words config.files) _ c.noted-endings.result.now (if config.long then [] else c.run-outcome.result.endings.items) c.deref-2.result.now c.run-outcome.result.faults.items
+    let naming_of : Bool → Naming = λ words. record { are_words = words; on_terminal = config.terminals.errors } in
+    let words_are = ap naming_of (c.are_words.ensures ∙ ap are_words asked_is) in
+    let told = noted_as (λ text. text.items) (naming_of c.are_words.result) (naming_of (are_words config.files)) _ c.noted-endings.result.now (if config.long then [] else c.run-outcome.result.endings.items) c.deref-2.result.now c.run-outcome.result.faults.items
     words_are (c.noted-endings.ensures ∙ ap (λ l. if config.long then [] else l) c.deref.ensures.value) c.deref-2.ensures.value c.notes_of-notes.result c.notes_of-notes.ensures in
     inl (judged (λ input. bytes_left (standing_of g.S.Read.remaining input)) config given
     c.in-Ok-into_plan.plan.limits names c.in-Ok-sources_of.sources.items c.deref_mut.result.now c.run-outcome.new.sources _
@@ -65,7 +67,7 @@ returns-in-Err g c =
         inl (record {
           why = why;
           are = subst (λ (s : Sources). AreUnlisted s given why) asked_is c.in-Err.ensures.unlisted;
-          tells = subst (λ (path : List ℕ). TellsUnlisted path why (seen_by g.E.Write.contents c.args.errors.now) (seen_by g.E.Write.contents c.tell_unlisted.new.errors) c.tell_unlisted.result) (c.list_path.ensures ∙ ap list_path asked_is) tells;
+          tells = subst (λ (path : List ℕ). TellsUnlisted c.args.config.terminals.errors path why (seen_by g.E.Write.contents c.args.errors.now) (seen_by g.E.Write.contents c.tell_unlisted.new.errors) c.tell_unlisted.result) (c.list_path.ensures ∙ ap list_path asked_is) tells;
         }),
       )
       | inr fails ↦ inr (refl, inr fails)

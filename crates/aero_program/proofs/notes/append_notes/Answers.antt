@@ -2,25 +2,28 @@ use Rattle.std.proofs.Common.{◌≡◌, ◌∙◌, ◌++◌, ap, ap₂, Bool, L
 use Rattle.aero_model.specs.CallCounts.{inner_of}
 use Rattle.aero_program.specs.declared.reason.Reason.{Reason}
 use Rattle.aero_program.specs.Inputs.{reason_of, start_of}
-use Rattle.aero_program.specs.Notes.{fault_line, mark_line, reason_line, size_line}
+use Rattle.aero_program.specs.Notes.{fault_line, mark_line, reason_line, said_on, sentence_on, size_line}
 use Rattle.aero_program.specs.Starts.{byte_order_mark}
 use Rattle.aero_program.proofs.Noting.{four_parts}
 use Rattle.aero_program.proofs.notes.append_notes.Goals as goal
 
 pub returns : goal.returns
 returns g c =
-    let name : List ℕ = c.args.source.name.items in
+    let on = c.args.naming.on_terminal in
+    let name : List ℕ = said_on on c.args.source.name.items in
+    let sentence : List ℕ = said_on on (sentence_on c.args.found.fault c.look-seen.result) in
     let mark : c.has_mark.result ≡ bytes_eq (start_of (inner_of c.args.source.reader)) byte_order_mark =
     c.has_mark.ensures ∙ ap (λ i. bytes_eq (start_of i) byte_order_mark) c.into_inner-input.ensures in
     let why : c.reason.result ≡ reason_of (inner_of c.args.source.reader) = c.reason.ensures ∙ ap (λ i. reason_of i) c.into_inner-input.ensures in
+    let told : c.deref-5.result.now ≡ sentence = c.deref-5.ensures.value ∙ (c.in_ok-sentence-2.ensures ∙ ap (said_on on) c.in_ok-sentence.ensures) in
     record {
       look = c.look-seen.result;
       shown = c.look-seen.ensures;
       grown = four_parts c.args.text.now.items (mark_line name (bytes_eq (start_of (inner_of c.args.source.reader)) byte_order_mark))
-          (reason_line c.args.is_word name (reason_of (inner_of c.args.source.reader))) (size_line name c.args.found.too_large) (fault_line name c.args.found.fault c.look-seen.result)
+          (reason_line c.args.naming.are_words name (reason_of (inner_of c.args.source.reader))) (size_line name c.args.found.too_large) (fault_line name c.args.found.fault sentence)
           c.append_mark.new.text.items c.append_reason.new.text.items c.append_size.new.text.items c.append_fault.new.text.items
-          (c.in_ok-append_mark.ensures ∙ ap₂ (λ (n : List ℕ) (b : Bool). c.args.text.now.items ++ mark_line n b) c.deref.ensures.value mark)
-          (c.in_ok-append_reason.ensures ∙ ap₂ (λ (n : List ℕ) (r : Option Reason). c.append_mark.new.text.items ++ reason_line c.args.is_word n r) c.deref-2.ensures.value why)
-          (c.in_ok-append_size.ensures ∙ ap (λ (n : List ℕ). c.append_reason.new.text.items ++ size_line n c.args.found.too_large) c.deref-3.ensures.value)
-          (c.in_ok-append_fault.ensures ∙ ap (λ (n : List ℕ). c.append_size.new.text.items ++ fault_line n c.args.found.fault c.look-seen.result) c.deref-4.ensures.value);
+          (c.in_ok-append_mark.ensures ∙ ap₂ (λ (n : List ℕ) (b : Bool). c.args.text.now.items ++ mark_line n b) (c.deref.ensures.value ∙ c.in_ok-name.ensures) mark)
+          (c.in_ok-append_reason.ensures ∙ ap₂ (λ (n : List ℕ) (r : Option Reason). c.append_mark.new.text.items ++ reason_line c.args.naming.are_words n r) (c.deref-2.ensures.value ∙ c.in_ok-name.ensures) why)
+          (c.in_ok-append_size.ensures ∙ ap (λ (n : List ℕ). c.append_reason.new.text.items ++ size_line n c.args.found.too_large) (c.deref-3.ensures.value ∙ c.in_ok-name.ensures))
+          (c.in_ok-append_fault.ensures ∙ ap₂ (λ (n t : List ℕ). c.append_size.new.text.items ++ fault_line n c.args.found.fault t) (c.deref-4.ensures.value ∙ c.in_ok-name.ensures) told);
     }

@@ -8,7 +8,7 @@ pub loop-seed-preserved : goal.loop-seed-preserved
 loop-seed-preserved g c =
     let inv = c.loop-seed.invariant in let now = c.hire.ensures in let pop = c.in-Some.ensures in
     let stage = ap (λ (p : Posting). p.stage) now.rest in record {
-      seeds = rw stage (all_front (λ (s : Seed g.row.G.Denot). s.taker ≡ new_taker c.loop-seed.poster.stage) c.pop.new.self.items c.in-Some.seed
+      seeds = rw stage (all_front (λ (s : Seed g.row.G.Denot). s.taker ≡ new_taker c.loop-seed.staff.poster.stage) c.pop.new.self.items c.in-Some.seed
           (rw pop.items at inv.seeds));
       stage = rw stage now.stage;
       tells = now.tells;

@@ -1,0 +1,3 @@
+mod Labelling
+mod Slots
+mod Values

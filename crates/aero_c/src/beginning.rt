@@ -1,0 +1,44 @@
+//! How a trace begins.
+ghost use Rattle.std.specs.Prelude.{IfSome};
+ghost use Rattle.aero_c.specs.Answers.{AreLimitsOf, Begins, IsBegun};
+
+use crate::monitor::{Monitor, put};
+use crate::status::{DONE, IN_USE, NO_MEMORY};
+use aero_feed::feed::Feed;
+use aero_model::except::Except;
+use aero_model::limits::Limits;
+use std::alloc::Global;
+
+// Begins a trace with these labels, if the monitor has none.
+pub(crate) fn begin(alloc: Global, monitor: &mut Monitor, is_long: bool, except: Except) -> u32
+    ensures { Begins monitor.old.slot.held monitor.new.slot.held result is_long except }
+{
+    if monitor.is_held {
+        return IN_USE;
+    }
+    match begun(alloc, is_long, except) {
+        Some(feed) => {
+            put(monitor, feed);
+            DONE
+        }
+        None => NO_MEMORY,
+    }
+}
+
+// A trace of which nothing was fed, where memory isn't refused.
+fn begun(alloc: Global, is_long: bool, except: Except) -> Option<Box<Feed>>
+    ensures { IfSome result (λ feed. IsBegun feed.value is_long except) }
+{
+    Box::new(alloc, Feed::new(alloc, &limits(is_long), except)).ok()
+}
+
+// The limits of a source, or those of a long one.
+fn limits(is_long: bool) -> Limits
+    ensures { AreLimitsOf is_long result }
+{
+    if is_long {
+        Limits::long()
+    } else {
+        Limits::greatest()
+    }
+}

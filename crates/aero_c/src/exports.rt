@@ -1,0 +1,105 @@
+//! The calls of a program in C. Each pointer is to be none but NULL, as the header tests.
+ghost use Rattle.std.specs.Prelude.{◌≡◌, ◌≢◌, ◌++◌, [], None};
+ghost use Rattle.aero_model.specs.Exempt.{these};
+ghost use Rattle.aero_c.specs.Statuses.{done, unheld};
+ghost use Rattle.aero_c.specs.Answers.{Answers, BeginsLabelled, IsAsked, Begins, Judges};
+
+use crate::beginning::begin;
+use crate::judging::{ask, conclude, feed_piece};
+use crate::labels::list;
+use crate::monitor::{Monitor, put, take};
+use crate::numbers::Numbers;
+use crate::status::{DONE, MANY_LABELS, UNHELD};
+use aero_model::except::Except;
+use std::alloc::Global;
+
+/// Begins a trace under the ordinary limits, or those of a long source, if the monitor has none.
+#[unsafe(no_mangle)]
+pub extern "C" fn aerodrome_held_begin(alloc: Global, monitor: &mut Monitor, is_long: bool) -> u32
+    ensures { Begins monitor.old.slot.held monitor.new.slot.held result is_long (these []) }
+{
+    match Except::new(Vec::new(alloc)) {
+        Some(except) => begin(alloc, monitor, is_long, except),
+        None => MANY_LABELS,
+    }
+}
+
+/// Begins a trace as `aerodrome_held_begin` does, with labels of which each is ended by a byte 10. With `is_only` they are
+/// those of the only blocks that are transactions, and else those of blocks that are none.
+#[unsafe(no_mangle)]
+pub extern "C" fn aerodrome_held_begin_labelled(
+    alloc: Global,
+    monitor: &mut Monitor,
+    is_long: bool,
+    labels: &[u8],
+    is_only: bool,
+) -> u32
+    ensures { BeginsLabelled monitor.old.slot.held monitor.new.slot.held result is_long is_only labels.now }
+{
+    match list(alloc, labels, is_only) {
+        Ok(listed) => begin(alloc, monitor, is_long, listed),
+        Err(status) => status,
+    }
+}
+
+/// Takes the next piece of the trace, of any length: lines may be cut anywhere.
+#[unsafe(no_mangle)]
+pub extern "C" fn aerodrome_held_feed(alloc: Global, monitor: &mut Monitor, piece: &[u8]) -> u32
+    ensures { Answers monitor.old.slot.held monitor.new.slot.held result (λ was now. now.text ≡ was.text ++ piece.now) }
+{
+    let Some(mut feed) = take(alloc, monitor) else {
+        return UNHELD;
+    };
+    let status = feed_piece(&mut feed, piece);
+    put(monitor, feed);
+    status
+}
+
+/// Judges the lines that came so far, and writes whether the verdict is certain, whatever bytes come: 1, or else 0.
+#[unsafe(no_mangle)]
+pub extern "C" fn aerodrome_held_certain(
+    alloc: Global,
+    monitor: &mut Monitor,
+    is_certain: &mut u32,
+) -> u32
+    ensures { Answers monitor.old.slot.held monitor.new.slot.held result (λ was now. IsAsked was now is_certain.new) }
+{
+    let Some(mut feed) = take(alloc, monitor) else {
+        return UNHELD;
+    };
+    let status = ask(&mut feed, is_certain);
+    put(monitor, feed);
+    status
+}
+
+/// Judges the trace and lets it go. Writes the verdict as numbers, how many bytes its line in the report has behind the
+/// source's name, with the byte 10 that ends it, and these bytes if the buffer has room.
+#[unsafe(no_mangle)]
+pub extern "C" fn aerodrome_held_verdict(
+    alloc: Global,
+    monitor: &mut Monitor,
+    numbers: &mut Numbers,
+    buffer: &mut [u8],
+    size: &mut usize,
+) -> u32
+    ensures none { monitor.new.slot.held ≡ None }
+    ensures judges { Judges monitor.old.slot.held result numbers.new buffer.new size.new }
+{
+    match take(alloc, monitor) {
+        Some(feed) => conclude(alloc, Box::into_inner(feed), numbers, buffer, size),
+        None => UNHELD,
+    }
+}
+
+/// Lets the trace go.
+#[unsafe(no_mangle)]
+pub extern "C" fn aerodrome_held_free(alloc: Global, monitor: &mut Monitor) -> u32
+    ensures none { monitor.new.slot.held ≡ None }
+    ensures unheld { monitor.old.slot.held ≡ None → result ≡ unheld }
+    ensures done { monitor.old.slot.held ≢ None → result ≡ done }
+{
+    match take(alloc, monitor) {
+        Some(_) => DONE,
+        None => UNHELD,
+    }
+}

@@ -1,0 +1,43 @@
+//! What a program in C holds.
+ghost use Rattle.std.specs.Prelude.{◌≡◌, Some, None, is_some, option_map};
+
+use crate::loose::Loose;
+use crate::slot::Slot;
+use aero_feed::feed::Feed;
+use std::alloc::Global;
+use std::mem;
+
+/// A trace, or none. C sees a pointer and whether there is a trace, and changes neither. All bytes 0 are none.
+#[repr(C)]
+#[derive(Drop)]
+pub struct Monitor {
+    pub slot: Slot,
+    pub is_held: bool,
+    pub ghost told: { is_held ≡ is_some slot.held },
+}
+
+// Takes the trace out, if there is one.
+pub(crate) fn take(alloc: Global, monitor: &mut Monitor) -> Option<Box<Feed>>
+    ensures held { option_map (λ feed. feed.value) result ≡ monitor.old.slot.held }
+    ensures none { monitor.new.slot.held ≡ None }
+{
+    let none = Monitor {
+        slot: Slot::none(),
+        is_held: false,
+    };
+    let Monitor { slot, is_held } = mem::replace(monitor, none);
+    if is_held {
+        return Some(slot.into_loose(alloc).into_box());
+    }
+    None
+}
+
+// Puts a trace into a monitor that has none.
+pub(crate) fn put(monitor: &mut Monitor, feed: Box<Feed>)
+    ensures { monitor.new.slot.held ≡ Some feed.value }
+{
+    *monitor = Monitor {
+        slot: Slot::of(Loose::of(feed)),
+        is_held: true,
+    };
+}

@@ -1,0 +1,2 @@
+-- To be believed: Shown (bytes as a terminal is shown them).
+pub mod Shown
