@@ -1,8 +1,7 @@
 //! What is told of a faulty line that was looked at again.
-ghost use Rattle.std.specs.Prelude.{◌≡◌, ◌++◌, ◌<◌, ◌≤◌, codes, decimal, flat_map, take, length, nat_lt, if◌then◌else◌, [], ◌∷◌, OnOk};
+ghost use Rattle.std.specs.Prelude.{◌≡◌, ◌++◌, ◌<◌, ◌≤◌, codes, decimal, take, length, nat_lt, if◌then◌else◌, [], ◌∷◌, OnOk};
 ghost use Rattle.std.specs.Str.Lines.{strip_carriage_return};
 ghost use Rattle.aero_faults.specs.Words.{line_words as line_words_of};
-ghost use Rattle.aero_shown.specs.Shown.{shown_byte};
 ghost use Rattle.aero_faults.specs.Texts.{bad_place as bad_place_in, deed_text, hindrance_text, line_text, shown, verb as verb_of};
 
 use crate::fields::{bad_place, operation_word, without_return};
@@ -11,7 +10,7 @@ use crate::search::target_of;
 use crate::words::line_words;
 use aero_model::event::{Event, Op};
 use aero_model::verdict::{LineFault, ShapeFault};
-use aero_shown::append_byte;
+use aero_shown::append_bytes;
 use itoa::Buffer;
 use std::alloc::AllocError;
 
@@ -74,15 +73,6 @@ fn front_of(bytes: &[u8], count: usize) -> &[u8]
     ensures { result.now ≡ take count bytes.now }
 {
     &bytes[..count]
-}
-
-fn append_bytes(text: &mut Vec<u8>, bytes: &[u8]) -> Result<(), AllocError>
-    ensures { OnOk result (text.new.items ≡ text.old.items ++ flat_map shown_byte bytes.now) }
-{
-    for byte in bytes {
-        append_byte(text, *byte)?;
-    }
-    Ok(())
 }
 
 /// Adds what is told of an ill-formed event and of what stands in its way.

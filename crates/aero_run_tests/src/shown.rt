@@ -2,7 +2,7 @@
 use aero_model::name::Name;
 use aero_model::verdict::{Finding, Verdict};
 use aero_report::{Form, source_text};
-use aero_shown::{append_byte, append_lines, append_text};
+use aero_shown::{append_bytes, append_lines, append_text};
 use std::alloc::Global;
 
 // The helpers below say that a row doesn't hold where memory is refused.
@@ -71,9 +71,7 @@ fn bytes_on_a_terminal(rt: HostRuntime) {
 // Whether each byte alone is shown, those from 128 on too.
 fn are_shown_alone(alloc: Global) -> bool {
     let mut text = Vec::new(alloc);
-    let fits = append_byte(&mut text, b'~').is_ok()
-        & append_byte(&mut text, 0xc3).is_ok()
-        & append_byte(&mut text, 0xa9).is_ok();
+    let fits = append_bytes(&mut text, b"~\xc3\xa9").is_ok();
     fits && text.as_slice() == b"~\\xc3\\xa9".as_slice()
 }
 

@@ -1,24 +1,23 @@
 //! Characters that stand as they are, and bytes that don't.
-ghost use Rattle.std.specs.Prelude.{◌≡◌, ◌<◌, ◌++◌, ◌==◌, false, true, drop, take, length, if◌then◌else◌, IfOk, OnOk};
+ghost use Rattle.std.specs.Prelude.{◌≡◌, ◌<◌, ◌∷◌, ◌++◌, drop, take, flat_map, length, OnOk};
 ghost use Rattle.std.specs.Str.{is_utf8};
-ghost use Rattle.aero_shown.specs.Shown.{hex_digit as hex_digit_of, is_plain as is_plain_byte, is_wide_control as begins_with_wide_control, kept as kept_of, shown_behind, shown_byte, shown_lines, shown_text, wide_character as wide_character_of};
+ghost use Rattle.aero_shown.specs.Shown.{characters, followers as followers_of, hex_digit as hex_digit_of, shown_byte, shown_character, shown_lines, shown_text, stands as stands_of};
 
 use std::alloc::AllocError;
 use std::str;
 
-/// Adds the byte, or `\xNN` in its place where it is a control byte or from 128 on.
+/// Adds each byte as itself, or as `\xNN` where it is a control byte or from 128 on.
 ///
 /// # Errors
 ///
 /// `AllocError` where memory is refused. A front of it may be there.
-pub fn append_byte(text: &mut Vec<u8>, byte: u8) -> Result<(), AllocError>
-    ensures { OnOk result (text.new.items ≡ text.old.items ++ shown_byte byte) }
+pub fn append_bytes(text: &mut Vec<u8>, bytes: &[u8]) -> Result<(), AllocError>
+    ensures { OnOk result (text.new.items ≡ text.old.items ++ flat_map shown_byte bytes.now) }
 {
-    if byte < 32 || byte > 126 {
-        text.extend_from_slice(&[b'\\', b'x', hex_digit(byte / 16), hex_digit(byte % 16)])
-    } else {
-        text.extend_from_slice(&[byte])
+    for byte in bytes {
+        append_byte(text, *byte)?;
     }
+    Ok(())
 }
 
 /// Adds bytes as they are shown on one line of a terminal.
@@ -45,86 +44,76 @@ pub fn append_lines(text: &mut Vec<u8>, bytes: &[u8]) -> Result<(), AllocError>
 
 // Adds the bytes as they are shown.
 fn append_shown(text: &mut Vec<u8>, bytes: &[u8], ends_stay: bool) -> Result<(), AllocError>
-    ensures { OnOk result (text.new.items ≡ text.old.items ++ shown_behind ends_stay 0 bytes.now) }
+    ensures { OnOk result (text.new.items ≡ text.old.items ++ flat_map (shown_character ends_stay) (characters bytes.now)) }
 {
     let mut rest = bytes;
-    let mut inside = 0;
     while !rest.is_empty() {
-        inside = append_front(text, rest, inside, ends_stay)?;
-        rest = &rest[1..];
+        let (character, behind) = split_character(rest);
+        append_character(text, character, ends_stay)?;
+        rest = behind;
     }
     Ok(())
 }
 
-// Adds the first byte as it is shown, where so many bytes stand as they are, and says how many do behind it.
-fn append_front(
-    text: &mut Vec<u8>,
-    rest: &[u8],
-    inside: usize,
-    ends_stay: bool,
-) -> Result<usize, AllocError>
-    requires { 0 < length rest.now }
-    ensures { IfOk result (λ more. text.new.items ++ shown_behind ends_stay more (drop 1 rest.now) ≡ text.old.items ++ shown_behind ends_stay inside rest.now) }
+// Adds a character, or a byte that belongs to none, as it is shown.
+fn append_character(text: &mut Vec<u8>, character: &[u8], ends_stay: bool) -> Result<(), AllocError>
+    ensures { OnOk result (text.new.items ≡ text.old.items ++ shown_character ends_stay character.now) }
 {
-    let stay = if inside == 0 {
-        kept(rest, ends_stay)
+    if stands(character, ends_stay) {
+        text.extend_from_slice(character)
     } else {
-        inside
-    };
-    if stay == 0 {
-        append_byte(text, rest[0])?;
-        return Ok(0);
+        append_bytes(text, character)
     }
-    text.push(rest[0])?;
-    Ok(stay - 1)
 }
 
-// How many bytes stand as they are at the front.
-fn kept(bytes: &[u8], ends_stay: bool) -> usize
-    ensures { result ≡ kept_of ends_stay bytes.now }
+// Adds the byte, or `\xNN` in its place.
+fn append_byte(text: &mut Vec<u8>, byte: u8) -> Result<(), AllocError>
+    ensures { OnOk result (text.new.items ≡ text.old.items ++ shown_byte byte) }
 {
-    let Some(first) = bytes.first() else {
-        return 0;
-    };
-    if *first < 128 {
-        return is_plain(*first, ends_stay) as usize;
+    if byte < 32 || byte > 126 {
+        text.extend_from_slice(&[b'\\', b'x', hex_digit(byte / 16), hex_digit(byte % 16)])
+    } else {
+        text.extend_from_slice(&[byte])
     }
-    if is_wide_control(bytes) {
+}
+
+// The first character, or the first byte where it begins none, and what stands behind it.
+fn split_character(bytes: &[u8]) -> (&[u8], &[u8])
+    requires { 0 < length bytes.now }
+    ensures first { characters bytes.now ≡ result.0.now ∷ characters result.1.now }
+    ensures shorter { length result.1.now < length bytes.now }
+{
+    let size = 1 + followers(bytes);
+    (front_of(bytes, size), behind(bytes, size))
+}
+
+// How many bytes follow the first one in its character, and 0 where none begins with it.
+fn followers(bytes: &[u8]) -> usize
+    requires { 0 < length bytes.now }
+    ensures as_defined { result ≡ followers_of bytes.now }
+    ensures few { result < 4 }
+{
+    if bytes[0] < 128 {
         0
-    } else {
-        wide_character(bytes)
-    }
-}
-
-// Whether a byte below 128 is no control character, or a line end that stays.
-fn is_plain(byte: u8, ends_stay: bool) -> bool
-    ensures { result ≡ is_plain_byte ends_stay byte }
-{
-    (31 < byte && byte < 127) || (ends_stay && byte == b'\n')
-}
-
-// Whether a control character from U+0080 to U+009F begins the bytes, if a character of two does.
-fn is_wide_control(bytes: &[u8]) -> bool
-    ensures { result ≡ begins_with_wide_control bytes.now }
-{
-    match bytes {
-        [0xC2, second, ..] => *second < 160,
-        _ => false,
-    }
-}
-
-// How many bytes the character has that begins the bytes, the first from 128 on, or 0 where none does.
-fn wide_character(bytes: &[u8]) -> usize
-    ensures { result ≡ wide_character_of bytes.now }
-{
-    if is_text(front_of(bytes, 2)) {
-        2
+    } else if is_text(front_of(bytes, 2)) {
+        1
     } else if is_text(front_of(bytes, 3)) {
-        3
+        2
     } else if is_text(front_of(bytes, 4)) {
-        4
+        3
     } else {
         0
+    }
+}
+
+// Whether a character stands as it is.
+fn stands(character: &[u8], ends_stay: bool) -> bool
+    ensures { result ≡ stands_of ends_stay character.now }
+{
+    match character {
+        [byte] => (31 < *byte && *byte < 127) || (ends_stay && *byte == b'\n'),
+        [first, second] => !(*first == 0xC2 && *second < 160),
+        _ => true,
     }
 }
 
@@ -136,6 +125,17 @@ fn front_of(bytes: &[u8], count: usize) -> &[u8]
         bytes
     } else {
         &bytes[..count]
+    }
+}
+
+// The bytes without the first ones, so many, or none.
+fn behind(bytes: &[u8], count: usize) -> &[u8]
+    ensures { result.now ≡ drop count bytes.now }
+{
+    if bytes.len() <= count {
+        &[]
+    } else {
+        &bytes[count..]
     }
 }
 

@@ -1,7 +1,7 @@
 use Rattle.std.proofs.Common.{◌≡◌, ◌++◌, take}
 use Rattle.std.specs.Prelude.{flat_map}
 use Rattle.aero_shown.specs.Shown.{shown_byte}
-use Rattle.aero_faults.proofs.texts.append_bytes.Given as goal
+use Rattle.aero_shown.proofs.shown.append_bytes.Given as goal
 
 -- the bytes so far
 abbrev pub invariant-loop-byte : goal.invariant-loop-byte
