@@ -1,3 +1,2 @@
-mod Labelling
 mod Slots
 mod Values

@@ -10,7 +10,7 @@ use Rattle.aero_feed.specs.Feeding.{Feeding, IsTextVerdict, IsCertainOf, IsOpenT
 use Rattle.aero_c.specs.declared.numbers.Numbers.{Numbers}
 use Rattle.aero_c.specs.Numbers.{numbers_of}
 use Rattle.aero_c.specs.Statuses.{done, unheld, in_use, no_memory, short, no_name, many_labels}
-use Rattle.aero_c.specs.Labels.{ended_labels}
+use Rattle.aero_c.specs.Labels.{AreLabels, AreTooMany, IsListOf}
 
 -- A call that leaves the trace where it is: it was done, or memory is or was refused, and stays so. The rules stay the same.
 pub record Answered (was now : Feeding) (status : ℕ) (did : Type 0) : Type 0 where
@@ -57,18 +57,13 @@ abbrev pub Begins : Option Feeding → Option Feeding → ℕ → Bool → Liste
 Begins None new status is_long labels = Begun new status is_long labels
 Begins (Some was) new status is_long labels = (status ≡ in_use) × (new ≡ Some was)
 
--- the labels of a text, of blocks that are no transactions, or of the only blocks that are
-pub record IsListOf (listed : Listed) (is_only : Bool) (text : List ℕ) : Type 0 where
-  pub named : ended_labels listed.labels ≡ text
-  pub which : listed.only ≡ is_only
-
--- a list of labels is refused: one is no name, there are too many, or memory is refused
-abbrev pub IsRefusal : ℕ → Type 0
-IsRefusal status = (status ≡ no_name) ⊎ (status ≡ many_labels) ⊎ (status ≡ no_memory)
+-- why labels are refused: one is no name, or has no byte 10 behind it; or there are too many; or memory is refused
+abbrev pub IsRefusal : List ℕ → ℕ → Type 0
+IsRefusal text status = ((status ≡ no_name) × (AreLabels text → ⊥)) ⊎ ((status ≡ many_labels) × AreTooMany text) ⊎ (status ≡ no_memory)
 
 -- A trace is begun where there is none and the labels aren't refused. Where it isn't, the monitor has what it had.
 pub record BeginsLabelled (old new : Option Feeding) (status : ℕ) (is_long is_only : Bool) (text : List ℕ) : Type 0 where
-  pub told : (status ≡ done) ⊎ (status ≡ in_use) ⊎ IsRefusal status
+  pub told : (status ≡ done) ⊎ ((status ≡ in_use) × (is_some old ≡ true)) ⊎ IsRefusal text status
   pub begun : status ≡ done → (old ≡ None) × ((listed : Listed) × IsListOf listed is_only text × Holds new (λ trace. IsBegun trace is_long listed))
   pub kept : status ≢ done → new ≡ old
 

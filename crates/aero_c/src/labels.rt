@@ -1,37 +1,39 @@
 //! Labels that come as a text, each ended by a byte 10.
-ghost use Rattle.std.specs.Prelude.{◌≡◌, ◌∷◌, ◌++◌, [], IfErr, IfOk, OnOk};
-ghost use Rattle.aero_c.specs.Answers.{IsListOf, IsRefusal};
-ghost use Rattle.aero_c.specs.Statuses.{many_labels};
-ghost use Rattle.aero_c.specs.Labels.{labels_text, ended_labels};
+ghost use Rattle.std.specs.Prelude.{◌≡◌, ◌⊎◌, ◌<◌, ◌∷◌, ◌++◌, [], true, false, length, IfErr, IfOk, OnOk};
+ghost use Rattle.std.specs.List.{list_any};
+ghost use Rattle.aero_model.specs.Lines.{lines_of};
+ghost use Rattle.aero_c.specs.Answers.{IsRefusal};
+ghost use Rattle.aero_c.specs.Statuses.{many_labels, no_memory, no_name};
+ghost use Rattle.aero_c.specs.Labels.{IsListOf, is_ended as is_ended_text, is_no_name};
 
 use crate::status::{MANY_LABELS, NO_MEMORY, NO_NAME};
 use aero_model::except::Except;
 use aero_model::name::{Name, NameFault};
+use memchr::memchr;
 use std::alloc::Global;
-
-// What is read of labels: whole ones, and the front of the next.
-#[derive(Drop)]
-struct Reading {
-    whole: Vec<Name>,
-    front: Vec<u8>,
-}
 
 // The labels of the text, each ended by a byte 10: of blocks that are no transactions, or of the only blocks that are. Or
 // the status that says why there is no such list.
 pub(crate) fn list(alloc: Global, text: &[u8], is_only: bool) -> Result<Except, u32>
     ensures read { IfOk result (λ listed. IsListOf listed is_only text.now) }
-    ensures refused { IfErr result IsRefusal }
+    ensures refused { IfErr result (IsRefusal text.now) }
 {
-    match read_labels(alloc, text) {
-        Ok(labels) => list_of(labels, is_only),
-        Err(NameFault::Memory) => Err(NO_MEMORY),
-        Err(_) => Err(NO_NAME),
+    if !is_ended(text) {
+        return Err(NO_NAME);
     }
+    list_of(names(alloc, text)?, is_only)
+}
+
+// Whether the text is empty or ends in a byte 10.
+fn is_ended(text: &[u8]) -> bool
+    ensures { result ≡ is_ended_text text.now }
+{
+    text.is_empty() || text[text.len() - 1] == b'\n'
 }
 
 fn list_of(labels: Vec<Name>, is_only: bool) -> Result<Except, u32>
     ensures read { IfOk result (λ listed. (listed.labels ≡ labels.items) × (listed.only ≡ is_only)) }
-    ensures refused { IfErr result (λ status. status ≡ many_labels) }
+    ensures refused { IfErr result (λ status. (status ≡ many_labels) × (64 < length labels.items)) }
 {
     if is_only {
         Except::all_but(labels).ok_or(MANY_LABELS)
@@ -40,53 +42,47 @@ fn list_of(labels: Vec<Name>, is_only: bool) -> Result<Except, u32>
     }
 }
 
-// The labels of the text, or what is wrong with the first that is no name.
-fn read_labels(alloc: Global, text: &[u8]) -> Result<Vec<Name>, NameFault>
-    ensures { IfOk result (λ labels. ended_labels labels.items ≡ text.now) }
+// The names that the lines are.
+fn names(alloc: Global, text: &[u8]) -> Result<Vec<Name>, u32>
+    ensures read { IfOk result (λ labels. labels.items ≡ lines_of text.now) }
+    ensures named { OnOk result (list_any is_no_name (lines_of text.now) ≡ false) }
+    ensures refused { IfErr result (λ status. ((status ≡ no_name) × (list_any is_no_name (lines_of text.now) ≡ true)) ⊎ (status ≡ no_memory)) }
 {
-    let mut reading = Reading {
-        whole: Vec::new(alloc),
-        front: Vec::new(alloc),
+    let mut labels = Vec::new(alloc);
+    let mut rest = text;
+    while !rest.is_empty() {
+        let (line, behind) = first_line(rest);
+        push_name(alloc, &mut labels, line)?;
+        rest = behind;
+    }
+    Ok(labels)
+}
+
+// The first line of a text that isn't empty, and what follows it.
+fn first_line(text: &[u8]) -> (&[u8], &[u8])
+    requires { 0 < length text.now }
+    ensures lines { lines_of text.now ≡ result.0.now ∷ lines_of result.1.now }
+    ensures shorter { length result.1.now < length text.now }
+{
+    match memchr(b'\n', text) {
+        Some(end) => (&text[..end], &text[end + 1..]),
+        None => (text, &text[text.len()..]),
+    }
+}
+
+// Adds the name that the line is, or says why not.
+fn push_name(alloc: Global, labels: &mut Vec<Name>, line: &[u8]) -> Result<(), u32>
+    ensures pushed { OnOk result (labels.new.items ≡ labels.old.items ++ line.now ∷ []) }
+    ensures named { OnOk result (is_no_name line.now ≡ false) }
+    ensures refused { IfErr result (λ status. ((status ≡ no_name) × (is_no_name line.now ≡ true)) ⊎ (status ≡ no_memory)) }
+{
+    let label = match Name::read(alloc, line) {
+        Ok(label) => label,
+        Err(NameFault::Memory) => return Err(NO_MEMORY),
+        Err(_) => return Err(NO_NAME),
     };
-    read_all(alloc, &mut reading, text)?;
-    if !reading.front.is_empty() {
-        return Err(NameFault::BadByte);
-    }
-    Ok(reading.whole)
-}
-
-// Takes all bytes.
-fn read_all(alloc: Global, reading: &mut Reading, text: &[u8]) -> Result<(), NameFault>
-    ensures { OnOk result (labels_text reading.new.whole.items reading.new.front.items ≡ labels_text reading.old.whole.items reading.old.front.items ++ text.now) }
-{
-    for byte in text {
-        read_byte(alloc, reading, *byte)?;
-    }
-    Ok(())
-}
-
-// Takes one byte.
-fn read_byte(alloc: Global, reading: &mut Reading, byte: u8) -> Result<(), NameFault>
-    ensures { OnOk result (labels_text reading.new.whole.items reading.new.front.items ≡ labels_text reading.old.whole.items reading.old.front.items ++ byte ∷ []) }
-{
-    if byte == b'\n' {
-        return end_label(alloc, reading);
-    }
-    match reading.front.push(byte) {
+    match labels.push(label) {
         Ok(()) => Ok(()),
-        Err(_) => Err(NameFault::Memory),
-    }
-}
-
-// Ends the label that is open.
-#[tactic(auto, using(crate::proofs::Labelling::one_more))]
-fn end_label(alloc: Global, reading: &mut Reading) -> Result<(), NameFault>
-    ensures { OnOk result (labels_text reading.new.whole.items reading.new.front.items ≡ labels_text reading.old.whole.items reading.old.front.items ++ 10 ∷ []) }
-{
-    let label = Name::read(alloc, &reading.front)?;
-    reading.front.clear();
-    match reading.whole.push(label) {
-        Ok(()) => Ok(()),
-        Err(_) => Err(NameFault::Memory),
+        Err(_) => Err(NO_MEMORY),
     }
 }

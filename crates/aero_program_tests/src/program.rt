@@ -1,183 +1,29 @@
 mod again;
+mod arguments;
 mod named;
 mod pipes;
 pub(crate) mod sources;
+mod statuses;
 pub(crate) mod streams;
 
 ghost use Rattle.std.specs.Prelude.{◌≡◌, ◌≤◌, ◌^◌, IfOk, vec_len};
 ghost use Rattle.aero_program.specs.Command.{count_named};
 
 use crate::program::streams::{EVER, Flushes, Interrupted, Narrow, Shelf, Text, never_flushed};
-use aero_batch::outcome::{Cause, Outcome};
-use aero_gather::gather::Tally;
 use aero_model::counting::Counting;
-use aero_model::verdict::Counts;
 use aero_program::answer::answer;
-use aero_program::arguments::{Unread, words_of};
+use aero_program::arguments::Unread;
 use aero_program::command::{Config, Form, Progress, Refused, Sources, Stop, Terminals};
-use aero_program::failure::Failure;
 use aero_program::files::{FilesOf, Opener};
 use aero_program::input::Input;
 use aero_program::output::Output;
 use aero_program::reason::Reason;
 use aero_program::retrying::Retrying;
-use aero_program::status::{status, status_after};
 use std::alloc::{AllocError, Global};
-use std::env::{Env, FillError};
-use std::io;
 use std::io::{ErrorKind, Read};
 use std::sync::Wait;
 use std::test::Fail;
 use std::thread::Threads;
-
-fn outcome_of(alloc: Global, counts: [u64; 4], cause: Option<Cause>) -> Outcome {
-    let [serializable, pending, violations, faults] = counts;
-    Outcome {
-        endings: Vec::new(alloc),
-        faults: Vec::new(alloc),
-        counts: Counts {
-            serializable,
-            pending,
-            violations,
-            faults,
-        },
-        cause,
-        tally: Tally {
-            asked: 0,
-            kept: 0,
-            done_here: 0,
-        },
-        workers: 0,
-    }
-}
-
-// The highest status that applies to a run, and the line and the status of each failure.
-#[test]
-fn each_end_has_its_status(rt: HostRuntime) {
-    // (what the run found, why it stopped, whether open blocks make the status 1, the status)
-    let runs: [([u64; 4], Option<Cause>, bool, u8); 14] = [
-        ([0, 0, 0, 0], None, false, 0),
-        ([2, 0, 0, 0], None, false, 0),
-        ([2, 0, 0, 0], None, true, 0),
-        ([0, 3, 0, 0], None, false, 0),
-        ([0, 3, 0, 0], None, true, 1),
-        ([1, 0, 2, 0], None, false, 1),
-        ([1, 0, 2, 0], None, true, 1),
-        ([0, 0, 0, 1], None, false, 2),
-        ([0, 3, 0, 1], None, true, 2),
-        ([1, 1, 1, 1], None, false, 2),
-        ([2, 0, 0, 0], Some(Cause::Memory), false, 4),
-        ([0, 3, 0, 0], Some(Cause::Memory), true, 4),
-        ([0, 0, 1, 0], Some(Cause::Write), false, 4),
-        ([0, 0, 0, 1], Some(Cause::Write), false, 4),
-    ];
-    for (counts, cause, fail_open, expected) in runs {
-        let outcome = outcome_of(rt.alloc(), counts, cause);
-        assert_eq!(rt; status(&outcome, fail_open), expected);
-        let flushed = match status_after(&outcome, &Ok(()), fail_open) {
-            Ok(status) => status,
-            Err(failure) => failure.status(),
-        };
-        assert_eq!(rt; flushed, expected);
-        let unflushed = Err(io::Error::from(ErrorKind::BrokenPipe));
-        assert!(rt; status_after(&outcome, &unflushed, fail_open).is_err());
-    }
-    let failures = [
-        (Failure::Memory, "aerodrome: out of memory\n", 4),
-        (Failure::Write, "aerodrome: write failed\n", 4),
-        (Failure::Closed, "", 4),
-        (
-            Failure::TooManyFiles,
-            "aerodrome: more than 65536 files\n",
-            3,
-        ),
-        (Failure::BadLabel, "aerodrome: not a label\n", 3),
-        (
-            Failure::TooManyLabels,
-            "aerodrome: more than 64 labels\n",
-            3,
-        ),
-        (Failure::NotUtf8, "aerodrome: a word is not UTF-8\n", 3),
-    ];
-    for (failure, line, expected) in failures {
-        assert!(rt; failure.line() == line);
-        assert_eq!(rt; failure.status(), expected);
-    }
-}
-
-// A failed write ends a run as its kind says, which the flush tells.
-#[test]
-fn a_failed_write_ends_a_run_as_its_kind_says(rt: HostRuntime) {
-    let rows = [
-        (None, ErrorKind::StorageFull, Failure::Write),
-        (None, ErrorKind::BrokenPipe, Failure::Closed),
-        (Some(Cause::Write), ErrorKind::StorageFull, Failure::Write),
-        (Some(Cause::Write), ErrorKind::BrokenPipe, Failure::Closed),
-        (Some(Cause::Memory), ErrorKind::BrokenPipe, Failure::Memory),
-    ];
-    for (cause, kind, expected) in rows {
-        let outcome = outcome_of(rt.alloc(), [1, 0, 0, 0], cause);
-        let end = status_after(&outcome, &Err(io::Error::from(kind)), false);
-        assert!(rt; end == Err(expected));
-    }
-}
-
-// Three arguments, the first of which is the program's name.
-#[derive(Drop)]
-struct Given {
-    arguments: [&'static [u8]; 3],
-}
-
-impl Env for Given {
-    fn arg(&self, i: usize, buf: &mut [u8]) -> Result<usize, FillError> {
-        let Some(argument) = self.arguments.get(i) else {
-            return Err(FillError::NotPresent);
-        };
-        if argument.len() > buf.len() {
-            return Err(FillError::TooLong);
-        }
-        buf[..argument.len()].copy_from_slice(argument);
-        Ok(argument.len())
-    }
-
-    fn var(&self, _name: &str, _buf: &mut [u8]) -> Result<usize, FillError> {
-        Err(FillError::NotPresent)
-    }
-
-    fn var_at(&self, _i: usize, _buf: &mut [u8]) -> Result<usize, FillError> {
-        Err(FillError::NotPresent)
-    }
-}
-
-#[test]
-fn words_come_without_the_program_s_name_as_utf_8_alone(rt: HostRuntime) -> Result<(), Fail> {
-    let given = Given {
-        arguments: [b"\xff", b"--workers", b"\xc3\xa9"],
-    };
-    let words = words_of(rt.alloc(), &given)?;
-    assert_eq!(rt; words.len(), 2);
-    assert_eq!(rt; words[0].as_str(), "--workers");
-    assert_eq!(rt; words[1].as_str(), "\u{e9}");
-
-    let refused: [([&'static [u8]; 3], &'static [u8]); 3] = [
-        ([b"aerodrome", b"a", b"b\xff"], b"b\xff"),
-        ([b"aerodrome", b"\xc3", b"--help"], b"\xc3"),
-        ([b"\xff", b"caf\xe9", b"\xff"], b"caf\xe9"),
-    ];
-    for (arguments, word) in refused {
-        let given = Given { arguments };
-        assert!(rt; is_refused_for(rt.alloc(), &given, word));
-    }
-    Ok(())
-}
-
-// Whether the words are refused since this one isn't UTF-8.
-fn is_refused_for(alloc: Global, given: &Given, word: &[u8]) -> bool {
-    match words_of(alloc, given) {
-        Err(Unread::NotUtf8(odd)) => odd.as_slice() == word,
-        _ => false,
-    }
-}
 
 // A file that isn't there can't be opened, a folder can't be read; what can is read to its end.
 #[test]
