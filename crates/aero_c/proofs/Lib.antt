@@ -1,2 +1,2 @@
-mod Slots
+mod Pointers
 mod Values

@@ -1,4 +1,4 @@
--- What a slot owns: the memory of a trace that is fed, or nothing.
+-- What a pointer owns: the memory of a trace that is fed, or nothing.
 use Rattle.std.specs.Prelude.{Option, Some, None}
 use base.Fml.{Fml, ftrue}
 use denote.RawPtr.{Ptr}

@@ -1,6 +1,6 @@
 -- To be believed: Statuses (the numbers that a call answers), Labels (labels as a text), Numbers (a verdict as numbers), Answers (what a
 -- call did to the trace).
--- For proofs alone: Held (what a slot owns).
+-- For proofs alone: Held (what a pointer owns).
 pub mod Answers
 pub mod Held
 pub mod Labels

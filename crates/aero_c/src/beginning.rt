@@ -11,7 +11,7 @@ use std::alloc::Global;
 
 // Begins a trace with these labels, if the monitor has none.
 pub(crate) fn begin(alloc: Global, monitor: &mut Monitor, is_long: bool, except: Except) -> u32
-    ensures { Begins monitor.old.slot.held monitor.new.slot.held result is_long except }
+    ensures { Begins monitor.old.pointer.held monitor.new.pointer.held result is_long except }
 {
     if monitor.is_held {
         return IN_USE;

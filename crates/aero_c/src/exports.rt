@@ -16,7 +16,7 @@ use std::alloc::Global;
 /// Begins a trace under the ordinary limits, or those of a long source, if the monitor has none.
 #[unsafe(no_mangle)]
 pub extern "C" fn aerodrome_held_begin(alloc: Global, monitor: &mut Monitor, is_long: bool) -> u32
-    ensures { Begins monitor.old.slot.held monitor.new.slot.held result is_long (these []) }
+    ensures { Begins monitor.old.pointer.held monitor.new.pointer.held result is_long (these []) }
 {
     match Except::new(Vec::new(alloc)) {
         Some(except) => begin(alloc, monitor, is_long, except),
@@ -34,7 +34,7 @@ pub extern "C" fn aerodrome_held_begin_labelled(
     labels: &[u8],
     is_only: bool,
 ) -> u32
-    ensures { BeginsLabelled monitor.old.slot.held monitor.new.slot.held result is_long is_only labels.now }
+    ensures { BeginsLabelled monitor.old.pointer.held monitor.new.pointer.held result is_long is_only labels.now }
 {
     match list(alloc, labels, is_only) {
         Ok(listed) => begin(alloc, monitor, is_long, listed),
@@ -45,7 +45,7 @@ pub extern "C" fn aerodrome_held_begin_labelled(
 /// Takes the next piece of the trace, of any length: lines may be cut anywhere.
 #[unsafe(no_mangle)]
 pub extern "C" fn aerodrome_held_feed(alloc: Global, monitor: &mut Monitor, piece: &[u8]) -> u32
-    ensures { Answers monitor.old.slot.held monitor.new.slot.held result (λ was now. now.text ≡ was.text ++ piece.now) }
+    ensures { Answers monitor.old.pointer.held monitor.new.pointer.held result (λ was now. now.text ≡ was.text ++ piece.now) }
 {
     let Some(mut feed) = take(alloc, monitor) else {
         return UNHELD;
@@ -62,7 +62,7 @@ pub extern "C" fn aerodrome_held_certain(
     monitor: &mut Monitor,
     is_certain: &mut u32,
 ) -> u32
-    ensures { Answers monitor.old.slot.held monitor.new.slot.held result (λ was now. IsAsked was now is_certain.new) }
+    ensures { Answers monitor.old.pointer.held monitor.new.pointer.held result (λ was now. IsAsked was now is_certain.new) }
 {
     let Some(mut feed) = take(alloc, monitor) else {
         return UNHELD;
@@ -82,8 +82,8 @@ pub extern "C" fn aerodrome_held_verdict(
     buffer: &mut [u8],
     size: &mut usize,
 ) -> u32
-    ensures none { monitor.new.slot.held ≡ None }
-    ensures judges { Judges monitor.old.slot.held result numbers.new buffer.new size.new }
+    ensures none { monitor.new.pointer.held ≡ None }
+    ensures judges { Judges monitor.old.pointer.held result numbers.new buffer.new size.new }
 {
     match take(alloc, monitor) {
         Some(feed) => conclude(alloc, Box::into_inner(feed), numbers, buffer, size),
@@ -94,9 +94,9 @@ pub extern "C" fn aerodrome_held_verdict(
 /// Lets the trace go.
 #[unsafe(no_mangle)]
 pub extern "C" fn aerodrome_held_free(alloc: Global, monitor: &mut Monitor) -> u32
-    ensures none { monitor.new.slot.held ≡ None }
-    ensures unheld { monitor.old.slot.held ≡ None → result ≡ unheld }
-    ensures done { monitor.old.slot.held ≢ None → result ≡ done }
+    ensures none { monitor.new.pointer.held ≡ None }
+    ensures unheld { monitor.old.pointer.held ≡ None → result ≡ unheld }
+    ensures done { monitor.old.pointer.held ≢ None → result ≡ done }
 {
     match take(alloc, monitor) {
         Some(_) => DONE,

@@ -17,7 +17,7 @@
 //! - The verdict is that of exactly the bytes fed, as numbers and as the report's line behind the source's name; where the
 //!   buffer is too small it is said how many bytes are needed: `aerodrome_held_verdict`. The monitor has no trace then, nor
 //!   after `aerodrome_held_free`.
-//! - The memory behind a monitor's pointer is the trace's: `Slot`, by proofs by hand, and `Loose`.
+//! - The memory behind a monitor's pointer is the trace's: `Pointer`, by proofs by hand, and `Loose`.
 #![tactic(auto)]
 
 mod beginning;
@@ -27,5 +27,5 @@ mod labels;
 mod loose;
 mod monitor;
 mod numbers;
-mod slot;
+mod pointer;
 mod status;

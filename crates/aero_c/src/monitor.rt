@@ -2,7 +2,7 @@
 ghost use Rattle.std.specs.Prelude.{◌≡◌, Some, None, is_some, option_map};
 
 use crate::loose::Loose;
-use crate::slot::Slot;
+use crate::pointer::Pointer;
 use aero_feed::feed::Feed;
 use std::alloc::Global;
 use std::mem;
@@ -11,33 +11,33 @@ use std::mem;
 #[repr(C)]
 #[derive(Drop)]
 pub struct Monitor {
-    pub slot: Slot,
+    pub pointer: Pointer,
     pub is_held: bool,
-    pub ghost told: { is_held ≡ is_some slot.held },
+    pub ghost told: { is_held ≡ is_some pointer.held },
 }
 
 // Takes the trace out, if there is one.
 pub(crate) fn take(alloc: Global, monitor: &mut Monitor) -> Option<Box<Feed>>
-    ensures held { option_map (λ feed. feed.value) result ≡ monitor.old.slot.held }
-    ensures none { monitor.new.slot.held ≡ None }
+    ensures held { option_map (λ feed. feed.value) result ≡ monitor.old.pointer.held }
+    ensures none { monitor.new.pointer.held ≡ None }
 {
     let none = Monitor {
-        slot: Slot::none(),
+        pointer: Pointer::none(),
         is_held: false,
     };
-    let Monitor { slot, is_held } = mem::replace(monitor, none);
+    let Monitor { pointer, is_held } = mem::replace(monitor, none);
     if is_held {
-        return Some(slot.into_loose(alloc).into_box());
+        return Some(pointer.into_loose(alloc).into_box());
     }
     None
 }
 
 // Puts a trace into a monitor that has none.
 pub(crate) fn put(monitor: &mut Monitor, feed: Box<Feed>)
-    ensures { monitor.new.slot.held ≡ Some feed.value }
+    ensures { monitor.new.pointer.held ≡ Some feed.value }
 {
     *monitor = Monitor {
-        slot: Slot::of(Loose::of(feed)),
+        pointer: Pointer::of(Loose::of(feed)),
         is_held: true,
     };
 }

@@ -1,4 +1,4 @@
--- `into_loose` hands on what the slot owns.
+-- `into_loose` hands on what the pointer owns.
 use Rattle.std.proofs.Common.{◌≡◌, List, [], ◌∷◌, ◌++◌, refl, sym, ap, ◌∙◌, subst}
 use Rattle.std.specs.Prelude.{Option, Some, None, is_some, true}
 use mathlib.Core.Bool.{true≢false}
@@ -28,14 +28,14 @@ use Rattle.aero_feed.specs.contracts.feed.Feed as feed
 use Rattle.std_heap.specs.contracts.Global as global
 use Rattle.std_heap.specs.contracts.GlobalAllocator.TheImpl as heap
 use Rattle.std_heap.proofs.Global.TheLaws as global_laws
-use Rattle.aero_c.specs.contracts.slot.Slot as slot
+use Rattle.aero_c.specs.contracts.pointer.Pointer as pointer
 use Rattle.aero_c.specs.Held.{held_owns}
 use Rattle.aero_c.proofs.Values.{both, loose_good, loose_in}
-use Rattle.aero_c.proofs.Slots.{alone, slot_out}
-use Rattle.aero_c.specs.contracts.slot.Slot.into_loose.{ended, clauses}
-use Rattle.aero_c.specs.contracts.slot.Slot.into_loose.Key.{name as #self}
-use Rattle.aero_c.proofs.slot.Slot.into_loose.Statement.{statement}
-use Rattle.aero_c.proofs.slot.Slot.into_loose.Code as code
+use Rattle.aero_c.proofs.Pointers.{alone, pointer_out}
+use Rattle.aero_c.specs.contracts.pointer.Pointer.into_loose.{ended, clauses}
+use Rattle.aero_c.specs.contracts.pointer.Pointer.into_loose.Key.{name as #self}
+use Rattle.aero_c.proofs.pointer.Pointer.into_loose.Statement.{statement}
+use Rattle.aero_c.proofs.pointer.Pointer.into_loose.Code as code
 
 abbrev R : RattleType
 R = feed.the_row
@@ -44,7 +44,7 @@ abbrev Z : RattleType
 Z = global.the_row
 
 abbrev S : RattleType
-S = slot.the_row
+S = pointer.the_row
 
 abbrev al : Al
 al = record { row = Z; laws = global_laws.the_row_laws; g = heap.ghosts; d = impl [] tnil dnil; drops = impl [] tnil dnil }
@@ -61,7 +61,7 @@ into_loose_spec 𝓤 𝓛 𝓜 𝓡 wired =
     let v = z.0.3.0 in let a = z.0.3.1.0 in let Post : Val → SProp 𝓤 = (walk_of 𝓛 ended hs c).post z in let Run : List Val → SProp 𝓤 = λ ws. WpFn 𝓤 H 𝓣.C 𝓣.Λ fn ws Post in
     qed 𝓛 ((raw (alive 𝓛 ended.signature z.0.0 z.0.1) ⊛ ‵ (owns (types_at ended.signature.params z.0.0) z.0.3 z.0.4)) ∷ raw (fact 𝓤 (is_some v.held ≡ true)) ∷ []) ∵
     move ! (1 ∷ []) $ heard ! (is_some v.held ≡ true) (λ there. let held = some_of v.held there in let x = held.0 in split ! $ move ! (1 ∷ []) $ fsplit ! $
-    slot_out ! v z.0.4.0 (λ ws. move ! (1 ∷ []) $ fsplit ! $ handle_tells al ! a z.0.4.1.0 (λ h ea fits.
+    pointer_out ! v z.0.4.0 (λ ws. move ! (1 ∷ []) $ fsplit ! $ handle_tells al ! a z.0.4.1.0 (λ h ea fits.
     move ! (2 ∷ []) $ rewrite ! 0 (λ (o : Option R.Denot). ‵ (held_owns v.at o)) held.1 refl $ use1 𝓛 (‵ (box_owns (heap.ghosts.dealloc_token a) R v.at x)) (id⊢ 𝓤 _) $
     in_a_block ! v.at (λ p. box_owns (heap.ghosts.dealloc_token a) R p x) (fst∗ 𝓤 (never 𝓤) (sem 𝓛 (heap.ghosts.dealloc_token a (bare (lone R.mir)) null_ptr))) (λ b o e.
     let passed : List Val = alone (vptr b o) ∷ h ∷ [] in let made = loose_good R Z global_laws.the_row_laws heap.ghosts b o h fits in

@@ -1,4 +1,4 @@
--- `none` makes a slot that owns nothing.
+-- `none` makes a pointer that owns nothing.
 use Rattle.std.proofs.Common.{[], ◌∷◌, refl, lit<}
 use Rattle.std.specs.Prelude.{None}
 use base.Fml.{ftrue}
@@ -12,10 +12,10 @@ use denote.Steps.{nothing}
 use denote.Triple.Walked.{walk_of, says, ends_at}
 use Rattle.std.proofs.raw_atomic.Walks.{proved}
 use Rattle.aero_c.specs.Held.{held_owns}
-use Rattle.aero_c.proofs.Slots.{alone, slot_in}
-use Rattle.aero_c.specs.contracts.slot.Slot.none as f
-use Rattle.aero_c.proofs.slot.Slot.none.Statement.{statement}
-use Rattle.aero_c.proofs.slot.Slot.none.Code as code
+use Rattle.aero_c.proofs.Pointers.{alone, pointer_in}
+use Rattle.aero_c.specs.contracts.pointer.Pointer.none as f
+use Rattle.aero_c.proofs.pointer.Pointer.none.Statement.{statement}
+use Rattle.aero_c.proofs.pointer.Pointer.none.Code as code
 
 pub none_spec : {M : Type 1} → statement M
 none_spec 𝓤 𝓛 𝓜 𝓡 wired =
@@ -28,5 +28,5 @@ none_spec 𝓤 𝓛 𝓜 𝓡 wired =
     sets ! (agg ! (and_then ! (lit ! tt) (no_more !))) refl (tt, (record { fits = lit< tt }, tt)) $
     returns ! (look_at ! 0 refl) $ free_all ! refl $
     suffices ! _ (ends_at 𝓛 f.ended tt c y (alone (ptr_val null_ptr)) (record { at = null_ptr; held = None }) tt tt) $ says ! refl $
-    nothing ! $ use1 𝓛 (‵ (held_owns null_ptr None)) (id⊢ 𝓤 _) $ slot_in ! null_ptr None $
+    nothing ! $ use1 𝓛 (‵ (held_owns null_ptr None)) (id⊢ 𝓤 _) $ pointer_in ! null_ptr None $
     nothing ! $ nothing ! $ group ! 3 $ done !))

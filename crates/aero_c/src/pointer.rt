@@ -11,31 +11,31 @@ use std::marker::Model;
 /// A pointer to a trace that is fed and its memory, or nothing.
 #[repr(C)]
 #[derive(Drop)]
-pub struct Slot {
+pub struct Pointer {
     at: *mut u8,
     pub ghost held: { Option Feeding },
 }
 
-impl Model for Slot {
+impl Model for Pointer {
     ghost also_owns = { λ s. held_owns s.at s.held };
 }
 
-impl Slot {
+impl Pointer {
     // Nothing.
-    pub(crate) fn none() -> Slot
+    pub(crate) fn none() -> Pointer
         ensures { result.held ≡ None }
     {
-        Slot {
+        Pointer {
             at: std::ptr::null_mut(),
         }
     }
 
     // The trace.
-    pub(crate) fn of(loose: Loose<Feed, Global>) -> Slot
+    pub(crate) fn of(loose: Loose<Feed, Global>) -> Pointer
         ensures { result.held ≡ Some loose.value }
     {
         let Loose { at, alloc: _ } = loose;
-        Slot { at: at as *mut u8 }
+        Pointer { at: at as *mut u8 }
     }
 
     // The trace that is here.
@@ -43,7 +43,7 @@ impl Slot {
         requires { is_some self.held ≡ true }
         ensures { self.held ≡ Some result.value }
     {
-        let Slot { at } = self;
+        let Pointer { at } = self;
         Loose {
             at: at as *mut Feed,
             alloc,

@@ -26,11 +26,11 @@ use Rattle.std_heap.proofs.Global.TheLaws as global_laws
 use Rattle.aero_c.specs.contracts.loose.Loose as loose
 use Rattle.aero_c.specs.Held.{held_owns}
 use Rattle.aero_c.proofs.Values.{both, loose_good, loose_out}
-use Rattle.aero_c.proofs.Slots.{alone, slot_in}
-use Rattle.aero_c.specs.contracts.slot.Slot.of.{ended, clauses}
-use Rattle.aero_c.specs.contracts.slot.Slot.of.Key.{name as #self}
-use Rattle.aero_c.proofs.slot.Slot.of.Statement.{statement}
-use Rattle.aero_c.proofs.slot.Slot.of.Code as code
+use Rattle.aero_c.proofs.Pointers.{alone, pointer_in}
+use Rattle.aero_c.specs.contracts.pointer.Pointer.of.{ended, clauses}
+use Rattle.aero_c.specs.contracts.pointer.Pointer.of.Key.{name as #self}
+use Rattle.aero_c.proofs.pointer.Pointer.of.Statement.{statement}
+use Rattle.aero_c.proofs.pointer.Pointer.of.Code as code
 
 abbrev R : RattleType
 R = feed.the_row
@@ -56,6 +56,6 @@ of_spec 𝓤 𝓛 𝓜 𝓡 wired =
     sets ! (of_opd ! (get ! refl)) refl (tt, tt) $
     sets ! (agg ! (and_then ! (get ! refl) (no_more !))) refl (tt, (tt, tt)) $
     returns ! (look_at ! 0 refl) $ free_all ! refl $
-    use1 𝓛 (‵ (held_owns (block_ptr b o) (Some v.value))) (id⊢ 𝓤 _) $ slot_in ! (block_ptr b o) (Some v.value) $
+    use1 𝓛 (‵ (held_owns (block_ptr b o) (Some v.value))) (id⊢ 𝓤 _) $ pointer_in ! (block_ptr b o) (Some v.value) $
     use0 𝓛 (raw (fact 𝓤 (Some v.value ≡ Some v.value))) (fact_i 𝓤 (Some v.value ≡ Some v.value) (emp 𝓤) refl) $ nothing ! $ nothing ! $ fjoin ! $
     keep ! (5 ∷ 0 ∷ 2 ∷ 1 ∷ []) $ by ! (leaves 𝓛 ended hs c z (alone (vptr b o)) (record { at = block_ptr b o; held = Some v.value }) (tt, tt) (tt, tt)))))
