@@ -1,5 +1,5 @@
 -- The hash of a name, word by word.
-use Rattle.std.proofs.Common.{◌≡◌, ℕ, ◌<◌, ◌≤◌, List, [], ◌∷◌, length, take, drop, Some, None, refl, sym, ◌∙◌, ap, arith}
+use Rattle.std.proofs.Common.{◌≡◌, ℕ, ◌<◌, ◌≤◌, ◌-◌, List, [], ◌∷◌, length, take, drop, Some, None, refl, sym, ◌∙◌, ap, arith}
 use Rattle.std.specs.Prelude.{option_map, unwrap_or}
 use Rattle.std.specs.Int.{w64, w128, from_le_bytes}
 use Rattle.sha2.specs.Sha256.{sha256}
@@ -33,7 +33,7 @@ last_word hash (a ∷ b ∷ c ∷ d ∷ e ∷ f ∷ []) short = refl
 last_word hash (a ∷ b ∷ c ∷ d ∷ e ∷ f ∷ g ∷ []) short = refl
 last_word hash (a ∷ b ∷ c ∷ d ∷ e ∷ f ∷ g ∷ h ∷ rest) short = absurd (omega (arith, short))
 
-pub long_hash : (hash : ℕ) (name : List ℕ) → hash ≡ mixed_again (hash_from (length name) name) → hash ≡ hash_of_long name
+pub long_hash : (hash : ℕ) (name : List ℕ) → hash ≡ mixed_again (hash_from (length name) (drop (length name - 24) name)) → hash ≡ hash_of_long name
 unfolding hash_of_long
 long_hash hash name is = is
 

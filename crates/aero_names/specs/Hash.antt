@@ -1,5 +1,5 @@
--- A number made of all bytes of a name. Nothing is meant by it: a name is looked for among those with the same number.
-use Rattle.std.specs.Prelude.{ℕ, ◌+◌, ◌*◌, ◌/◌, ◌%◌, ◌^◌, List, [], ◌∷◌, length, fold, option_map, unwrap_or, take}
+-- Numbers made of the bytes of a name. Nothing is meant by them: a name is looked for among those with the same number.
+use Rattle.std.specs.Prelude.{ℕ, ◌+◌, ◌*◌, ◌/◌, ◌%◌, ◌^◌, ◌-◌, List, [], ◌∷◌, length, fold, option_map, unwrap_or, take, drop}
 use Rattle.std.specs.Int.{w64, w128, from_le_bytes, rotate_left}
 use Rattle.std.specs.Int.Bits.{bit_xor}
 use Rattle.sha2.specs.Sha256.{sha256}
@@ -28,8 +28,9 @@ mixed_again last = mixed last (last / 2 ^ 32)
 unfoldable pub hash_of_key : Key → ℕ
 hash_of_key key = mixed_again (mixed (mixed key.length key.first) key.last)
 
+-- of the last bytes alone, which most names differ in
 unfoldable pub hash_of_long : List ℕ → ℕ
-hash_of_long name = mixed_again (hash_from (length name) name)
+hash_of_long name = mixed_again (hash_from (length name) (drop (length name - 24) name))
 
 -- that of its key, where it has one
 unfoldable pub hash_of : List ℕ → ℕ

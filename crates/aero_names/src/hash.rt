@@ -1,5 +1,5 @@
-//! A number made of all bytes of a name. Nothing is known of it but that equal names have equal ones.
-ghost use Rattle.std.specs.Prelude.{◌≡◌};
+//! Numbers made of the bytes of a name. Nothing is known of them but that equal names have equal ones.
+ghost use Rattle.std.specs.Prelude.{◌≡◌, ◌-◌, drop, length};
 ghost use Rattle.aero_names.specs.Hash.{mixed as mixed_in, short_word as word_in, mixed_again as mixed_again_in, hash_from as hash_from_start, hash_of_key as key_hash, hash_of_long as long_hash, hash_of as hash_in, second_hash_of_key as second_key_hash, second_hash_of_long as second_long_hash, second_hash_of as second_hash_in, hash_by as hash_in_by};
 
 use crate::key::{Key, key_of};
@@ -9,6 +9,9 @@ const FACTOR: u64 = 17_378_887_893_183_147_461;
 
 // What the second hash starts from, beside a name's length: another such number.
 const SECOND_START: u64 = 11_400_714_819_323_198_485;
+
+// Of so many of its last bytes the first hash of a long name is made.
+const TAIL: usize = 24;
 
 // By which of its hashes a name is found.
 #[derive(Clone, Copy, PartialEq, Eq)]
@@ -55,12 +58,22 @@ pub(crate) fn hash_of_key(key: Key) -> u64
     mixed_again(mixed(mixed(key.length, key.first), key.last))
 }
 
-// The hash of a name with no key: it reads eight bytes at a time, then the rest.
+// The hash of a name with no key, of its last bytes alone: most names differ there. Where many don't they are found by
+// their second hash, which is of all bytes.
 #[inline(always)]
 pub(crate) fn hash_of_long(name: &[u8]) -> u64
     ensures { result ≡ long_hash name.now }
 {
-    hash_of_words(name.len() as u64, name)
+    hash_of_words(name.len() as u64, tail_of(name))
+}
+
+// The last 24 bytes of the name, or all.
+#[inline(always)]
+fn tail_of(name: &[u8]) -> &[u8]
+    ensures { result.now ≡ drop (length name.now - 24) name.now }
+{
+    let start = name.len().saturating_sub(TAIL);
+    &name[start..]
 }
 
 // The words of eight bytes and the rest, mixed from this start on.

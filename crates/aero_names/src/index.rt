@@ -15,7 +15,7 @@ use crate::list::NameList;
 use std::alloc::{AllocError, Global};
 
 // How many heads there are at first: enough for most blocks.
-const FEWEST_HEADS: usize = 1_024;
+const FEWEST_HEADS: usize = 2_048;
 
 // Whether the list's name with this number is this one.
 #[inline(always)]

@@ -21,8 +21,9 @@ const LONG_RUN: u64 = 2_000;
 
 /// What a command line asks for: 1 to 16 workers, reads of 1 to 1,048,576 bytes, the sources, of which
 /// it names 65,536 files at most, and at most 64 labels of blocks that are no transactions or, in their
-/// place, of the only blocks that are, both in the order of the words, whether the serial order is asked for, whether violations are to be explained,
-/// whether long sources are to be judged, the form of the report, and when the line on progress is shown.
+/// place, of the only blocks that are, both in the order of the words, whether the serial order is asked for, whether
+/// violations are to be explained, whether long sources are to be judged, the form of the report, and when the line on
+/// progress is shown.
 /// The serial orders of long sources aren't to be had: each source is kept for its order.
 #[derive(Drop)]
 pub struct Config {

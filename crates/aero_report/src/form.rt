@@ -24,8 +24,8 @@ pub enum Form {
 /// What is said of a source: its name as its bytes stand, and what was found of it, with a newline
 /// behind each line.
 ///
-/// For a terminal no byte of a name is a control character. As JSON it is one line. A name is a string where its bytes are UTF-8, and else an object with them
-/// in Base64. Lines of a trace count from 1. Fails only where memory runs out.
+/// For a terminal no byte of a name is a control character. As JSON it is one line. A name is a string where its bytes
+/// are UTF-8, and else an object with them in Base64. Lines of a trace count from 1. Fails only where memory runs out.
 pub fn source_text(
     alloc: Global,
     form: Form,

@@ -31,8 +31,8 @@
 //! - The line of a source, with its name, its finding and the steps of its order or of its cycle, is byte by byte as
 //!   defined: `trace_text`.
 //! - So is the summary of what was counted: `summary_text`.
-//! - In each form both are as defined, for a terminal too: `source_text`, `totals_text`. A line of JSON is a document by the grammar of the
-//!   `json` crate, and means the value that is defined: `readable`.
+//! - In each form both are as defined, for a terminal too: `source_text`, `totals_text`. A line of JSON is a document by
+//!   the grammar of the `json` crate, and means the value that is defined: `readable`.
 //! - All bytes go out, or exactly the prefix that is told, and then a write failed: `put`, `all_written`, `no_fault`;
 //!   `cut_written`, `cut_short`, `cut_at_fault`.
 #![tactic(auto)]

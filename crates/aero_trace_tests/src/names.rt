@@ -90,12 +90,12 @@ const LONG: [Row; 3] = [
 const AT_THE_SAME_PLACE: [Row; 8] = [
     (b"x33152", Ok(0)),
     (b"x127045", Ok(1)),
-    (b"Lcom/foo/Bar;.field[62438]", Ok(2)),
-    (b"Lcom/foo/Bar;.field[168327]", Ok(3)),
+    (b"Lcom/foo/Bar;.field[2957]", Ok(2)),
+    (b"Lcom/foo/Bar;.field[34541]", Ok(3)),
     (b"x33152", Ok(0)),
     (b"x127045", Ok(1)),
-    (b"Lcom/foo/Bar;.field[62438]", Ok(2)),
-    (b"Lcom/foo/Bar;.field[168327]", Ok(3)),
+    (b"Lcom/foo/Bar;.field[2957]", Ok(2)),
+    (b"Lcom/foo/Bar;.field[34541]", Ok(3)),
 ];
 
 const TABLES: [Table; 4] = [
@@ -161,11 +161,12 @@ fn name_of_two_words(number: u32) -> [u8; 16] {
 // The same of 32 bytes, which have no key.
 fn name_of_four_words(number: u32) -> [u8; 32] {
     let first = 7_000_000_000 + number as u64;
-    let last = completing(mixed(mixed(mixed(32, first), first), first));
+    let middle = 7_000_000_000;
+    let last = completing(mixed(mixed(32, middle), middle));
     let mut name = [0; 32];
     name[..8].copy_from_slice(&first.to_le_bytes());
-    name[8..16].copy_from_slice(&first.to_le_bytes());
-    name[16..24].copy_from_slice(&first.to_le_bytes());
+    name[8..16].copy_from_slice(&middle.to_le_bytes());
+    name[16..24].copy_from_slice(&middle.to_le_bytes());
     name[24..].copy_from_slice(&last.to_le_bytes());
     name
 }
