@@ -13,6 +13,13 @@ use crate::print::print_of;
 use std::alloc::{AllocError, Global};
 use std::collections::BTreeMap;
 
+// How many names with its mark a new name may pass where they are found by their first hash. Long names that nobody
+// chose may share it.
+const MOST_PASSED: u32 = 16;
+
+// The same by the second hash: behind it only the slowest way is left.
+const MOST_PASSED_AGAIN: u32 = 32;
+
 #[derive(Drop)]
 pub(crate) struct Latest {
     pub(crate) heads: Vec<u32>,
@@ -50,6 +57,14 @@ impl Latest {
             is_spread: false,
             hashing,
         })
+    }
+
+    // How many names with its mark a new name may pass, before the names are found in another way.
+    pub(crate) fn most_passed(&self) -> u32 {
+        match self.hashing {
+            Hashing::First => MOST_PASSED,
+            Hashing::Second => MOST_PASSED_AGAIN,
+        }
     }
 
     // The mark of the name, whose hash this is.

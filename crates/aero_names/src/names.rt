@@ -17,9 +17,6 @@ pub enum NamesFault {
     Memory,
 }
 
-// How many names with its mark a new name may pass.
-const MOST_PASSED: u32 = 32;
-
 /// Different names, numbered from 0 in order of first appearance, up to a limit.
 ///
 /// A look-up takes expected constant time in the number of names, and time linear in the name. Where
@@ -126,7 +123,7 @@ impl Names {
         }
         match self.add(name, hash) {
             Ok(()) => {
-                if passed > MOST_PASSED {
+                if passed > self.latest.most_passed() {
                     self.spread();
                 }
                 Ok(number)
