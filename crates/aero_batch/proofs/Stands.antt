@@ -1,5 +1,5 @@
 -- What holds between two steps is kept by each, and says what was written where the run stops.
-use Rattle.std.proofs.Common.{◌≡◌, ℕ, zero, suc, ◌+◌, ◌<◌, ◌≤◌, Bool, true, false, List, [], ◌∷◌, ◌++◌, map, length, take, slice_get, Option, Some, None}
+use Rattle.std.proofs.Common.{◌≡◌, ℕ, zero, suc, ◌+◌, ◌<◌, ◌≤◌, ◌^◌, Bool, true, false, List, [], ◌∷◌, ◌++◌, map, length, take, slice_get, Option, Some, None}
 use Rattle.std.proofs.Common.{Result, Ok, Err, refl, sym, ◌∙◌, ap, ap₂, subst, inl, inr, arith}
 use Rattle.std.specs.Prelude.{IfOk, IfErr, OnOk, replicate, ◌⊎◌, vec_len}
 use Rattle.std.specs.List.{concat}
@@ -28,7 +28,7 @@ use Rattle.aero_batch.specs.Inquiries.{Inquired, AreApart, all_open, open_count}
 use Rattle.aero_intake.specs.Held.{nothing_read}
 use Rattle.aero_intake.specs.Intake.{Taking, IsTaken, HaveCome}
 use Rattle.aero_intake.specs.Source.{WasRead}
-use Rattle.aero_batch.specs.Steps.{Steps, ReadsOn}
+use Rattle.aero_batch.specs.Steps.{IsStart, Steps, ReadsOn}
 use Rattle.aero_batch.specs.Telling.{WasCut, TellsText, TellsNext, IsOneMore, cause_of, total}
 use Rattle.aero_intake.specs.Stories.{Story, IsTracked}
 use Rattle.aero_batch.proofs.Apart.{nothing_apart}
@@ -38,14 +38,14 @@ use Rattle.aero_batch.proofs.Retold.{settling_holds, checking_holds}
 use Rattle.aero_batch.proofs.Sums.{settling_counted, checking_counted, taking_counted, noting_counted, cutting_counted, passing_counted, ending_counted}
 use Rattle.aero_verdict.specs.Finding.{Terms}
 
-the_some : {A : Type 0} (x y : A) → Some x ≡ Some y → x ≡ y
+pub the_some : {A : Type 0} (x y : A) → Some x ≡ Some y → x ≡ y
 the_some x y p = cc p
 
 not_both : (b : Bool) → b ≡ true → b ≡ false → ⊥
 not_both b is_true is_false = cc (is_true, is_false)
 
 -- the element at a place of a list with one more
-get_push : {A : Type 0} (xs : List A) (x : A) (s : ℕ) (y : A) → slice_get (xs ++ x ∷ []) s ≡ Some y → (slice_get xs s ≡ Some y) ⊎ ((s ≡ length xs) × (y ≡ x))
+pub get_push : {A : Type 0} (xs : List A) (x : A) (s : ℕ) (y : A) → slice_get (xs ++ x ∷ []) s ≡ Some y → (slice_get xs s ≡ Some y) ⊎ ((s ≡ length xs) × (y ≡ x))
 get_push [] x zero y at = inr (refl, sym (the_some x y at))
 get_push [] x (suc s) y at = cc
 get_push (c ∷ xs) x zero y at = inl at
@@ -53,14 +53,14 @@ get_push (c ∷ xs) x (suc s) y at = elim (get_push xs x s y at) [ inl is ↦ in
 
 -- what is told of one more source
 
-lines_more : (form : Form) (founds : List Found) (f : Found) →
+pub lines_more : (form : Form) (founds : List Found) (f : Found) →
     lines_of_all form (founds ++ f ∷ []) ≡ lines_of_all form founds ++ source_line_in form f.name f.finding
 lines_more form founds f =
     ap (source_lines_in form) (map-append told founds (f ∷ []))
     ∙ (flat_map-append (λ s. source_line_in form s.0 s.1) (map told founds) (told f ∷ [])
     ∙ ap (λ bs. lines_of_all form founds ++ bs) (append-nil (source_line_in form f.name f.finding)))
 
-counts_more : (founds : List Found) (f : Found) → counts_of_all (founds ++ f ∷ []) ≡ counted (counts_of_all founds) f.finding
+pub counts_more : (founds : List Found) (f : Found) → counts_of_all (founds ++ f ∷ []) ≡ counted (counts_of_all founds) f.finding
 counts_more founds f =
     ap counts_of (map-append (λ x. x.finding) founds (f ∷ [])) ∙ fold-append counted no_counts (map (λ x. x.finding) founds) (f.finding ∷ [])
 
@@ -108,13 +108,13 @@ found_first terms old now p tale founds holds tells few place f at =
 
 -- a text after those that were written
 
-took_more : (before mid after : Seen) (text more : List ℕ) → Took before mid text → Took mid after more → Took before after (text ++ more)
+pub took_more : (before mid after : Seen) (text more : List ℕ) → Took before mid text → Took mid after more → Took before after (text ++ more)
 took_more before mid after text more first then = record {
   went = Appends-trans before.bytes mid.bytes after.bytes text more first.went then.went;
   faults = then.faults ∙ first.faults;
 }
 
-took_nothing : (before mid after : Seen) (text : List ℕ) → Took before mid text → Took mid after [] → Took before after text
+pub took_nothing : (before mid after : Seen) (text : List ℕ) → Took before mid text → Took mid after [] → Took before after text
 took_nothing before mid after text first then = subst (λ t. Took before after t) (append-nil text) (took_more before mid after text [] first then)
 
 -- a source keeps its name
@@ -245,7 +245,7 @@ line_stops terms form old now before mid after p a bytes ending finding name bel
     (cut_off terms form old now before mid after st.founds (source_line_in form name finding)
     (inl (f, subst (λ n. IsFoundAt terms old now n f) same_place is, refl)) t.took cut)
 
-findings_told : (founds : List Found) → map (λ s. s.1) (map told founds) ≡ map (λ f. f.finding) founds
+pub findings_told : (founds : List Found) → map (λ s. s.1) (map told founds) ≡ map (λ f. f.finding) founds
 findings_told [] = refl
 findings_told (f ∷ founds) = ap (λ fs. f.finding ∷ fs) (findings_told founds)
 
@@ -293,87 +293,100 @@ still_told terms form old before mid p q a tale new founds below more same t = r
   faults_room = t.faults_room;
 }
 
-slice_get_some : {A : Type 0} (xs : List A) (i : ℕ) → i < length xs → (x : A) × (slice_get xs i ≡ Some x)
+pub slice_get_some : {A : Type 0} (xs : List A) (i : ℕ) → i < length xs → (x : A) × (slice_get xs i ≡ Some x)
 slice_get_some [] i less = absurd (omega (arith, less))
 slice_get_some (x ∷ xs) zero less = (x, refl)
 slice_get_some (x ∷ xs) (suc i) less = slice_get_some xs i (omega (arith, less))
+
+-- what holds of the sources after a step: what became of those that had ended stays
+pub record Goes (terms : Terms) (old after : List Sighted) (p q : Underway) (tale : ℕ → Story) : Type 0 where
+  pub new : ℕ → Story
+  pub holds : Holds terms old after q new
+  pub same : (s : ℕ) → s < p.read → new s ≡ tale s
+  pub counted : Counted terms (length old) q
+  pub more : p.checked ≤ q.checked
+
+-- One step keeps what holds of the sources.
+pub step_goes : (terms : Terms) (old now after : List Sighted) (p q : Underway) (tale : ℕ → Story) → Steps terms now after p q →
+    map (λ x. x.name) now ≡ map (λ x. x.name) old → Holds terms old now p tale → Counted terms (length old) p → Goes terms old after p q tale
+step_goes terms old now after p q tale (inl is) names holds counted = record {
+  new = tale;
+  holds = subst (λ l. Holds terms old l q tale) (sym is.0) (settling_holds terms old now is.1 p q tale is.2 holds);
+  same = λ s less. refl;
+  counted = settling_counted terms (length old) is.1 p q is.2 counted;
+  more = omega (arith, is.2.checked);
+}
+step_goes terms old now after p q tale (inr (inl is)) names holds counted = record {
+  new = tale;
+  holds = subst (λ l. Holds terms old l q tale) (sym is.0) (checking_holds terms old now p q tale is.3 holds);
+  same = λ s less. refl;
+  counted = checking_counted terms (length old) p q is.1 is.2 is.3 counted;
+  more = omega (arith, is.3.checked);
+}
+step_goes terms old now after p q tale (inr (inr is)) names holds counted = go is.reads
+  where
+    same_length : length now ≡ length old
+    same_length = sym (length-map now (λ x. x.name)) ∙ (ap length names ∙ length-map old (λ x. x.name))
+
+    go : ReadsOn terms is.before_read is.after_read p q → Goes terms old after p q tale
+    go (inl (reading, inl takes)) = record {
+      new = tale;
+      holds = taking_holds terms old now after p q tale is.before_read is.after_read is.from reading takes holds;
+      same = λ s less. refl;
+      counted = taking_counted terms (length old) p q is.before_read is.after_read takes counted;
+      more = omega (arith, ap (λ (m : Underway). m.checked) takes.new_is);
+    }
+    go (inl (reading, inr notes)) = record {
+      new = tale;
+      holds = noting_holds terms old now after p q tale is.before_read is.after_read is.from reading notes holds;
+      same = λ s less. refl;
+      counted = noting_counted terms (length old) p q is.before_read is.after_read notes counted;
+      more = omega (arith, ap (λ (m : Underway). m.checked) notes.new_is);
+    }
+    go (inr (inl (unused, inr passes))) =
+        let new = passing_over_holds terms old now after p q tale is.before_read is.after_read is.from unused passes holds in
+        record {
+          new = new.0;
+          holds = new.1;
+          same = new.2;
+          counted = passing_counted terms (length old) p q passes counted;
+          more = omega (arith, ap (λ (m : Underway). m.checked) passes.new_is);
+        }
+    go (inr (inl (unused, inl cuts))) =
+        let new = cutting_holds terms old now after p q tale is.before_read is.after_read is.from unused cuts holds in
+        record {
+          new = new.0;
+          holds = new.1;
+          same = new.2;
+          counted = cutting_counted terms (length old) p q is.may cuts counted;
+          more = omega (arith, cuts.checked);
+        }
+    go (inr (inr (unused, passes))) =
+        let within : p.read < length old = omega (arith, is.unread, same_length) in
+        let first = slice_get_some old p.read within in
+        let new = passing_holds terms old now after p q tale is.before_read is.after_read first.0 first.1 is.from unused passes holds in
+        record {
+          new = new.0;
+          holds = new.1;
+          same = new.2;
+          counted = ending_counted terms (length old) p q passes.ending within is.may passes.ends counted;
+          more = omega (arith, passes.ends.checked);
+        }
 
 -- One step keeps what holds.
 pub step_stands : (terms : Terms) (form : Form) (old now after : List Sighted) (before mid : Seen) (p q : Underway) (a : Told) → Steps terms now after p q →
     map (λ x. x.name) after ≡ map (λ x. x.name) now →
     Stands terms form old now before mid p a → Stands terms form old after before mid q a
-step_stands terms form old now after before mid p q a (inl is) names st = record {
-  tale = st.tale;
-  founds = st.founds;
-  holds = subst (λ l. Holds terms old l q st.tale) (sym is.0) (settling_holds terms old now is.1 p q st.tale is.2 st.holds);
-  are_told = still_told terms form old before mid p q a st.tale st.tale st.founds st.counted.checked (omega (arith, is.2.checked)) (λ s less. refl) st.are_told;
-  counted = settling_counted terms (length old) is.1 p q is.2 st.counted;
-  names = names ∙ st.names;
-}
-step_stands terms form old now after before mid p q a (inr (inl is)) names st = record {
-  tale = st.tale;
-  founds = st.founds;
-  holds = subst (λ l. Holds terms old l q st.tale) (sym is.0) (checking_holds terms old now p q st.tale is.3 st.holds);
-  are_told = still_told terms form old before mid p q a st.tale st.tale st.founds st.counted.checked (omega (arith, is.3.checked)) (λ s less. refl) st.are_told;
-  counted = checking_counted terms (length old) p q is.1 is.2 is.3 st.counted;
-  names = names ∙ st.names;
-}
-step_stands terms form old now after before mid p q a (inr (inr is)) names st = go is.reads
-  where
-    same_length : length now ≡ length old
-    same_length = sym (length-map now (λ x. x.name)) ∙ (ap length st.names ∙ length-map old (λ x. x.name))
-
-    same_tale : Holds terms old after q st.tale → Counted terms (length old) q → p.checked ≤ q.checked → Stands terms form old after before mid q a
-    same_tale holds counted more = record {
-      tale = st.tale;
+step_stands terms form old now after before mid p q a steps names st =
+    let goes = step_goes terms old now after p q st.tale steps st.names st.holds st.counted in
+    record {
+      tale = goes.new;
       founds = st.founds;
-      holds = holds;
-      are_told = still_told terms form old before mid p q a st.tale st.tale st.founds st.counted.checked more (λ s less. refl) st.are_told;
-      counted = counted;
+      holds = goes.holds;
+      are_told = still_told terms form old before mid p q a st.tale goes.new st.founds st.counted.checked goes.more goes.same st.are_told;
+      counted = goes.counted;
       names = names ∙ st.names;
     }
-
-    go : ReadsOn terms is.before_read is.after_read p q → Stands terms form old after before mid q a
-    go (inl (reading, inl takes)) =
-        same_tale (taking_holds terms old now after p q st.tale is.before_read is.after_read is.from reading takes st.holds)
-        (taking_counted terms (length old) p q is.before_read is.after_read takes st.counted) (omega (arith, ap (λ (m : Underway). m.checked) takes.new_is))
-    go (inl (reading, inr notes)) =
-        same_tale (noting_holds terms old now after p q st.tale is.before_read is.after_read is.from reading notes st.holds)
-        (noting_counted terms (length old) p q is.before_read is.after_read notes st.counted) (omega (arith, ap (λ (m : Underway). m.checked) notes.new_is))
-    go (inr (inl (unused, inr passes))) =
-        let new = passing_over_holds terms old now after p q st.tale is.before_read is.after_read is.from unused passes st.holds in
-        record {
-          tale = new.0;
-          founds = st.founds;
-          holds = new.1;
-          are_told = still_told terms form old before mid p q a st.tale new.0 st.founds st.counted.checked
-              (omega (arith, ap (λ (m : Underway). m.checked) passes.new_is)) new.2 st.are_told;
-          counted = passing_counted terms (length old) p q passes st.counted;
-          names = names ∙ st.names;
-        }
-    go (inr (inl (unused, inl cuts))) =
-        let new = cutting_holds terms old now after p q st.tale is.before_read is.after_read is.from unused cuts st.holds in
-        record {
-          tale = new.0;
-          founds = st.founds;
-          holds = new.1;
-          are_told = still_told terms form old before mid p q a st.tale new.0 st.founds st.counted.checked (omega (arith, cuts.checked)) new.2 st.are_told;
-          counted = cutting_counted terms (length old) p q is.may cuts st.counted;
-          names = names ∙ st.names;
-        }
-    go (inr (inr (unused, passes))) =
-        let within : p.read < length old = omega (arith, is.unread, same_length) in
-        let first = slice_get_some old p.read within in
-        let new = passing_holds terms old now after p q st.tale is.before_read is.after_read first.0 first.1 is.from unused passes st.holds in
-        record {
-          tale = new.0;
-          founds = st.founds;
-          holds = new.1;
-          are_told = still_told terms form old before mid p q a st.tale new.0 st.founds st.counted.checked
-              (omega (arith, passes.ends.checked)) new.2 st.are_told;
-          counted = ending_counted terms (length old) p q passes.ending within is.may passes.ends st.counted;
-          names = names ∙ st.names;
-        }
 
 -- Telling the next source
 
@@ -452,60 +465,66 @@ get_replicate (suc n) zero x y at = sym (the_some x y at)
 get_replicate (suc n) (suc s) x y at = get_replicate n s x y at
 
 -- before the first step
-pub begun_stands : (terms : Terms) (form : Form) (old : List Sighted) (before : Seen) (p : Underway) (a : Told) → IsBegun terms (length old) p a →
-    Stands terms form old old before before p a
-begun_stands terms form old before p a is =
-    let start = is.start in
+
+pub begun_holds : (terms : Terms) (old : List Sighted) (p : Underway) → IsStart terms (length old) p → Holds terms old old p (λ s. nothing_known)
+begun_holds terms old p start = record {
+  apart = subst AreApart (sym start.inquiry) nothing_apart;
+  tracked = λ s t at.
+      let none = tracks.Arriving (nothing_read terms) in
+      let track : t ≡ none = get_replicate (length old) s none t (subst (λ ts. slice_get ts s ≡ Some t) start.tracks at) in
+      subst (λ (i : Inquired). IsTracked terms (all_open i) s nothing_known t) (sym start.inquiry)
+      (subst (λ x. IsTracked terms [] s nothing_known x) (sym track) (record { on = refl; all = refl }, refl, refl));
+  ended = λ s below. absurd (omega (arith, below, start.none_read));
+  cut = [];
+  taken = subst (λ (i : Taking). IsTaken i [] []) (sym start.intake) nothing_is_taken;
+  enough = inl refl;
+  passed = λ is_passed. absurd (not_both p.intake.passed is_passed (ap (λ (i : Taking). i.passed) start.intake));
+  come = subst (λ e. HasComeFrom terms old old p.read ([] ++ p.intake.held) e) (sym start.reading)
+      (subst (λ (i : Taking). HasComeFrom terms old old p.read i.held None) (sym start.intake)
+      (λ x y at_old at_now. subst (λ (z : Sighted). HaveCome x.reader z.reader []) (the_some x y (sym at_old ∙ at_now)) (nothing_has_come x.reader)));
+  asked = start.no_blocks;
+  not_ended = refl;
+  later = λ s above. (refl, refl);
+}
+
+pub begun_counted : (terms : Terms) (sources : ℕ) (p : Underway) → IsStart terms sources p → sources ≤ 65536 → terms.rules.limits.bytes ≤ 2 ^ 46 → Counted terms sources p
+begun_counted terms sources p start few few_bytes =
     let count : p.intake.count ≡ 0 = ap (λ (i : Taking). i.count) start.intake in
     let held : length p.intake.held ≡ 0 = ap (λ (i : Taking). length i.held) start.intake in
     let asked : p.inquiry.asked ≡ 0 = ap (λ (i : Inquired). i.asked) start.inquiry in
     let questions : open_count p.inquiry ≡ 0 = ap open_count start.inquiry in
     record {
-      tale = λ s. nothing_known;
-      founds = [];
-      holds = record {
-        apart = subst AreApart (sym start.inquiry) nothing_apart;
-        tracked = λ s t at.
-            let none = tracks.Arriving (nothing_read terms) in
-            let track : t ≡ none = get_replicate (length old) s none t (subst (λ ts. slice_get ts s ≡ Some t) start.tracks at) in
-            subst (λ (i : Inquired). IsTracked terms (all_open i) s nothing_known t) (sym start.inquiry)
-            (subst (λ x. IsTracked terms [] s nothing_known x) (sym track) (record { on = refl; all = refl }, refl, refl));
-        ended = λ s below. absurd (omega (arith, below, start.none_read));
-        cut = [];
-        taken = subst (λ (i : Taking). IsTaken i [] []) (sym start.intake) nothing_is_taken;
-        enough = inl refl;
-        passed = λ is_passed. absurd (not_both p.intake.passed is_passed (ap (λ (i : Taking). i.passed) start.intake));
-        come = subst (λ e. HasComeFrom terms old old p.read ([] ++ p.intake.held) e) (sym start.reading)
-            (subst (λ (i : Taking). HasComeFrom terms old old p.read i.held None) (sym start.intake)
-            (λ x y at_old at_now. subst (λ (z : Sighted). HaveCome x.reader z.reader []) (the_some x y (sym at_old ∙ at_now)) (nothing_has_come x.reader)));
-        asked = start.no_blocks;
-        not_ended = refl;
-        later = λ s above. (refl, refl);
-      };
-      are_told = record {
-        tells = λ s f at. cc (at);
-        few = omega arith;
-        took = record { went = Appends-nil before.bytes; faults = refl };
-        endings = is.endings;
-        faults = is.faults;
-        counts = is.counts;
-        total_is = ap total is.counts;
-        room = is.room;
-        faults_room = is.faults_room;
-      };
-      counted = record {
-        tracks = ap length start.tracks ∙ length-replicate (length old) (tracks.Arriving (nothing_read terms));
-        few_sources = is.few;
-        read = omega (arith, start.none_read);
-        checked = omega (arith, start.none_checked);
-        open_few = omega (arith, questions);
-        within = omega (arith, count);
-        few_bytes = is.few_bytes;
-        blocks = omega (arith, start.no_blocks, held);
-        asked = omega (arith, asked);
-      };
-      names = refl;
+      tracks = ap length start.tracks ∙ length-replicate sources (tracks.Arriving (nothing_read terms));
+      few_sources = few;
+      read = omega (arith, start.none_read);
+      checked = omega (arith, start.none_checked);
+      open_few = omega (arith, questions);
+      within = omega (arith, count);
+      few_bytes = few_bytes;
+      blocks = omega (arith, start.no_blocks, held);
+      asked = omega (arith, asked);
     }
+
+pub begun_stands : (terms : Terms) (form : Form) (old : List Sighted) (before : Seen) (p : Underway) (a : Told) → IsBegun terms (length old) p a →
+    Stands terms form old old before before p a
+begun_stands terms form old before p a is = record {
+  tale = λ s. nothing_known;
+  founds = [];
+  holds = begun_holds terms old p is.start;
+  are_told = record {
+    tells = λ s f at. cc (at);
+    few = omega arith;
+    took = record { went = Appends-nil before.bytes; faults = refl };
+    endings = is.endings;
+    faults = is.faults;
+    counts = is.counts;
+    total_is = ap total is.counts;
+    room = is.room;
+    faults_room = is.faults_room;
+  };
+  counted = begun_counted terms (length old) p is.start is.few is.few_bytes;
+  names = refl;
+}
 
 -- memory was refused before the first step
 pub refused_at_once : (terms : Terms) (form : Form) (old : List Sighted) (before : Seen) → WasRun terms form old old before before [] [] no_counts (Some Memory)

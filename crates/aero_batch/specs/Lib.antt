@@ -2,6 +2,7 @@
 -- (the faulty line that is told of a source).
 -- For proofs alone: Holding, Inquiries, Lending, Replies, Runs, Steps and Telling, which only private functions cite.
 -- Inquiries and Replies say which questions are open, and which answers are of use.
+pub mod Alone
 pub mod Faults
 pub mod Founds
 pub mod Holding

@@ -49,6 +49,7 @@
 #![tactic(auto)]
 
 mod checking;
+pub mod find;
 mod gathers;
 pub mod helpers;
 mod inquiry;
@@ -60,7 +61,7 @@ pub mod run;
 mod setting;
 mod standing;
 mod step;
-mod told;
+pub mod told;
 mod underway;
 
 pub use aero_intake::{intake, laws, plan, source};

@@ -71,17 +71,33 @@ pub fn tell_next<W: Write>(
     requires room { HasRoom told.old }
     ensures { TellsNext style.form name.now track.now (seen_by W.contents writer.old) (seen_by W.contents writer.new) told.old told.new result }
 {
-    let Track::Found {
-        bytes,
-        ending,
-        finding,
-    } = track
-    else {
-        return Ok(false);
-    };
+    match track {
+        Track::Found {
+            bytes,
+            ending,
+            finding,
+        } => tell_found(style, name, *bytes, *ending, finding, writer, told),
+        _ => Ok(false),
+    }
+}
+
+/// Writes the text of the next source, of which so many bytes came and ended so, and notes its ending: the answer is
+/// true. A refusal changes nothing that was told.
+pub fn tell_found<W: Write>(
+    style: Style,
+    name: &[u8],
+    bytes: u64,
+    ending: Ending,
+    finding: &Finding,
+    writer: &mut Counting<W>,
+    told: &mut Told,
+) -> Result<bool, Cause>
+    requires room { HasRoom told.old }
+    ensures { TellsNext style.form name.now (Track.Found bytes ending finding.now) (seen_by W.contents writer.old) (seen_by W.contents writer.new) told.old told.new result }
+{
     let text = source_text(style.alloc, style.form, name, finding).map_err(|_| Cause::Memory)?;
     tell(writer, &text)?;
-    told.endings.push_reserved((*bytes, *ending));
+    told.endings.push_reserved((bytes, ending));
     told.faults.push_reserved(fault_of(finding));
     told.counts = with_finding(&told.counts, finding);
     Ok(true)

@@ -77,12 +77,17 @@ impl ByKind for EndingClocks {
 }
 
 impl Engine for EndingClocks {
+    ghost use Rattle.std.specs.Prelude.{false};
     ghost use Rattle.aero_engine.specs.Given.{KeepsNone};
     ghost use Rattle.aero_end.specs.Ending.{StandsFor};
 
     ghost stands_for = { StandsFor };
 
     ghost keeps = { KeepsNone };
+
+    const ASKS_LABELS: bool = false;
+
+    ghost ASKS_LABELS = { false };
 
     fn new(alloc: Global) -> EndingClocks {
         EndingClocks {
@@ -96,6 +101,7 @@ impl Engine for EndingClocks {
         _line: u32,
         event: &Numbered,
         admitted: Admitted,
+        _label: Option<&[u8]>,
     ) -> Result<Option<u32>, Spent> {
         by_kind::judge(self, event, admitted)
     }

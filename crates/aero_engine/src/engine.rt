@@ -13,10 +13,10 @@ use std::alloc::Global;
 /// It may keep something of each event that it is given, also of the one at which it answers a thread. What
 /// that is its ghost member `keeps` says, of the events as they were given.
 pub trait Engine: Drop {
-    ghost use Rattle.std.specs.Prelude.{◌++◌, ◌∷◌, [], List, length, IfOk, OnOk};
+    ghost use Rattle.std.specs.Prelude.{◌++◌, ◌∷◌, [], ℕ, Bool, List, length, Option, option_copied, IfOk, OnOk};
     ghost use Rattle.aero_model.specs.declared.numbered.Numbered.{Numbered};
     ghost use Rattle.aero_model.specs.Exempt.{IsJudgedAs};
-    ghost use Rattle.aero_engine.specs.Given.{Given};
+    ghost use Rattle.aero_engine.specs.Given.{Given, IsLabelGiven};
     ghost use Rattle.aero_engine.specs.Judging.{IsAdmitted, ComesAfter, Tells};
 
     /// Whether it stands for these events.
@@ -24,6 +24,12 @@ pub trait Engine: Drop {
 
     /// Whether it keeps what it is to keep of these events, which it was given.
     ghost keeps: { Self → List Given → Type 0 };
+
+    /// Whether it asks for the labels of begins. Where it doesn't it is given none, and what it keeps it keeps whatever
+    /// they are: so who keeps none of them needn't look for any.
+    const ASKS_LABELS: bool;
+
+    ghost ASKS_LABELS: { Bool };
 
     /// An engine that was given no event.
     fn new(alloc: Global) -> Self
@@ -33,7 +39,7 @@ pub trait Engine: Drop {
     /// Takes the next event as it was read on this line, which is judged as one that `Shape` has admitted as
     /// this after the events so far, of which there are fewer than 2^32 - 1: the least thread whose open
     /// block closes a telling cycle with it, or `None` where there is no telling cycle. After a thread
-    /// no event may be given.
+    /// no event may be given. By the label of a begin, if it has one and the engine asks for it, nothing is judged.
     ///
     /// `Spent` says that memory was refused. Then the engine stands for no events that are known, so what
     /// this call requires can't be shown again: it can only be let go.
@@ -42,9 +48,10 @@ pub trait Engine: Drop {
         line: u32,
         event: &Numbered,
         admitted: Admitted,
+        label: Option<&[u8]>,
     ) -> Result<Option<u32>, Spent>
         requires { IsAdmitted (stands_for self.old) event.now admitted }
         ensures told { (h : List Numbered) (judged : Numbered) → IsJudgedAs event.now judged → ComesAfter (stands_for self.old) h judged admitted →
             IfOk result (Tells (stands_for self.new) (h ++ judged ∷ []) (length h)) }
-        ensures kept { OnOk result ((given : List Given) → keeps self.old given → keeps self.new (given ++ record { line = line; event = event.now; admitted = admitted } ∷ [])) };
+        ensures kept { OnOk result ((given : List Given) (named : Option (List ℕ)) → IsLabelGiven ASKS_LABELS (option_copied label.entry) named → keeps self.old given → keeps self.new (given ++ record { line = line; event = event.now; admitted = admitted; label = named } ∷ [])) };
 }

@@ -25,9 +25,13 @@ nothing_read terms = record { terms = terms; parts = []; live = false; certain =
 abbrev pub event_count : List Reading → ℕ
 event_count parts = min (sum_by (λ r. length r.events) parts) (2 ^ 64 - 1)
 
--- whether blocks that were kept are to be judged: they have more than so many events, and no violation is to be explained
+-- whether both the order and a cycle are asked for, which no judge gives at once
+abbrev pub asks_both : Terms → Bool
+asks_both terms = terms.order && terms.explain
+
+-- whether blocks that were kept are to be judged: they have more than so many events, and not both the order and a cycle are asked for
 abbrev pub turns_live : ℕ → Terms → List Reading → Bool
-turns_live most terms parts = not terms.explain && nat_lt most (event_count parts)
+turns_live most terms parts = not (asks_both terms) && nat_lt most (event_count parts)
 
 -- with what the next block says, where so many events are kept at most, and it is then certain or not what the verdict is
 abbrev pub with_next : ℕ → Bool → Known → Reading → Known
@@ -62,10 +66,10 @@ abbrev pub CountsEvents : Held → Type 0
 CountsEvents (Kept parts events) = events ≡ event_count parts.items
 CountsEvents (Live live) = ⊤
 
--- A source is judged as it comes under its own rules, with its order exactly where that is asked for, and only where the events of a cycle aren't.
+-- A source is judged as it comes on its own terms.
 abbrev pub FitsTerms : Terms → Held → Type 0
 FitsTerms terms (Kept parts events) = ⊤
-FitsTerms terms (Live live) = (live.rules ≡ terms.rules) × (live.order ≡ terms.order) × (terms.explain ≡ false)
+FitsTerms terms (Live live) = live.terms ≡ terms
 
 -- the parts themselves, or what is found of them
 abbrev pub IsBasis : List Reading → Terms → Basis → Type 0

@@ -1,9 +1,9 @@
-//! What judges the blocks of a source, with the serial order or without.
-ghost use Rattle.std.specs.Prelude.{◌≡◌, ◌++◌, ◌∷◌, [], true, false, is_some, IfOk, IfSome};
+//! What judges the blocks of a source: alone, with the serial order, or with what shows a violation.
+ghost use Rattle.std.specs.Prelude.{◌≡◌, ◌++◌, ◌∷◌, [], true, false, ◌&&◌, is_some, IfOk, IfSome};
 ghost use Rattle.aero_verdict.specs.Fed.{IsCertain};
 ghost use Rattle.aero_verdict.specs.Finding.{IsTraceFinding};
-ghost use Rattle.aero_verdict.specs.Verdict.{under};
-ghost use Rattle.aero_intake.specs.Lives.{watched_by, unexplained};
+ghost use Rattle.aero_verdict.specs.Finding.{asking};
+ghost use Rattle.aero_intake.specs.Lives.{watched_by, on};
 
 use aero_grammar::parsed::Parsed;
 use aero_leads::leads::Leads;
@@ -12,6 +12,7 @@ use aero_model::limits::Limits;
 use aero_model::verdict::Finding;
 use aero_verdict::in_order::InOrder;
 use aero_verdict::monitor::{Monitor, feed_all};
+use aero_verdict::recorder::Recorder;
 use std::alloc::{AllocError, Global};
 
 /// What judges the blocks of a source one after another, and needs none of them again.
@@ -21,23 +22,28 @@ pub enum Judge {
     Plain(Box<Monitor<Leads>, Global>),
     /// It also tells the serial order, where the verdict is `Serializable`.
     InOrder(Box<Monitor<InOrder>, Global>),
+    /// It also tells what shows a violation.
+    Explaining(Box<Monitor<Recorder>, Global>),
 }
 
 impl Judge {
     /// It has judged no block, and judges under these limits. A block that begins with one of the labels of `except`
-    /// is no transaction. `order` says whether the serial order is asked for. An `AllocError` says that memory was
-    /// refused.
+    /// is no transaction. `order` says whether the serial order is asked for, and `explain` whether a violation is to be
+    /// explained, but not both. An `AllocError` says that memory was refused.
     pub fn new(
         alloc: Global,
         limits: &Limits,
         except: &Except,
         order: bool,
+        explain: bool,
     ) -> Result<Judge, AllocError>
+        requires { (order && explain) ≡ false }
         ensures parts { IfOk result (λ judge. (watched_by judge).parts ≡ []) }
-        ensures rules { IfOk result (λ judge. (watched_by judge).rules ≡ under limits.now except.now) }
-        ensures order { IfOk result (λ judge. (watched_by judge).order ≡ order) }
+        ensures terms { IfOk result (λ judge. (watched_by judge).terms ≡ asking limits.now except.now order explain) }
     {
-        if order {
+        if explain {
+            explaining(alloc, limits, except)
+        } else if order {
             in_order(alloc, limits, except)
         } else {
             plain(alloc, limits, except)
@@ -50,56 +56,57 @@ impl Judge {
     ///
     /// `AllocError` where memory was refused, and at each call from then on.
     pub fn feed(&mut self, part: &Parsed, except: &Except) -> Result<(), AllocError>
-        requires { except.now ≡ (watched_by self.old).rules.labels }
+        requires { except.now ≡ (watched_by self.old).terms.rules.labels }
         ensures parts { (watched_by self.new).parts ≡ (watched_by self.old).parts ++ part.now ∷ [] }
-        ensures rules { (watched_by self.new).rules ≡ (watched_by self.old).rules }
-        ensures order { (watched_by self.new).order ≡ (watched_by self.old).order }
+        ensures terms { (watched_by self.new).terms ≡ (watched_by self.old).terms }
     {
         match self {
             Judge::Plain(monitor) => monitor.feed(part, except).map(|_| ()),
             Judge::InOrder(monitor) => monitor.feed(part, except).map(|_| ()),
+            Judge::Explaining(monitor) => monitor.feed(part, except).map(|_| ()),
         }
     }
 
     /// Judges these blocks, one after the other. Where memory is refused `finish` says so.
     pub fn feed_rest(&mut self, parts: &[Parsed], except: &Except)
-        requires { except.now ≡ (watched_by self.old).rules.labels }
+        requires { except.now ≡ (watched_by self.old).terms.rules.labels }
         ensures parts { (watched_by self.new).parts ≡ (watched_by self.old).parts ++ parts.now }
-        ensures rules { (watched_by self.new).rules ≡ (watched_by self.old).rules }
-        ensures order { (watched_by self.new).order ≡ (watched_by self.old).order }
+        ensures terms { (watched_by self.new).terms ≡ (watched_by self.old).terms }
     {
         match self {
             Judge::Plain(monitor) => feed_all(monitor, parts, except),
             Judge::InOrder(monitor) => feed_all(monitor, parts, except),
+            Judge::Explaining(monitor) => feed_all(monitor, parts, except),
         }
     }
 
     /// Whether the verdict is certain, whatever blocks come.
     pub fn is_certain(&self) -> bool
         ensures told { result ≡ is_some (watched_by self.now).certain }
-        ensures certain { IfSome (watched_by self.now).certain (IsCertain (watched_by self.now).parts (watched_by self.now).rules) }
+        ensures certain { IfSome (watched_by self.now).certain (IsCertain (watched_by self.now).parts (watched_by self.now).terms.rules) }
     {
         match self {
             Judge::Plain(monitor) => monitor.certain().is_some(),
             Judge::InOrder(monitor) => monitor.certain().is_some(),
+            Judge::Explaining(monitor) => monitor.certain().is_some(),
         }
     }
 
     /// What is found of the blocks that it judged. An `AllocError` says that memory was refused.
     pub fn finish(self) -> Result<Finding, AllocError>
-        ensures { IfOk result (IsTraceFinding (watched_by self).parts (unexplained (watched_by self).rules (watched_by self).order)) }
+        ensures { IfOk result (IsTraceFinding (watched_by self).parts (watched_by self).terms) }
     {
         match self {
             Judge::Plain(monitor) => judged(Box::into_inner(monitor)),
             Judge::InOrder(monitor) => ordered(Box::into_inner(monitor)),
+            Judge::Explaining(monitor) => explained(Box::into_inner(monitor)),
         }
     }
 }
 
 fn plain(alloc: Global, limits: &Limits, except: &Except) -> Result<Judge, AllocError>
     ensures parts { IfOk result (λ judge. (watched_by judge).parts ≡ []) }
-    ensures rules { IfOk result (λ judge. (watched_by judge).rules ≡ under limits.now except.now) }
-    ensures order { IfOk result (λ judge. (watched_by judge).order ≡ false) }
+    ensures terms { IfOk result (λ judge. (watched_by judge).terms ≡ asking limits.now except.now false false) }
 {
     let monitor = Monitor::<Leads>::new(alloc, limits, except);
     Ok(Judge::Plain(Box::new(alloc, monitor)?))
@@ -107,27 +114,45 @@ fn plain(alloc: Global, limits: &Limits, except: &Except) -> Result<Judge, Alloc
 
 fn in_order(alloc: Global, limits: &Limits, except: &Except) -> Result<Judge, AllocError>
     ensures parts { IfOk result (λ judge. (watched_by judge).parts ≡ []) }
-    ensures rules { IfOk result (λ judge. (watched_by judge).rules ≡ under limits.now except.now) }
-    ensures order { IfOk result (λ judge. (watched_by judge).order ≡ true) }
+    ensures terms { IfOk result (λ judge. (watched_by judge).terms ≡ asking limits.now except.now true false) }
 {
     let monitor = Monitor::<InOrder>::new(alloc, limits, except);
     Ok(Judge::InOrder(Box::new(alloc, monitor)?))
 }
 
+fn explaining(alloc: Global, limits: &Limits, except: &Except) -> Result<Judge, AllocError>
+    ensures parts { IfOk result (λ judge. (watched_by judge).parts ≡ []) }
+    ensures terms { IfOk result (λ judge. (watched_by judge).terms ≡ asking limits.now except.now false true) }
+{
+    let monitor = Monitor::<Recorder>::new(alloc, limits, except);
+    Ok(Judge::Explaining(Box::new(alloc, monitor)?))
+}
+
 // The verdict on what a monitor was fed.
 fn judged(monitor: Monitor<Leads>) -> Result<Finding, AllocError>
-    ensures { IfOk result (IsTraceFinding monitor.parts (unexplained monitor.rules false)) }
+    ensures { IfOk result (IsTraceFinding monitor.parts (on monitor.rules false false)) }
 {
     monitor.finish().map(Finding::Judged)
 }
 
 // The verdict on what a monitor was fed, with the order where that goes with it.
 fn ordered(monitor: Monitor<InOrder>) -> Result<Finding, AllocError>
-    ensures { IfOk result (IsTraceFinding monitor.parts (unexplained monitor.rules true)) }
+    ensures { IfOk result (IsTraceFinding monitor.parts (on monitor.rules true false)) }
 {
     let (verdict, steps) = monitor.finish_in_order()?;
     match steps {
         Some(steps) => Ok(Finding::Ordered(verdict, steps)),
+        None => Ok(Finding::Judged(verdict)),
+    }
+}
+
+// The verdict on what a monitor was fed, with what shows it where it is a violation.
+fn explained(monitor: Monitor<Recorder>) -> Result<Finding, AllocError>
+    ensures { IfOk result (IsTraceFinding monitor.parts (on monitor.rules false true)) }
+{
+    let (verdict, cycle) = monitor.finish_explained()?;
+    match cycle {
+        Some(cycle) => Ok(Finding::Explained(verdict, cycle)),
         None => Ok(Finding::Judged(verdict)),
     }
 }

@@ -1,6 +1,6 @@
 //! What is held of a source whose blocks are being read.
 ghost use Rattle.std.specs.Prelude.{◌≡◌, ◌++◌, ◌∷◌, [], length, true, false, not, ◌&&◌, ◌||◌, nat_lt, IfOk, OnOk, IsTrue};
-ghost use Rattle.aero_intake.specs.Held.{parts_in, live_in, certain_in, event_count, turns_live, CountsEvents, FitsTerms, IsDecisive, IsBasis};
+ghost use Rattle.aero_intake.specs.Held.{parts_in, live_in, certain_in, event_count, asks_both, turns_live, CountsEvents, FitsTerms, IsDecisive, IsBasis};
 ghost use Rattle.aero_verdict.specs.Finding.{Terms as Asked, IsTraceFinding};
 
 use crate::live::Live;
@@ -62,6 +62,13 @@ pub fn is_certain(held: &Held) -> bool
     }
 }
 
+// Whether both the order is asked for and a violation is to be explained.
+fn asks_both(terms: &Terms) -> bool
+    ensures { result ≡ asks_both terms.now }
+{
+    terms.order() && terms.explain()
+}
+
 /// Adds what the next block says of a source that is judged on these terms, and of which so many events are kept at
 /// most. An `AllocError` says that memory was refused.
 pub fn add_to(
@@ -100,8 +107,8 @@ fn keep_or_feed(held: &mut Held, part: Parsed, terms: &Terms) -> Result<(), Allo
     }
 }
 
-// Where more events are kept than may be, they are to be judged from here on, unless a violation is to be explained:
-// then the parts are gone over again.
+// Where more events are kept than may be, they are to be judged from here on, unless both the order is asked for and a
+// violation is to be explained: then the parts are gone over again.
 fn go_live(held: &mut Held, alloc: Global, terms: &Terms, most: u64) -> Result<(), AllocError>
     requires fits { FitsTerms terms.now held.old }
     requires counted { CountsEvents held.old }
@@ -110,7 +117,7 @@ fn go_live(held: &mut Held, alloc: Global, terms: &Terms, most: u64) -> Result<(
     ensures fits { OnOk result (FitsTerms terms.now held.new) }
     ensures counted { OnOk result (CountsEvents held.new) }
 {
-    if terms.explain() || !has_more(held, most) {
+    if asks_both(terms) || !has_more(held, most) {
         return Ok(());
     }
     let kept = mem::replace(held, nothing_held(alloc));
@@ -130,10 +137,10 @@ fn has_more(held: &Held, most: u64) -> bool
 }
 
 fn live_from(held: Held, alloc: Global, terms: &Terms) -> Result<Live, AllocError>
-    requires { FitsTerms terms.now held }
+    requires fits { FitsTerms terms.now held }
+    requires one { asks_both terms.now ≡ false }
     ensures parts { IfOk result (λ live. live.parts ≡ parts_in held) }
-    ensures rules { IfOk result (λ live. live.rules ≡ terms.now.rules) }
-    ensures order { IfOk result (λ live. live.order ≡ terms.now.order) }
+    ensures terms { IfOk result (λ live. live.terms ≡ terms.now) }
 {
     match held {
         Held::Kept { parts, .. } => Live::new(alloc, terms, parts),
@@ -152,11 +159,9 @@ pub fn basis_of(held: Held, terms: &Terms) -> Result<Basis, AllocError>
     }
 }
 
-// What is found of a source that was judged as it came, where nothing is to be explained.
+// What is found of a source that was judged as it came.
 fn found(live: Live, terms: &Terms) -> Result<Finding, AllocError>
-    requires rules { live.rules ≡ terms.now.rules }
-    requires order { live.order ≡ terms.now.order }
-    requires unexplained { terms.now.explain ≡ false }
+    requires { live.terms ≡ terms.now }
     ensures { IfOk result (IsTraceFinding live.parts terms.now) }
 {
     live.finish(terms.except())

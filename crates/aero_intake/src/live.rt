@@ -1,8 +1,9 @@
 //! A source that is judged as it comes.
-ghost use Rattle.std.specs.Prelude.{◌≡◌, ◌++◌, ◌∷◌, [], ◌-◌, length, is_some, IfOk, IfSome, OnOk};
+ghost use Rattle.std.specs.Prelude.{◌≡◌, ◌++◌, ◌∷◌, [], ◌-◌, false, length, is_some, IfOk, IfSome, OnOk};
 ghost use Rattle.aero_verdict.specs.Fed.{IsCertain};
 ghost use Rattle.aero_verdict.specs.Finding.{IsTraceFinding};
-ghost use Rattle.aero_intake.specs.Lives.{watched_by, unexplained};
+ghost use Rattle.aero_intake.specs.Held.{asks_both};
+ghost use Rattle.aero_intake.specs.Lives.{watched_by};
 
 use crate::judge::Judge;
 use crate::terms::Terms;
@@ -33,8 +34,7 @@ impl Model for Live {
     ghost view = { λ l. record {
       parts = (watched_by l.judge).parts ++ l.waiting.items;
       waiting = length l.waiting.items;
-      rules = (watched_by l.judge).rules;
-      order = (watched_by l.judge).order;
+      terms = (watched_by l.judge).terms;
       certain = (watched_by l.judge).certain;
     } };
 
@@ -42,17 +42,22 @@ impl Model for Live {
 }
 
 impl Live {
-    /// What was kept of a source is to be judged on these terms, but a violation isn't explained. An `AllocError` says
-    /// that memory was refused.
+    /// What was kept of a source is to be judged on these terms. An `AllocError` says that memory was refused.
     pub fn new(alloc: Global, terms: &Terms, kept: Vec<Parsed>) -> Result<Live, AllocError>
+        requires { asks_both terms.now ≡ false }
         ensures parts { IfOk result (λ live. live.parts ≡ kept.items) }
         ensures waiting { IfOk result (λ live. live.waiting ≡ length kept.items) }
-        ensures rules { IfOk result (λ live. live.rules ≡ terms.now.rules) }
-        ensures order { IfOk result (λ live. live.order ≡ terms.now.order) }
+        ensures terms { IfOk result (λ live. live.terms ≡ terms.now) }
     {
         let count = kept.len() as u64;
         Ok(Live {
-            judge: Judge::new(alloc, terms.limits(), terms.except(), terms.order())?,
+            judge: Judge::new(
+                alloc,
+                terms.limits(),
+                terms.except(),
+                terms.order(),
+                terms.explain(),
+            )?,
             waiting: VecDeque::from_vec(kept),
             count,
         })
@@ -61,11 +66,10 @@ impl Live {
     /// Takes what the next block says, and judges the next two that wait, with the same labels as at first: one waits
     /// less than before, if one did. An `AllocError` says that memory was refused.
     pub fn feed(&mut self, part: Parsed, except: &Except) -> Result<(), AllocError>
-        requires { except.now ≡ self.old.rules.labels }
+        requires { except.now ≡ self.old.terms.rules.labels }
         ensures parts { OnOk result (self.new.parts ≡ self.old.parts ++ part ∷ []) }
         ensures waiting { OnOk result (self.new.waiting ≡ self.old.waiting - 1) }
-        ensures rules { self.new.rules ≡ self.old.rules }
-        ensures order { self.new.order ≡ self.old.order }
+        ensures terms { self.new.terms ≡ self.old.terms }
     {
         let Some(count) = self.count.checked_add(1) else {
             return Err(AllocError);
@@ -86,15 +90,15 @@ impl Live {
     /// Whether the verdict is certain by what was judged so far, whatever blocks come.
     pub fn is_certain(&self) -> bool
         ensures told { result ≡ is_some self.now.certain }
-        ensures certain { IfSome self.now.certain (IsCertain self.now.parts self.now.rules) }
+        ensures certain { IfSome self.now.certain (IsCertain self.now.parts self.now.terms.rules) }
     {
         self.judge.is_certain()
     }
 
     /// What is found of what came, with the same labels as at first. An `AllocError` says that memory was refused.
     pub fn finish(self, except: &Except) -> Result<Finding, AllocError>
-        requires { except.now ≡ self.rules.labels }
-        ensures { IfOk result (IsTraceFinding self.parts (unexplained self.rules self.order)) }
+        requires { except.now ≡ self.terms.rules.labels }
+        ensures { IfOk result (IsTraceFinding self.parts self.terms) }
     {
         let Live {
             judge,
@@ -109,10 +113,9 @@ impl Live {
 
 // Judges all that wait. Where memory is refused the judge says so at its end.
 fn judge_rest(judge: &mut Judge, waiting: VecDeque<Parsed>, except: &Except)
-    requires { except.now ≡ (watched_by judge.old).rules.labels }
+    requires { except.now ≡ (watched_by judge.old).terms.rules.labels }
     ensures parts { (watched_by judge.new).parts ≡ (watched_by judge.old).parts ++ waiting.items }
-    ensures rules { (watched_by judge.new).rules ≡ (watched_by judge.old).rules }
-    ensures order { (watched_by judge.new).order ≡ (watched_by judge.old).order }
+    ensures terms { (watched_by judge.new).terms ≡ (watched_by judge.old).terms }
 {
     let rest = waiting.into_vec();
     judge.feed_rest(&rest, except);
@@ -124,11 +127,10 @@ fn judge_next(
     waiting: &mut VecDeque<Parsed>,
     except: &Except,
 ) -> Result<(), AllocError>
-    requires { except.now ≡ (watched_by judge.old).rules.labels }
+    requires { except.now ≡ (watched_by judge.old).terms.rules.labels }
     ensures parts { (watched_by judge.new).parts ++ waiting.new.items ≡ (watched_by judge.old).parts ++ waiting.old.items }
     ensures waiting { length waiting.new.items ≡ length waiting.old.items - 1 }
-    ensures rules { (watched_by judge.new).rules ≡ (watched_by judge.old).rules }
-    ensures order { (watched_by judge.new).order ≡ (watched_by judge.old).order }
+    ensures terms { (watched_by judge.new).terms ≡ (watched_by judge.old).terms }
 {
     let Some(part) = waiting.pop_front() else {
         return Ok(());

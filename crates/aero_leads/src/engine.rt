@@ -70,12 +70,17 @@ impl ByKind for Leads {
 }
 
 impl Engine for Leads {
+    ghost use Rattle.std.specs.Prelude.{false};
     ghost use Rattle.aero_engine.specs.Given.{KeepsNone};
     ghost use Rattle.aero_leads.specs.Standing.{StandsFor};
 
     ghost stands_for = { StandsFor };
 
     ghost keeps = { KeepsNone };
+
+    const ASKS_LABELS: bool = false;
+
+    ghost ASKS_LABELS = { false };
 
     fn new(alloc: Global) -> Leads {
         Leads::new(alloc)
@@ -87,6 +92,7 @@ impl Engine for Leads {
         _line: u32,
         event: &Numbered,
         admitted: Admitted,
+        _label: Option<&[u8]>,
     ) -> Result<Option<u32>, Spent> {
         by_kind::judge(self, event, admitted)
     }

@@ -1,11 +1,14 @@
 -- Where the names of a list are looked for: a table leads from a mark to the latest name that has it, and each name to the one before it with the same mark.
-use Rattle.std.specs.Prelude.{◌≡◌, ◌+◌, ◌-◌, ◌/◌, ◌^◌, ◌<◌, ◌≤◌, ℕ, Bool, true, false, if◌then◌else◌, List, [], length, slice_get, slice_index, unwrap_or, bit_and, Some}
+use Rattle.std.specs.Prelude.{◌≡◌, ◌≢◌, ◌+◌, ◌-◌, ◌/◌, ◌^◌, ◌<◌, ◌≤◌, ℕ, List, [], length, slice_get, slice_index, unwrap_or, bit_and, nat_eq, Some, None}
 use Rattle.std.specs.Ordering.{nat_cmp}
 use Rattle.std.specs.BTreeMap.{BTreeMap, ContainsKey, get}
+use Rattle.indexmap.specs.IndexMap.{IndexMap, get as get_indexed}
 use Rattle.aero_names.specs.declared.latest.Latest.{Latest}
+use Rattle.aero_names.specs.declared.latest.Way.{Way}
+use Rattle.aero_names.specs.declared.latest.Way.TheVariants.{Heads, Few, Prints}
 use Rattle.aero_names.specs.declared.key.Key.{Key}
 use Rattle.aero_names.specs.declared.hash.Hashing.{Hashing}
-use Rattle.aero_names.specs.Hash.{hash_by, print_of}
+use Rattle.aero_names.specs.Hash.{hash_of, hash_by, print_of}
 use Rattle.aero_names.specs.Keys.{AreKeys}
 use Rattle.aero_names.specs.Listing.{Listing, IsListing}
 
@@ -17,32 +20,46 @@ name_in names n = unwrap_or (slice_get names n) []
 abbrev pub place_in : ℕ → ℕ → ℕ
 place_in places hash = bit_and (hash / 2 ^ 32) (places - 1)
 
--- whether the names are looked for by their prints, and by which hash and by how many heads they are where they aren't
-abbrev pub marks_of : Latest → Bool × Hashing × ℕ
-marks_of latest = (latest.is_spread, latest.hashing, length latest.heads.items)
+-- in which way the names are looked for, and by which hash and by how many heads where it is by heads
+abbrev pub marks_of : Latest → Way × Hashing × ℕ
+marks_of latest = (latest.way, latest.hashing, length latest.heads.items)
+
+abbrev pub mark_by : Way → Hashing × ℕ → List ℕ → ℕ
+mark_by Heads by name = place_in by.1 (hash_by by.0 name)
+mark_by Few by name = hash_of name
+mark_by Prints by name = print_of name
 
 -- what a name is looked for by
-abbrev pub mark_of : Bool × Hashing × ℕ → List ℕ → ℕ
-mark_of marks name = if marks.0 then print_of name else place_in marks.2 (hash_by marks.1 name)
+abbrev pub mark_of : Way × Hashing × ℕ → List ℕ → ℕ
+mark_of marks name = mark_by marks.0 (marks.1, marks.2) name
 
 -- where the table leads from this mark: 0 where it has none
+abbrev pub next_few : {S : Type 0} → IndexMap ℕ ℕ S → ℕ → ℕ
+next_few few mark = unwrap_or (get_indexed nat_eq few mark) 0
+
 abbrev pub next_print : BTreeMap ℕ ℕ → ℕ → ℕ
 next_print prints mark = unwrap_or (get nat_cmp prints mark) 0
 
+abbrev pub next_by : Way → Latest → ℕ → ℕ
+next_by Heads latest mark = slice_index latest.heads.items mark
+next_by Few latest mark = next_few latest.few mark
+next_by Prints latest mark = next_print latest.prints mark
+
 abbrev pub next_at : Latest → ℕ → ℕ
-next_at latest mark = if latest.is_spread then next_print latest.prints mark else slice_index latest.heads.items mark
+next_at latest mark = next_by latest.way latest mark
 
 -- there is a head, where names are looked for by heads
 abbrev pub HasHeads : Latest → Type 0
-HasHeads latest = latest.is_spread ≡ false → 0 < length latest.heads.items
+HasHeads latest = latest.way ≡ Heads → 0 < length latest.heads.items
 
 -- the mark is the place of a head there
 abbrev pub IsWithin : Latest → ℕ → Type 0
-IsWithin latest mark = latest.is_spread ≡ false → mark < length latest.heads.items
+IsWithin latest mark = latest.way ≡ Heads → mark < length latest.heads.items
 
 -- where the table leads from the mark can be changed without memory
 pub record HasRoom (latest : Latest) (mark : ℕ) : Type 0 where
-  pub print : latest.is_spread ≡ true → ContainsKey nat_cmp latest.prints mark
+  pub few : latest.way ≡ Few → get_indexed nat_eq latest.few mark ≢ None
+  pub print : latest.way ≡ Prints → ContainsKey nat_cmp latest.prints mark
   pub head : IsWithin latest mark
 
 -- one more than the greatest number below this one whose name has the mark, or 0 where there is none

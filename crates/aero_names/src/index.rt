@@ -10,9 +10,12 @@ ghost use Rattle.aero_names.specs.Keys.{AreKeys, key_of as key_in};
 
 use crate::hash::{Hashing, hash_of, hash_of_key, hash_of_long};
 use crate::key::{Key, key_of};
-use crate::latest::{Latest, place_of};
+use crate::latest::{Latest, Way, place_of};
 use crate::list::NameList;
 use std::alloc::{AllocError, Global};
+
+// So many names stand in an `IndexMap`: no more than may be passed by heads. A block seldom has more threads.
+const MOST_FEW: u32 = 16;
 
 // How many heads there are at first: enough for most blocks.
 const FEWEST_HEADS: usize = 2_048;
@@ -207,11 +210,24 @@ pub(crate) fn spread(
     let spread = match latest.hashing {
         Hashing::First => {
             let places = latest.heads.len().max(FEWEST_HEADS);
-            Latest::with_heads(alloc, Hashing::Second, places)?
+            Latest::with_heads(alloc, Way::Heads, Hashing::Second, places)?
         }
-        Hashing::Second => Latest::new(alloc, true),
+        Hashing::Second => Latest::new(alloc, Way::Prints),
     };
     tables_from(spread, alloc, names)
+}
+
+// Whether one name more can be found in the same way.
+#[inline(always)]
+fn is_roomy(latest: &Latest, names: u32) -> bool
+    ensures { IsTrue result → HasHeads latest.now }
+{
+    let places = latest.heads.len();
+    match latest.way {
+        Way::Heads => places / 2 > names as usize,
+        Way::Few => places > 0 && names < MOST_FEW,
+        Way::Prints => true,
+    }
 }
 
 // Where the names are found by heads, there are more than twice as many as names. Where memory is refused nothing changes.
@@ -225,12 +241,16 @@ pub(crate) fn grow(
     ensures indexed { IsIndexed (mark_in (marks_of latest.new)) names.now (length names.now) (next_at latest.new) before.new.items }
     ensures heads { OnOk result (HasHeads latest.new) }
 {
-    let places = latest.heads.len();
-    if latest.is_spread || places / 2 > names.len() as usize {
+    if is_roomy(latest, names.len()) {
         return Ok(());
     }
-    let more = places.saturating_mul(2).max(FEWEST_HEADS);
-    let grown = Latest::with_heads(alloc, latest.hashing, more)?;
+    let places = latest.heads.len();
+    let way = if places == 0 { Way::Few } else { Way::Heads };
+    let more = match latest.way {
+        Way::Heads => places.saturating_mul(2).max(FEWEST_HEADS),
+        _ => FEWEST_HEADS,
+    };
+    let grown = Latest::with_heads(alloc, way, latest.hashing, more)?;
     let (grown, linked) = tables_from(grown, alloc, names)?;
     *latest = grown;
     *before = linked;

@@ -1,7 +1,7 @@
 //! A list of different names, numbered in order of first appearance.
 use crate::index::{find, found_at_head, grow, make_room, spread};
 use crate::key::{Key, kept_key};
-use crate::latest::Latest;
+use crate::latest::{Latest, Way};
 use crate::list::NameList;
 use aero_model::name::Name;
 use std::alloc::{AllocError, Global};
@@ -54,7 +54,7 @@ impl Names {
         Names {
             alloc,
             list: NameList::new(alloc),
-            latest: Latest::new(alloc, false),
+            latest: Latest::new(alloc, Way::Few),
             before: Vec::new(alloc),
             keys: Vec::new(alloc),
             limit,
@@ -137,7 +137,7 @@ impl Names {
         ensures same { self.new ≡ self.old }
         ensures listing { IsListing self.new }
     {
-        if self.latest.is_spread {
+        if self.latest.way == Way::Prints {
             return;
         }
         if let Ok((latest, before)) = spread(self.alloc, &self.latest, &self.list) {

@@ -1,10 +1,10 @@
 -- A monitor that is fed one part more.
 use Rattle.std.proofs.Common.{◌≡◌, inl, inr, ℕ, zero, suc, Bool, Result, Ok, Err, ◌+◌, ◌-◌, ◌<◌, ◌≤◌, nat_le, nat_lt, min, true, false, List, [], ◌∷◌, ◌++◌, length, map, drop, Option, Some, None, option_map, sym, ◌∙◌, ap, ap₂, subst, arith, refl, add-zero, add-one, length-append}
-use Rattle.std.specs.Prelude.{slice_get, IfSome, IfOk}
+use Rattle.std.specs.Prelude.{slice_get, All, IfSome, IfOk}
 use Rattle.std.specs.declared.alloc.AllocError.{AllocError}
 use Rattle.std.proofs.lemmas.Bool.{cases_lt, cond-true, cond-false, lt-ltb, lt-leb}
 use Rattle.std.proofs.lemmas.List.{append_assoc, append-nil}
-use Rattle.std.proofs.lemmas.List.Elements.{filter-append}
+use Rattle.std.proofs.lemmas.List.Elements.{All-append, filter-append}
 use Rattle.aero_model.specs.declared.limits.Limits.{Limits}
 use Rattle.aero_model.specs.declared.verdict.LineFault.{LineFault}
 use Rattle.aero_model.specs.declared.verdict.LineFault.TheVariants.{TooManyLines}
@@ -13,7 +13,7 @@ use Rattle.aero_model.specs.declared.verdict.Verdict.TheVariants.{Serializable, 
 use Rattle.aero_model.specs.Exempt.{Listed}
 use Rattle.aero_model.specs.Named.{Named}
 use Rattle.aero_model.specs.Verdicts.{HasOwnFault}
-use Rattle.aero_grammar.specs.Reading.{Reading, after_lines, whole_reading, fault_within}
+use Rattle.aero_grammar.specs.Reading.{Reading, IsReading, after_lines, whole_reading, fault_within}
 use Rattle.aero_engine.specs.Given.{Words}
 use Rattle.aero_verdict.specs.declared.checker.Checker.{Checker}
 use Rattle.aero_verdict.specs.declared.monitor.State.{State}
@@ -27,6 +27,7 @@ use Rattle.aero_verdict.specs.Verdict.{Rules, under, counted_events, checked_tra
 use Rattle.aero_verdict.proofs.OneVerdict.{one_verdict}
 use Rattle.aero_verdict.proofs.Parts.{clean_here, too_many, faultless, stands_for_all, names_all, keeps_all}
 use Rattle.aero_verdict.proofs.Readings.{slice_get_behind, trace_length}
+use Rattle.aero_verdict.proofs.Staying.{cycle_stays, certain_more}
 
 -- where there are two lines too many, whatever comes after them
 
@@ -98,15 +99,17 @@ module _ (fed : List Reading) (part : Reading) where
 
   -- something is
   pub fed_certain : {E : Type 0} (words : Words E) (rules : Rules) (lines : ℕ) (new : Checker E) (verdict : Verdict) →
-      ((rest : List Reading) → IsVerdict (fed ++ part ∷ rest) rules verdict × KeepsAt words.keeps rules (fed ++ part ∷ rest) new.engine verdict) →
+      ((rest : List Reading) → IsVerdict (fed ++ part ∷ rest) rules verdict × KeepsAt words.keeps rules (fed ++ part ∷ rest) new verdict) →
       HasOwnFault verdict → is_faultless verdict ≡ false → FedSo words rules (fed ++ part ∷ []) lines new (Decided verdict)
   fed_certain words rules lines new verdict each own wrong = (
     record {
       is_verdict = λ rest. subst (λ ps. IsVerdict ps rules verdict) (with_next rest) (each rest).0;
       own_fault = own;
       wrong = wrong;
+      explained =
+          cycle_stays words.keeps rules (fed ++ part ∷ []) new verdict (each []).1;
     },
-    λ rest. subst (λ ps. KeepsAt words.keeps rules ps new.engine verdict) (with_next rest) (each rest).1,
+    λ rest. subst (λ ps. KeepsAt words.keeps rules ps new verdict) (with_next rest) (each rest).1,
   )
 
 pub own_too_many : (line : ℕ) → HasOwnFault (Malformed line TooManyLines)
@@ -120,6 +123,7 @@ fed_too_many words rules fed lines checker so more = (
     is_verdict = λ rest. too_many_anyway words rules (fed ++ rest) (length fed) lines checker (so rest) more;
     own_fault = own_too_many (rules.limits.lines + 1);
     wrong = refl;
+    explained = λ rest cycle. (λ e. e, λ e. e);
   },
   λ rest. tt,
 )
@@ -129,12 +133,8 @@ pub stays_fed : {E : Type 0} (words : Words E) (rules : Rules) (fed more : List 
     FedSo words rules (fed ++ more) lines checker state
 stays_fed words rules fed more lines checker Undecided not so = absurd (not refl)
 stays_fed words rules fed more lines checker (Decided verdict) not so = (
-  record {
-    is_verdict = λ rest. subst (λ ps. IsVerdict ps rules verdict) (sym (append_assoc fed more rest)) (so.0.is_verdict (more ++ rest));
-    own_fault = so.0.own_fault;
-    wrong = so.0.wrong;
-  },
-  λ rest. subst (λ ps. KeepsAt words.keeps rules ps checker.engine verdict) (sym (append_assoc fed more rest)) (so.1 (more ++ rest)),
+  certain_more fed more rules verdict so.0,
+  λ rest. subst (λ ps. KeepsAt words.keeps rules ps checker verdict) (sym (append_assoc fed more rest)) (so.1 (more ++ rest)),
 )
 stays_fed words rules fed more lines checker Spent not so = tt
 
@@ -156,10 +156,10 @@ module _ {E : Type 0} (words : Words E) (rules : Rules) (fed : List Reading) (li
   pub names_at_end : NamesAll rules fed checker.numbering
   names_at_end = names_all words rules fed (length fed) lines checker all_fed (omega arith)
 
-  pub keeps_at_end : (verdict : Verdict) → is_faultless verdict ≡ true → KeepsAt words.keeps rules fed checker.engine verdict
+  pub keeps_at_end : (verdict : Verdict) → is_faultless verdict ≡ true → KeepsAt words.keeps rules fed checker verdict
   keeps_at_end verdict right = where_right verdict right (keeps_all words rules fed (length fed) lines checker all_fed (omega arith))
     where
-      where_right : (verdict : Verdict) → is_faultless verdict ≡ true → KeepsFirst words.keeps rules (counted_events fed rules) (length (counted_events fed rules)) checker.engine → KeepsAt words.keeps rules fed checker.engine verdict
+      where_right : (verdict : Verdict) → is_faultless verdict ≡ true → KeepsFirst words.keeps rules (counted_events fed rules) (length (counted_events fed rules)) checker.engine → KeepsAt words.keeps rules fed checker verdict
       where_right (Serializable events blocks) right keeps = keeps
       where_right (Pending events blocks pending) right keeps = keeps
       where_right (Violation line thread begun) right keeps = absurd (cc)
@@ -175,7 +175,7 @@ tells_certain words rules fed lines checker verdict (is, keeps) =
       on = record { is_verdict = subst (λ ps. IsVerdict ps rules verdict) (append-nil fed) (is.is_verdict []); own_fault = is.own_fault };
       stands_for = λ right. absurd (let wrong = is.wrong in cc);
       names = λ right. absurd (let wrong = is.wrong in cc);
-      keeps_at = subst (λ ps. KeepsAt words.keeps rules ps checker.engine verdict) (append-nil fed) (keeps []);
+      keeps_at = subst (λ ps. KeepsAt words.keeps rules ps checker verdict) (append-nil fed) (keeps []);
     }
 
 pub tells_too_many : {E : Type 0} (words : Words E) (rules : Rules) (fed : List Reading) (lines : ℕ) (checker : Checker E) → FedSo words rules fed lines checker Undecided → rules.limits.lines < lines →
@@ -253,3 +253,11 @@ pub open_told : {E : Type 0} (words : Words E) (rules : Rules) (fed : List Readi
     FedSo words rules fed lines checker state → IfOk result (λ b. b ≡ false → IsOpen fed rules)
 open_told words rules fed lines checker state (Ok b) undecided so = λ no. open_so words rules fed lines checker (subst (FedSo words rules fed lines checker) (undecided no) so)
 open_told words rules fed lines checker state (Err e) undecided so = tt
+
+-- the parts that were fed are readings
+one_only : {X : Type 0} (P : X → Type 0) (x : X) → P x → All P (x ∷ [])
+one_only P x here zero d less = here
+one_only P x here (suc k) d less = absurd (omega (arith, less))
+
+pub readings_more : (parts more : List Reading) (part : Reading) → more ≡ parts ++ part ∷ [] → All IsReading parts → IsReading part → All IsReading more
+readings_more parts more part is all here = subst (All IsReading) (sym is) (All-append IsReading parts (part ∷ []) all (one_only IsReading part here))

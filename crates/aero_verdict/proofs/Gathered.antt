@@ -33,7 +33,7 @@ module _ (parts : List Reading) (rules : Rules) (checker : Checker InOrder) (tra
   abbrev Tells : Verdict → Type 0
   Tells v = TellsFed (words_of StandsForBoth KeepsInOrder) rules parts checker v
 
-  kept_where_right : (v : Verdict) → is_faultless v ≡ true → KeepsAt KeepsInOrder rules parts checker.engine v → KeepsFirst KeepsInOrder rules (counted_events parts rules) (length (counted_events parts rules)) checker.engine
+  kept_where_right : (v : Verdict) → is_faultless v ≡ true → KeepsAt KeepsInOrder rules parts checker v → KeepsFirst KeepsInOrder rules (counted_events parts rules) (length (counted_events parts rules)) checker.engine
   kept_where_right (Serializable e b) right keeps = keeps
   kept_where_right (Pending e b p) right keeps = keeps
   kept_where_right (Violation l t b) right keeps = absurd (cc)

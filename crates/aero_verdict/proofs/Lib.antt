@@ -6,8 +6,12 @@ pub mod Judged
 pub mod Givens
 pub mod Recording
 pub mod Zipped
+pub mod Said
+pub mod ReadAt
+pub mod Showing
 pub mod Rising
 pub mod Explaining
+pub mod Staying
 pub mod Steps
 pub mod Lines
 pub mod Openers

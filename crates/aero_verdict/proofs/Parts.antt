@@ -1,5 +1,5 @@
 -- The parts of a trace, one after the other.
-use Rattle.std.proofs.Common.{◌≡◌, ℕ, suc, ◌+◌, ◌-◌, ◌<◌, ◌≤◌, ◌^◌, nat_le, nat_lt, min, Bool, true, List, [], ◌∷◌, ◌++◌, length, map, drop, Some, None, option_map, sym, ◌∙◌, ap, ap₂, subst, refl, arith, add-one, length-append}
+use Rattle.std.proofs.Common.{◌≡◌, ℕ, suc, ◌+◌, ◌-◌, ◌<◌, ◌≤◌, ◌^◌, nat_le, nat_lt, min, true, List, [], ◌∷◌, ◌++◌, length, map, drop, Some, None, option_map, sym, ◌∙◌, ap, ap₂, subst, refl, arith, add-one, length-append}
 use Rattle.std.specs.Prelude.{slice_get, is_some, All, if◌then◌else◌}
 use Rattle.std.proofs.lemmas.Bool.{cond-true, cond-false, lt-ltb, le-ltb}
 use Rattle.std.proofs.lemmas.List.{append_assoc, append-nil, drop_all, take_all, map-append, length-map}
@@ -100,7 +100,7 @@ module _ (rules : Rules) (parts rest : List Reading) (p : Reading) (events : Lis
 
     -- what stops in this part is told
     pub stopped : (new : Checker E) (line : ℕ) (stop : Stop) → ((all : List (ℕ × Named)) → AreNext words rules checker all block flags lines more → StopsIn words rules new all checker.shape.admitted lines more line stop) →
-        (verdict : Verdict) → TellsStop new line stop verdict → IsVerdict parts rules verdict × KeepsAt words.keeps rules parts new.engine verdict
+        (verdict : Verdict) → TellsStop new line stop verdict → IsVerdict parts rules verdict × KeepsAt words.keeps rules parts new verdict
     stopped new line stop stops verdict tells =
         let here = stops (counted_events parts rules) next_whole in (
           verdict_at words rules parts new checker.shape.admitted lines more line stop here verdict tells,
@@ -280,7 +280,7 @@ module _ {E : Type 0} (words : Words E) (rules : Rules) (parts : List Reading) (
   lines_fit = let small : rules.limits.lines ≤ 4000000000 = let below = rules.limits.most_lines in omega (arith, below) in omega (arith, most_is, small, stands.lines_are)
 
   pub part_stopped : (new : Checker E) (line : ℕ) (stop : Stop) → ((all : List (ℕ × Named)) → AreNext words rules checker all block flags lines (up_to most es) → StopsIn words rules new all checker.shape.admitted lines (up_to most es) line stop) →
-      (verdict : Verdict) → TellsStop new line stop verdict → IsVerdict parts rules verdict × KeepsAt words.keeps rules parts new.engine verdict
+      (verdict : Verdict) → TellsStop new line stop verdict → IsVerdict parts rules verdict × KeepsAt words.keeps rules parts new verdict
   part_stopped new line stop stops =
       stopped rules parts (drop (k + 1) parts) p stands.events stands.total before_here reading most most_here words checker lines k stands.count_is stands.kept stands.lines_are block flags marked new line stop
       (subst (λ xs. (all : List (ℕ × Named)) → AreNext words rules checker all block flags lines (up_to most xs) → StopsIn words rules new all checker.shape.admitted lines (up_to most xs) line stop) es_are stops)

@@ -151,6 +151,29 @@ module _ (before : List Numbered) (deep : ℕ) where
       subst (λ v. IsRecordedWhat v (recorded_what (deed_as before deep v) w) deep) (sym (judged_deed w judged d is)) (a_deed w d)
   by_deed false w judged d is = bare w judged (bound_of w d) (bound_bare judged (judged_bare w judged (bound_of w d) is))
 
+-- the operation as it is recorded, beside the one that was read
+pub record IsReadAs (w r : What) : Type 0 where
+  pub deed : is_deed w ≡ true → r ≡ w
+  pub none : is_deed w ≡ false → is_deed r ≡ false
+
+bare_deed : (w : What) → IsBare w → is_deed w ≡ false
+bare_deed (Begin None) is = refl
+bare_deed (Begin (Some label)) is = absurd is
+bare_deed End is = refl
+bare_deed Exempt is = refl
+bare_deed (Read x) is = absurd is
+bare_deed (Write x) is = absurd is
+bare_deed (Acquire x) is = absurd is
+bare_deed (Release x) is = absurd is
+bare_deed (Fork x) is = absurd is
+bare_deed (Join x) is = absurd is
+
+read_as_judged : (before : List Numbered) (deep : ℕ) (w judged r : What) → IsJudgedWhat w judged → IsRecordedWhat judged r deep → IsReadAs w r
+read_as_judged before deep w judged r is rec = record {
+  deed = λ d. (let same = judged_deed before deep w judged d is in rec.deed (ap is_deed same ∙ d) ∙ same);
+  none = λ d. rec.none (bare_deed judged (judged_bare before deep w judged (bound_of before deep w d) is));
+}
+
 -- the first n events
 module _ (rules : Rules) (events : List (ℕ × Named)) (n : ℕ) (within : n ≤ length events) (given : List Given) (are : AreGiven rules events n given) where
   abbrev marked : List Marked
@@ -183,6 +206,19 @@ module _ (rules : Rules) (events : List (ℕ × Named)) (n : ℕ) (within : n �
 
     admitted_here : g.admitted ≡ admitted_as (take i trace) e
     admitted_here = sym (same_Some (admitted_as (take i trace) e) g.admitted (sym (ap (option_map (admitted_as (take i trace))) at) ∙ is.admitted_is))
+
+    read_here : IsReadAs g.event.what r.what
+    read_here =
+        let read = read_of (slice_get marked i) refl in
+        let deep = depth (take i trace) e.thread (length (take i trace)) in
+        let w = g.event.what in
+        let judges : IsJudgedWhat w e.what =
+        subst (λ (x : Numbered). IsJudgedWhat w x.what) read.judged_is (subst (λ (x : Numbered). IsJudgedWhat x.what (judged (take i marked) read.m).what) read.event_is (judged_as (take i marked) read.m.event.thread read.m.exempt read.m.event.what)) in
+        let what_is : recorded_what (deed_as (take i trace) deep e.what) w ≡ r.what =
+        ap (λ a. recorded_what a w) (sym admitted_here) ∙ ap (λ (x : Numbered). x.what) r_is in
+        let h : IsRecordedWhat e.what r.what deep =
+        subst (λ v. IsRecordedWhat e.what v deep) what_is (by_deed (take i trace) deep (is_deed w) w e.what refl judges) in
+        read_as_judged (take i trace) deep w e.what r.what judges h
 
     recorded_here : IsRecorded (take n trace) i e r
     recorded_here =
@@ -220,3 +256,11 @@ module _ (rules : Rules) (events : List (ℕ × Named)) (n : ℕ) (within : n �
         let less : i < n = (let l = slice_get_within given i g.0 g.1 in omega (arith, l, are.count)) in
         recorded_here i e r g.0 less (sym (slice_get-take trace n i less) ∙ here) (are.each i g.0 g.1) g.2);
   }
+
+  -- what was read of an event, and what is recorded
+  pub read_as : (i : ℕ) (g : Given) → i < n → slice_get given i ≡ Some g → IsReadAs g.event.what (recorded g).what
+  read_as i g less at = go (slice_get trace i) refl
+    where
+      go : (o : Option Numbered) → slice_get trace i ≡ o → IsReadAs g.event.what (recorded g).what
+      go None none = absurd (let is = (are.each i g at).admitted_is in let none_here = ap (option_map (admitted_as (take i trace))) none in cc)
+      go (Some e) here = read_here i e (recorded g) g less here (are.each i g at) refl

@@ -12,7 +12,8 @@ use Rattle.aero_model.specs.declared.verdict.ShapeFault.{ShapeFault}
 use Rattle.aero_model.specs.declared.verdict.ShapeFault.TheVariants.{Memory, TooManyThreads, TooManyNames, ThreadJoined, LockHeldByOther, LockNotHeld, ForkSelf, ForkStarted, JoinSelf, EndWithoutBegin}
 use Rattle.aero_model.specs.Blocks.{depth, is_begin, is_end, by_thread, opens, closes, blocks, Block, transaction}
 use Rattle.aero_model.specs.Cycle.{HasTellingCycle, IsOpener}
-use Rattle.aero_model.specs.Exempt.{Marked, read_events, ends_exempt, judged_what, judged as judged_event, judged_trace, marked, IsBare, IsJudgedWhat, IsJudgedAs}
+use Rattle.aero_grammar.specs.Words.{IsEvent}
+use Rattle.aero_model.specs.Exempt.{label_of, Marked, read_events, ends_exempt, judged_what, judged as judged_event, judged_trace, marked, IsBare, IsJudgedWhat, IsJudgedAs}
 use Rattle.aero_model.specs.Named.{Named, HasItsTarget}
 use Rattle.aero_model.specs.Numbering.{Tables, tables_of, numbered}
 use Rattle.aero_model.specs.Shape.{shape_fault, limit_fault, fault_at, IsLawful, IsWellFormed}
@@ -339,31 +340,33 @@ module _ {E : Type 0} (words : Words E) (rules : Rules) (events : List (ℕ × N
 
       -- it is what the engine is given, who keeps it with those before
       abbrev given : Given
-      given = record { line = line; event = r; admitted = admitted }
+      given = record { line = line; event = r; admitted = admitted; label = label_of e.op e.target }
 
-      is_given : IsGiven rules events n given
-      is_given = record {
+      is_given : IsEvent e → IsGiven rules events n given
+      is_given named = record {
         line_is = ap (option_map (λ (p : ℕ × Named). p.0)) next.1;
         event_is = x_at ∙ ap Some (sym h.numbered_is);
+        label_is = ap (option_map (λ (p : ℕ × Named). label_of p.1.op p.1.target)) next.1;
+        named = λ other at. subst (λ (p : ℕ × Named). IsEvent p.1) (same_Some (line, e) other (sym next.1 ∙ at)) named;
         admitted_is = ap (option_map (admitted_as (take n trace))) m_at ∙ ap Some (sym kind);
       }
 
-      keeps_next : (engine : E) → ((gs : List Given) → words.keeps checker.engine gs → words.keeps engine (gs ++ given ∷ [])) → KeepsFirst words.keeps rules events (suc n) engine
-      keeps_next engine kept_on = keeps_more rules events words.keeps n checker.engine engine given next.0.engine_keeps is_given kept_on
+      keeps_next : IsEvent e → (engine : E) → ((gs : List Given) → words.keeps checker.engine gs → words.keeps engine (gs ++ given ∷ [])) → KeepsFirst words.keeps rules events (suc n) engine
+      keeps_next named engine kept_on = keeps_more rules events words.keeps n checker.engine engine given next.0.engine_keeps (is_given named) kept_on
 
-      pub judged : (counted : Blocks) → CountsBlock checker.blocks counted admitted m.thread line → (told : Option ℕ) → (new : Checker E) → new.numbering ≡ numbering → new.shape ≡ shape → new.blocks ≡ counted →
+      pub judged : IsEvent e → (counted : Blocks) → CountsBlock checker.blocks counted admitted m.thread line → (told : Option ℕ) → (new : Checker E) → new.numbering ≡ numbering → new.shape ≡ shape → new.blocks ≡ counted →
           Tells (words.stands new.engine) (take n trace ++ m ∷ []) (length (take n trace)) told →
           ((gs : List Given) → words.keeps checker.engine gs → words.keeps new.engine (gs ++ given ∷ [])) → Judged words rules new events n told
-      judged counted counts None new same_numbering same_shape same_blocks tells_new kept_on =
+      judged named counted counts None new same_numbering same_shape same_blocks tells_new kept_on =
           let count : new.shape.admitted ≡ suc n = ap (λ (s : states.Tables). s.admitted) same_shape ∙ count_next ∙ add-one n in
           record {
             counts = counts_next counted counts new same_numbering same_shape same_blocks;
             untold = subst (λ k. ¬ HasTellingCycle trace k) (sym count) (untold_whole tells_new.told);
             engine_stands = subst (words.stands new.engine) (sym taken ∙ ap (λ k. take k trace) (sym count)) (tells_new.stands refl);
-            engine_keeps = subst (λ k. KeepsFirst words.keeps rules events k new.engine) (sym count) (keeps_next new.engine kept_on);
+            engine_keeps = subst (λ k. KeepsFirst words.keeps rules events k new.engine) (sym count) (keeps_next named new.engine kept_on);
           }
-      judged counted counts (Some t) new same_numbering same_shape same_blocks tells_new kept_on =
-          (counts_next counted counts new same_numbering same_shape same_blocks, told_whole t tells_new.told, keeps_next new.engine kept_on)
+      judged named counted counts (Some t) new same_numbering same_shape same_blocks tells_new kept_on =
+          (counts_next counted counts new same_numbering same_shape same_blocks, told_whole t tells_new.told, keeps_next named new.engine kept_on)
 
 count_below_most : (test : ℕ → Bool) (n : ℕ) → count_below test n ≤ n
 count_below_most test zero = omega arith

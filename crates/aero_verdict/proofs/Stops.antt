@@ -31,7 +31,7 @@ still_in_front [] ys t y at = absurd (cc)
 still_in_front (x ∷ xs) ys zero y at = at
 still_in_front (x ∷ xs) ys (suc t) y at = still_in_front xs ys t y at
 
-still_with : (xs : List (List ℕ)) (name : List ℕ) (t : ℕ) (y : List ℕ) → slice_get xs t ≡ Some y → slice_get (with_name xs name) t ≡ Some y
+pub still_with : (xs : List (List ℕ)) (name : List ℕ) (t : ℕ) (y : List ℕ) → slice_get xs t ≡ Some y → slice_get (with_name xs name) t ≡ Some y
 still_with xs name t y at =
     cond_both (list_any (bytes_eq name) xs) xs (xs ++ name ∷ []) (λ zs. slice_get zs t ≡ Some y) (λ _. at) (λ _. still_in_front xs (name ∷ []) t y at)
 
@@ -84,7 +84,7 @@ module _ {E : Type 0} (words : Words E) (rules : Rules) (parts : List Reading) (
   verdict_at (Closed t) stops verdict tells = subst (IsVerdict parts rules) (sym tells.2) (violation t tells.0 stops tells.1)
 
   -- and which events the engine keeps then
-  pub keeps_at : (stop : Stop) → StopsIn words rules new events n before more line stop → (verdict : Verdict) → TellsStop new line stop verdict → KeepsAt words.keeps rules parts new.engine verdict
-  keeps_at (Refused fault) stops verdict tells = subst (KeepsAt words.keeps rules parts new.engine) (sym tells.1) tt
+  pub keeps_at : (stop : Stop) → StopsIn words rules new events n before more line stop → (verdict : Verdict) → TellsStop new line stop verdict → KeepsAt words.keeps rules parts new verdict
+  keeps_at (Refused fault) stops verdict tells = subst (KeepsAt words.keeps rules parts new) (sym tells.1) tt
   keeps_at (Closed t) stops verdict tells =
-      subst (KeepsAt words.keeps rules parts new.engine) (sym tells.2) (n + stops.index, stops.stops.2.0, stops.line_of, stops.stops.3)
+      subst (KeepsAt words.keeps rules parts new) (sym tells.2) (n + stops.index, stops.stops.2.0, stops.line_of, stops.stops.3, stops.stops.1.names_are ∙ ap (λ k. tables_of (take k (events_of parts rules))) stops.stops.0)

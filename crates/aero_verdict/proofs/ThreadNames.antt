@@ -49,7 +49,7 @@ was f (Some x) y is = record { value = x; here = refl; gives = same_value (f x) 
 pub was_at : {A B : Type 0} (f : A → B) (xs : List A) (k : ℕ) (y : B) → slice_get (map f xs) k ≡ Some y → Was f (slice_get xs k) y
 was_at f xs k y at = was f (slice_get xs k) y (sym (slice_get-map f xs k) ∙ at)
 
-take_again : {A : Type 0} (xs : List A) (m n : ℕ) → m < suc n → take m (take n xs) ≡ take m xs
+pub take_again : {A : Type 0} (xs : List A) (m n : ℕ) → m < suc n → take m (take n xs) ≡ take m xs
 take_again [] zero n less = refl
 take_again [] (suc m) zero less = refl
 take_again [] (suc m) (suc n) less = refl

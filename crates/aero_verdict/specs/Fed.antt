@@ -1,10 +1,12 @@
 -- What a caller sees of a trace that is fed part by part.
-use Rattle.std.specs.Prelude.{◌≡◌, ◌⊎◌, ◌+◌, Bool, true, false, List, ◌++◌, Option}
+use Rattle.std.specs.Prelude.{◌≡◌, ◌↔◌, ◌⊎◌, ◌+◌, Bool, true, false, List, ◌++◌, Option}
+use Rattle.aero_model.specs.declared.verdict.Cycle.{Cycle}
 use Rattle.aero_model.specs.declared.verdict.LineFault.TheVariants.{TooManyLines}
 use Rattle.aero_model.specs.declared.verdict.Verdict.{Verdict}
 use Rattle.aero_model.specs.declared.verdict.Verdict.TheVariants.{Malformed}
 use Rattle.aero_model.specs.Verdicts.{HasOwnFault}
 use Rattle.aero_grammar.specs.Reading.{Reading}
+use Rattle.aero_verdict.specs.Explained.{IsCycleOf}
 use Rattle.aero_verdict.specs.Ordered.{is_faultless}
 use Rattle.aero_verdict.specs.Verdict.{Rules, IsVerdict}
 
@@ -15,11 +17,13 @@ pub record Fed : Type 0 where
   pub certain : Option Verdict
   pub is_spent : Bool
 
--- something is wrong with these parts, and this is the verdict, whatever parts come after them
+-- something is wrong with these parts, and this is the verdict, whatever parts come after them; and what shows it then shows it now, and the other
+-- way round
 pub record IsCertain (parts : List Reading) (rules : Rules) (verdict : Verdict) : Type 0 where
   pub is_verdict : (rest : List Reading) → IsVerdict (parts ++ rest) rules verdict
   pub own_fault : HasOwnFault verdict
   pub wrong : is_faultless verdict ≡ false
+  pub explained : (rest : List Reading) (cycle : Cycle) → IsCycleOf (parts ++ rest) rules verdict cycle ↔ IsCycleOf parts rules verdict cycle
 
 -- nothing is wrong with these parts, but maybe that there is one line too many
 abbrev pub IsOpen : List Reading → Rules → Type 0

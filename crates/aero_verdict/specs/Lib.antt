@@ -15,6 +15,7 @@ pub mod InOrder
 pub mod Recorded
 pub mod Actors
 pub mod Spots
+pub mod Shown
 pub mod Finding
 pub mod Parts
 pub mod Fed

@@ -15,7 +15,7 @@ use Rattle.aero_verdict.specs.Verdict.{Rules, checked_trace}
 -- certain, and the engine keeps the events up to one that closes a cycle; or memory was refused, and nothing is known any more.
 abbrev pub FedSo : {E : Type 0} → Words E → Rules → List Reading → ℕ → Checker E → State → Type 0
 FedSo words rules fed lines checker Undecided = (rest : List Reading) → Stands words rules (fed ++ rest) (length fed) lines checker
-FedSo words rules fed lines checker (Decided verdict) = IsCertain fed rules verdict × ((rest : List Reading) → KeepsAt words.keeps rules (fed ++ rest) checker.engine verdict)
+FedSo words rules fed lines checker (Decided verdict) = IsCertain fed rules verdict × ((rest : List Reading) → KeepsAt words.keeps rules (fed ++ rest) checker verdict)
 FedSo words rules fed lines checker Spent = Unit {0}
 
 -- whether memory was refused
@@ -33,4 +33,4 @@ pub record TellsFed {E : Type 0} (words : Words E) (rules : Rules) (fed : List R
   pub on : IsVerdictOn fed rules verdict
   pub stands_for : is_faultless verdict ≡ true → words.stands checker.engine (checked_trace fed rules)
   pub names : is_faultless verdict ≡ true → NamesAll rules fed checker.numbering
-  pub keeps_at : KeepsAt words.keeps rules fed checker.engine verdict
+  pub keeps_at : KeepsAt words.keeps rules fed checker verdict

@@ -1,5 +1,5 @@
 -- The parts of a trace that were read, one after the other. `words` are those of the checker's engine.
-use Rattle.std.specs.Prelude.{◌≡◌, ℕ, suc, ◌+◌, ◌-◌, ◌≤◌, ◌^◌, min, List, ◌++◌, length, map, drop, slice_get, All, Option, Some, None, option_map}
+use Rattle.std.specs.Prelude.{◌≡◌, ℕ, suc, ◌+◌, ◌-◌, ◌≤◌, ◌^◌, min, List, ◌++◌, length, map, take, drop, slice_get, All, Option, Some, None, option_map}
 use Rattle.aero_model.specs.declared.verdict.Verdict.{Verdict}
 use Rattle.aero_model.specs.declared.verdict.Verdict.TheVariants.{Serializable, Pending, Violation}
 use Rattle.aero_model.specs.Cycle.{IsClosing}
@@ -45,18 +45,22 @@ pub record ComesNext {E : Type 0} (words : Words E) (rules : Rules) (parts : Lis
 abbrev pub IsPartExpected : {E : Type 0} → Words E → Rules → ℕ → Checker E → Reading → Type 0
 IsPartExpected words rules lines checker part = (parts : List Reading) × (k : ℕ) × ComesNext words rules parts k lines checker part
 
--- Which events of the parts the engine keeps at their verdict: where nothing is wrong all that count, where a cycle closes those up to the event that closes it.
-abbrev pub KeepsAt : {E : Type 0} → (E → List Given → Type 0) → Rules → List Reading → E → Verdict → Type 0
-KeepsAt keeps rules parts engine (Serializable events blocks) = KeepsFirst keeps rules (counted_events parts rules) (length (counted_events parts rules)) engine
-KeepsAt keeps rules parts engine (Pending events blocks pending) = KeepsFirst keeps rules (counted_events parts rules) (length (counted_events parts rules)) engine
-KeepsAt keeps rules parts engine (Violation line thread begun) =
-    (place : ℕ) × IsClosing (checked_trace parts rules) place × IsOnLine parts rules place line × KeepsFirst keeps rules (counted_events parts rules) (suc place) engine
-KeepsAt keeps rules parts engine _ = Unit {0}
+-- Which events of the parts the engine keeps at their verdict: where nothing is wrong all that count, where a cycle closes those up to the event that closes it. Then the names are those of these events.
+abbrev pub KeepsAt : {E : Type 0} → (E → List Given → Type 0) → Rules → List Reading → Checker E → Verdict → Type 0
+KeepsAt keeps rules parts checker (Serializable events blocks) = KeepsFirst keeps rules (counted_events parts rules) (length (counted_events parts rules)) checker.engine
+KeepsAt keeps rules parts checker (Pending events blocks pending) = KeepsFirst keeps rules (counted_events parts rules) (length (counted_events parts rules)) checker.engine
+KeepsAt keeps rules parts checker (Violation line thread begun) =
+    (place : ℕ)
+    × IsClosing (checked_trace parts rules) place
+    × IsOnLine parts rules place line
+    × KeepsFirst keeps rules (counted_events parts rules) (suc place) checker.engine
+    × (names_in checker.numbering ≡ tables_of (take (suc place) (events_of parts rules)))
+KeepsAt keeps rules parts checker _ = Unit {0}
 
 -- with the part at place k: nothing is wrong, or this is the verdict on all parts
 abbrev pub TellsPart : {E : Type 0} → Words E → Rules → List Reading → ℕ → ℕ → Checker E → Reading → Option Verdict → Type 0
 TellsPart words rules parts k lines checker part None = Stands words rules parts (k + 1) (min (lines + part.lines) greatest_number) checker
-TellsPart words rules parts k lines checker part (Some verdict) = IsVerdict parts rules verdict × KeepsAt words.keeps rules parts checker.engine verdict
+TellsPart words rules parts k lines checker part (Some verdict) = IsVerdict parts rules verdict × KeepsAt words.keeps rules parts checker verdict
 
 -- The names are those of the events that count, whose actors have one each.
 pub record NamesAll (rules : Rules) (parts : List Reading) (numbering : Numbering) : Type 0 where

@@ -6,14 +6,14 @@ use Rattle.aero_model.specs.declared.verdict.ShapeFault.TheVariants.{Memory}
 use Rattle.aero_model.specs.declared.verdict.Verdict.{Verdict}
 use Rattle.aero_model.specs.declared.verdict.Verdict.TheVariants.{Violation, IllFormed}
 use Rattle.aero_model.specs.Blocks.{Block, opens, blocks, transaction}
-use Rattle.aero_model.specs.Exempt.{Marked, marked_trace, judged_trace, is_exempt}
+use Rattle.aero_model.specs.Exempt.{Marked, marked_trace, judged_trace, is_exempt, label_of}
 use Rattle.aero_model.specs.Named.{Named}
 use Rattle.aero_model.specs.Cycle.{HasTellingCycle}
 use Rattle.aero_model.specs.Numbering.{tables_of, trace_of}
 use Rattle.aero_model.specs.Shape.{IsLawful, fault_at}
 use Rattle.aero_model.specs.BlockCounts.{count_below, is_outer_begin, is_outer_end}
 use Rattle.aero_grammar.specs.Reading.{after_lines}
-use Rattle.aero_grammar.specs.Words.{IsName}
+use Rattle.aero_grammar.specs.Words.{IsName, IsEvent}
 use Rattle.aero_shape.specs.Admission.{admitted_as}
 use Rattle.aero_shape.specs.Standing as shapes
 use Rattle.aero_engine.specs.Judgement.{IsTold}
@@ -41,10 +41,12 @@ marked_in rules events = marked_trace rules.labels (names_of events)
 abbrev pub judged_in : Rules → List (ℕ × Named) → List Numbered
 judged_in rules events = judged_trace (marked_in rules events)
 
--- the event at place i as an engine is given it
+-- the event at place i as an engine is given it, whose names are some
 pub record IsGiven (rules : Rules) (events : List (ℕ × Named)) (i : ℕ) (g : Given) : Type 0 where
   pub line_is : option_map (λ e. e.0) (slice_get events i) ≡ Some g.line
   pub event_is : slice_get (trace_in events) i ≡ Some g.event
+  pub label_is : option_map (λ e. label_of e.1.op e.1.target) (slice_get events i) ≡ Some g.label
+  pub named : (e : ℕ × Named) → slice_get events i ≡ Some e → IsEvent e.1
   pub admitted_is : option_map (admitted_as (take i (judged_in rules events))) (slice_get (judged_in rules events) i) ≡ Some g.admitted
 
 -- the first n events, as an engine is given them

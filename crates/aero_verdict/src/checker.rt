@@ -1,6 +1,10 @@
 //! The events of a trace, one after another, up to the first that is ill-formed or closes a cycle.
-ghost use Rattle.std.specs.Prelude.{◌≡◌, List};
+ghost use Rattle.std.specs.Prelude.{◌≡◌, List, option_copied};
+ghost use Rattle.aero_model.specs.Exempt.{label_of};
+ghost use Rattle.aero_grammar.specs.Tabled.{op_of, target_in};
+ghost use Rattle.aero_engine.specs.Given.{IsLabelGiven};
 ghost use Rattle.aero_verdict.specs.declared.checker.Stop.{Stop};
+ghost use Rattle.aero_verdict.specs.Known.{tables_in, HasLabel};
 
 use crate::blocks::Blocks;
 use crate::known::{BlockNames, Known};
@@ -9,7 +13,7 @@ use aero_engine::engine::Engine;
 use aero_grammar::line_event::LineEvent;
 use aero_model::limits::Limits;
 use aero_model::name::Name;
-use aero_model::numbered::Numbered;
+use aero_model::numbered::{Numbered, What};
 use aero_model::verdict::ShapeFault;
 use aero_shape::shape::Shape;
 use std::alloc::{AllocError, Global};
@@ -33,12 +37,24 @@ pub(crate) struct Checker<E: Engine> {
     blocks: Blocks,
 }
 
+// The label of the event, if it is a begin with one and the engine asks for labels.
+#[inline(always)]
+fn label_given<E: Engine>(block: BlockNames<'_>, what: What) -> Option<&[u8]>
+    requires { HasLabel block.labels.now what }
+    ensures { IsLabelGiven E.ASKS_LABELS (option_copied result) (label_of (op_of what) (target_in (tables_in block.entry) block.entry.labels.now what)) }
+{
+    if E::ASKS_LABELS {
+        return block.label(what);
+    }
+    None
+}
+
 impl<E: Engine> Checker<E> {
     ghost use Rattle.std.specs.Prelude.{◌≡◌, ◌+◌, ◌-◌, ◌≤◌, ◌<◌, ◌^◌, ℕ, List, length, slice_get, All, Some, IsOk, OnOk, OnErr, IfOk, IfErr};
     ghost use Rattle.aero_model.specs.Exempt.{Listed};
     ghost use Rattle.aero_model.specs.Named.{Named};
     ghost use Rattle.aero_model.specs.Names.{most_inline_bytes};
-    ghost use Rattle.aero_grammar.specs.Words.{IsName};
+    ghost use Rattle.aero_grammar.specs.Words.{IsName, IsEvent};
     ghost use Rattle.aero_engine.specs.Given.{words_of};
     ghost use Rattle.aero_verdict.specs.Begun.{begin_line};
     ghost use Rattle.aero_verdict.specs.Standing.{StandsFor, IsNext, IsExpected, Refuses, Judged, up_to, AreNext, AreExpected, StopsIn};
@@ -126,6 +142,8 @@ impl<E: Engine> Checker<E> {
     ) -> Result<Option<u32>, ShapeFault>
         requires next { IsExpected (words_of E.stands_for E.keeps) self.old (line, named_in (tables_in block) block.labels.now event) (is_told_exempt block.exempt.now event.what) }
         requires known { Knows self.old.numbering (tables_in block) known.old }
+        requires labelled { HasLabel block.labels.now event.what }
+        requires named { IsEvent (named_in (tables_in block) block.labels.now event) }
         ensures counted { OnOk result (self.new.shape.admitted ≡ self.old.shape.admitted + 1) }
         ensures judged { IfOk result (λ told. (rules : Rules) (events : List (ℕ × Named)) →
             IsNext (words_of E.stands_for E.keeps) rules self.old events (line, named_in (tables_in block.entry) block.entry.labels.now event) (is_told_exempt block.entry.exempt.now event.what) →
@@ -140,7 +158,8 @@ impl<E: Engine> Checker<E> {
         if self.blocks.count(admitted, numbered.thread, line).is_err() {
             return Err(ShapeFault::Memory);
         }
-        match self.engine.judge(line, &numbered, admitted) {
+        let label = label_given::<E>(block, event.what);
+        match self.engine.judge(line, &numbered, admitted, label) {
             Ok(told) => Ok(told),
             Err(_) => Err(ShapeFault::Memory),
         }
@@ -159,6 +178,7 @@ impl<E: Engine> Checker<E> {
     ) -> Result<(), (u32, Stop)>
         requires next { AreExpected (words_of E.stands_for E.keeps) self.old block.labels.now block.exempt.now before (up_to most (lines_in (tables_in block) block.labels.now events.now)) }
         requires labelled { All (λ e. HasLabel block.labels.now e.1.what) events.now }
+        requires named { All (λ e. IsEvent (named_in (tables_in block) block.labels.now e.1)) events.now }
         requires lines { before + most < 2 ^ 32 }
         ensures counted { OnOk result (self.new.shape.admitted ≡ self.old.shape.admitted + length (up_to most (lines_in (tables_in block.entry) block.entry.labels.now events.now))) }
         ensures kept { OnOk result ((rules : Rules) (all : List (ℕ × Named)) →

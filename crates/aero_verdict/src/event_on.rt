@@ -1,4 +1,4 @@
-//! The event on a line, with names of its own.
+//! The words of an event of a part, and an event with these words.
 ghost use Rattle.std.specs.Prelude.{◌≡◌, ◌<◌, length, option_copied, Some, IfOk, IfSome};
 ghost use Rattle.aero_grammar.specs.Reading.{whole_reading};
 ghost use Rattle.aero_grammar.specs.Tabled.{name_at, op_of as op_in, target_in};
@@ -32,33 +32,8 @@ struct NameTables<'a> {
     labels: &'a NameList,
 }
 
-/// The event on this line by its names, whatever the limits, if there is one. Lines count from 1 through
-/// all parts, and what follows a part with a fault is ignored. An `AllocError` says that memory was
-/// refused to a name of more than 16 bytes.
-pub(crate) fn event_on(
-    alloc: Global,
-    parts: &[Parsed],
-    line: u32,
-) -> Result<Option<Event>, AllocError>
-    ensures { IfOk result (λ event. event ≡ named_on line (whole_reading parts.now).events) }
-{
-    match spot_on(parts, line) {
-        Some(spot) => event_of(alloc, spot.part, spot.place).map(Some),
-        None => Ok(None),
-    }
-}
-
-/// The event at this place of the part by its names. An `AllocError` says that memory was refused to a
-/// name of more than 16 bytes.
-pub(crate) fn event_of(alloc: Global, part: &Parsed, place: usize) -> Result<Event, AllocError>
-    requires { place < length part.now.events }
-    ensures { IfOk result (λ event. named_at part.now place ≡ Some event) }
-{
-    event_named(alloc, words_at(part, place))
-}
-
 // The event with these words.
-fn event_named(alloc: Global, words: EventWords<'_>) -> Result<Event, AllocError>
+pub(crate) fn event_named(alloc: Global, words: EventWords<'_>) -> Result<Event, AllocError>
     requires { IsEvent (named_words words) }
     ensures { IfOk result (λ event. event ≡ named_words words.entry) }
 {

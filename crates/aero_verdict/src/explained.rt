@@ -1,21 +1,21 @@
 //! The telling cycle that shows a violation, event by event.
-ghost use Rattle.std.specs.Prelude.{◌≡◌, ◌++◌, ◌<◌, ◌^◌, ℕ, List, All, Some, length, slice_get, flat_map, option_map, IfOk, OnOk, IsSome};
+ghost use Rattle.std.specs.Prelude.{◌≡◌, ◌++◌, ◌<◌, ◌^◌, ℕ, List, All, Some, length, slice_get, flat_map, IfOk, OnOk};
 ghost use Rattle.std.specs.List.{AllZip};
+ghost use Rattle.aero_grammar.specs.Reading.{Reading};
 ghost use Rattle.aero_model.specs.Verdicts.{HasOwnFault};
-ghost use Rattle.aero_grammar.specs.Reading.{IsReading, whole_reading};
-ghost use Rattle.aero_verdict.specs.Actors.{named_on};
 ghost use Rattle.aero_witness.specs.Telling.{visit_of, visits_of};
 ghost use Rattle.aero_verdict.specs.Explained.{TellsExplained, visit_places, IsExplained};
-ghost use Rattle.aero_verdict.specs.Records.{IsRecord, IsRecordOf, CanBeShown, IsStepAt, round_of};
+ghost use Rattle.aero_verdict.specs.Records.{IsRecord, IsRecordOf, AreShown, CanBeShown, IsEventAt, IsStepAt, round_of};
 ghost use Rattle.aero_verdict.specs.Verdict.{Rules, under};
 
-use crate::event_on::event_on;
 use crate::monitor::{Monitor, feed_all};
+use crate::numbering::Numbering;
 use crate::recorder::Recorder;
+use crate::shown::event_shown;
 use aero_grammar::parsed::Parsed;
+use aero_model::event::Event;
 use aero_model::except::Except;
 use aero_model::limits::Limits;
-use aero_model::name::Name;
 use aero_model::verdict::{Cycle, CycleStep, Verdict};
 use aero_witness::search::shortest_of;
 use aero_witness::visit::Visit;
@@ -25,7 +25,7 @@ use std::alloc::{AllocError, Global};
 /// the block comes with it that the verdict names, if it has one, and the events of a telling cycle that begins there,
 /// in the order in which it is gone round: from the one by which the block is left to the one by which it is entered
 /// again. None that begins there goes through fewer transactions. The events are gathered for it while they are judged,
-/// in 20 bytes each, until one closes a cycle.
+/// in 24 bytes each, until one closes a cycle, and the labels of their begins.
 ///
 /// An `AllocError` says that memory was refused.
 pub fn check_trace_explained(
@@ -37,64 +37,57 @@ pub fn check_trace_explained(
     ensures told { IfOk result (λ told. TellsExplained parts.now (under limits.now except.now) told.0 told.1) }
     ensures own_fault { IfOk result (λ told. HasOwnFault told.0) }
 {
-    are_readings(parts);
     let mut monitor = Monitor::<Recorder>::new(alloc, limits, except);
     feed_all(&mut monitor, parts, except);
-    let (verdict, checker) = monitor.into_verdict();
-    let verdict = verdict?;
-    let begun = match &verdict {
-        Verdict::Violation { begun, .. } => *begun,
-        _ => return Ok((verdict, None)),
-    };
-    let (_names, recorder) = checker.into_parts();
-    let cycle = cycle_of(alloc, parts, &recorder, begun)?;
-    Ok((verdict, Some(cycle)))
+    monitor.finish_explained()
+}
+
+impl Monitor<Recorder> {
+    ghost use Rattle.std.specs.Prelude.{IfOk};
+    ghost use Rattle.aero_model.specs.Verdicts.{HasOwnFault};
+    ghost use Rattle.aero_verdict.specs.Explained.{TellsExplained};
+
+    /// The verdict on exactly the parts that were fed. Where it is a `Violation`, what shows it comes with it, though
+    /// no part was kept: the label of the block that the verdict names, and the events of a telling cycle.
+    ///
+    /// An `AllocError` says that memory was refused.
+    pub fn finish_explained(self) -> Result<(Verdict, Option<Cycle>), AllocError>
+        ensures told { IfOk result (λ told. TellsExplained self.parts self.rules told.0 told.1) }
+        ensures own_fault { IfOk result (λ told. HasOwnFault told.0) }
+    {
+        let alloc = self.alloc;
+        let (verdict, checker) = self.into_verdict();
+        let verdict = verdict?;
+        let begun = match &verdict {
+            Verdict::Violation { begun, .. } => *begun,
+            _ => return Ok((verdict, None)),
+        };
+        let (names, recorder) = checker.into_parts();
+        let cycle = cycle_of(alloc, &names, &recorder, begun)?;
+        Ok((verdict, Some(cycle)))
+    }
 }
 
 // A shortest cycle that begins in the block that begins on this line.
 fn cycle_of(
     alloc: Global,
-    parts: &[Parsed],
+    names: &Numbering,
     recorder: &Recorder,
     begun: u32,
 ) -> Result<Cycle, AllocError>
-    requires readings { All IsReading parts.now }
-    requires recorded { IsRecord parts.now recorder.now begun }
-    ensures { (rules : Rules) (line : ℕ) (thread : List ℕ) → IsRecordOf parts.now rules recorder.now line thread begun → IfOk result (IsExplained parts.now rules line thread begun) }
+    requires { IsRecord names.now recorder.now begun }
+    ensures { (parts : List Reading) (rules : Rules) (line : ℕ) (thread : List ℕ) → IsRecordOf parts rules names.now recorder.now line thread begun → IfOk result (IsExplained parts rules line thread begun) }
 {
     let begin = place_of(&recorder.lines, begun);
     let shortest = shortest_of(alloc, &recorder.events, begin)?;
     let places = round_of(alloc, &shortest.visits)?;
     let firsts = &shortest.transactions.firsts;
-    let steps = steps_at(alloc, parts, &recorder.lines, firsts, &places)?;
-    let label = label_on(alloc, parts, begun)?;
-    Ok(Cycle { label, steps })
-}
-
-// The label of the event on this line, if it has one.
-fn label_on(alloc: Global, parts: &[Parsed], line: u32) -> Result<Option<Name>, AllocError>
-    requires { IsSome (named_on line (whole_reading parts.now).events) }
-    ensures { IfOk result (λ label. option_map (λ e. e.target) (named_on line (whole_reading parts.now).events) ≡ Some label) }
-{
-    match event_on(alloc, parts, line)? {
-        Some(event) => Ok(event.target),
-        None => unreachable!(),
-    }
-}
-
-// That each part is a reading, which is known of one part at a time.
-fn are_readings(parts: &[Parsed])
-    ensures { All IsReading parts.now }
-{
-    for part in parts {
-        is_reading(part);
-    }
-}
-
-fn is_reading(part: &Parsed)
-    ensures { IsReading part.now }
-{
-    let _lines = part.lines;
+    let steps = steps_at(alloc, names, recorder, firsts, &places)?;
+    let opener = event_at(alloc, names, recorder, begin)?;
+    Ok(Cycle {
+        label: opener.target,
+        steps,
+    })
 }
 
 // The place of the line.
@@ -144,40 +137,57 @@ fn append_visit(places: &mut Vec<u32>, visit: Visit) -> Result<(), AllocError>
     Ok(())
 }
 
-// The events at these places, where these are the lines and the first places of transactions.
+// The events at these places, where these are the first places of transactions.
 fn steps_at(
     alloc: Global,
-    parts: &[Parsed],
-    lines: &[u32],
+    names: &Numbering,
+    recorder: &Recorder,
     firsts: &[u32],
     places: &[u32],
 ) -> Result<Vec<CycleStep>, AllocError>
-    requires shown { CanBeShown parts.now lines.now firsts.now }
-    requires within { All (λ place. place < length lines.now) places.now }
-    ensures { IfOk result (λ steps. AllZip (IsStepAt parts.now lines.now firsts.now) places.now steps.items) }
+    requires shown { CanBeShown names.now recorder.now firsts.now }
+    requires within { All (λ place. place < length recorder.now.events.items) places.now }
+    ensures { IfOk result (λ steps. AllZip (IsStepAt names.now recorder.now firsts.now) places.now steps.items) }
 {
     let mut steps = Vec::with_capacity(alloc, places.len())?;
     for place in places {
-        steps.push(step_at(alloc, parts, lines, firsts, *place)?)?;
+        steps.push(step_at(alloc, names, recorder, firsts, *place)?)?;
     }
     Ok(steps)
 }
 
 fn step_at(
     alloc: Global,
-    parts: &[Parsed],
-    lines: &[u32],
+    names: &Numbering,
+    recorder: &Recorder,
     firsts: &[u32],
     place: u32,
 ) -> Result<CycleStep, AllocError>
-    requires shown { CanBeShown parts.now lines.now firsts.now }
-    requires within { place < length lines.now }
-    ensures { IfOk result (λ step. IsStepAt parts.now lines.now firsts.now place step) }
+    requires shown { CanBeShown names.now recorder.now firsts.now }
+    requires within { place < length recorder.now.events.items }
+    ensures { IfOk result (λ step. IsStepAt names.now recorder.now firsts.now place step) }
 {
+    let lines = recorder.lines.as_slice();
     let line = lines[place as usize];
     let first = lines[firsts[place as usize] as usize];
-    match event_on(alloc, parts, line)? {
-        Some(event) => Ok(CycleStep { line, first, event }),
-        None => unreachable!(),
-    }
+    let event = event_at(alloc, names, recorder, place)?;
+    Ok(CycleStep { line, first, event })
+}
+
+// The event at this place.
+fn event_at(
+    alloc: Global,
+    names: &Numbering,
+    recorder: &Recorder,
+    place: u32,
+) -> Result<Event, AllocError>
+    requires shown { AreShown names.now recorder.now }
+    requires within { place < length recorder.now.events.items }
+    ensures { IfOk result (IsEventAt names.now recorder.now place) }
+{
+    let events = recorder.events.as_slice();
+    let codes = recorder.said.as_slice();
+    let event = events[place as usize];
+    let code = codes[place as usize];
+    event_shown(alloc, names, &recorder.labels, event, code)
 }

@@ -1,5 +1,5 @@
 //! First places as an engine that also gathers the transactions, for their serial order.
-ghost use Rattle.std.specs.Prelude.{◌≡◌, ◌++◌, ◌∷◌, [], List, length, IfOk, OnOk};
+ghost use Rattle.std.specs.Prelude.{◌≡◌, ◌++◌, ◌∷◌, [], ℕ, List, length, Option, IfOk, OnOk};
 ghost use Rattle.aero_model.specs.declared.numbered.Numbered.{Numbered};
 ghost use Rattle.aero_model.specs.Exempt.{IsJudgedAs};
 ghost use Rattle.aero_engine.specs.Given.{Given};
@@ -38,9 +38,15 @@ impl InOrder {
 }
 
 impl Engine for InOrder {
+    ghost use Rattle.std.specs.Prelude.{false};
+
     ghost stands_for = { StandsForBoth };
 
     ghost keeps = { KeepsInOrder };
+
+    const ASKS_LABELS: bool = false;
+
+    ghost ASKS_LABELS = { false };
 
     fn new(alloc: Global) -> InOrder {
         InOrder {
@@ -54,6 +60,7 @@ impl Engine for InOrder {
         line: u32,
         event: &Numbered,
         admitted: Admitted,
+        _label: Option<&[u8]>,
     ) -> Result<Option<u32>, Spent> {
         judge(self, line, event, admitted)
     }
@@ -69,7 +76,7 @@ fn judge(
 ) -> Result<Option<u32>, Spent>
     requires { IsAdmitted (StandsForBoth both.old) event.now admitted }
     ensures told { (h : List Numbered) (judged : Numbered) → IsJudgedAs event.now judged → ComesAfter (StandsForBoth both.old) h judged admitted → IfOk result (Tells (StandsForBoth both.new) (h ++ judged ∷ []) (length h)) }
-    ensures kept { OnOk result ((given : List Given) → KeepsInOrder both.old given → KeepsInOrder both.new (given ++ record { line = line; event = event.now; admitted = admitted } ∷ [])) }
+    ensures kept { OnOk result ((given : List Given) (label : Option (List ℕ)) → KeepsInOrder both.old given → KeepsInOrder both.new (given ++ record { line = line; event = event.now; admitted = admitted; label = label } ∷ [])) }
 {
     let inside = both.leads.in_block(event.thread);
     let told = by_kind::judge(&mut both.leads, event, admitted)?;

@@ -30,9 +30,11 @@ pub(crate) struct BlockNames<'a> {
     pub exempt: &'a Exemptions,
 }
 
-impl BlockNames<'_> {
-    ghost use Rattle.std.specs.Prelude.{◌≡◌};
-    ghost use Rattle.aero_verdict.specs.Known.{is_told_exempt};
+impl<'a> BlockNames<'a> {
+    ghost use Rattle.std.specs.Prelude.{◌≡◌, option_copied};
+    ghost use Rattle.aero_model.specs.Exempt.{label_of};
+    ghost use Rattle.aero_grammar.specs.Tabled.{op_of, target_in};
+    ghost use Rattle.aero_verdict.specs.Known.{tables_in, is_told_exempt, HasLabel};
 
     // Whether the operation is the begin of a block that is no transaction.
     #[inline(always)]
@@ -43,6 +45,18 @@ impl BlockNames<'_> {
             What::Begin(Some(label)) => self.exempt.labels.get(label as usize) == Some(&true),
             What::Begin(None) => self.exempt.unlabelled,
             _ => false,
+        }
+    }
+
+    // The label of the begin, if it is one and has a label.
+    #[inline(always)]
+    pub(crate) fn label(self, what: What) -> Option<&'a [u8]>
+        requires { HasLabel self.labels.now what }
+        ensures { option_copied result ≡ label_of (op_of what) (target_in (tables_in self.entry) self.entry.labels.now what) }
+    {
+        match what {
+            What::Begin(Some(label)) => self.labels.name(label),
+            _ => None,
         }
     }
 }

@@ -22,7 +22,8 @@
 //!   want of memory. By `check_trace`, and by any engine `check_trace_by`: `verdict`, `own_fault`.
 //! - The same of a trace that comes part by part. A `Monitor` has exactly the rules that it was made with and the parts
 //!   that it was fed, in that order: `Monitor::new`, `rules`, `none`; `feed`, `rules`, `fed`.
-//! - `feed` answers whether the verdict is certain: then something is wrong, and the verdict is this whatever follows.
+//! - `feed` answers whether the verdict is certain: then something is wrong, and the verdict is this whatever follows, and
+//!   what shows a violation is the same.
 //!   It stays certain, also where memory is refused. Else nothing is wrong yet, but for one line too many at most:
 //!   `told`, `certain`, `going_on`, `stays`.
 //! - `certain` gives that verdict, if there is one: `same`, `certain`.
@@ -35,15 +36,17 @@
 //! - A monitor of `InOrder` gives at its end the verdict on what it was fed, and exactly where it is `Serializable` the
 //!   transactions in the serial order, though no part was kept. Each is told by the line and the thread of its first
 //!   event: `Monitor::finish_in_order`, `told`, `own_fault`. `check_trace_in_order` gives the same of parts at once.
-//! - `check_trace_explained` gives the verdict, and exactly where it is a violation the label of the block that it names
-//!   and the events of a telling cycle. It is one of the events up to the closing one, begins in that block, and none
-//!   from there has fewer visits. Each event comes with its line and that of the first event of its transaction: `told`,
-//!   `own_fault`.
+//! - A monitor of `Recorder` gives at its end the verdict on what it was fed, and exactly where it is a violation the label
+//!   of the block that it names and the events of a telling cycle, though no part was kept. It is one of the events up to
+//!   the closing one, begins in that block, and none from there has fewer visits. Each event comes with its line and that
+//!   of the first event of its transaction:
+//!   `Monitor::finish_explained`, `told`, `own_fault`. `check_trace_explained` gives the same of parts at once.
 //! - The actor of the event on a line is answered, whatever the limits, if there is one: `actor_at`.
-//! - `InOrder`, first places with the transactions, and `Recorder` (private), with the events, are engines too: of the
+//! - `InOrder`, first places with the transactions, and `Recorder`, with the events, are engines too: of the
 //!   events that each is given it tells what the definitions say. By `Engine::judge`, `told`.
 //! - They keep something of each event that they are given, also of the one that closes a cycle: `InOrder` the line and
-//!   the thread of each transaction's first event, `Recorder` each event with its line. By `Engine::judge`, `kept`.
+//!   the thread of each transaction's first event, `Recorder` each event with its line and its label. By `Engine::judge`,
+//!   `kept`.
 //! - All parts have exactly one verdict. `Serializable` means that there is no cycle at all, a violation that there is
 //!   one, and with open blocks each cycle passes two of them: `laws`.
 #![tactic(auto)]
@@ -63,8 +66,9 @@ pub mod monitor;
 mod named;
 mod numbering;
 mod on_line;
-mod recorder;
+pub mod recorder;
 mod serial;
+mod shown;
 
 pub use actor::actor_at;
 pub use aero_engine::engine;

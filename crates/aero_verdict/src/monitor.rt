@@ -48,9 +48,9 @@
 //! let is_certain = monitor.certain().is_some();
 //! let verdict = monitor.finish()?;
 //! ```
-ghost use Rattle.std.specs.Prelude.{◌≡◌, ◌+◌, ◌++◌, ◌∷◌, [], ◌<◌, ◌↔◌, ℕ, List, true, false, is_some, Some, Ok, IsTrue, IfOk, IfSome, OnErr, option_map};
+ghost use Rattle.std.specs.Prelude.{◌≡◌, ◌+◌, ◌++◌, ◌∷◌, [], ◌<◌, ◌≤◌, ◌↔◌, ℕ, List, All, true, false, is_some, Some, Ok, IsTrue, IfOk, IfSome, OnErr, option_map};
 ghost use Rattle.aero_model.specs.Exempt.{Listed};
-ghost use Rattle.aero_grammar.specs.Reading.{Reading};
+ghost use Rattle.aero_grammar.specs.Reading.{Reading, IsReading};
 ghost use Rattle.aero_model.specs.Verdicts.{HasOwnFault};
 ghost use Rattle.aero_engine.specs.Given.{words_of};
 ghost use Rattle.aero_verdict.specs.declared.monitor.State.TheVariants.{Undecided};
@@ -114,7 +114,10 @@ impl<E: Engine> Model for Monitor<E> {
       is_spent = is_spent m.state;
     } };
 
-    ghost invariant = { λ m. FedSo (words_of E.stands_for E.keeps) (under m.limits m.fed.labels) m.fed.parts m.lines m.checker m.state };
+    ghost use Rattle.std.specs.Prelude.{All};
+    ghost use Rattle.aero_grammar.specs.Reading.{IsReading};
+
+    ghost invariant = { λ m. record { so : FedSo (words_of E.stands_for E.keeps) (under m.limits m.fed.labels) m.fed.parts m.lines m.checker m.state; readings : All IsReading m.fed.parts } };
 }
 
 impl<E: Engine> Monitor<E> {
@@ -153,6 +156,7 @@ impl<E: Engine> Monitor<E> {
         ensures spent { OnErr result (self.new.is_spent ≡ true) }
         ensures stays_spent { self.old.is_spent ≡ true → self.new.is_spent ≡ true }
     {
+        is_reading(part);
         self.fed = GhostParts::with(&self.fed, part);
         if !is_undecided(&self.state) {
             return is_told(&self.state);
@@ -198,6 +202,8 @@ impl<E: Engine> Monitor<E> {
     // The same, with the checker.
     pub(crate) fn into_verdict(self) -> (Result<Verdict, AllocError>, Checker<E>)
         ensures tells { IfOk result.0 (TellsFed (words_of E.stands_for E.keeps) self.rules self.parts result.1) }
+        ensures readings { All IsReading self.parts }
+        ensures few { self.rules.limits.lines ≤ 4000000000 }
         ensures spent { OnErr result.0 (self.is_spent ≡ true) }
     {
         let Monitor {
@@ -211,6 +217,13 @@ impl<E: Engine> Monitor<E> {
         let verdict = verdict_of(&checker, lines, &limits, state);
         (verdict, checker)
     }
+}
+
+// That a part is a reading, which is known of one part at a time.
+fn is_reading(part: &Parsed)
+    ensures { IsReading part.now }
+{
+    let _lines = part.lines;
 }
 
 fn is_undecided(state: &State) -> bool

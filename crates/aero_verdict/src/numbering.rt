@@ -12,9 +12,9 @@ use std::alloc::{AllocError, Global};
 // The names of the events so far.
 #[derive(Drop)]
 pub(crate) struct Numbering {
-    threads: Names,
-    variables: Names,
-    locks: Names,
+    pub threads: Names,
+    pub variables: Names,
+    pub locks: Names,
 }
 
 impl Numbering {

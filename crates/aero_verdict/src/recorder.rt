@@ -1,38 +1,50 @@
 //! First places as an engine that also records the events that it is given, for the cycle that closes with one.
-ghost use Rattle.std.specs.Prelude.{◌≡◌, ◌++◌, ◌∷◌, [], List, length, IfOk, OnOk};
+ghost use Rattle.std.specs.Prelude.{◌≡◌, ◌++◌, ◌∷◌, [], ℕ, List, length, Option, option_copied, IfOk, OnOk};
 ghost use Rattle.aero_model.specs.declared.numbered.Numbered.{Numbered};
 ghost use Rattle.aero_model.specs.Exempt.{IsJudgedAs};
 ghost use Rattle.aero_engine.specs.Given.{Given};
 ghost use Rattle.aero_engine.specs.Judging.{IsAdmitted, ComesAfter, Tells};
-ghost use Rattle.aero_verdict.specs.Recorded.{inner_what, recorded_what, HasRecorded, StandsForLeads};
+ghost use Rattle.aero_verdict.specs.Recorded.{inner_what, recorded_what, IsLabelSaid, IsSaid, HasStill, HasRecorded, StandsForLeads};
 
 use aero_engine::by_kind;
 use aero_engine::engine::Engine;
 use aero_engine::spent::Spent;
 use aero_leads::leads::Leads;
 use aero_model::numbered::{Numbered, What};
+use aero_names::names::Names;
 use aero_shape::admission::Admitted;
 use std::alloc::{AllocError, Global};
 
-// What judges the events, and what they are and on which lines. Of their begins and ends the outermost ones alone are
-// recorded as such, the others as exempt.
+/// What judges the events, by first places, and what records them with their lines. Of their begins and ends the outermost
+/// ones alone are recorded as such, the others as exempt. So a code says of each event whether it is a begin, and with
+/// which label.
 #[derive(Drop)]
-pub(crate) struct Recorder {
+pub struct Recorder {
     leads: Leads,
-    pub events: Vec<Numbered>,
-    pub lines: Vec<u32>,
+    pub(crate) events: Vec<Numbered>,
+    pub(crate) lines: Vec<u32>,
+    pub(crate) said: Vec<u32>,
+    pub(crate) labels: Names,
 }
 
 impl Engine for Recorder {
+    ghost use Rattle.std.specs.Prelude.{true};
+
     ghost stands_for = { StandsForLeads };
 
     ghost keeps = { HasRecorded };
+
+    const ASKS_LABELS: bool = true;
+
+    ghost ASKS_LABELS = { true };
 
     fn new(alloc: Global) -> Recorder {
         Recorder {
             leads: Leads::new(alloc),
             events: Vec::new(alloc),
             lines: Vec::new(alloc),
+            said: Vec::new(alloc),
+            labels: Names::new(alloc, u32::MAX),
         }
     }
 
@@ -41,8 +53,9 @@ impl Engine for Recorder {
         line: u32,
         event: &Numbered,
         admitted: Admitted,
+        label: Option<&[u8]>,
     ) -> Result<Option<u32>, Spent> {
-        judge(self, line, event, admitted)
+        judge(self, line, event, admitted, label)
     }
 }
 
@@ -52,11 +65,12 @@ fn judge(
     line: u32,
     event: &Numbered,
     admitted: Admitted,
+    label: Option<&[u8]>,
 ) -> Result<Option<u32>, Spent>
     requires { IsAdmitted (StandsForLeads recorder.old) event.now admitted }
     ensures told { (h : List Numbered) (judged : Numbered) → IsJudgedAs event.now judged → ComesAfter (StandsForLeads recorder.old) h judged admitted →
         IfOk result (Tells (StandsForLeads recorder.new) (h ++ judged ∷ []) (length h)) }
-    ensures kept { OnOk result ((given : List Given) → HasRecorded recorder.old given → HasRecorded recorder.new (given ++ record { line = line; event = event.now; admitted = admitted } ∷ [])) }
+    ensures kept { OnOk result ((given : List Given) (named : Option (List ℕ)) → option_copied label.entry ≡ named → HasRecorded recorder.old given → HasRecorded recorder.new (given ++ record { line = line; event = event.now; admitted = admitted; label = named } ∷ [])) }
 {
     let what = recorded_what(admitted, event.what);
     push(
@@ -65,6 +79,8 @@ fn judge(
         line,
         Numbered { what, ..*event },
     )?;
+    let code = code_of(&mut recorder.labels, event.what, label)?;
+    push_code(&mut recorder.said, code)?;
     by_kind::judge(&mut recorder.leads, event, admitted)
 }
 
@@ -80,6 +96,13 @@ fn push(
 {
     events.push(event)?;
     lines.push(line)?;
+    Ok(())
+}
+
+fn push_code(said: &mut Vec<u32>, code: u32) -> Result<(), AllocError>
+    ensures { OnOk result (said.new.items ≡ said.old.items ++ code ∷ []) }
+{
+    said.push(code)?;
     Ok(())
 }
 
@@ -100,5 +123,30 @@ fn inner_what(what: What) -> What
     match what {
         What::Begin(_) | What::End => What::Exempt,
         what => what,
+    }
+}
+
+// The code of an event: 0, or of a begin 1 where it has no label, and 2 more than the label's number where it has one. New
+// labels get the next number.
+fn code_of(labels: &mut Names, what: What, label: Option<&[u8]>) -> Result<u32, AllocError>
+    ensures said { IfOk result (IsSaid labels.new.names what (option_copied label.entry)) }
+    ensures still { OnOk result (HasStill labels.old.names labels.new.names) }
+{
+    match what {
+        What::Begin(_) => code_of_begin(labels, label),
+        _ => Ok(0),
+    }
+}
+
+fn code_of_begin(labels: &mut Names, label: Option<&[u8]>) -> Result<u32, AllocError>
+    ensures said { IfOk result (IsLabelSaid labels.new.names (option_copied label.entry)) }
+    ensures still { OnOk result (HasStill labels.old.names labels.new.names) }
+{
+    let Some(bytes) = label else {
+        return Ok(1);
+    };
+    match labels.number_of_bytes(bytes) {
+        Ok(number) => number.checked_add(2).ok_or(AllocError),
+        Err(_) => Err(AllocError),
     }
 }

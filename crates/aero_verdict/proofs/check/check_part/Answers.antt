@@ -1,13 +1,16 @@
-use Rattle.std.proofs.Common.{ℕ, List, Some, sym, ◌∙◌, ap, subst}
+use Rattle.std.proofs.Common.{ℕ, List, Some, get_or, sym, ◌∙◌, ap, subst}
+use Rattle.std.proofs.lemmas.Option.{slice_get-get_or}
 use Rattle.std.specs.Prelude.{All}
 use Rattle.aero_grammar.specs.Reading.{Reading, fault_within}
-use Rattle.aero_grammar.specs.Tabled.{lines_in}
+use Rattle.aero_grammar.specs.Tabled.{named_in, lines_in}
+use Rattle.aero_grammar.specs.Words.{IsEvent}
 use Rattle.aero_model.specs.Numbering.{Tables}
 use Rattle.aero_model.specs.declared.numbered.Numbered.{Numbered}
 use Rattle.aero_engine.specs.Given.{words_of}
 use Rattle.aero_verdict.specs.Known.{HasLabel}
 use Rattle.aero_verdict.specs.Standing.{HasNamedActor}
 use Rattle.aero_verdict.specs.Verdict.{under}
+use Rattle.aero_verdict.proofs.BlockEvents.{thread_within, target_within, is_event}
 use Rattle.aero_verdict.proofs.KnownLabels.{labels_known}
 use Rattle.aero_verdict.proofs.Parts.{part_expected, part_can_be_told, part_stopped, part_malformed, part_passed}
 use Rattle.aero_verdict.proofs.ThreadNames.{actors_named}
@@ -62,3 +65,15 @@ returns-clause-told g c = λ parts k next.
           (λ all_lines. ap (λ n. fault_within c.args.limits.now.lines all_lines (Some (n, c.in-Some.fault))) (sym c.saturating_add.ensures) ∙ c.malformed_line-line.ensures.told all_lines),
       tt,
     )
+
+pub admit_all-requires-clause-named : goal.admit_all-requires-clause-named
+admit_all-requires-clause-named g c =
+    let t : Tables = record { threads = c.part.inside.threads; variables = c.part.inside.variables; locks = c.part.inside.locks } in
+    let labels = c.part.inside.labels in
+    let all = c.part.inside.events.items in
+    let named : All (λ (e : ℕ × Numbered). IsEvent (named_in t labels e.1)) all =
+    λ k d less.
+    (let e = get_or all k d in
+    let at = slice_get-get_or all k d less in
+    is_event t labels c.part.invariant.names e.1 (thread_within t labels all c.part.invariant.tabled k e at) (target_within t labels all c.part.invariant.tabled k e at)) in
+    subst (λ (items : List (ℕ × Numbered)). All (λ e. IsEvent (named_in t labels e.1)) items) (sym c.deref.ensures.value) named

@@ -7,7 +7,7 @@ use Rattle.aero_verdict.proofs.explained.steps_at.Goals as goal
 
 pub loop-place-preserved : goal.loop-place-preserved
 loop-place-preserved c =
-    let R = IsStepAt c.args.parts.now c.args.lines.now c.args.firsts.now in
+    let R = IsStepAt c.args.names.now c.args.recorder.now c.args.firsts.now in
     let places = c.args.places.now in
     let i = c.loop-place.place-index in
     let at = slice_get-get_or places i 0 c.loop-place-test.true in

@@ -5,4 +5,4 @@ use Rattle.aero_verdict.proofs.explained.steps_at.Given as goal
 
 -- the events at the places so far
 abbrev pub invariant-loop-place : goal.invariant-loop-place
-invariant-loop-place l = AllZip (IsStepAt l.parts l.lines l.firsts) (take l.place-index l.places) l.steps.items
+invariant-loop-place l = AllZip (IsStepAt l.names l.recorder l.firsts) (take l.place-index l.places) l.steps.items

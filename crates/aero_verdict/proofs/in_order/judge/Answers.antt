@@ -28,6 +28,6 @@ returns-clause-told c = λ h judged judges after.
     }
 
 pub returns-clause-kept : goal.returns-clause-kept
-returns-clause-kept c = λ given keeps.
-    let g : Given = record { line = c.args.line; event = c.args.event.now; admitted = c.args.admitted } in
+returns-clause-kept c = λ given label keeps.
+    let g : Given = record { line = c.args.line; event = c.args.event.now; admitted = c.args.admitted; label = label } in
     subst (orders.KeepsCame c.add.new.self) (sym (map-append came_of given (g ∷ []))) (c.in_ok-add.ensures.kept (map came_of given) keeps)

@@ -8,5 +8,5 @@ use Rattle.aero_intake.proofs.live.Live.is_certain.Goals as goal
 pub returns-clause-certain : goal.returns-clause-certain
 returns-clause-certain c =
     let judged : Watched = watched_by c.self.inside.judge in
-    subst (λ (w : Watched). IfSome w.certain (IsCertain w.parts w.rules)) c.self.view_is
-    (certain_longer judged.parts c.self.inside.waiting.items judged.rules judged.certain c.is_certain.ensures.certain)
+    subst (λ (w : Watched). IfSome w.certain (IsCertain w.parts w.terms.rules)) c.self.view_is
+    (certain_longer judged.parts c.self.inside.waiting.items judged.terms.rules judged.certain c.is_certain.ensures.certain)

@@ -1,5 +1,6 @@
-use Rattle.std.proofs.Common.{rules, ◌≡◌, ◌+◌, ◌<◌, ◌==◌, ℕ, List, Bool, false, [], ◌∷◌, ◌++◌, length, sym, ◌∙◌, ap, subst, if◌then◌else◌}
+use Rattle.std.proofs.Common.{rules, ◌≡◌, ◌+◌, ◌<◌, ◌==◌, ℕ, List, false, [], ◌∷◌, ◌++◌, length, sym, ◌∙◌, ap, subst, if◌then◌else◌}
 use Rattle.aero_names.specs.declared.hash.Hashing.{Hashing}
+use Rattle.aero_names.specs.declared.latest.Way.{Way}
 use Rattle.aero_names.specs.Indexed.{name_in, next_at, marks_of, mark_of, AreFound}
 use Rattle.aero_names.specs.Listing.{Listing, is_listed}
 use Rattle.aero_names.proofs.Keys.{keys_pushed}
@@ -21,7 +22,7 @@ invariant_of-self-2 c =
     c.push_reserved-2.ensures.items ∙ (ap (λ bs. bs ++ c.in_ok-next.next ∷ []) c.make_room.ensures.rows ∙ ap (λ n. c.grow.new.before.items ++ n ∷ []) c.in_ok-next.ensures.before) in
     let keyed = keys_pushed c.self.inside.list c.push.new.self c.self.inside.keys.items c.push_reserved.new.self.items c.args.name.now c.kept_key.result c.self.invariant.keyed (search rules) c.kept_key.ensures is
     (c.push_reserved.ensures.items ∙ ap (λ ks. ks ++ c.kept_key.result ∷ []) c.make_room.ensures.keys) in
-    subst (λ (b : Bool × Hashing × ℕ). AreFound (mark_of b) (record l { names = c.push.new.self }) (next_at c.put.new.self) c.push_reserved-2.new.self.items c.push_reserved.new.self.items)
+    subst (λ (b : Way × Hashing × ℕ). AreFound (mark_of b) (record l { names = c.push.new.self }) (next_at c.put.new.self) c.push_reserved-2.new.self.items c.push_reserved.new.self.items)
     (sym c.put.ensures.marks)
     (found_pushed (mark_of (marks_of c.self.inside.latest)) of l c.args.name.now c.push.new.self (next_at c.self.inside.latest) (next_at c.put.new.self) c.self.inside.before.items c.push_reserved-2.new.self.items c.self.inside.keys.items c.push_reserved.new.self.items c.self.invariant
     (subst (λ (k : Listing). is_listed k c.args.name.now ≡ false) (sym c.self.view_is) c.requires.new)

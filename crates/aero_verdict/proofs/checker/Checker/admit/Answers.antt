@@ -1,7 +1,8 @@
-use Rattle.std.proofs.Common.{refl, sym, subst, arith}
+use Rattle.std.proofs.Common.{List, [], ◌∷◌, ◌++◌, refl, sym, subst, arith}
 use Rattle.std.proofs.lemmas.Result.{err_from_is_err_and}
 use Rattle.aero_grammar.specs.Tabled.{named_in}
 use Rattle.aero_grammar.proofs.TablesGrown.{has_here}
+use Rattle.aero_model.specs.Exempt.{label_of}
 use Rattle.aero_engine.specs.Given.{words_of}
 use Rattle.aero_verdict.specs.Standing.{IsNext}
 use Rattle.aero_verdict.specs.Known.{tables_in, is_told_exempt}
@@ -66,9 +67,9 @@ returns-in-Ok-clause-judged g c = λ rules events next.
     let stands = c.in_ok-admitted.ensures.ok _ here.0.counts.shape_stands in
     judged (words_of g.E.Engine.stands_for g.E.Engine.keeps) rules events c.args.self.now c.args.line e c.is_exempt.result has here c.number.new.self c.in_ok-numbered.numbered c.in_ok-numbered.ensures.ok
     c.in_ok-admitted.admitted tells c.admit.new.self stands
-    c.count.new.self (on_ok_here c.count.result _ (sym c.if-is_err.ensures.value) c.count.ensures) c.in-Ok.told _ refl refl refl
+    c.requires.named c.count.new.self (on_ok_here c.count.result _ (sym c.if-is_err.ensures.value) c.count.ensures) c.in-Ok.told _ refl refl refl
     (c.in-Ok.ensures.told _ _ (is_judged_as (words_of g.E.Engine.stands_for g.E.Engine.keeps) rules events c.args.self.now c.args.line e c.is_exempt.result has here c.number.new.self c.in_ok-numbered.numbered c.in_ok-numbered.ensures.ok
     c.in_ok-admitted.admitted tells c.admit.new.self stands)
     (comes_after (words_of g.E.Engine.stands_for g.E.Engine.keeps) rules events c.args.self.now c.args.line e c.is_exempt.result has here c.number.new.self c.in_ok-numbered.numbered c.in_ok-numbered.ensures.ok
     c.in_ok-admitted.admitted tells c.admit.new.self stands))
-    c.in-Ok.ensures.kept
+    (λ gs. c.in-Ok.ensures.kept gs (label_of e.op e.target) c.label_given-label.ensures)

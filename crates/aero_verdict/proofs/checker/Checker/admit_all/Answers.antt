@@ -1,5 +1,7 @@
-use Rattle.std.proofs.Common.{◌∙◌}
-use Rattle.aero_grammar.specs.Tabled.{line_in, lines_in}
+use Rattle.std.proofs.Common.{◌∙◌, ℕ, sym, subst}
+use Rattle.aero_model.specs.declared.numbered.Numbered.{Numbered}
+use Rattle.aero_grammar.specs.Tabled.{named_in, line_in, lines_in}
+use Rattle.aero_grammar.specs.Words.{IsEvent}
 use Rattle.aero_engine.specs.Given.{words_of}
 use Rattle.aero_verdict.specs.Known.{tables_in, is_told_exempt}
 use Rattle.aero_verdict.proofs.KnownNames.{told_exempt}
@@ -68,3 +70,11 @@ loop-event-preserved g c =
           c.admit.new.self c.in-Ok-None.field-0 c.in-Ok-None.field-0-is c.in-Ok-None.ensures.counted c.in-Ok-None.ensures.judged;
       known = c.in-Ok-None.ensures.known;
     }
+
+pub admit-requires-clause-labelled : goal.admit-requires-clause-labelled
+admit-requires-clause-labelled g c =
+    label_is (tables_in c.args.block) c.args.block.labels.now c.args.events.now c.loop-event.event-index c.event-item.result c.parts-line.result c.loop-event-test.true (c.parts-line.ensures ∙ c.event-item.is) c.requires.labelled
+
+pub admit-requires-clause-named : goal.admit-requires-clause-named
+admit-requires-clause-named g c =
+    subst (λ (e : ℕ × Numbered). IsEvent (named_in (tables_in c.args.block) c.args.block.labels.now e.1)) (sym (c.parts-line.ensures ∙ c.event-item.is)) (c.requires.named c.loop-event.event-index c.event-item.result c.loop-event-test.true)

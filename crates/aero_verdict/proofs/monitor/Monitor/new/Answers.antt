@@ -1,5 +1,7 @@
 use Rattle.std.proofs.Common.{List, ◌++◌, length, sym, subst}
-use Rattle.aero_grammar.specs.Reading.{Reading}
+use Rattle.std.specs.Prelude.{All}
+use Rattle.std.proofs.lemmas.List.Elements.{All-nil}
+use Rattle.aero_grammar.specs.Reading.{Reading, IsReading}
 use Rattle.aero_engine.specs.Given.{words_of}
 use Rattle.aero_verdict.specs.Parts.{Stands}
 use Rattle.aero_verdict.specs.Verdict.{under}
@@ -9,5 +11,9 @@ use Rattle.aero_verdict.proofs.monitor.Monitor.new.Goals as goal
 pub invariant_of-result : goal.invariant_of-result
 invariant_of-result g c =
     let rules = under c.args.limits.now c.none.result.labels in
-    subst (λ (ps : List Reading). (rest : List Reading) → Stands (words_of g.E.Engine.stands_for g.E.Engine.keeps) rules (ps ++ rest) (length ps) 0 c.new.result) (sym c.none.ensures.1)
-    (λ rest. nothing_yet (words_of g.E.Engine.stands_for g.E.Engine.keeps) rules rest c.new.result c.new.ensures.none (c.new.ensures.kept c.none.result.labels))
+    record {
+      so =
+          subst (λ (ps : List Reading). (rest : List Reading) → Stands (words_of g.E.Engine.stands_for g.E.Engine.keeps) rules (ps ++ rest) (length ps) 0 c.new.result) (sym c.none.ensures.1)
+          (λ rest. nothing_yet (words_of g.E.Engine.stands_for g.E.Engine.keeps) rules rest c.new.result c.new.ensures.none (c.new.ensures.kept c.none.result.labels));
+      readings = subst (All IsReading) (sym c.none.ensures.1) (All-nil IsReading);
+    }

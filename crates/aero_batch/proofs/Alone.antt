@@ -1,0 +1,57 @@
+-- What is found of one source alone.
+use Rattle.std.proofs.Common.{◌≡◌, ℕ, ◌+◌, ◌<◌, ◌≤◌, ◌^◌, List, [], map, length, slice_get, Option, Some, refl, sym, ◌∙◌, ap, subst, arith}
+use Rattle.std.specs.List.{concat}
+use Rattle.aero_batch.specs.declared.underway.Underway.{Underway}
+use Rattle.aero_intake.specs.declared.track.Track.{Track}
+use Rattle.aero_intake.specs.declared.track.Track.TheVariants as tracks
+use Rattle.aero_batch.specs.Alone.{GoesOnAlone, IsFound, TellsOf}
+use Rattle.aero_batch.specs.Founds.{Sighted}
+use Rattle.aero_batch.specs.Holding.{Holds, nothing_known}
+use Rattle.aero_batch.specs.Steps.{IsStart, Steps}
+use Rattle.aero_intake.specs.Source.{WasRead}
+use Rattle.aero_intake.specs.Stories.{Story}
+use Rattle.aero_verdict.specs.Finding.{Terms}
+use Rattle.aero_batch.proofs.Stands.{begun_holds, begun_counted, step_goes}
+
+the_some : {A : Type 0} (x y : A) → Some x ≡ Some y → x ≡ y
+the_some x y p = cc p
+
+-- what the track says of a source that has ended was found of it
+pub track_tells : (terms : Terms) (old now : List Sighted) (p : Underway) → GoesOnAlone terms old now p → (place : ℕ) → place < p.read → (track : Track) → IsFound track →
+    slice_get p.tracks.items place ≡ Some track → TellsOf terms old now place track
+track_tells terms old now p goes place below (tracks.Found bytes ending finding) is at =
+    let has = goes.holds.ended place below in
+    let t = goes.holds.tracked place (tracks.Found bytes ending finding) at in
+    let ends : has.ending ≡ ending = the_some has.ending ending (sym has.ended ∙ t.0) in (
+      record { name = has.before.name; bytes = concat (goes.tale place).pieces; ending = ending; finding = finding },
+      record {
+        before = has.before;
+        after = has.after;
+        was = has.was;
+        is = has.is;
+        found_of = record {
+          name = refl;
+          read = subst (λ e. WasRead has.before.reader has.after.reader terms.rules.limits.bytes (concat (goes.tale place).pieces) e) ends has.read;
+          finding = t.2;
+        };
+      },
+      ap (λ n. (n, ending)) (sym t.1),
+      refl,
+    )
+track_tells terms old now p goes place below (tracks.Arriving known) is at = absurd is
+track_tells terms old now p goes place below (tracks.Arrived bytes blocks known) is at = absurd is
+track_tells terms old now p goes place below (tracks.Checking bytes) is at = absurd is
+
+pub begun_alone : (terms : Terms) (old : List Sighted) (p : Underway) → IsStart terms (length old) p → length old ≤ 65536 → terms.rules.limits.bytes ≤ 2 ^ 46 → GoesOnAlone terms old old p
+begun_alone terms old p start few few_bytes = record {
+  tale = λ s. nothing_known;
+  holds = begun_holds terms old p start;
+  counted = begun_counted terms (length old) p start few few_bytes;
+  names = refl;
+}
+
+pub step_alone : (terms : Terms) (old now after : List Sighted) (p q : Underway) → Steps terms now after p q → map (λ x. x.name) after ≡ map (λ x. x.name) now →
+    GoesOnAlone terms old now p → GoesOnAlone terms old after q
+step_alone terms old now after p q steps names goes =
+    let next = step_goes terms old now after p q goes.tale steps goes.names goes.holds goes.counted in
+    record { tale = next.new; holds = next.holds; counted = next.counted; names = names ∙ goes.names }

@@ -1,0 +1,112 @@
+//! What is to be said of one source alone.
+ghost use Rattle.std.specs.Prelude.{◌≡◌, ◌<◌, length, map, slice_get, vec_len, Some, IfSome, IfNone};
+ghost use Rattle.aero_batch.specs.Alone.{GoesOnAlone, IsFound, TellsOf};
+ghost use Rattle.aero_batch.specs.Founds.{sighted};
+ghost use Rattle.aero_intake.specs.PlanTerms.{terms_of};
+
+use crate::helpers::Helpers;
+use crate::setting::Setting;
+use crate::step::step;
+use crate::underway::Underway;
+use aero_intake::plan::Plan;
+use aero_intake::source::Source;
+use aero_intake::track::Track;
+use aero_model::verdict::{Ending, Finding};
+use std::alloc::Global;
+use std::io::Read;
+use std::sync::Wait;
+use std::sync::atomic::{AtomicBool, Ordering};
+
+/// What was found of a source: how many bytes came, how they ended, and what is said of them.
+#[derive(Drop)]
+pub struct Judged {
+    pub bytes: u64,
+    pub ending: Ending,
+    pub finding: Finding,
+}
+
+/// Reads a source, alone in its list, and finds what is to be said of it. Helpers of the caller's own may work for it,
+/// of whom nothing is promised. `None` says that memory was refused, or that the flag was set before it was found: then
+/// the source is left as it stands.
+pub fn find<R: Read, H: Helpers, T: Wait>(
+    rt: &T,
+    alloc: Global,
+    sources: &mut [Source<R>],
+    plan: &Plan,
+    helpers: &mut H,
+    is_given_up: &AtomicBool,
+) -> Option<Judged>
+    requires { length sources.old ≡ 1 }
+    ensures found { IfSome result (λ judged. TellsOf (terms_of plan.now) (map (sighted R.remaining) sources.old) (map (sighted R.remaining) sources.new) 0
+        (Track.Found judged.bytes judged.ending judged.finding)) }
+    ensures names { map (λ s. s.name) (map (sighted R.remaining) sources.new) ≡ map (λ s. s.name) (map (sighted R.remaining) sources.old) }
+{
+    let Ok(mut underway) = Underway::new(alloc, plan, 1, helpers.workers() == 0) else {
+        return None;
+    };
+    let setting = Setting { rt, alloc, plan };
+    match find_on(&setting, sources, helpers, &mut underway, is_given_up) {
+        Some(track) => judged_by(track),
+        None => None,
+    }
+}
+
+// What was found of a source, by its track.
+fn judged_by(track: Track) -> Option<Judged>
+    ensures { IfSome result (λ judged. track ≡ Track.Found judged.bytes judged.ending judged.finding) }
+{
+    match track {
+        Track::Found {
+            bytes,
+            ending,
+            finding,
+        } => Some(Judged {
+            bytes,
+            ending,
+            finding,
+        }),
+        _ => None,
+    }
+}
+
+// All steps, until it is found what is to be said of the source.
+fn find_on<R: Read, H: Helpers, T: Wait>(
+    setting: &Setting<'_, T>,
+    sources: &mut [Source<R>],
+    helpers: &mut H,
+    underway: &mut Underway,
+    is_given_up: &AtomicBool,
+) -> Option<Track>
+    requires one { length sources.old ≡ 1 }
+    requires begun { GoesOnAlone (terms_of setting.now.plan.now) (map (sighted R.remaining) sources.old) (map (sighted R.remaining) sources.old) underway.old }
+    ensures found { IfSome result (TellsOf (terms_of setting.now.plan.now) (map (sighted R.remaining) sources.old) (map (sighted R.remaining) sources.new) 0) }
+    ensures names { map (λ s. s.name) (map (sighted R.remaining) sources.new) ≡ map (λ s. s.name) (map (sighted R.remaining) sources.old) }
+{
+    'steps: for _ in setting.rt.forever() {
+        if let Some(track) = take_found(underway) {
+            return Some(track);
+        }
+        if is_given_up.load(Ordering::SeqCst) {
+            return None;
+        }
+        let Ok(()) = step(setting, sources, helpers, underway) else {
+            return None;
+        };
+    }
+    unreachable!()
+}
+
+// The track of the source, where its reading has ended and it says what was found.
+fn take_found(underway: &mut Underway) -> Option<Track>
+    requires { vec_len underway.old.tracks ≡ 1 }
+    ensures found { IfSome result (λ track. (0 < underway.old.read) × IsFound track × (slice_get underway.old.tracks.items 0 ≡ Some track)) }
+    ensures none { IfNone result (underway.new ≡ underway.old) }
+{
+    if underway.read == 0 {
+        return None;
+    }
+    match underway.tracks.last() {
+        Some(Track::Found { .. }) => underway.tracks.pop(),
+        _ => None,
+    }
+}

@@ -1,0 +1,4 @@
+pub mod Backs
+pub mod Seated
+pub mod Sending
+pub mod Tellings

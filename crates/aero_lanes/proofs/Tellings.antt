@@ -1,0 +1,304 @@
+-- Telling what the lanes found keeps what holds, and says what was written where it stops.
+use Rattle.std.proofs.Common.{◌≡◌, ℕ, zero, suc, ◌+◌, ◌<◌, ◌≤◌, Bool, true, false, List, [], ◌∷◌, ◌++◌, map, length, take, slice_get, Option, Some, None, Result, Ok, Err}
+use Rattle.std.proofs.Common.{refl, sym, ◌∙◌, ap, ap₂, subst, inl, inr, arith}
+use Rattle.std.specs.Prelude.{IfOk, IfErr, IfSome, OnOk, ◌⊎◌, vec_len, vec_capacity}
+use Rattle.std.proofs.KnownBytes.{Appends-nil, Appends-trans}
+use Rattle.std.proofs.lemmas.List.{length-map, map-append, length_push}
+use Rattle.std.proofs.lemmas.Option.{slice_get_within}
+use Rattle.aero_model.specs.declared.verdict.Ending.{Ending}
+use Rattle.aero_model.specs.declared.verdict.Finding.{Finding}
+use Rattle.aero_model.specs.CallCounts.{Seen}
+use Rattle.aero_report.specs.Texts.{counts_of, counted, no_counts}
+use Rattle.aero_report.specs.declared.form.Form.{Form}
+use Rattle.aero_report.specs.Forms.{source_line_in, summary_line_in}
+use Rattle.aero_batch.specs.declared.outcome.Cause.{Cause}
+use Rattle.aero_batch.specs.declared.outcome.Cause.TheVariants.{Memory, Write}
+use Rattle.aero_batch.specs.declared.told.Told.{Told}
+use Rattle.aero_batch.specs.Alone.{TellsOf}
+use Rattle.aero_batch.specs.Faults.{fault_of}
+use Rattle.aero_batch.specs.Founds.{Sighted, Found, IsFoundOf, Took, sighted, ending_of, faulty_line, lines_of_all, counts_of_all}
+use Rattle.aero_batch.specs.Telling.{WasCut, TellsText, TellsNext, IsOneMore, cause_of, total}
+use Rattle.aero_batch.proofs.Stands.{get_push, lines_more, counts_more, took_more, took_nothing, findings_told, slice_get_some, the_some}
+use Rattle.aero_intake.specs.declared.source.Source.{Source}
+use Rattle.aero_batch.specs.declared.find.Judged.{Judged}
+use Rattle.aero_intake.specs.declared.track.Track.TheVariants as tracks
+use Rattle.aero_lanes.specs.declared.lane.Ended.{Ended}
+use Rattle.aero_lanes.specs.declared.seat.Seat.{Seat}
+use Rattle.aero_lanes.specs.declared.seat.Seat.TheVariants as seats
+use Rattle.aero_lanes.specs.Ends.{IsEndOf}
+use Rattle.aero_lanes.specs.Seats.{FitsSeat, AreSeated, GoOn, IsFoundBy}
+use Rattle.aero_lanes.specs.Tellings.{StandsSo, AreToldSo, StopsSo, WasCutSo, IsTextAfter, IsWrittenSo, TellsEnd, TellsSeat, TellsNextSeat, HasNumbersOf, IsBegunSo}
+use Rattle.aero_verdict.specs.Finding.{Terms}
+
+-- before anything is told
+pub begun_so : {R : Type 0} (known : R → Option (List ℕ)) (terms : Terms) (form : Form) (origin : List (Source R)) (before : Seen) (seats : List (Seat R)) (a : Told) →
+    AreSeated known terms origin seats → (sources : ℕ) → IsBegunSo sources a → StandsSo known terms form origin before before seats a
+begun_so known terms form origin before seats a seated sources is = record {
+  seated = seated;
+  founds = [];
+  told_so = record {
+    found = λ place f at. cc (at);
+    took = record { went = Appends-nil before.bytes; faults = refl };
+    endings = is.endings;
+    faults = is.faults;
+    counts = is.counts;
+  };
+}
+
+pub begun_numbers : (sources : ℕ) (a : Told) → sources ≤ 65536 → IsBegunSo sources a → HasNumbersOf sources a
+begun_numbers sources a few is =
+    let none : vec_len a.endings ≡ 0 = a.endings.ok.0 ∙ ap length is.endings in
+    record {
+      few = omega (arith, none);
+      few_sources = few;
+      total_is = ap total is.counts ∙ sym none;
+      room = is.room;
+      as_many = a.faults.ok.0 ∙ (ap length is.faults ∙ sym none);
+      faults_room = is.faults_room;
+    }
+
+-- what is told stays true where seats change
+pub stands_on : {R : Type 0} (known : R → Option (List ℕ)) (terms : Terms) (form : Form) (origin : List (Source R)) (before mid : Seen) (old new : List (Seat R)) (a : Told) →
+    GoOn known terms old new → StandsSo known terms form origin before mid old a → StandsSo known terms form origin before mid new a
+stands_on known terms form origin before mid old new a on st = record {
+  seated = on.fits origin st.seated;
+  founds = st.founds;
+  told_so = record {
+    found = λ place f at.
+        let is = st.told_so.found place f at in
+        record { before = is.before; end = is.end; was = is.was; is = on.done place is.end is.is; found_of = is.found_of };
+    took = st.told_so.took;
+    endings = st.told_so.endings;
+    faults = st.told_so.faults;
+    counts = st.told_so.counts;
+  };
+}
+
+-- the next source, whose lane has ended and has found this
+found_next : {R : Type 0} (known : R → Option (List ℕ)) (terms : Terms) (origin : List (Source R)) (all : List (Seat R)) (place : ℕ) (end : Ended R) (j : Judged) →
+    AreSeated known terms origin all → slice_get all place ≡ Some (seats.Done end) → end.judged ≡ Some j →
+    (f : Found) × IsFoundBy known terms origin all place f × (ending_of f ≡ (j.bytes, j.ending)) × (f.finding ≡ j.finding) × (f.name ≡ end.source.name.items)
+found_next {R} known terms origin all place end j seated at judged_is =
+    let within = slice_get_within all place (seats.Done end) at in
+    let first = slice_get_some origin place (omega (arith, within, seated.count)) in
+    let before = first.0 in
+    let fits : IsEndOf known terms before end = seated.fits place before (seats.Done end) first.1 at in
+    let tells = subst (λ (o : Option Judged). IfSome o (λ x. TellsOf terms (sighted known before ∷ []) (sighted known end.source ∷ []) 0 (tracks.Found x.bytes x.ending x.finding)))
+        judged_is fits.found in
+    let f = tells.0 in
+    let is = tells.1 in
+    let same_before : sighted known before ≡ is.before = the_some (sighted known before) is.before is.was in
+    let same_after : sighted known end.source ≡ is.after = the_some (sighted known end.source) is.after is.is in
+    let found_of : IsFoundOf terms (sighted known before) (sighted known end.source) f =
+    subst (λ (b : Sighted). IsFoundOf terms b (sighted known end.source) f) (sym same_before)
+    (subst (λ (x : Sighted). IsFoundOf terms is.before x f) (sym same_after) is.found_of) in (
+      f,
+      record { before = before; end = end; was = first.1; is = at; found_of = found_of },
+      tells.2,
+      tells.3,
+      found_of.name ∙ sym fits.name,
+    )
+
+module _ {R : Type 0} (known : R → Option (List ℕ)) (terms : Terms) (form : Form) (all : List (Seat R)) (mid after : Seen) (a b : Told) where
+  place_is : (founds : List Found) → a.endings.items ≡ map ending_of founds → vec_len a.endings ≡ length founds
+  place_is founds is = a.endings.ok.0 ∙ (ap length is ∙ length-map founds ending_of)
+
+  abbrev Keeps : Type 0
+  Keeps = (origin : List (Source R)) (before : Seen) → StandsSo known terms form origin before mid all a → StandsSo known terms form origin before after all b
+
+  abbrev Stops : Cause → Type 0
+  Stops cause = (origin : List (Source R)) (before : Seen) → StandsSo known terms form origin before mid all a → StopsSo known terms form origin before after all b (Some cause)
+
+  -- one more source is told
+  told_more : (end : Ended R) (j : Judged) → slice_get all (vec_len a.endings) ≡ Some (seats.Done end) →
+      end.judged ≡ Some j → Took mid after (source_line_in form end.source.name.items j.finding) → IsOneMore a b j.bytes j.ending j.finding → Keeps
+  told_more end j at judged_is took more origin before st =
+      let t = st.told_so in
+      let same_place = place_is st.founds t.endings in
+      let next = found_next known terms origin all (vec_len a.endings) end j st.seated at judged_is in
+      let f = next.0 in
+      let line : source_line_in form end.source.name.items j.finding ≡ source_line_in form f.name f.finding = ap₂ (source_line_in form) (sym next.4) (sym next.3) in
+      record {
+        seated = st.seated;
+        founds = st.founds ++ f ∷ [];
+        told_so = record {
+          found = λ s found there. elim (get_push st.founds f s found there) [
+            | inl was ↦ t.found s found was
+            | inr is ↦ subst (λ (x : Found). IsFoundBy known terms origin all s x) (sym is.1)
+                (subst (λ n. IsFoundBy known terms origin all n f) (same_place ∙ sym is.0) next.1)
+          ];
+          took = subst (λ text. Took before after text) (sym (lines_more form st.founds f))
+              (took_more before mid after (lines_of_all form st.founds) (source_line_in form f.name f.finding) t.took (subst (λ text. Took mid after text) line took));
+          endings = more.endings ∙ (ap₂ (λ es e. es ++ e ∷ []) t.endings (sym next.2) ∙ sym (map-append ending_of st.founds (f ∷ [])));
+          faults = more.faults ∙ (ap₂ (λ fs x. fs ++ fault_of x ∷ []) t.faults (sym next.3) ∙ sym (map-append faulty_line st.founds (f ∷ [])));
+          counts = more.counts ∙ (ap₂ counted t.counts (sym next.3) ∙ sym (counts_more st.founds f));
+        };
+      }
+
+  -- memory was refused
+  memory_stops : Took mid after [] → b ≡ a → Stops Memory
+  memory_stops took same origin before st =
+      let t = st.told_so in
+      subst (λ (x : Told). StopsSo known terms form origin before after all x (Some Memory)) (sym same)
+      (record {
+        seated = st.seated;
+        founds = st.founds;
+        found = t.found;
+        endings = t.endings;
+        faults = t.faults;
+        counts = t.counts;
+        written = took_nothing before mid after (lines_of_all form st.founds) t.took took;
+      })
+
+  cut_so : (origin : List (Source R)) (before : Seen) (founds : List Found) (text : List ℕ) → IsTextAfter known terms form origin all founds text →
+      Took before mid (lines_of_all form founds) → WasCut mid after text → WasCutSo known terms form origin all founds before after
+  cut_so origin before founds text next took cut = record {
+    text = text;
+    next = next;
+    written = cut.written;
+    part = cut.part;
+    went = Appends-trans before.bytes mid.bytes after.bytes (lines_of_all form founds) (take cut.written text) took.went cut.went;
+    faults = cut.faults ∙ ap (λ n. n + 1) took.faults;
+  }
+
+  -- a write of the next line failed
+  line_stops : (end : Ended R) (j : Judged) → slice_get all (vec_len a.endings) ≡ Some (seats.Done end) →
+      end.judged ≡ Some j → WasCut mid after (source_line_in form end.source.name.items j.finding) → b ≡ a → Stops Write
+  line_stops end j at judged_is cut same origin before st =
+      let t = st.told_so in
+      let same_place = place_is st.founds t.endings in
+      let next = found_next known terms origin all (vec_len a.endings) end j st.seated at judged_is in
+      let f = next.0 in
+      let line : source_line_in form end.source.name.items j.finding ≡ source_line_in form f.name f.finding = ap₂ (source_line_in form) (sym next.4) (sym next.3) in
+      subst (λ (x : Told). StopsSo known terms form origin before after all x (Some Write)) (sym same)
+      (record {
+        seated = st.seated;
+        founds = st.founds;
+        found = t.found;
+        endings = t.endings;
+        faults = t.faults;
+        counts = t.counts;
+        written = cut_so origin before st.founds (source_line_in form end.source.name.items j.finding)
+            (inl (f, subst (λ n. IsFoundBy known terms origin all n f) same_place next.1, line)) t.took cut;
+      })
+
+  pub record Tellings (r : Result Bool Cause) : Type 0 where
+    pub stands : IfOk r (λ is_told. is_told ≡ true → Keeps)
+    pub unchanged : IfOk r (λ is_told. is_told ≡ false → (after ≡ mid) × (b ≡ a))
+    pub stopped : IfErr r Stops
+
+  not_told : (after ≡ mid) × (b ≡ a) → Tellings (Ok false)
+  not_told same = record { stands = λ e. cc (e); unchanged = λ e. same; stopped = tt }
+
+  telling_judged : (end : Ended R) (j : Judged) (r : Result Bool Cause) → slice_get all (vec_len a.endings) ≡ Some (seats.Done end) → end.judged ≡ Some j →
+      TellsNext form end.source.name.items (tracks.Found j.bytes j.ending j.finding) mid after a b r → Tellings r
+  telling_judged end j (Ok true) at judged_is tells = record { stands = λ e. told_more end j at judged_is tells.0 tells.1; unchanged = λ e. cc (e); stopped = tt }
+  telling_judged end j (Ok false) at judged_is tells = absurd tells
+  telling_judged end j (Err Memory) at judged_is tells = record { stands = tt; unchanged = tt; stopped = memory_stops tells.0 tells.1 }
+  telling_judged end j (Err Write) at judged_is tells = record { stands = tt; unchanged = tt; stopped = line_stops end j at judged_is tells.0 tells.1 }
+
+  telling_end : (end : Ended R) (judged : Option Judged) (r : Result Bool Cause) → slice_get all (vec_len a.endings) ≡ Some (seats.Done end) → end.judged ≡ judged →
+      TellsEnd form end.source.name.items judged mid after a b r → Tellings r
+  telling_end end (Some j) r at judged_is tells = telling_judged end j r at judged_is tells
+  telling_end end None (Ok told) at judged_is tells = absurd tells
+  telling_end end None (Err Memory) at judged_is tells = record { stands = tt; unchanged = tt; stopped = memory_stops tells.0 tells.1 }
+  telling_end end None (Err Write) at judged_is tells = absurd tells
+
+  telling_seat : (seat : Seat R) (r : Result Bool Cause) → slice_get all (vec_len a.endings) ≡ Some seat → TellsSeat form seat mid after a b r → Tellings r
+  telling_seat (seats.Done end) r at tells = telling_end end end.judged r at refl tells
+  telling_seat (seats.Waiting source) (Ok true) at tells = absurd tells
+  telling_seat (seats.Waiting source) (Ok false) at tells = not_told tells
+  telling_seat (seats.Waiting source) (Err cause) at tells = absurd tells
+  telling_seat (seats.Running handle) (Ok true) at tells = absurd tells
+  telling_seat (seats.Running handle) (Ok false) at tells = not_told tells
+  telling_seat (seats.Running handle) (Err cause) at tells = absurd tells
+  telling_seat seats.Empty (Ok true) at tells = absurd tells
+  telling_seat seats.Empty (Ok false) at tells = not_told tells
+  telling_seat seats.Empty (Err cause) at tells = absurd tells
+
+  telling_from : (o : Option (Seat R)) (r : Result Bool Cause) → slice_get all (vec_len a.endings) ≡ o → TellsNextSeat form o mid after a b r → Tellings r
+  telling_from (Some seat) r at tells = telling_seat seat r at tells
+  telling_from None (Ok true) at tells = absurd tells
+  telling_from None (Ok false) at tells = not_told tells
+  telling_from None (Err cause) at tells = absurd tells
+
+  pub telling : (r : Result Bool Cause) → TellsNextSeat form (slice_get all (vec_len a.endings)) mid after a b r → Tellings r
+  telling r tells = telling_from (slice_get all (vec_len a.endings)) r refl tells
+
+-- all sources are told, and the summary is written, or not
+pub summary_so : {R : Type 0} (known : R → Option (List ℕ)) (terms : Terms) (form : Form) (origin : List (Source R)) (all : List (Seat R)) (before mid after : Seen) (a : Told) →
+    vec_len a.endings ≡ length all → StandsSo known terms form origin before mid all a → (r : Result Unit Cause) → TellsText (summary_line_in form a.counts) mid after r →
+    StopsSo known terms form origin before after all a (cause_of r)
+summary_so known terms form origin all before mid after a whole st r tells = record {
+  seated = st.seated;
+  founds = st.founds;
+  found = st.told_so.found;
+  endings = st.told_so.endings;
+  faults = st.told_so.faults;
+  counts = st.told_so.counts;
+  written = go r tells;
+}
+  where
+    told_all : length st.founds ≡ length origin
+    told_all = sym (place_is known terms form all mid after a a st.founds st.told_so.endings) ∙ (whole ∙ st.seated.count)
+
+    go : (r : Result Unit Cause) → TellsText (summary_line_in form a.counts) mid after r → IsWrittenSo known terms form origin all st.founds before after (cause_of r)
+    go (Ok u) tells = (
+      told_all,
+      subst (λ c. Took before after (lines_of_all form st.founds ++ summary_line_in form c))
+          (st.told_so.counts ∙ sym (ap counts_of (findings_told st.founds)))
+          (took_more before mid after (lines_of_all form st.founds) (summary_line_in form a.counts) st.told_so.took tells),
+    )
+    go (Err Memory) tells = took_nothing before mid after (lines_of_all form st.founds) st.told_so.took tells
+    go (Err Write) tells = cut_so known terms form all mid after a a origin before st.founds (summary_line_in form (counts_of_all st.founds)) (inr (told_all, refl)) st.told_so.took
+        (subst (λ c. WasCut mid after (summary_line_in form c)) st.told_so.counts tells)
+
+-- the numbers once one more is told
+module _ (R : Type 0) (form : Form) (sources : ℕ) (mid after : Seen) (a b : Told) (numbers : HasNumbersOf sources a) where
+  same_numbers : (after ≡ mid) × (b ≡ a) → HasNumbersOf sources b
+  same_numbers same = subst (λ (x : Told). HasNumbersOf sources x) (sym same.1) numbers
+
+  more_numbers : (bytes : ℕ) (ending : Ending) (finding : Finding) → vec_len a.endings < sources → IsOneMore a b bytes ending finding → HasNumbersOf sources b
+  more_numbers bytes ending finding below more =
+      let len : vec_len b.endings ≡ vec_len a.endings + 1 = b.endings.ok.0 ∙ (ap length more.endings ∙ (length_push a.endings.items (bytes, ending) ∙ ap (λ n. n + 1) (sym a.endings.ok.0))) in
+      let lines : vec_len b.faults ≡ vec_len a.faults + 1 = b.faults.ok.0 ∙ (ap length more.faults ∙ (length_push a.faults.items (fault_of finding) ∙ ap (λ n. n + 1) (sym a.faults.ok.0))) in
+      record {
+        few = omega (arith, below, len);
+        few_sources = numbers.few_sources;
+        total_is = omega (arith, more.counted_one, numbers.total_is, len);
+        room = more.room ∙ numbers.room;
+        as_many = omega (arith, len, lines, numbers.as_many);
+        faults_room = more.faults_room ∙ numbers.faults_room;
+      }
+
+  numbers_judged : (name : List ℕ) (j : Judged) (r : Result Bool Cause) → vec_len a.endings < sources →
+      TellsNext form name (tracks.Found j.bytes j.ending j.finding) mid after a b r → OnOk r (HasNumbersOf sources b)
+  numbers_judged name j (Ok true) below tells = more_numbers j.bytes j.ending j.finding below tells.1
+  numbers_judged name j (Ok false) below tells = absurd tells
+  numbers_judged name j (Err cause) below tells = tt
+
+  numbers_end : (name : List ℕ) (judged : Option Judged) (r : Result Bool Cause) → vec_len a.endings < sources → TellsEnd form name judged mid after a b r → OnOk r (HasNumbersOf sources b)
+  numbers_end name (Some j) r below tells = numbers_judged name j r below tells
+  numbers_end name None (Ok told) below tells = absurd tells
+  numbers_end name None (Err cause) below tells = tt
+
+  numbers_seat : (seat : Seat R) (r : Result Bool Cause) → vec_len a.endings < sources → TellsSeat form seat mid after a b r → OnOk r (HasNumbersOf sources b)
+  numbers_seat (seats.Done end) r below tells = numbers_end end.source.name.items end.judged r below tells
+  numbers_seat (seats.Waiting source) (Ok true) below tells = absurd tells
+  numbers_seat (seats.Waiting source) (Ok false) below tells = same_numbers tells
+  numbers_seat (seats.Waiting source) (Err cause) below tells = tt
+  numbers_seat (seats.Running handle) (Ok true) below tells = absurd tells
+  numbers_seat (seats.Running handle) (Ok false) below tells = same_numbers tells
+  numbers_seat (seats.Running handle) (Err cause) below tells = tt
+  numbers_seat seats.Empty (Ok true) below tells = absurd tells
+  numbers_seat seats.Empty (Ok false) below tells = same_numbers tells
+  numbers_seat seats.Empty (Err cause) below tells = tt
+
+  pub numbers_told : (all : List (Seat R)) → length all ≡ sources → (o : Option (Seat R)) (r : Result Bool Cause) → slice_get all (vec_len a.endings) ≡ o →
+      TellsNextSeat form o mid after a b r → OnOk r (HasNumbersOf sources b)
+  numbers_told all count (Some seat) r at tells =
+      let within = slice_get_within all (vec_len a.endings) seat at in
+      numbers_seat seat r (omega (arith, within, count)) tells
+  numbers_told all count None (Ok true) at tells = absurd tells
+  numbers_told all count None (Ok false) at tells = same_numbers tells
+  numbers_told all count None (Err cause) at tells = tt

@@ -1,0 +1,25 @@
+use Rattle.std.proofs.Common.{rules, ◌≡◌, List, map, length, sym, ◌∙◌, ap, subst}
+use Rattle.std.proofs.lemmas.List.{length-map}
+use Rattle.aero_batch.specs.Founds.{sighted}
+use Rattle.aero_batch.proofs.Stands.{refused_at_once}
+use Rattle.aero_intake.specs.PlanTerms.{terms_of}
+use Rattle.aero_lanes.proofs.Seated.{waiting_seated}
+use Rattle.aero_lanes.specs.Seats.{AreSeated}
+use Rattle.aero_lanes.specs.declared.seat.Seat.{Seat}
+use Rattle.aero_lanes.proofs.run.run_in_lanes.Goals as goal
+use Rattle.aero_model.specs.CallCounts.{seen_by}
+
+pub returns-in_default : goal.returns-in_default
+returns-in_default g c = record {
+  ran = rw (c.refused.ensures.endings, c.refused.ensures.faults, c.refused.ensures.counts, c.refused.ensures.cause)
+      (refused_at_once (terms_of c.args.plan.now) c.args.plan.now.form (map (sighted g.R.Read.remaining) c.args.sources.items) (seen_by g.W.Write.contents c.args.writer.now));
+}
+
+pub returns : goal.returns
+returns g c =
+    let known = g.R.Read.remaining in
+    let terms = terms_of c.args.plan.now in
+    let sources = c.args.sources.items in
+    record {
+      ran = c.judge_all.ensures.ran sources (subst (λ (xs : List (Seat g.row.R.Denot)). AreSeated known terms sources xs) (sym c.seat_all-seats.ensures) (waiting_seated known terms sources));
+    }
