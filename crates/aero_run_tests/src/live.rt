@@ -1,53 +1,78 @@
 // What is found of a source that is judged as it comes. In texts and lines `/` stands for the byte 10.
+ghost use Rattle.std.specs.Prelude.{◌≡◌, false};
+ghost use Rattle.aero_intake.specs.Held.{asks_both};
+
 use crate::except::listed;
 use crate::intake::lines_of;
 use aero_grammar::block::parse_block;
 use aero_grammar::parsed::Parsed;
 use aero_intake::live::Live;
 use aero_intake::terms::Terms;
+use aero_model::except::SharedExcept;
 use aero_model::limits::Limits;
 use aero_model::verdict::Finding;
 use aero_report::trace_text;
 use std::alloc::{AllocError, Global};
 use std::test::Fail;
 
-// Labels whose blocks are no transactions, whether the order is asked for, a text of one block that was kept, and one of a
-// block that comes, and what is written of them.
-type Row = (&'static str, bool, &'static str, &'static str, &'static str);
+// Labels whose blocks are no transactions, what is asked for, a text of one block that was kept, and one of a block that
+// comes, and what is written of them.
+type Row = (
+    &'static str,
+    Asks,
+    &'static str,
+    &'static str,
+    &'static str,
+);
 
-static ROWS: [Row; 7] = [
+// What is asked for beside the verdict.
+#[derive(Clone, Copy)]
+enum Asks {
+    Nothing,
+    Order,
+    Cycle,
+}
+
+static ROWS: [Row; 8] = [
     (
         "-",
-        true,
+        Asks::Order,
         "audit|begin/pay|begin/pay|w(balance)/",
         "pay|end/audit|r(balance)/audit|end/",
         "n: serializable (6 events, 2 blocks)/  2 pay/  1 audit/",
     ),
     (
         "-",
-        false,
+        Asks::Nothing,
         "audit|begin/pay|begin/pay|w(balance)/",
         "pay|end/audit|r(balance)/audit|end/",
         "n: serializable (6 events, 2 blocks)/",
     ),
-    ("-", true, "", "", "n: serializable (0 events, 0 blocks)/"),
+    ("-", Asks::Order, "", "", "n: serializable (0 events, 0 blocks)/"),
     (
         "-",
-        true,
+        Asks::Order,
         "T1|begin/T2|begin/T1|w(x)/T2|r(x)/T2|w(y)/",
         "T1|r(y)/T1|end/T2|end/",
         "n: violation at line 6: block of T1 from line 1/",
     ),
     (
         "-",
-        true,
+        Asks::Cycle,
+        "T1|begin(f)/T2|begin/T1|w(x)/T2|r(x)/T2|w(y)/",
+        "T1|r(y)/T1|end/T2|end/",
+        "n: violation at line 6: block of T1 from line 1/  label f/  3 1 T1|w(x)/  4 2 T2|r(x)/  5 2 T2|w(y)/  6 1 T1|r(y)/",
+    ),
+    (
+        "-",
+        Asks::Order,
         "T1|begin/T1|w(x)/",
         "T2|r(x)/",
         "n: no violation, 1 blocks open (3 events, 1 blocks)/",
     ),
     (
         "-",
-        true,
+        Asks::Order,
         "T1|begin/T1|w(x)/",
         "T1|r()/",
         "n:3: malformed: MissingTarget/",
@@ -55,7 +80,7 @@ static ROWS: [Row; 7] = [
     // T1's events are transactions of their own: that on line 3 comes before T2's block, and that on line 6 after it.
     (
         "a",
-        true,
+        Asks::Order,
         "T1|begin(a)/T2|begin/T1|w(x)/T2|r(x)/T2|w(y)/",
         "T1|r(y)/T1|end/T2|end/",
         "n: serializable (8 events, 1 blocks)/  1 T1/  3 T1/  2 T2/  6 T1/  7 T1/",
@@ -71,13 +96,27 @@ fn part_of(alloc: Global, text: &str) -> Result<Parsed, Fail> {
     Ok(parse_block(alloc, &bytes)?)
 }
 
+// The terms of a source of which that is asked for.
+fn terms_of(except: SharedExcept, asks: Asks) -> Terms
+    ensures { asks_both result ≡ false }
+{
+    let limits = Limits::greatest();
+    match asks {
+        Asks::Nothing => Terms::new(limits, except, false, false),
+        Asks::Order => Terms::new(limits, except, true, false),
+        Asks::Cycle => Terms::new(limits, except, false, true),
+    }
+}
+
 // What is found of a source with these blocks, of which the first was kept.
 fn finding_of(
     alloc: Global,
     terms: &Terms,
     kept: Parsed,
     part: Parsed,
-) -> Result<Finding, AllocError> {
+) -> Result<Finding, AllocError>
+    requires { asks_both terms.now ≡ false }
+{
     let mut parts = Vec::new(alloc);
     parts.push(kept)?;
     let mut live = Live::new(alloc, terms, parts)?;
@@ -87,15 +126,15 @@ fn finding_of(
 
 // Whether this is written of it.
 fn has_line(alloc: Global, row: &Row) -> Result<bool, Fail> {
-    let (labels, order, kept, part, line) = *row;
+    let (labels, asks, kept, part, line) = *row;
     let except = listed(alloc, labels).ok_or("labels")?;
-    let terms = Terms::new(Limits::greatest(), except, order, false);
+    let terms = terms_of(except, asks);
     let finding = finding_of(alloc, &terms, part_of(alloc, kept)?, part_of(alloc, part)?)?;
     Ok(trace_text(alloc, b"n", &finding)? == lines_of(alloc, line)?)
 }
 
 #[test]
-fn a_live_source_has_its_order_where_that_is_asked_for(rt: HostRuntime) -> Result<(), Fail> {
+fn a_live_source_has_what_is_asked_for(rt: HostRuntime) -> Result<(), Fail> {
     for row in ROWS.iter() {
         assert!(rt; has_line(rt.alloc(), row)?, "{}", row.4);
     }

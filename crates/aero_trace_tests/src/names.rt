@@ -126,20 +126,35 @@ fn are_numbered_in_turn(alloc: Global, names: &mut Names, count: u32) -> bool {
     fits
 }
 
-// The same for the first time and again. As many are listed.
+// The same for the first time and again, where no more are allowed. As many are listed.
 fn do_many_keep_their_numbers(alloc: Global, count: u32) -> bool {
     let mut names = Names::new(alloc, count);
     are_numbered_in_turn(alloc, &mut names, count)
+        && names.number_of_bytes(b"x") == Err(NamesFault::Full)
         && are_numbered_in_turn(alloc, &mut names, count)
         && names.into_list().len() == count
 }
 
+// The first count of names that don't keep them.
+fn first_count_forgotten(alloc: Global, counts: &[u32]) -> Option<u32> {
+    for count in counts {
+        if !do_many_keep_their_numbers(alloc, *count) {
+            return Some(*count);
+        }
+    }
+    None
+}
+
+// With the seventeenth name a table finds its names in another way, and from time to time behind that.
 #[test]
 fn many_names_keep_their_numbers(rt: HostRuntime) {
-    assert!(rt; do_many_keep_their_numbers(rt.alloc(), 1000));
+    assert_eq!(rt; first_count_forgotten(rt.alloc(), &[15, 16, 17, 18, 1000, 5000]), None);
 }
 
 const FACTOR: u64 = 17_378_887_893_183_147_461;
+
+// What the second hash starts from, beside a name's length.
+const SECOND_START: u64 = 11_400_714_819_323_198_485;
 
 // A step of the hash of names.
 fn mixed(hash: u64, word: u64) -> u64 {
@@ -151,18 +166,33 @@ fn completing(hash: u64) -> u64 {
     hash.rotate_left(5)
 }
 
+// Which hash is the same for names.
+#[derive(Clone, Copy)]
+enum OneHash {
+    First,
+    Second,
+}
+
 // The name with this number among those of 16 bytes that have one hash.
-fn name_of_two_words(number: u32) -> [u8; 16] {
+fn name_of_two_words(one: OneHash, number: u32) -> [u8; 16] {
     let first = 7_000_000_000 + number as u64;
-    let last = completing(mixed(16, first));
+    let start = match one {
+        OneHash::First => 16,
+        OneHash::Second => 16 ^ SECOND_START,
+    };
+    let last = completing(mixed(start, first));
     (first as u128 | (last as u128) << 64).to_le_bytes()
 }
 
-// The same of 32 bytes, which have no key.
-fn name_of_four_words(number: u32) -> [u8; 32] {
+// The same of 32 bytes, which have no key. The first hash is of the last 24 alone.
+fn name_of_four_words(one: OneHash, number: u32) -> [u8; 32] {
     let first = 7_000_000_000 + number as u64;
     let middle = 7_000_000_000;
-    let last = completing(mixed(mixed(32, middle), middle));
+    let start = match one {
+        OneHash::First => 32,
+        OneHash::Second => mixed(32 ^ SECOND_START, first),
+    };
+    let last = completing(mixed(mixed(start, middle), middle));
     let mut name = [0; 32];
     name[..8].copy_from_slice(&first.to_le_bytes());
     name[8..16].copy_from_slice(&middle.to_le_bytes());
@@ -171,13 +201,14 @@ fn name_of_four_words(number: u32) -> [u8; 32] {
     name
 }
 
-// Whether so many names of one hash, of both kinds in turn, have their places as numbers.
-fn are_numbered_at_one_place(names: &mut Names, count: u32) -> bool {
+// Whether so many names of one hash, of both kinds in turn, have their places behind so many others as numbers.
+fn are_numbered_at_one_place(names: &mut Names, one: OneHash, behind: u32, count: u32) -> bool {
     let mut fits = true;
     for number in 0..count {
-        let even = number.saturating_mul(2);
-        fits &= names.number_of_bytes(&name_of_two_words(number)) == Ok(even);
-        fits &= names.number_of_bytes(&name_of_four_words(number)) == Ok(even.saturating_add(1));
+        let even = number.saturating_mul(2).saturating_add(behind);
+        fits &= names.number_of_bytes(&name_of_two_words(one, number)) == Ok(even);
+        fits &= names.number_of_bytes(&name_of_four_words(one, number))
+            == Ok(even.saturating_add(1));
     }
     fits
 }
@@ -186,19 +217,36 @@ fn are_numbered_at_one_place(names: &mut Names, count: u32) -> bool {
 fn do_names_of_one_hash_keep_their_numbers(alloc: Global, count: u32) -> bool {
     let all = count.saturating_mul(2);
     let mut names = Names::new(alloc, all.saturating_add(1));
-    are_numbered_at_one_place(&mut names, count)
-        && are_numbered_at_one_place(&mut names, count)
+    are_numbered_at_one_place(&mut names, OneHash::First, 0, count)
+        && are_numbered_at_one_place(&mut names, OneHash::First, 0, count)
         && names.number_of_bytes(b"x") == Ok(all)
         && names.number_of_bytes(b"y") == Err(NamesFault::Full)
-        && are_numbered_at_one_place(&mut names, count)
+        && are_numbered_at_one_place(&mut names, OneHash::First, 0, count)
         && names.into_list().len() == all.saturating_add(1)
 }
 
-// Up to a few of them are found along their chain, and more of them by their bytes.
+// Up to a few of them are found along their chain, and more of them by their second hash.
 #[test]
 fn names_of_one_hash_keep_their_numbers(rt: HostRuntime) {
     assert!(rt; do_names_of_one_hash_keep_their_numbers(rt.alloc(), 10));
     assert!(rt; do_names_of_one_hash_keep_their_numbers(rt.alloc(), 400));
+}
+
+// So many names of one first hash, and behind them names of one second hash, for the first time and again.
+fn do_names_of_one_second_hash_keep_their_numbers(alloc: Global, few: u32, count: u32) -> bool {
+    let behind = few.saturating_mul(2);
+    let mut names = Names::new(alloc, behind.saturating_add(count.saturating_mul(2)));
+    are_numbered_at_one_place(&mut names, OneHash::First, 0, few)
+        && are_numbered_at_one_place(&mut names, OneHash::Second, behind, count)
+        && are_numbered_at_one_place(&mut names, OneHash::First, 0, few)
+        && are_numbered_at_one_place(&mut names, OneHash::Second, behind, count)
+        && names.number_of_bytes(b"x") == Err(NamesFault::Full)
+}
+
+// Once the few have the names found by their second hash, many that share it are found by their bytes.
+#[test]
+fn names_of_one_second_hash_keep_their_numbers(rt: HostRuntime) {
+    assert!(rt; do_names_of_one_second_hash_keep_their_numbers(rt.alloc(), 40, 200));
 }
 
 // The names of a text, which stand between its spaces. `None` where memory is refused.

@@ -540,56 +540,119 @@ fn has_orders<T: AllocGlobal + Threads + Wait + Copy + Send + 'static>(
     Ok(report == lines_of(rt.alloc(), ORDER_OF_TWO)?)
 }
 
-// Labels whose blocks are no transactions, a text of six events, and what is written of it with its order.
-type OrderRow = (&'static str, &'static str, &'static str);
+// What is asked for beside the verdict: the order of a serializable trace, what shows a violation, or both.
+#[derive(Clone, Copy)]
+enum Asks {
+    Order,
+    Cycle,
+    Both,
+}
 
-static ORDERS: [OrderRow; 4] = [
+// Labels whose blocks are no transactions, what is asked for, a text, and what is written of it.
+type AskedRow = (&'static str, Asks, &'static str, &'static str);
+
+static ORDERS: [AskedRow; 4] = [
     (
         "",
+        Asks::Order,
         "audit|begin/pay|begin/pay|w(balance)/pay|end/audit|r(balance)/audit|end",
         "n: serializable (6 events, 2 blocks)/  2 pay/  1 audit/traces 1: serializable 1, open 0, violations 0, faults 0/",
     ),
     (
         "",
+        Asks::Order,
         CROSSED,
         "n: violation at line 6: block of T1 from line 1/traces 1: serializable 0, open 0, violations 1, faults 0/",
     ),
     (
         "",
+        Asks::Order,
         "audit|begin/pay|begin/pay|w(balance)/pay|end/audit|r(balance)/audit|w(total)",
         "n: no violation, 1 blocks open (6 events, 2 blocks)/traces 1: serializable 0, open 1, violations 0, faults 0/",
     ),
     // T1's events are transactions of their own: that on line 3 comes before T2's block.
     (
         "a",
+        Asks::Order,
         "T1|begin(a)/T2|begin/T1|w(x)/T2|r(x)/T2|end/T1|end",
         "n: serializable (6 events, 1 blocks)/  1 T1/  3 T1/  2 T2/  6 T1/traces 1: serializable 1, open 0, violations 0, faults 0/",
     ),
 ];
 
-// Whether this is written of a text whose order is asked for, where these help, and this many events are kept at most.
-fn has_order<T: AllocGlobal + Threads + Wait + Copy + Send + 'static>(
+static CYCLES: [AskedRow; 6] = [
+    (
+        "",
+        Asks::Cycle,
+        SOUND,
+        "n: serializable (5 events, 1 blocks)/traces 1: serializable 1, open 0, violations 0, faults 0/",
+    ),
+    (
+        "",
+        Asks::Cycle,
+        CROSSED,
+        "n: violation at line 6: block of T1 from line 1/  3 1 T1|w(x)/  4 2 T2|r(x)/  5 2 T2|w(y)/  6 1 T1|r(y)/traces 1: serializable 0, open 0, violations 1, faults 0/",
+    ),
+    // What comes behind the violation isn't judged.
+    (
+        "",
+        Asks::Cycle,
+        "T1|begin/T1|r(x)/T2|w(x)/T1|r(x)/T1|w(y)/T1|r()",
+        "n: violation at line 4: block of T1 from line 1/  2 1 T1|r(x)/  3 3 T2|w(x)/  4 1 T1|r(x)/traces 1: serializable 0, open 0, violations 1, faults 0/",
+    ),
+    // The inner block, which is none, and its end are events of the outer one.
+    (
+        "m",
+        Asks::Cycle,
+        "T1|begin(a)/T1|begin(m)/T1|end/T1|w(x)/T2|w(x)/T1|r(x)",
+        "n: violation at line 6: block of T1 from line 1/  label a/  4 1 T1|w(x)/  5 5 T2|w(x)/  6 1 T1|r(x)/traces 1: serializable 0, open 0, violations 1, faults 0/",
+    ),
+    (
+        "",
+        Asks::Both,
+        "audit|begin/pay|begin/pay|w(balance)/pay|end/audit|r(balance)/audit|end",
+        "n: serializable (6 events, 2 blocks)/  2 pay/  1 audit/traces 1: serializable 1, open 0, violations 0, faults 0/",
+    ),
+    (
+        "",
+        Asks::Both,
+        CROSSED,
+        "n: violation at line 6: block of T1 from line 1/  3 1 T1|w(x)/  4 2 T2|r(x)/  5 2 T2|w(y)/  6 1 T1|r(y)/traces 1: serializable 0, open 0, violations 1, faults 0/",
+    ),
+];
+
+// A plan that asks for this.
+fn plan_asking(alloc: Global, who: Who, (labels, asks): (&str, Asks)) -> Result<Plan, Fail> {
+    let is_ordered = matches!(asks, Asks::Order | Asks::Both);
+    let plan = plan_by(alloc, who, Limits::greatest(), 7, (labels, is_ordered))?;
+    match asks {
+        Asks::Order => Ok(plan),
+        Asks::Cycle | Asks::Both => Ok(plan.explaining()),
+    }
+}
+
+// Whether this is written of a text, where that is asked for, these help, and this many events are kept at most.
+fn has_asked<T: AllocGlobal + Threads + Wait + Copy + Send + 'static>(
     rt: &T,
     who: Who,
-    (text, labels, report): (&[u8], &str, &[u8]),
+    (text, asked, report): (&[u8], (&str, Asks), &[u8]),
     most: u64,
 ) -> Result<bool, Fail> {
-    let limits = Limits::greatest();
-    let plan = plan_by(rt.alloc(), who, limits, 7, (labels, true))?.with_keeping(keeping(most));
+    let plan = plan_asking(rt.alloc(), who, asked)?.with_keeping(keeping(most));
     let written = written_of(rt, who, (text, NEVER), &plan)?;
     Ok(written.as_slice() == report)
 }
 
-// Whether it is, whoever helps: the source turns live at its first block, at its last one, or never.
-fn has_order_by_all<T: AllocGlobal + Threads + Wait + Copy + Send + 'static>(
+// Whether it is, whoever of these helps: the source turns live at its first block, at its last one, or never.
+fn has_asked_by_all<T: AllocGlobal + Threads + Wait + Copy + Send + 'static>(
     rt: &T,
-    (labels, text, report): &OrderRow,
+    help: &[Who],
+    (labels, asks, text, report): &AskedRow,
 ) -> Result<bool, Fail> {
     let text = lines_of(rt.alloc(), text)?;
     let report = lines_of(rt.alloc(), report)?;
-    for who in HELP.iter() {
+    for who in help {
         for most in [0, 5, 6] {
-            if !has_order(rt, *who, (&text, labels, &report), most)? {
+            if !has_asked(rt, *who, (&text, (labels, *asks), &report), most)? {
                 return Ok(false);
             }
         }
@@ -600,10 +663,24 @@ fn has_order_by_all<T: AllocGlobal + Threads + Wait + Copy + Send + 'static>(
 #[test]
 fn a_source_has_its_order_wherever_it_turns_live(rt: HostRuntime) -> Result<(), Fail> {
     for row in ORDERS.iter() {
-        assert!(rt; has_order_by_all(&rt, row)?, "{}", row.2);
+        assert!(rt; has_asked_by_all(&rt, &HELP, row)?, "{}", row.3);
     }
     for who in HELP.iter() {
         assert!(rt; has_orders(&rt, *who)?);
+    }
+    Ok(())
+}
+
+#[test]
+fn a_source_has_its_cycle_wherever_it_turns_live(rt: HostRuntime) -> Result<(), Fail> {
+    let help = [
+        Who::Alone,
+        Who::Crew(2),
+        Who::Helped(Habit::Twice),
+        Who::Helped(Habit::Forges),
+    ];
+    for row in CYCLES.iter() {
+        assert!(rt; has_asked_by_all(&rt, &help, row)?, "{}", row.3);
     }
     Ok(())
 }
