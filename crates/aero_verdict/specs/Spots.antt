@@ -5,8 +5,7 @@ use Rattle.aero_model.specs.declared.numbered.What.TheVariants.{Read, Write, Acq
 use Rattle.aero_model.specs.Named.{Named}
 use Rattle.aero_model.specs.Numbering.{Tables}
 use Rattle.aero_grammar.specs.Reading.{Reading}
-use Rattle.aero_verdict.specs.declared.event_on.EventWords.{EventWords}
-use Rattle.aero_verdict.specs.declared.event_on.NameTables.{NameTables}
+use Rattle.aero_verdict.specs.declared.event_words.EventWords.{EventWords}
 use Rattle.aero_verdict.specs.declared.on_line.Spot.{Spot}
 
 -- the event at this place, if there is one
@@ -19,9 +18,6 @@ named_spot spot = named_at spot.part.now spot.place
 -- the event that has these words
 abbrev pub named_words : EventWords → Named
 named_words w = record { thread = w.thread.now; op = w.op; target = option_copied w.target }
-
-abbrev pub tables_at : NameTables → Tables
-tables_at t = record { threads = t.threads.now; variables = t.variables.now; locks = t.locks.now }
 
 -- the name of the target, or the label, if there is one, is in its table
 abbrev pub HasTarget : Tables → List (List ℕ) → What → Type 0

@@ -55,7 +55,7 @@ mod actor;
 mod blocks;
 mod check;
 mod checker;
-mod event_on;
+mod event_words;
 mod explained;
 mod first_steps;
 mod ghost_parts;

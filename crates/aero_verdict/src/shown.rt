@@ -4,7 +4,7 @@ ghost use Rattle.aero_grammar.specs.Tabled.{name_at};
 ghost use Rattle.aero_verdict.specs.Limited.{names_in};
 ghost use Rattle.aero_verdict.specs.Shown.{bound_shown, op_shown, label_shown, target_shown, shown, HasLabelShown, HasTargetShown, CanShow};
 
-use crate::event_on::{EventWords, event_named};
+use crate::event_words::{EventWords, event_named};
 use crate::numbering::Numbering;
 use aero_model::event::{Event, Op};
 use aero_model::numbered::{Numbered, What};
