@@ -17,13 +17,7 @@ use std::test::Fail;
 
 // Labels whose blocks are no transactions, what is asked for, a text of one block that was kept, and one of a block that
 // comes, and what is written of them.
-type Row = (
-    &'static str,
-    Asks,
-    &'static str,
-    &'static str,
-    &'static str,
-);
+type Row = (&'static str, Asks, &'static str, &'static str, &'static str);
 
 // What is asked for beside the verdict.
 #[derive(Clone, Copy)]
@@ -48,7 +42,13 @@ static ROWS: [Row; 8] = [
         "pay|end/audit|r(balance)/audit|end/",
         "n: serializable (6 events, 2 blocks)/",
     ),
-    ("-", Asks::Order, "", "", "n: serializable (0 events, 0 blocks)/"),
+    (
+        "-",
+        Asks::Order,
+        "",
+        "",
+        "n: serializable (0 events, 0 blocks)/",
+    ),
     (
         "-",
         Asks::Order,

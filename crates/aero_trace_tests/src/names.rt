@@ -148,7 +148,10 @@ fn first_count_forgotten(alloc: Global, counts: &[u32]) -> Option<u32> {
 // With the seventeenth name a table finds its names in another way, and from time to time behind that.
 #[test]
 fn many_names_keep_their_numbers(rt: HostRuntime) {
-    assert_eq!(rt; first_count_forgotten(rt.alloc(), &[15, 16, 17, 18, 1000, 5000]), None);
+    assert_eq!(rt;
+        first_count_forgotten(rt.alloc(), &[15, 16, 17, 18, 1000, 5000]),
+        None
+    );
 }
 
 const FACTOR: u64 = 17_378_887_893_183_147_461;
