@@ -84,7 +84,7 @@ found_next {R} known terms origin all place end j seated at judged_is =
     let before = first.0 in
     let fits : IsEndOf known terms before end = seated.fits place before (seats.Done end) first.1 at in
     let tells = subst (λ (o : Option Judged). IfSome o (λ x. TellsOf terms (sighted known before ∷ []) (sighted known end.source ∷ []) 0 (tracks.Found x.bytes x.ending x.finding)))
-        judged_is fits.found in
+    judged_is fits.found in
     let f = tells.0 in
     let is = tells.1 in
     let same_before : sighted known before ≡ is.before = the_some (sighted known before) is.before is.was in

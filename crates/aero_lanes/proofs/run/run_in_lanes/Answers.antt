@@ -21,5 +21,5 @@ returns g c =
     let terms = terms_of c.args.plan.now in
     let sources = c.args.sources.items in
     record {
-      ran = c.judge_all.ensures.ran sources (subst (λ (xs : List (Seat g.row.R.Denot)). AreSeated known terms sources xs) (sym c.seat_all-seats.ensures) (waiting_seated known terms sources));
+      ran = c.judge_all.ensures.ran sources (subst (λ (xs : List (Seat g.row.R.Denot)). AreSeated known terms sources xs) (sym c.seat_all.ensures) (waiting_seated known terms sources));
     }
