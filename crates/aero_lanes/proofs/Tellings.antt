@@ -1,14 +1,14 @@
 -- Telling what the lanes found keeps what holds, and says what was written where it stops.
-use Rattle.std.proofs.Common.{◌≡◌, ℕ, zero, suc, ◌+◌, ◌<◌, ◌≤◌, Bool, true, false, List, [], ◌∷◌, ◌++◌, map, length, take, slice_get, Option, Some, None, Result, Ok, Err}
+use Rattle.std.proofs.Common.{◌≡◌, ℕ, ◌+◌, ◌<◌, ◌≤◌, Bool, true, false, List, [], ◌∷◌, ◌++◌, map, length, take, slice_get, Option, Some, None, Result, Ok, Err}
 use Rattle.std.proofs.Common.{refl, sym, ◌∙◌, ap, ap₂, subst, inl, inr, arith}
-use Rattle.std.specs.Prelude.{IfOk, IfErr, IfSome, OnOk, ◌⊎◌, vec_len, vec_capacity}
+use Rattle.std.specs.Prelude.{IfOk, IfErr, IfSome, OnOk, vec_len}
 use Rattle.std.proofs.KnownBytes.{Appends-nil, Appends-trans}
 use Rattle.std.proofs.lemmas.List.{length-map, map-append, length_push}
 use Rattle.std.proofs.lemmas.Option.{slice_get_within}
 use Rattle.aero_model.specs.declared.verdict.Ending.{Ending}
 use Rattle.aero_model.specs.declared.verdict.Finding.{Finding}
 use Rattle.aero_model.specs.CallCounts.{Seen}
-use Rattle.aero_report.specs.Texts.{counts_of, counted, no_counts}
+use Rattle.aero_report.specs.Texts.{counts_of, counted}
 use Rattle.aero_report.specs.declared.form.Form.{Form}
 use Rattle.aero_report.specs.Forms.{source_line_in, summary_line_in}
 use Rattle.aero_batch.specs.declared.outcome.Cause.{Cause}
@@ -26,8 +26,8 @@ use Rattle.aero_lanes.specs.declared.lane.Ended.{Ended}
 use Rattle.aero_lanes.specs.declared.seat.Seat.{Seat}
 use Rattle.aero_lanes.specs.declared.seat.Seat.TheVariants as seats
 use Rattle.aero_lanes.specs.Ends.{IsEndOf}
-use Rattle.aero_lanes.specs.Seats.{FitsSeat, AreSeated, GoOn, IsFoundBy}
-use Rattle.aero_lanes.specs.Tellings.{StandsSo, AreToldSo, StopsSo, WasCutSo, IsTextAfter, IsWrittenSo, TellsEnd, TellsSeat, TellsNextSeat, HasNumbersOf, IsBegunSo}
+use Rattle.aero_lanes.specs.Seats.{AreSeated, GoOn, IsFoundBy}
+use Rattle.aero_lanes.specs.Tellings.{StandsSo, StopsSo, WasCutSo, IsTextAfter, IsWrittenSo, TellsEnd, TellsSeat, TellsNextSeat, HasNumbersOf, IsBegunSo}
 use Rattle.aero_verdict.specs.Finding.{Terms}
 
 -- before anything is told

@@ -1,4 +1,4 @@
-use Rattle.std.proofs.Common.{rules, ◌<◌, arith}
+use Rattle.std.proofs.Common.{◌<◌, arith}
 use Rattle.std.proofs.lemmas.Option.{slice_get_read}
 use Rattle.aero_lanes.proofs.Seated.{goes_on}
 use Rattle.aero_lanes.proofs.lanes.end_one.Goals as goal

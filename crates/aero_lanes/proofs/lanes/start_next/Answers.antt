@@ -1,4 +1,3 @@
-use Rattle.std.proofs.Common.{rules, ◌<◌, arith}
 use Rattle.std.proofs.lemmas.Option.{slice_get_read}
 use Rattle.aero_lanes.proofs.Seated.{goes_on}
 use Rattle.aero_lanes.proofs.lanes.start_next.Goals as goal

@@ -1,4 +1,4 @@
-use Rattle.std.specs.Prelude.{◌≡◌, ◌+◌, ◌≤◌, List, vec_len, vec_capacity}
+use Rattle.std.specs.Prelude.{◌+◌, ◌≤◌, List, vec_len, vec_capacity}
 use Rattle.std.specs.Vec.Iter.{into_iter_items, into_iter_len}
 use Rattle.aero_intake.specs.declared.source.Source.{Source}
 use Rattle.aero_lanes.specs.Seats.{AreSeated, BackSoFar}

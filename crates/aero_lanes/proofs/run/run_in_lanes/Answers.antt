@@ -1,5 +1,4 @@
-use Rattle.std.proofs.Common.{rules, ◌≡◌, List, map, length, sym, ◌∙◌, ap, subst}
-use Rattle.std.proofs.lemmas.List.{length-map}
+use Rattle.std.proofs.Common.{List, map, sym, subst}
 use Rattle.aero_batch.specs.Founds.{sighted}
 use Rattle.aero_batch.proofs.Stands.{refused_at_once}
 use Rattle.aero_intake.specs.PlanTerms.{terms_of}

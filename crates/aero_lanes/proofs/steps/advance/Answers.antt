@@ -1,9 +1,8 @@
-use Rattle.std.proofs.Common.{rules, ◌≡◌, ℕ, List, sym, subst}
-use Rattle.std.specs.Prelude.{vec_len}
+use Rattle.std.proofs.Common.{sym, subst}
 use Rattle.aero_batch.specs.declared.told.Told.{Told}
 use Rattle.aero_intake.specs.PlanTerms.{terms_of}
 use Rattle.aero_lanes.proofs.Tellings.{stands_on}
-use Rattle.aero_lanes.specs.Tellings.{HasNumbersOf, StandsSo}
+use Rattle.aero_lanes.specs.Tellings.{StandsSo}
 use Rattle.aero_lanes.proofs.steps.advance.Goals as goal
 use Rattle.aero_model.specs.CallCounts.{Seen, seen_by}
 

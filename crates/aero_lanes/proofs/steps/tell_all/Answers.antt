@@ -1,4 +1,4 @@
-use Rattle.std.proofs.Common.{refl, sym, ◌∙◌, subst}
+use Rattle.std.proofs.Common.{◌∙◌, subst}
 use Rattle.aero_batch.specs.Telling.{TellsText}
 use Rattle.aero_intake.specs.PlanTerms.{terms_of}
 use Rattle.aero_lanes.proofs.Tellings.{summary_so}

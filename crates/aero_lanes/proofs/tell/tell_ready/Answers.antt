@@ -1,8 +1,7 @@
-use Rattle.std.proofs.Common.{rules, ◌≡◌, List, slice_get, refl, sym, ◌∙◌, subst}
+use Rattle.std.proofs.Common.{slice_get, refl, sym, subst}
 use Rattle.aero_intake.specs.PlanTerms.{terms_of}
 use Rattle.aero_lanes.proofs.Tellings.{telling, numbers_told}
 use Rattle.aero_lanes.specs.Tellings.{TellsNextSeat}
-use Rattle.aero_lanes.specs.declared.seat.Seat.{Seat}
 use Rattle.aero_lanes.proofs.tell.tell_ready.Goals as goal
 use Rattle.aero_model.specs.CallCounts.{seen_by}
 use Rattle.aero_report.specs.declared.form.Form.{Form}
