@@ -1,12 +1,11 @@
 -- What changes one seat keeps what holds of all.
-use Rattle.std.proofs.Common.{◌≡◌, ℕ, zero, suc, ◌<◌, List, [], ◌∷◌, map, length, slice_get, slice_set, Option, Some, None, refl, sym, ◌∙◌, ap, subst, inl, inr, ◌⊎◌, arith}
+use Rattle.std.proofs.Common.{◌≡◌, ℕ, zero, suc, List, [], ◌∷◌, length, slice_get, slice_set, Option, Some, refl, sym, ◌∙◌, ap, subst, inl, inr, ◌⊎◌}
 use Rattle.std.specs.Prelude.{option_map}
 use Rattle.std.proofs.lemmas.List.{length-map}
 use Rattle.std.proofs.lemmas.Option.{slice_get-map}
 use Rattle.aero_intake.specs.declared.source.Source.{Source}
-use Rattle.aero_lanes.specs.declared.lane.Ended.{Ended}
 use Rattle.aero_lanes.specs.declared.seat.Seat.{Seat}
-use Rattle.aero_lanes.specs.declared.seat.Seat.TheVariants.{Waiting, Running, Done, Empty}
+use Rattle.aero_lanes.specs.declared.seat.Seat.TheVariants.{Waiting, Done}
 use Rattle.aero_lanes.specs.Seats.{FitsSeat, StaysDone, AreSeated, GoOn, waiting}
 use Rattle.aero_verdict.specs.Finding.{Terms}
 

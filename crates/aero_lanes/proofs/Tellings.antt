@@ -1,14 +1,14 @@
 -- Telling what the lanes found keeps what holds, and says what was written where it stops.
-use Rattle.std.proofs.Common.{◌≡◌, ℕ, zero, suc, ◌+◌, ◌<◌, ◌≤◌, Bool, true, false, List, [], ◌∷◌, ◌++◌, map, length, take, slice_get, Option, Some, None, Result, Ok, Err}
+use Rattle.std.proofs.Common.{◌≡◌, ℕ, ◌+◌, ◌<◌, ◌≤◌, Bool, true, false, List, [], ◌∷◌, ◌++◌, map, length, take, slice_get, Option, Some, None, Result, Ok, Err}
 use Rattle.std.proofs.Common.{refl, sym, ◌∙◌, ap, ap₂, subst, inl, inr, arith}
-use Rattle.std.specs.Prelude.{IfOk, IfErr, IfSome, OnOk, ◌⊎◌, vec_len, vec_capacity}
+use Rattle.std.specs.Prelude.{IfOk, IfErr, IfSome, OnOk, vec_len}
 use Rattle.std.proofs.KnownBytes.{Appends-nil, Appends-trans}
 use Rattle.std.proofs.lemmas.List.{length-map, map-append, length_push}
 use Rattle.std.proofs.lemmas.Option.{slice_get_within}
 use Rattle.aero_model.specs.declared.verdict.Ending.{Ending}
 use Rattle.aero_model.specs.declared.verdict.Finding.{Finding}
 use Rattle.aero_model.specs.CallCounts.{Seen}
-use Rattle.aero_report.specs.Texts.{counts_of, counted, no_counts}
+use Rattle.aero_report.specs.Texts.{counts_of, counted}
 use Rattle.aero_report.specs.declared.form.Form.{Form}
 use Rattle.aero_report.specs.Forms.{source_line_in, summary_line_in}
 use Rattle.aero_batch.specs.declared.outcome.Cause.{Cause}
@@ -26,8 +26,8 @@ use Rattle.aero_lanes.specs.declared.lane.Ended.{Ended}
 use Rattle.aero_lanes.specs.declared.seat.Seat.{Seat}
 use Rattle.aero_lanes.specs.declared.seat.Seat.TheVariants as seats
 use Rattle.aero_lanes.specs.Ends.{IsEndOf}
-use Rattle.aero_lanes.specs.Seats.{FitsSeat, AreSeated, GoOn, IsFoundBy}
-use Rattle.aero_lanes.specs.Tellings.{StandsSo, AreToldSo, StopsSo, WasCutSo, IsTextAfter, IsWrittenSo, TellsEnd, TellsSeat, TellsNextSeat, HasNumbersOf, IsBegunSo}
+use Rattle.aero_lanes.specs.Seats.{AreSeated, GoOn, IsFoundBy}
+use Rattle.aero_lanes.specs.Tellings.{StandsSo, StopsSo, WasCutSo, IsTextAfter, IsWrittenSo, TellsEnd, TellsSeat, TellsNextSeat, HasNumbersOf, IsBegunSo}
 use Rattle.aero_verdict.specs.Finding.{Terms}
 
 -- before anything is told
@@ -84,7 +84,7 @@ found_next {R} known terms origin all place end j seated at judged_is =
     let before = first.0 in
     let fits : IsEndOf known terms before end = seated.fits place before (seats.Done end) first.1 at in
     let tells = subst (λ (o : Option Judged). IfSome o (λ x. TellsOf terms (sighted known before ∷ []) (sighted known end.source ∷ []) 0 (tracks.Found x.bytes x.ending x.finding)))
-        judged_is fits.found in
+    judged_is fits.found in
     let f = tells.0 in
     let is = tells.1 in
     let same_before : sighted known before ≡ is.before = the_some (sighted known before) is.before is.was in

@@ -1,11 +1,10 @@
 -- What the lanes come to.
-use Rattle.std.specs.Prelude.{◌≡◌, ℕ, ◌≤◌, List, [], map, vec_len, vec_capacity, Option, Vec}
-use Rattle.std.specs.Global.{Global}
+use Rattle.std.specs.Prelude.{◌≡◌, ℕ, ◌≤◌, List, [], map, vec_len, vec_capacity, Option}
 use Rattle.aero_model.specs.CallCounts.{Seen}
 use Rattle.aero_report.specs.declared.form.Form.{Form}
-use Rattle.aero_batch.specs.declared.told.Told.{Told}
 use Rattle.aero_batch.specs.Founds.{WasRun, sighted}
 use Rattle.aero_intake.specs.declared.source.Source.{Source}
+use Rattle.aero_lanes.specs.declared.room.Room.{Room}
 use Rattle.aero_lanes.specs.declared.run.Report.{Report}
 use Rattle.aero_lanes.specs.declared.seat.Seat.{Seat}
 use Rattle.aero_lanes.specs.Seats.{AreSeated}
@@ -13,13 +12,13 @@ use Rattle.aero_lanes.specs.Tellings.{IsBegunSo}
 use Rattle.aero_verdict.specs.Finding.{Terms}
 
 -- Nothing is told yet of the sources on these seats, and there is room for them to come back.
-pub record IsReady {R : Type 0} (seats : Vec (Seat R) Global) (told : Told) (back : Vec (Source R) Global) : Type 0 where
-  pub begun : IsBegunSo (vec_len seats) told
-  pub few : vec_len seats ≤ 65536
-  pub none : back.items ≡ []
-  pub room : vec_capacity back ≡ vec_len seats
+pub record IsReady {R : Type 0} (all : Room R) : Type 0 where
+  pub begun : IsBegunSo (vec_len all.seats) all.told
+  pub few : vec_len all.seats ≤ 65536
+  pub none : all.back.items ≡ []
+  pub room : vec_capacity all.back ≡ vec_len all.seats
 
--- whatever the sources on these seats were, it was a run over them, and these came back
+-- Whatever the sources on these seats were, it was a run over them, and these came back.
 pub record HasJudged {R : Type 0} (known : R → Option (List ℕ)) (terms : Terms) (form : Form) (seats : List (Seat R)) (before after : Seen) (report : Report)
     (back : List (Source R)) : Type 0 where
   pub ran : (origin : List (Source R)) → AreSeated known terms origin seats →

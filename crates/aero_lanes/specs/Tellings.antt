@@ -2,15 +2,12 @@
 use Rattle.std.specs.Prelude.{◌≡◌, ℕ, ◌+◌, ◌<◌, ◌≤◌, ◌⊎◌, Bool, true, false, List, [], ◌++◌, map, length, take, slice_get, vec_len, vec_capacity, Option, Some, None}
 use Rattle.std.specs.Prelude.{Result, Ok, Err}
 use Rattle.std.specs.Io.KnownBytes.{Appends}
-use Rattle.aero_model.specs.declared.verdict.Counts.{Counts}
-use Rattle.aero_model.specs.declared.verdict.Ending.{Ending}
 use Rattle.aero_model.specs.CallCounts.{Seen}
 use Rattle.aero_report.specs.declared.form.Form.{Form}
 use Rattle.aero_report.specs.Texts.{no_counts}
 use Rattle.aero_report.specs.Forms.{source_line_in, summary_line_in, report_in}
 use Rattle.aero_batch.specs.declared.outcome.Cause.{Cause}
 use Rattle.aero_batch.specs.declared.outcome.Cause.TheVariants.{Memory, Write}
-use Rattle.aero_batch.specs.declared.outcome.FaultyLine.{FaultyLine}
 use Rattle.aero_batch.specs.declared.told.Told.{Told}
 use Rattle.aero_batch.specs.Founds.{Found, Took, ending_of, faulty_line, lines_of_all, counts_of_all, told as told_of}
 use Rattle.aero_batch.specs.Telling.{TellsNext, total}
@@ -18,7 +15,7 @@ use Rattle.aero_intake.specs.declared.source.Source.{Source}
 use Rattle.aero_intake.specs.declared.track.Track.TheVariants as tracks
 use Rattle.aero_batch.specs.declared.find.Judged.{Judged}
 use Rattle.aero_lanes.specs.declared.seat.Seat.{Seat}
-use Rattle.aero_lanes.specs.declared.seat.Seat.TheVariants.{Waiting, Running, Done, Empty}
+use Rattle.aero_lanes.specs.declared.seat.Seat.TheVariants.{Done}
 use Rattle.aero_lanes.specs.Seats.{AreSeated, IsFoundBy}
 use Rattle.aero_verdict.specs.Finding.{Terms}
 

@@ -1,52 +1,53 @@
 //! The run in lanes.
-ghost use Rattle.std.specs.Prelude.{◌≡◌, ◌<◌, ◌≤◌, [], true, false, length, map, slice_get, vec_len, vec_capacity, Some, IfOk, IfErr, OnOk, IsTrue};
+ghost use Rattle.std.specs.Prelude.{◌≡◌, ◌≤◌, [], map, vec_len, Some};
 ghost use Rattle.aero_batch.specs.Founds.{sighted, WasRun};
 ghost use Rattle.aero_batch.specs.Telling.{cause_of};
 ghost use Rattle.aero_intake.specs.PlanTerms.{terms_of};
-ghost use Rattle.aero_lanes.specs.Seats.{AreSeated, AreBack, GoOn, waiting};
 ghost use Rattle.aero_lanes.specs.Judged.{HasJudged, IsReady};
-ghost use Rattle.aero_lanes.specs.Tellings.{HasNumbersOf, IsBegunSo, StandsSo, StopsSo, TellsNextSeat};
-ghost use Rattle.aero_model.specs.CallCounts.{Seen, seen_by};
+ghost use Rattle.aero_model.specs.CallCounts.{seen_by};
 ghost use Rattle.aero_report.specs.Texts.{no_counts};
-ghost use Rattle.aero_verdict.specs.Finding.{Terms};
 
-use crate::seat::{Seat, end, source_of, start};
-use crate::tell::tell_seat;
+use crate::lanes::Lanes;
+use crate::room::{Room, all_back, room_for, seat_all};
+use crate::shared::Shared;
+use crate::steps::tell_all;
 use aero_batch::outcome::{Cause, FaultyLine, Outcome};
 use aero_batch::run::run;
-use aero_batch::told::{Style, Told, nothing_counted, tell_summary};
+use aero_batch::told::{Told, nothing_counted};
 use aero_intake::plan::Plan;
 use aero_intake::source::Source;
 use aero_model::counting::Counting;
 use aero_model::verdict::{Counts, Ending};
 use aero_worker::NoGate;
-use crossbeam_channel::{Receiver, Sender};
-use std::alloc::{AllocError, Global};
+use std::alloc::Global;
 use std::io::{Read, Write};
 use std::sync::atomic::{AtomicBool, Ordering};
 use std::sync::{Arc, Wait};
 use std::thread;
 use std::thread::{Scope, Threads};
 
-/// What a run came to, as `aero_batch` tells it of one that reads the sources one after the other.
+/// What was found of the sources whose lines were written whole, which are the first ones, and why the run stopped.
 #[derive(Drop)]
 pub struct Report {
+    /// How many bytes came of each of these sources, and how they ended.
     pub endings: Vec<(u64, Ending)>,
+    /// The faulty line of each, if one was found.
     pub faults: Vec<Option<FaultyLine>>,
+    /// How many of them were found to be what: 65,536 in all at most.
     pub counts: Counts,
+    /// `None` where all was written, and the summary too.
     pub cause: Option<Cause>,
 }
 
-// The sources, and how many lanes were started and run.
-#[derive(Drop)]
-struct Lanes<R: Read> {
-    seats: Vec<Seat<R>>,
-    started: usize,
-    running: u32,
-}
-
-/// Reads and judges the sources, as many at once as the plan has workers, each in a lane of its own, and writes the
-/// report: the line of each source, in their order, and the summary. It gives the sources back.
+/// Reads and judges the sources, as many at once as the plan has workers, each in a lane of its own, and writes the report:
+/// the line of each source, in their order, and the summary. The report is that of `aero_batch::run`, and so is all that is
+/// said there of how sources end. With one source, or one worker, it is that run.
+///
+/// A lane is a thread. Where the system gives none, the calling thread does a lane's work. A source that may wait is begun
+/// once all before it are told. All lanes have ended when the call returns, and it gives all sources back, in their order.
+///
+/// Where memory is refused, or a write fails, the run stops: the report tells of the sources whose lines were written
+/// whole, and says why. How far others were read isn't said. Nothing is flushed.
 pub fn run_in_lanes<
     R: Read + Drop + Send,
     W: Write,
@@ -65,32 +66,23 @@ pub fn run_in_lanes<
     if sources.len() < 2 || plan.workers < 2 {
         return run_in_turn(rt, alloc, sources, writer, plan);
     }
-    let Ok(room) = room_for(alloc, sources.len()) else {
+    let Ok((mut room, ends)) = room_for(alloc, sources.len()) else {
         return (refused(alloc), sources);
     };
-    let Room {
-        told,
-        seats,
-        back,
-        sender,
-        news,
-    } = room;
-    let seats = seat_all(seats, sources);
+    seat_all(&mut room.seats, sources);
     let is_given_up = AtomicBool::new(false);
-    let ends = Ends {
+    let shared = Shared {
+        rt: &rt,
+        alloc,
+        plan,
         is_given_up: &is_given_up,
-        sender: &sender,
-        news: &news,
+        ends: &ends,
     };
-    judge_all(&rt, alloc, plan, ends, seats, back, writer, told)
+    judge_all(shared, room, writer)
 }
 
 // One source after the other, where there is one, or one worker.
-fn run_in_turn<
-    R: Read,
-    W: Write,
-    T: Threads + Wait + Copy + Send + 'static,
->(
+fn run_in_turn<R: Read, W: Write, T: Threads + Wait + Copy + Send + 'static>(
     rt: T,
     alloc: Global,
     mut sources: Vec<Source<R>>,
@@ -120,7 +112,7 @@ fn run_in_turn<
     (report, sources)
 }
 
-// Where memory was refused before any lane was started.
+// Where memory was refused before any source was read.
 fn refused(alloc: Global) -> Report
     ensures endings { result.endings.items ≡ [] }
     ensures faults { result.faults.items ≡ [] }
@@ -135,84 +127,26 @@ fn refused(alloc: Global) -> Report
     }
 }
 
-// How lanes and their caller hear of one another: whether nothing that a lane finds is of use any more, and the channel on
-// which the places of sources go whose lanes have ended.
-#[derive(Clone, Copy)]
-struct Ends<'s> {
-    is_given_up: &'s AtomicBool,
-    sender: &'s Sender<u64>,
-    news: &'s Receiver<u64>,
-}
-
-// What is needed for so many sources: nothing more is allocated for them, but in the lanes.
-#[derive(Drop)]
-struct Room<R: Read> {
-    told: Told,
-    seats: Vec<Seat<R>>,
-    back: Vec<Source<R>>,
-    sender: Sender<u64>,
-    news: Receiver<u64>,
-}
-
-fn room_for<R: Read + Drop>(alloc: Global, sources: usize) -> Result<Room<R>, AllocError>
-    requires { sources ≤ 65536 }
-    ensures told { IfOk result (λ room. IsBegunSo sources room.told) }
-    ensures seats { IfOk result (λ room. (room.seats.items ≡ []) × (vec_capacity room.seats ≡ sources)) }
-    ensures back { IfOk result (λ room. (room.back.items ≡ []) × (vec_capacity room.back ≡ sources)) }
-{
-    let told = Told::new(alloc, sources)?;
-    let seats = Vec::with_capacity(alloc, sources)?;
-    let back = Vec::with_capacity(alloc, sources)?;
-    let (sender, news) = crossbeam_channel::bounded(alloc, sources)?;
-    Ok(Room {
-        told,
-        seats,
-        back,
-        sender,
-        news,
-    })
-}
-
-// A seat for each source.
-fn seat_all<R: Read + Drop>(mut seats: Vec<Seat<R>>, sources: Vec<Source<R>>) -> Vec<Seat<R>>
-    requires none { seats.items ≡ [] }
-    requires room { vec_capacity seats ≡ vec_len sources }
-    ensures { result.items ≡ waiting sources.items }
-{
-    for source in sources {
-        seats.push_reserved(Seat::Waiting(source));
-    }
-    seats
-}
-
-// Starts the lanes, tells what they find, and waits until all have ended.
-fn judge_all<
-    R: Read + Drop + Send,
-    W: Write,
-    T: Threads + Wait + Sync,
->(
-    rt: &T,
-    alloc: Global,
-    plan: &Plan,
-    ends: Ends<'_>,
-    seats: Vec<Seat<R>>,
-    back: Vec<Source<R>>,
+// Starts the lanes, tells what they find, and waits until all have ended. The writer goes into the scope's closure, and
+// comes back with its result.
+fn judge_all<R: Read + Drop + Send, W: Write, T: Threads + Wait + Copy + Sync>(
+    shared: Shared<'_, T>,
+    room: Room<R>,
     writer: &mut Counting<W>,
-    told: Told,
 ) -> (Report, Vec<Source<R>>)
-    requires { IsReady seats told back }
-    ensures { HasJudged R.remaining (terms_of plan.now) plan.now.form seats.items (seen_by W.contents writer.old) (seen_by W.contents writer.new) result.0 result.1.items }
+    requires { IsReady room }
+    ensures { HasJudged R.remaining (terms_of shared.entry.plan.now) shared.entry.plan.now.form room.seats.items (seen_by W.contents writer.old) (seen_by W.contents writer.new) result.0 result.1.items }
 {
     let (report, sources, writer) = thread::scope(
         thread::scope_env(),
-        rt,
+        shared.rt,
         move |scope| -> (Report, Vec<Source<R>>, &mut Counting<W>)
-            requires { IsReady seats told back }
-            ensures ran { HasJudged R.remaining (terms_of plan.entry.now) plan.entry.now.form seats.items (seen_by W.contents writer.entry.now)
+            requires { IsReady room }
+            ensures ran { HasJudged R.remaining (terms_of shared.entry.plan.now) shared.entry.plan.now.form room.seats.items (seen_by W.contents writer.entry.now)
                 (seen_by W.contents result.2.now) result.0 result.1.items }
             ensures same { result.2.ghost_name ≡ writer.entry.ghost_name }
         {
-            let (report, sources) = judge_in(scope, rt, alloc, plan, ends, seats, back, &mut *writer, told);
+            let (report, sources) = judge_in(scope, shared, room, &mut *writer);
             (report, sources, writer)
         },
     );
@@ -220,43 +154,38 @@ fn judge_all<
     (report, sources)
 }
 
-// Does nothing, but shows that the writer is that which was lent.
+// Does nothing. By its clause the caller knows that the writer which came back is the one that went in.
 fn take_back<T>(lent: &mut T)
     ensures { lent.new ≡ lent.old }
 {}
 
 // The same in a scope of threads.
-fn judge_in<
-    's,
-    E,
-    R: Read + Drop + Send + 's,
-    W: Write,
-    T: Threads + Wait + Sync + 's,
->(
+fn judge_in<'s, E, R: Read + Drop + Send + 's, W: Write, T: Threads + Wait + Copy + Sync + 's>(
     scope: &Scope<'s, E>,
-    rt: &'s T,
-    alloc: Global,
-    plan: &'s Plan,
-    ends: Ends<'s>,
-    seats: Vec<Seat<R>>,
-    back: Vec<Source<R>>,
+    shared: Shared<'s, T>,
+    room: Room<R>,
     writer: &mut Counting<W>,
-    told: Told,
 ) -> (Report, Vec<Source<R>>)
-    requires { IsReady seats told back }
-    ensures { HasJudged R.remaining (terms_of plan.now) plan.now.form seats.items (seen_by W.contents writer.old) (seen_by W.contents writer.new) result.0 result.1.items }
+    requires { IsReady room }
+    ensures { HasJudged R.remaining (terms_of shared.entry.plan.now) shared.entry.plan.now.form room.seats.items (seen_by W.contents writer.old) (seen_by W.contents writer.new) result.0 result.1.items }
 {
-    let mut told = told;
+    let Room {
+        seats,
+        mut told,
+        back,
+        ends,
+    } = room;
     let mut lanes = Lanes {
         seats,
         started: 0,
         running: 0,
+        ends,
     };
-    let end = tell_all(scope, rt, alloc, plan, ends, &mut lanes, writer, &mut told);
+    let end = tell_all(scope, shared, &mut lanes, writer, &mut told);
     let cause = cause_in(end);
-    ends.is_given_up.store(true, Ordering::SeqCst);
+    shared.is_given_up.store(true, Ordering::SeqCst);
     let Lanes { seats, .. } = lanes;
-    let sources = all_back(rt, seats, back);
+    let sources = all_back(shared.rt, seats, back);
     let Told {
         endings,
         faults,
@@ -279,237 +208,4 @@ fn cause_in(end: Result<(), Cause>) -> Option<Cause>
         Ok(()) => None,
         Err(cause) => Some(cause),
     }
-}
-
-// The sources, once all lanes have ended.
-fn all_back<R: Read + Drop, T: Threads>(
-    rt: &T,
-    seats: Vec<Seat<R>>,
-    mut back: Vec<Source<R>>,
-) -> Vec<Source<R>>
-    requires none { back.items ≡ [] }
-    requires room { vec_capacity back ≡ vec_len seats }
-    ensures { (terms : Terms) (origin : _) → AreSeated R.remaining terms origin seats.items → AreBack origin seats.items result.items }
-{
-    for seat in seats {
-        if let Some(source) = source_of(rt, seat) {
-            back.push_reserved(source);
-        }
-    }
-    back
-}
-
-// All steps, and the summary.
-fn tell_all<
-    's,
-    E,
-    R: Read + Drop + Send + 's,
-    W: Write,
-    T: Threads + Wait + Sync + 's,
->(
-    scope: &Scope<'s, E>,
-    rt: &'s T,
-    alloc: Global,
-    plan: &'s Plan,
-    ends: Ends<'s>,
-    lanes: &mut Lanes<R>,
-    writer: &mut Counting<W>,
-    told: &mut Told,
-) -> Result<(), Cause>
-    requires { HasNumbersOf (vec_len lanes.old.seats) told.old }
-    ensures count { vec_len lanes.new.seats ≡ vec_len lanes.old.seats }
-    ensures stopped { (origin : _) → StandsSo R.remaining (terms_of plan.now) plan.now.form origin (seen_by W.contents writer.old)
-        (seen_by W.contents writer.old) lanes.old.seats.items told.old →
-        StopsSo R.remaining (terms_of plan.now) plan.now.form origin (seen_by W.contents writer.old)
-        (seen_by W.contents writer.new) lanes.new.seats.items told.new (cause_of result) }
-{
-    'steps: for _ in rt.forever() {
-        match advance(scope, rt, alloc, plan, ends, lanes, writer, told) {
-            Ok(false) => {}
-            Ok(true) => return tell_summary(style_of(alloc, plan), &told.counts, writer),
-            Err(cause) => return Err(cause),
-        }
-    }
-    unreachable!()
-}
-
-// How the texts of the run are made.
-fn style_of(alloc: Global, plan: &Plan) -> Style
-    ensures { result.form ≡ plan.now.form }
-{
-    Style {
-        alloc,
-        form: plan.form,
-    }
-}
-
-// The next line is written, or else the next lane is started, or a lane's end is awaited. The answer says whether all
-// is done but for the summary.
-fn advance<
-    's,
-    E,
-    R: Read + Drop + Send + 's,
-    W: Write,
-    T: Threads + Wait + Sync + 's,
->(
-    scope: &Scope<'s, E>,
-    rt: &'s T,
-    alloc: Global,
-    plan: &'s Plan,
-    ends: Ends<'s>,
-    lanes: &mut Lanes<R>,
-    writer: &mut Counting<W>,
-    told: &mut Told,
-) -> Result<bool, Cause>
-    requires { HasNumbersOf (vec_len lanes.old.seats) told.old }
-    ensures numbers { OnOk result (HasNumbersOf (vec_len lanes.new.seats) told.new) }
-    ensures count { vec_len lanes.new.seats ≡ vec_len lanes.old.seats }
-    ensures stands { OnOk result ((origin : _) (before : Seen) →
-        StandsSo R.remaining (terms_of plan.now) plan.now.form origin before (seen_by W.contents writer.old) lanes.old.seats.items told.old →
-        StandsSo R.remaining (terms_of plan.now) plan.now.form origin before (seen_by W.contents writer.new) lanes.new.seats.items told.new) }
-    ensures stopped { IfErr result (λ cause. (origin : _) (before : Seen) →
-        StandsSo R.remaining (terms_of plan.now) plan.now.form origin before (seen_by W.contents writer.old) lanes.old.seats.items told.old →
-        StopsSo R.remaining (terms_of plan.now) plan.now.form origin before (seen_by W.contents writer.new) lanes.new.seats.items told.new (Some cause)) }
-    ensures all_told { IfOk result (λ is_done. is_done ≡ true → vec_len told.new.endings ≡ vec_len lanes.new.seats) }
-{
-    if tell_ready(alloc, plan, lanes, writer, told)? {
-        return Ok(false);
-    }
-    if told.endings.len() == lanes.seats.len() {
-        return Ok(true);
-    }
-    move_on(scope, rt, alloc, plan, ends, lanes, told.endings.len());
-    Ok(false)
-}
-
-// Writes the next line, where it is found what it is to say. The answer says whether it is.
-fn tell_ready<R: Read, W: Write>(
-    alloc: Global,
-    plan: &Plan,
-    lanes: &Lanes<R>,
-    writer: &mut Counting<W>,
-    told: &mut Told,
-) -> Result<bool, Cause>
-    requires { HasNumbersOf (vec_len lanes.now.seats) told.old }
-    ensures numbers { OnOk result (HasNumbersOf (vec_len lanes.now.seats) told.new) }
-    ensures stands { IfOk result (λ is_told. is_told ≡ true → (origin : _) (before : Seen) →
-        StandsSo R.remaining (terms_of plan.now) plan.now.form origin before (seen_by W.contents writer.old) lanes.now.seats.items told.old →
-        StandsSo R.remaining (terms_of plan.now) plan.now.form origin before (seen_by W.contents writer.new) lanes.now.seats.items told.new) }
-    ensures unchanged { IfOk result (λ is_told. is_told ≡ false → (seen_by W.contents writer.new ≡ seen_by W.contents writer.old) × (told.new ≡ told.old)) }
-    ensures stopped { IfErr result (λ cause. (origin : _) (before : Seen) →
-        StandsSo R.remaining (terms_of plan.now) plan.now.form origin before (seen_by W.contents writer.old) lanes.now.seats.items told.old →
-        StopsSo R.remaining (terms_of plan.now) plan.now.form origin before (seen_by W.contents writer.new) lanes.now.seats.items told.new (Some cause)) }
-{
-    tell_next_seat(style_of(alloc, plan), &lanes.seats, writer, told)
-}
-
-// The same, by what is told of a seat.
-fn tell_next_seat<R: Read, W: Write>(
-    style: Style,
-    seats: &[Seat<R>],
-    writer: &mut Counting<W>,
-    told: &mut Told,
-) -> Result<bool, Cause>
-    requires { HasNumbersOf (length seats.now) told.old }
-    ensures { TellsNextSeat style.form (slice_get seats.now (vec_len told.old.endings)) (seen_by W.contents writer.old)
-        (seen_by W.contents writer.new) told.old told.new result }
-{
-    let place = told.endings.len();
-    if place >= seats.len() {
-        return Ok(false);
-    }
-    tell_seat(style, &seats[place], writer, told)
-}
-
-// Starts the next lane, or else waits for the end of one.
-fn move_on<'s, E, R: Read + Drop + Send + 's, T: Threads + Wait + Sync + 's>(
-    scope: &Scope<'s, E>,
-    rt: &'s T,
-    alloc: Global,
-    plan: &'s Plan,
-    ends: Ends<'s>,
-    lanes: &mut Lanes<R>,
-    told: usize,
-)
-    ensures goes { GoOn R.remaining (terms_of plan.now) lanes.old.seats.items lanes.new.seats.items }
-    ensures count { vec_len lanes.new.seats ≡ vec_len lanes.old.seats }
-{
-    if may_start(plan, lanes, told) {
-        start_next(scope, rt, alloc, plan, ends, lanes);
-    } else {
-        end_one(rt, lanes, ends.news);
-    }
-}
-
-// Whether the next lane may be started: one more may run, and a source that may wait is begun once all before it were
-// told, of which there are so many.
-fn may_start<R: Read>(plan: &Plan, lanes: &Lanes<R>, told: usize) -> bool
-    ensures { IsTrue result → lanes.now.started < vec_len lanes.now.seats }
-{
-    let place = lanes.started;
-    if lanes.running >= plan.workers || place >= lanes.seats.len() {
-        return false;
-    }
-    told >= place || !may_wait(&lanes.seats[place])
-}
-
-// Starts the next lane.
-fn start_next<'s, E, R: Read + Drop + Send + 's, T: Wait + Sync + 's>(
-    scope: &Scope<'s, E>,
-    rt: &'s T,
-    alloc: Global,
-    plan: &'s Plan,
-    ends: Ends<'s>,
-    lanes: &mut Lanes<R>,
-)
-    requires { lanes.old.started < vec_len lanes.old.seats }
-    ensures goes { GoOn R.remaining (terms_of plan.now) lanes.old.seats.items lanes.new.seats.items }
-    ensures count { vec_len lanes.new.seats ≡ vec_len lanes.old.seats }
-{
-    let place = lanes.started;
-    start(
-        scope,
-        rt,
-        alloc,
-        plan,
-        &mut lanes.seats[place],
-        place as u64,
-        ends.sender,
-        ends.is_given_up,
-    );
-    let runs = is_running(&lanes.seats[place]);
-    lanes.started = place + 1;
-    lanes.running = lanes.running.saturating_add(u32::from(runs));
-}
-
-fn may_wait<R: Read>(seat: &Seat<R>) -> bool {
-    match seat {
-        Seat::Waiting(source) => source.may_wait,
-        Seat::Running(_) | Seat::Done(_) | Seat::Empty => false,
-    }
-}
-
-fn is_running<R: Read>(seat: &Seat<R>) -> bool {
-    matches!(seat, Seat::Running(_))
-}
-
-// Waits for the end of a lane, and takes what it gives back.
-fn end_one<R: Read + Drop, T: Threads + Wait>(rt: &T, lanes: &mut Lanes<R>, news: &Receiver<u64>)
-    ensures goes { (terms : Terms) → GoOn R.remaining terms lanes.old.seats.items lanes.new.seats.items }
-    ensures count { vec_len lanes.new.seats ≡ vec_len lanes.old.seats }
-{
-    let Some(place) = next_end(rt, news) else {
-        return;
-    };
-    if place >= lanes.seats.len() || !is_running(&lanes.seats[place]) {
-        return;
-    }
-    end(rt, &mut lanes.seats[place]);
-    lanes.running = lanes.running.saturating_sub(1);
-}
-
-// The place of a source whose lane has ended.
-fn next_end<T: Wait>(rt: &T, news: &Receiver<u64>) -> Option<usize> {
-    let place = news.recv(rt).ok()?;
-    usize::try_from(place).ok()
 }

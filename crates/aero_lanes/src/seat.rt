@@ -1,4 +1,4 @@
-//! Where a source is: it waits, is worked on, or is done with.
+//! Where a source is: it waits for its lane, is in it, or is back.
 ghost use Rattle.std.specs.Prelude.{◌≡◌};
 ghost use Rattle.aero_intake.specs.PlanTerms.{terms_of};
 ghost use Rattle.aero_lanes.specs.Ends.{IsEndOf};
@@ -6,69 +6,63 @@ ghost use Rattle.aero_lanes.specs.Seats.{FitsSeat, StaysDone, GivesBack};
 ghost use Rattle.aero_verdict.specs.Finding.{Terms};
 
 use crate::lane::{Ended, Finds, work};
-use aero_intake::plan::Plan;
+use crate::shared::Shared;
 use aero_intake::source::Source;
-use crossbeam_channel::Sender;
-use std::alloc::Global;
 use std::io::Read;
 use std::mem;
 use std::snapshot::Snapshot;
 use std::sync::Wait;
-use std::sync::atomic::AtomicBool;
 use std::thread::{PromisedHandle, Scope, Threads};
 
+// The seat of one source, which it keeps for the whole run.
 #[derive(Drop)]
 pub(crate) enum Seat<R: Read> {
+    // Its lane isn't started yet.
     Waiting(Source<R>),
+    // Its lane is started, and wasn't joined.
     Running(PromisedHandle<Ended<R>, Finds<R>>),
+    // Its lane was joined.
     Done(Ended<R>),
-    // While the seat changes.
+    // Only while the seat changes.
     Empty,
 }
 
-// Starts the lane of a source that waits. Where no thread can be made it is worked on here.
-pub(crate) fn start<'s, E, R: Read + Drop + Send + 's, T: Wait + Sync + 's>(
+// Starts the lane of a source that waits. Where the system gives no thread, the calling thread does the lane's work here.
+// Any other seat stays as it is.
+pub(crate) fn start<'s, E, R: Read + Drop + Send + 's, T: Wait + Copy + Sync + 's>(
     scope: &Scope<'s, E>,
-    rt: &'s T,
-    alloc: Global,
-    plan: &'s Plan,
+    shared: Shared<'s, T>,
     seat: &mut Seat<R>,
     place: u64,
-    news: &'s Sender<u64>,
-    is_given_up: &'s AtomicBool,
 )
-    ensures fits { (before : _) → FitsSeat R.remaining (terms_of plan.now) before seat.old → FitsSeat R.remaining (terms_of plan.now) before seat.new }
+    ensures fits { (before : _) → FitsSeat R.remaining (terms_of shared.entry.plan.now) before seat.old → FitsSeat R.remaining (terms_of shared.entry.plan.now) before seat.new }
     ensures done { StaysDone seat.old seat.new }
 {
     *seat = match mem::replace(seat, Seat::Empty) {
-        Seat::Waiting(source) => started(scope, rt, alloc, plan, source, place, news, is_given_up),
+        Seat::Waiting(source) => started(scope, shared, source, place),
         other => other,
     };
 }
 
-fn started<'s, E, R: Read + Drop + Send + 's, T: Wait + Sync + 's>(
+fn started<'s, E, R: Read + Drop + Send + 's, T: Wait + Copy + Sync + 's>(
     scope: &Scope<'s, E>,
-    rt: &'s T,
-    alloc: Global,
-    plan: &'s Plan,
+    shared: Shared<'s, T>,
     source: Source<R>,
     place: u64,
-    news: &'s Sender<u64>,
-    is_given_up: &'s AtomicBool,
 ) -> Seat<R>
-    ensures { FitsSeat R.remaining (terms_of plan.now) source result }
+    ensures { FitsSeat R.remaining (terms_of shared.entry.plan.now) source result }
 {
-    let promise = Finds(Snapshot::of(&source), Snapshot::of(plan));
+    let promise = Finds(Snapshot::of(&source), Snapshot::of(shared.plan));
     let lane = move || -> Ended<R>
-        ensures { IsEndOf R.remaining (terms_of plan.entry.now) source result }
-    { work(rt, alloc, plan, source, place, news, is_given_up) };
+        ensures { IsEndOf R.remaining (terms_of shared.entry.plan.now) source result }
+    { work(shared, source, place) };
     match scope.spawn_with(promise, lane) {
         Ok(handle) => Seat::Running(handle),
         Err(refused) => Seat::Done((refused.value)()),
     }
 }
 
-// Takes what a lane gives back that runs.
+// Waits until a lane that runs has ended, and takes what it gives back. Any other seat stays as it is.
 pub(crate) fn end<R: Read + Drop, T: Threads>(rt: &T, seat: &mut Seat<R>)
     ensures fits { (terms : Terms) (before : _) → FitsSeat R.remaining terms before seat.old → FitsSeat R.remaining terms before seat.new }
     ensures done { StaysDone seat.old seat.new }
@@ -79,7 +73,7 @@ pub(crate) fn end<R: Read + Drop, T: Threads>(rt: &T, seat: &mut Seat<R>)
     };
 }
 
-// The source, once its lane has ended if it runs.
+// The source of a seat. It waits for the end of a lane that runs.
 pub(crate) fn source_of<R: Read + Drop, T: Threads>(rt: &T, seat: Seat<R>) -> Option<Source<R>>
     ensures { (terms : Terms) (before : _) → FitsSeat R.remaining terms before seat → GivesBack before seat result }
 {
@@ -94,5 +88,17 @@ pub(crate) fn source_of<R: Read + Drop, T: Threads>(rt: &T, seat: Seat<R>) -> Op
             Some(source)
         }
         Seat::Empty => None,
+    }
+}
+
+pub(crate) fn is_running<R: Read>(seat: &Seat<R>) -> bool {
+    matches!(seat, Seat::Running(_))
+}
+
+// Whether a source that waits for its lane may wait for its bytes too.
+pub(crate) fn may_wait<R: Read>(seat: &Seat<R>) -> bool {
+    match seat {
+        Seat::Waiting(source) => source.may_wait,
+        Seat::Running(_) | Seat::Done(_) | Seat::Empty => false,
     }
 }

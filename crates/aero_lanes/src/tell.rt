@@ -1,19 +1,69 @@
 //! Telling what the lanes found.
-ghost use Rattle.std.specs.Prelude.{◌≡◌};
+ghost use Rattle.std.specs.Prelude.{◌≡◌, true, false, length, slice_get, vec_len, Some, IfOk, IfErr, OnOk};
 ghost use Rattle.aero_batch.specs.Telling.{HasRoom};
-ghost use Rattle.aero_lanes.specs.Tellings.{TellsEnd, TellsSeat};
-ghost use Rattle.aero_model.specs.CallCounts.{seen_by};
+ghost use Rattle.aero_intake.specs.PlanTerms.{terms_of};
+ghost use Rattle.aero_lanes.specs.Tellings.{HasNumbersOf, StandsSo, StopsSo, TellsEnd, TellsSeat, TellsNextSeat};
+ghost use Rattle.aero_model.specs.CallCounts.{Seen, seen_by};
 
+use crate::lanes::Lanes;
 use crate::seat::Seat;
+use crate::shared::Shared;
 use aero_batch::find::Judged;
 use aero_batch::outcome::Cause;
 use aero_batch::told::{Style, Told, tell_found};
 use aero_model::counting::Counting;
 use std::io::{Read, Write};
 
-// Writes the text of a source, where its lane has ended, and says whether it has. A refusal changes nothing that was
-// told.
-pub(crate) fn tell_seat<R: Read, W: Write>(
+// How the texts of the run are made.
+pub(crate) fn style_of<T: Copy>(shared: Shared<'_, T>) -> Style
+    ensures { result.form ≡ shared.entry.plan.now.form }
+{
+    Style {
+        alloc: shared.alloc,
+        form: shared.plan.form,
+    }
+}
+
+// Writes the text of the first source that isn't told yet, where its lane has ended, and says whether it has.
+pub(crate) fn tell_ready<R: Read, W: Write, T: Copy>(
+    shared: Shared<'_, T>,
+    lanes: &Lanes<R>,
+    writer: &mut Counting<W>,
+    told: &mut Told,
+) -> Result<bool, Cause>
+    requires { HasNumbersOf (vec_len lanes.now.seats) told.old }
+    ensures numbers { OnOk result (HasNumbersOf (vec_len lanes.now.seats) told.new) }
+    ensures stands { IfOk result (λ is_told. is_told ≡ true → (origin : _) (before : Seen) →
+        StandsSo R.remaining (terms_of shared.entry.plan.now) shared.entry.plan.now.form origin before (seen_by W.contents writer.old) lanes.now.seats.items told.old →
+        StandsSo R.remaining (terms_of shared.entry.plan.now) shared.entry.plan.now.form origin before (seen_by W.contents writer.new) lanes.now.seats.items told.new) }
+    ensures unchanged { IfOk result (λ is_told. is_told ≡ false → (seen_by W.contents writer.new ≡ seen_by W.contents writer.old) × (told.new ≡ told.old)) }
+    ensures stopped { IfErr result (λ cause. (origin : _) (before : Seen) →
+        StandsSo R.remaining (terms_of shared.entry.plan.now) shared.entry.plan.now.form origin before (seen_by W.contents writer.old) lanes.now.seats.items told.old →
+        StopsSo R.remaining (terms_of shared.entry.plan.now) shared.entry.plan.now.form origin before (seen_by W.contents writer.new) lanes.now.seats.items told.new (Some cause)) }
+{
+    tell_next_seat(style_of(shared), &lanes.seats, writer, told)
+}
+
+// The same, by what is told of one seat.
+fn tell_next_seat<R: Read, W: Write>(
+    style: Style,
+    seats: &[Seat<R>],
+    writer: &mut Counting<W>,
+    told: &mut Told,
+) -> Result<bool, Cause>
+    requires { HasNumbersOf (length seats.now) told.old }
+    ensures { TellsNextSeat style.form (slice_get seats.now (vec_len told.old.endings)) (seen_by W.contents writer.old)
+        (seen_by W.contents writer.new) told.old told.new result }
+{
+    let place = told.endings.len();
+    if place >= seats.len() {
+        return Ok(false);
+    }
+    tell_seat(style, &seats[place], writer, told)
+}
+
+// Writes the text of a source, where its lane has ended, and says whether it has. An `Err` changes nothing that was told.
+fn tell_seat<R: Read, W: Write>(
     style: Style,
     seat: &Seat<R>,
     writer: &mut Counting<W>,
@@ -34,7 +84,8 @@ pub(crate) fn tell_seat<R: Read, W: Write>(
     }
 }
 
-// The same of a source whose lane has ended. Where it found nothing memory was refused.
+// The same of a source whose lane has ended. A lane that found nothing was refused memory: none is given up while sources
+// are told.
 fn tell_end<W: Write>(
     style: Style,
     name: &[u8],

@@ -1,4 +1,4 @@
-use Rattle.std.proofs.Common.{rules, ◌≡◌, Option, sym, ◌∙◌, subst}
+use Rattle.std.proofs.Common.{Option, sym, subst}
 use Rattle.aero_batch.specs.declared.outcome.Cause.{Cause}
 use Rattle.aero_batch.specs.Founds.{WasRun, sighted}
 use Rattle.std.proofs.Common.{map}
@@ -9,18 +9,20 @@ use Rattle.aero_lanes.proofs.run.judge_in.Goals as goal
 use Rattle.aero_model.specs.CallCounts.{seen_by}
 
 pub returns : goal.returns
-returns g c = record { ran = λ origin seated.
-    let known = g.R.Read.remaining in
-    let terms = terms_of c.args.plan.now in
-    let form = c.args.plan.now.form in
-    let before = seen_by g.W.Write.contents c.args.writer.now in
-    let after = seen_by g.W.Write.contents c.tell_all-end.new.writer in
-    let told = c.tell_all-end.new.told in
-    let all = c.tell_all-end.new.lanes.seats.items in
-    let back = c.all_back-sources.result.items in
-    let st = begun_so known terms form origin before c.args.seats.items c.args.told seated c.args.seats.len c.requires.begun in
-    let stop = c.tell_all-end.ensures.stopped origin st in
-    let are_back = c.all_back-sources.ensures terms origin stop.seated in
-    subst (λ (o : Option Cause). WasRun terms form (map (sighted known) origin) (map (sighted known) back) before after told.endings.items told.faults.items told.counts o)
-    (sym c.cause_in-cause.ensures)
-    (was_run known terms form origin all back stop.seated are_back before after told _ stop) }
+returns g c = record {
+  ran = λ origin seated.
+      let known = g.R.Read.remaining in
+      let terms = terms_of c.args.shared.plan.now in
+      let form = c.args.shared.plan.now.form in
+      let before = seen_by g.W.Write.contents c.args.writer.now in
+      let after = seen_by g.W.Write.contents c.tell_all-end.new.writer in
+      let told = c.tell_all-end.new.told in
+      let all = c.tell_all-end.new.lanes.seats.items in
+      let back = c.all_back-sources.result.items in
+      let st = begun_so known terms form origin before c.args.room.seats.items c.args.room.told seated c.args.room.seats.len c.requires.begun in
+      let stop = c.tell_all-end.ensures.stopped origin st in
+      let are_back = c.all_back-sources.ensures terms origin stop.seated in
+      subst (λ (o : Option Cause). WasRun terms form (map (sighted known) origin) (map (sighted known) back) before after told.endings.items told.faults.items told.counts o)
+      (sym c.cause_in-cause.ensures)
+      (was_run known terms form origin all back stop.seated are_back before after told _ stop);
+}

@@ -1,5 +1,4 @@
-use Rattle.std.proofs.Common.{rules, ◌≡◌, List, map, length, sym, ◌∙◌, ap, subst}
-use Rattle.std.proofs.lemmas.List.{length-map}
+use Rattle.std.proofs.Common.{List, map, sym, subst}
 use Rattle.aero_batch.specs.Founds.{sighted}
 use Rattle.aero_batch.proofs.Stands.{refused_at_once}
 use Rattle.aero_intake.specs.PlanTerms.{terms_of}
@@ -21,5 +20,5 @@ returns g c =
     let terms = terms_of c.args.plan.now in
     let sources = c.args.sources.items in
     record {
-      ran = c.judge_all.ensures.ran sources (subst (λ (xs : List (Seat g.row.R.Denot)). AreSeated known terms sources xs) (sym c.seat_all-seats.ensures) (waiting_seated known terms sources));
+      ran = c.judge_all.ensures.ran sources (subst (λ (xs : List (Seat g.row.R.Denot)). AreSeated known terms sources xs) (sym c.seat_all.ensures) (waiting_seated known terms sources));
     }

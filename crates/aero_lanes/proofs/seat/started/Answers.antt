@@ -1,7 +1,4 @@
-use denote.Param.{param}
-use denote.Param.Send.{param_send, sendable}
-use Rattle.aero_lanes.specs.contracts.lane.Ended as Ended
-use denote.Struct.Declared as structs
+use denote.Param.Send.{sendable}
 use Rattle.aero_lanes.proofs.Sending.{ended_send, ended_fields}
 use Rattle.aero_lanes.proofs.seat.started.Goals as goal
 

@@ -4,7 +4,7 @@ use Rattle.aero_lanes.specs.Seats.{BackSoFar}
 use Rattle.aero_intake.specs.declared.source.Source.{Source}
 use Rattle.aero_lanes.specs.declared.seat.Seat.{Seat}
 use Rattle.aero_lanes.proofs.Backs.{nothing_back, one_back, none_back, all_are_back}
-use Rattle.aero_lanes.proofs.run.all_back.Goals as goal
+use Rattle.aero_lanes.proofs.room.all_back.Goals as goal
 
 pub loop-seat-init : goal.loop-seat-init
 loop-seat-init g c = (

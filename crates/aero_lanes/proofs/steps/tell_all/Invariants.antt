@@ -3,7 +3,7 @@ use Rattle.std.specs.Prelude.{◌≡◌, List, vec_len}
 use Rattle.aero_intake.specs.PlanTerms.{terms_of}
 use Rattle.aero_intake.specs.declared.source.Source.{Source}
 use Rattle.aero_lanes.specs.Tellings.{HasNumbersOf, StandsSo}
-use Rattle.aero_lanes.proofs.run.tell_all.Given as goal
+use Rattle.aero_lanes.proofs.steps.tell_all.Given as goal
 use Rattle.aero_model.specs.CallCounts.{seen_by}
 
 abbrev pub invariant-steps : goal.invariant-steps
@@ -11,5 +11,5 @@ invariant-steps g l =
     HasNumbersOf (vec_len l.lanes.seats) l.told
     × (vec_len l.lanes.seats ≡ vec_len l.fn.lanes.seats)
     × ((origin : List (Source g.row.R.Denot)) →
-        StandsSo g.R.Read.remaining (terms_of l.plan) l.plan.form origin (seen_by g.W.Write.contents l.fn.writer) (seen_by g.W.Write.contents l.fn.writer) l.fn.lanes.seats.items l.fn.told →
-        StandsSo g.R.Read.remaining (terms_of l.plan) l.plan.form origin (seen_by g.W.Write.contents l.fn.writer) (seen_by g.W.Write.contents l.writer) l.lanes.seats.items l.told)
+    StandsSo g.R.Read.remaining (terms_of l.shared.plan.now) l.shared.plan.now.form origin (seen_by g.W.Write.contents l.fn.writer) (seen_by g.W.Write.contents l.fn.writer) l.fn.lanes.seats.items l.fn.told →
+    StandsSo g.R.Read.remaining (terms_of l.shared.plan.now) l.shared.plan.now.form origin (seen_by g.W.Write.contents l.fn.writer) (seen_by g.W.Write.contents l.writer) l.lanes.seats.items l.told)

@@ -1,7 +1,7 @@
-use Rattle.std.proofs.Common.{rules, ◌<◌, arith}
+use Rattle.std.proofs.Common.{◌<◌, arith}
 use Rattle.std.proofs.lemmas.Option.{slice_get_read}
 use Rattle.aero_lanes.proofs.Seated.{goes_on}
-use Rattle.aero_lanes.proofs.run.end_one.Goals as goal
+use Rattle.aero_lanes.proofs.lanes.end_one.Goals as goal
 
 pub returns-clause-goes : goal.returns-clause-goes
 returns-clause-goes g c = λ terms.

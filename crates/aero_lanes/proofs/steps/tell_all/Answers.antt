@@ -1,8 +1,8 @@
-use Rattle.std.proofs.Common.{refl, sym, ◌∙◌, subst}
+use Rattle.std.proofs.Common.{◌∙◌, subst}
 use Rattle.aero_batch.specs.Telling.{TellsText}
 use Rattle.aero_intake.specs.PlanTerms.{terms_of}
 use Rattle.aero_lanes.proofs.Tellings.{summary_so}
-use Rattle.aero_lanes.proofs.run.tell_all.Goals as goal
+use Rattle.aero_lanes.proofs.steps.tell_all.Goals as goal
 use Rattle.aero_model.specs.CallCounts.{seen_by}
 use Rattle.aero_report.specs.declared.form.Form.{Form}
 use Rattle.aero_report.specs.Forms.{summary_line_in}
@@ -10,8 +10,8 @@ use Rattle.aero_report.specs.Forms.{summary_line_in}
 pub returns-in-Ok-true-clause-stopped : goal.returns-in-Ok-true-clause-stopped
 returns-in-Ok-true-clause-stopped g c = λ origin st.
     let known = g.R.Read.remaining in
-    let terms = terms_of c.args.plan.now in
-    let form = c.args.plan.now.form in
+    let terms = terms_of c.args.shared.plan.now in
+    let form = c.args.shared.plan.now.form in
     let before = seen_by g.W.Write.contents c.args.writer.now in
     let mid = seen_by g.W.Write.contents c.advance.new.writer in
     let after = seen_by g.W.Write.contents c.tell_summary.new.writer in

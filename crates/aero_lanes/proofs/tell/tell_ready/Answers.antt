@@ -1,9 +1,8 @@
-use Rattle.std.proofs.Common.{rules, ◌≡◌, List, slice_get, refl, sym, ◌∙◌, subst}
+use Rattle.std.proofs.Common.{slice_get, refl, sym, subst}
 use Rattle.aero_intake.specs.PlanTerms.{terms_of}
 use Rattle.aero_lanes.proofs.Tellings.{telling, numbers_told}
 use Rattle.aero_lanes.specs.Tellings.{TellsNextSeat}
-use Rattle.aero_lanes.specs.declared.seat.Seat.{Seat}
-use Rattle.aero_lanes.proofs.run.tell_ready.Goals as goal
+use Rattle.aero_lanes.proofs.tell.tell_ready.Goals as goal
 use Rattle.aero_model.specs.CallCounts.{seen_by}
 use Rattle.aero_report.specs.declared.form.Form.{Form}
 
@@ -15,10 +14,10 @@ returns g c =
     let a = c.args.told.now in
     let b = c.tell_next_seat.new.told in
     let r = c.tell_next_seat.result in
-    let form = c.args.plan.now.form in
+    let form = c.args.shared.plan.now.form in
     let tells = subst (λ (f : Form). TellsNextSeat f (slice_get seats.items a.endings.len) mid after a b r) c.style_of.ensures
-        (subst (λ xs. TellsNextSeat c.style_of.result.form (slice_get xs a.endings.len) mid after a b r) c.deref.ensures.value c.tell_next_seat.ensures) in
-    let t = telling g.R.Read.remaining (terms_of c.args.plan.now) form seats.items mid after a b r tells in
+    (subst (λ xs. TellsNextSeat c.style_of.result.form (slice_get xs a.endings.len) mid after a b r) c.deref.ensures.value c.tell_next_seat.ensures) in
+    let t = telling g.R.Read.remaining (terms_of c.args.shared.plan.now) form seats.items mid after a b r tells in
     record {
       numbers = numbers_told _ form seats.len mid after a b c.requires seats.items (sym seats.ok.0) (slice_get seats.items a.endings.len) r refl tells;
       stands = t.stands;

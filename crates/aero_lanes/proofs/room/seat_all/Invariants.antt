@@ -1,7 +1,7 @@
 use Rattle.std.specs.Prelude.{◌≡◌, ◌+◌, ◌++◌, vec_len, vec_capacity}
 use Rattle.std.specs.Vec.Iter.{into_iter_items, into_iter_len}
 use Rattle.aero_lanes.specs.Seats.{waiting}
-use Rattle.aero_lanes.proofs.run.seat_all.Given as goal
+use Rattle.aero_lanes.proofs.room.seat_all.Given as goal
 
 abbrev pub invariant-loop-source : goal.invariant-loop-source
 invariant-loop-source g l =

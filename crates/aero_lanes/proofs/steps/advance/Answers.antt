@@ -1,16 +1,15 @@
-use Rattle.std.proofs.Common.{rules, ◌≡◌, ℕ, List, sym, subst}
-use Rattle.std.specs.Prelude.{vec_len}
+use Rattle.std.proofs.Common.{sym, subst}
 use Rattle.aero_batch.specs.declared.told.Told.{Told}
 use Rattle.aero_intake.specs.PlanTerms.{terms_of}
 use Rattle.aero_lanes.proofs.Tellings.{stands_on}
-use Rattle.aero_lanes.specs.Tellings.{HasNumbersOf, StandsSo}
-use Rattle.aero_lanes.proofs.run.advance.Goals as goal
+use Rattle.aero_lanes.specs.Tellings.{StandsSo}
+use Rattle.aero_lanes.proofs.steps.advance.Goals as goal
 use Rattle.aero_model.specs.CallCounts.{Seen, seen_by}
 
 pub returns-clause-stands : goal.returns-clause-stands
 returns-clause-stands g c = λ origin before st.
-    let terms = terms_of c.args.plan.now in
-    let form = c.args.plan.now.form in
+    let terms = terms_of c.args.shared.plan.now in
+    let form = c.args.shared.plan.now.form in
     let mid = seen_by g.W.Write.contents c.args.writer.now in
     let same = c.in_ok-tell_ready.ensures.unchanged c.if-branch.false in
     let next = stands_on g.R.Read.remaining terms form origin before mid c.args.lanes.now.seats.items c.move_on.new.lanes.seats.items c.args.told.now c.move_on.ensures.goes st in
