@@ -240,7 +240,28 @@ fn a_write_that_fails_at_any_byte_cuts_the_report_in_lanes(rt: HostRuntime) -> R
     Ok(())
 }
 
-// What is written of two sources of which the second may wait: it fails where it is read before the first is told.
+// Two sources of which the second may wait: it fails where it is read before something is told.
+fn waiting_sources<'a>(
+    alloc: Global,
+    text: &'a [u8],
+    is_told: &'a AtomicBool,
+    have_run_out: &'a AtomicBool,
+) -> Result<Vec<Source<Either<'a>>>, AllocError> {
+    let later = Later {
+        text,
+        spaces: 0,
+        is_told,
+        have_run_out,
+    };
+    let mut sources = Vec::new(alloc);
+    sources.push(source_of(alloc, "a", Either::AtOnce(text))?)?;
+    let mut waits = source_of(alloc, "b", Either::Later(later))?;
+    waits.may_wait = true;
+    sources.push(waits)?;
+    Ok(sources)
+}
+
+// What is written of them.
 fn written_of_waiting<T: AllocGlobal + Threads + Wait + Copy + Send + Sync + 'static>(
     rt: &T,
     text: &[u8],
@@ -248,27 +269,51 @@ fn written_of_waiting<T: AllocGlobal + Threads + Wait + Copy + Send + Sync + 'st
 ) -> Result<Vec<u8>, Fail> {
     let is_told = AtomicBool::new(false);
     let have_run_out = AtomicBool::new(false);
-    let later = Later {
-        text,
-        spaces: 0,
-        is_told: &is_told,
-        have_run_out: &have_run_out,
-    };
-    let mut sources = Vec::new(rt.alloc());
-    sources.push(source_of(rt.alloc(), "a", Either::AtOnce(text))?)?;
-    let mut waits = source_of(rt.alloc(), "b", Either::Later(later))?;
-    waits.may_wait = true;
-    sources.push(waits)?;
+    let plan = plan_with(rt.alloc(), workers)?;
+    let sources = waiting_sources(rt.alloc(), text, &is_told, &have_run_out)?;
     let mut writer = Counting::new(Tells {
         taken: Vec::new(rt.alloc()),
         is_told: &is_told,
     });
-    run_few(rt, sources, &mut writer, &plan_with(rt.alloc(), workers)?)?;
+    run_few(rt, sources, &mut writer, &plan)?;
     Ok(writer.into_inner().taken)
 }
 
-// What is written of two sources, each of which goes on once the other is read: until then it gives 4,000 spaces, and then
-// it fails.
+// A reader that goes on once the other is read: until then it gives 4,000 spaces, and then it fails.
+fn meets<'a>(
+    text: &'a [u8],
+    is_read: &'a AtomicBool,
+    other_is_read: &'a AtomicBool,
+    have_run_out: &'a AtomicBool,
+) -> Meets<'a> {
+    Meets {
+        is_read,
+        later: Later {
+            text,
+            spaces: 4_000,
+            is_told: other_is_read,
+            have_run_out,
+        },
+    }
+}
+
+// Two sources with such readers.
+fn meeting_sources<'a>(
+    alloc: Global,
+    text: &'a [u8],
+    first_is_read: &'a AtomicBool,
+    second_is_read: &'a AtomicBool,
+    have_run_out: &'a AtomicBool,
+) -> Result<Vec<Source<Meets<'a>>>, AllocError> {
+    let first = meets(text, first_is_read, second_is_read, have_run_out);
+    let second = meets(text, second_is_read, first_is_read, have_run_out);
+    let mut sources = Vec::new(alloc);
+    sources.push(source_of(alloc, "a", first)?)?;
+    sources.push(source_of(alloc, "b", second)?)?;
+    Ok(sources)
+}
+
+// What is written of them.
 fn written_of_meeting<T: AllocGlobal + Threads + Wait + Copy + Send + Sync + 'static>(
     rt: &T,
     text: &[u8],
@@ -277,29 +322,16 @@ fn written_of_meeting<T: AllocGlobal + Threads + Wait + Copy + Send + Sync + 'st
     let first_is_read = AtomicBool::new(false);
     let second_is_read = AtomicBool::new(false);
     let have_run_out = AtomicBool::new(false);
-    let first = Meets {
-        is_read: &first_is_read,
-        later: Later {
-            text,
-            spaces: 4_000,
-            is_told: &second_is_read,
-            have_run_out: &have_run_out,
-        },
-    };
-    let second = Meets {
-        is_read: &second_is_read,
-        later: Later {
-            text,
-            spaces: 4_000,
-            is_told: &first_is_read,
-            have_run_out: &have_run_out,
-        },
-    };
-    let mut sources = Vec::new(rt.alloc());
-    sources.push(source_of(rt.alloc(), "a", first)?)?;
-    sources.push(source_of(rt.alloc(), "b", second)?)?;
+    let plan = plan_with(rt.alloc(), workers)?;
+    let sources = meeting_sources(
+        rt.alloc(),
+        text,
+        &first_is_read,
+        &second_is_read,
+        &have_run_out,
+    )?;
     let mut writer = Counting::new(Vec::new(rt.alloc()));
-    run_few(rt, sources, &mut writer, &plan_with(rt.alloc(), workers)?)?;
+    run_few(rt, sources, &mut writer, &plan)?;
     if have_run_out.load(Ordering::SeqCst) {
         return Err("a source ran out of spaces before the other was read".into());
     }
