@@ -4,6 +4,7 @@ mod damage;
 mod gates;
 mod gathered;
 mod habits;
+mod lanes;
 mod live;
 mod runs;
 mod streams;

@@ -114,6 +114,20 @@ impl Read for Later<'_> {
     }
 }
 
+// A reader that says that it is read, and gives its text later.
+#[derive(Drop)]
+pub(crate) struct Meets<'a> {
+    pub(crate) is_read: &'a AtomicBool,
+    pub(crate) later: Later<'a>,
+}
+
+impl Read for Meets<'_> {
+    fn read(&mut self, buf: &mut [u8]) -> io::Result<usize> {
+        self.is_read.store(true, Ordering::SeqCst);
+        self.later.read(buf)
+    }
+}
+
 // A reader that gives its text at once, or later.
 #[derive(Drop)]
 pub(crate) enum Either<'a> {
