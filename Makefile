@@ -31,10 +31,15 @@ lib/aerodrome/libaerodrome.a: $(SOURCES) $(LIBRARY)
 test:
 	@tests/all
 
+# (bash looks for a command's completions in a file of the command's name)
 install: bin/aerodrome
 	install -D -m 755 bin/aerodrome $(DESTDIR)$(PREFIX)/bin/aerodrome
-	install -D -m 644 docs/aerodrome.1 $(DESTDIR)$(PREFIX)/share/man/man1/aerodrome.1
+	install -D -m 755 tools/merge $(DESTDIR)$(PREFIX)/bin/aerodrome-merge
+	install -D -m 755 tools/refine $(DESTDIR)$(PREFIX)/bin/aerodrome-refine
+	install -D -m 644 -t $(DESTDIR)$(PREFIX)/share/man/man1 docs/aerodrome.1 docs/aerodrome-merge.1 docs/aerodrome-refine.1
 	install -D -m 644 completions/aerodrome.bash $(DESTDIR)$(PREFIX)/share/bash-completion/completions/aerodrome
+	install -D -m 644 completions/aerodrome.bash $(DESTDIR)$(PREFIX)/share/bash-completion/completions/aerodrome-merge
+	install -D -m 644 completions/aerodrome.bash $(DESTDIR)$(PREFIX)/share/bash-completion/completions/aerodrome-refine
 	install -D -m 644 completions/_aerodrome $(DESTDIR)$(PREFIX)/share/zsh/site-functions/_aerodrome
 	@if [ -f lib/aerodrome/libaerodrome.a ]; then \
 	install -D -m 644 lib/aerodrome/libaerodrome.a $(DESTDIR)$(PREFIX)/lib/aerodrome/libaerodrome.a; \
