@@ -21,12 +21,12 @@ static void cut_parameters(char *text) {
     if (end > text) *end = 0;
 }
 
-/* Where the name begins behind the type that a template returns: a blank outside brackets stands before it. */
+/* Where the name begins behind the type that a template returns: a blank outside brackets stands before it. An operator's name
+ * may have blanks itself. */
 static char *behind_type(char *text) {
     int depth = 0;
-    char *from = text;
-    if (strstr(text, "operator")) return text;
-    for (char *byte = text; *byte; byte++) {
+    char *from = text, *stop = strstr(text, "operator");
+    for (char *byte = text; *byte && byte != stop; byte++) {
         depth += (*byte == '<' || *byte == '(' || *byte == '{') - (*byte == '>' || *byte == ')' || *byte == '}');
         if (!depth && *byte == ' ') from = byte + 1;
     }
