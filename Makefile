@@ -33,7 +33,10 @@ test:
 
 install: bin/aerodrome
 	install -D -m 755 bin/aerodrome $(DESTDIR)$(PREFIX)/bin/aerodrome
-	install -D -m 644 docs/aerodrome.1 $(DESTDIR)$(PREFIX)/share/man/man1/aerodrome.1
+	@for tool in merge refine; do to=$(DESTDIR)$(PREFIX)/bin/aerodrome-$$tool; \
+	sed "s,tools/$$tool,aerodrome-$$tool,g" tools/$$tool > $$to && chmod 755 $$to || exit 1; done
+	install -d $(DESTDIR)$(PREFIX)/share/man/man1
+	install -m 644 docs/*.1 $(DESTDIR)$(PREFIX)/share/man/man1
 	install -D -m 644 completions/aerodrome.bash $(DESTDIR)$(PREFIX)/share/bash-completion/completions/aerodrome
 	install -D -m 644 completions/_aerodrome $(DESTDIR)$(PREFIX)/share/zsh/site-functions/_aerodrome
 	@if [ -f lib/aerodrome/libaerodrome.a ]; then \
