@@ -7,14 +7,13 @@
 enum { CLOSED, OPEN, SPLIT };
 
 static int has_room(struct thread *me) {
-    int is_first = !me->frames;
     if (UNLIKELY(!aero_has_room((void **)&me->frames, sizeof *me->frames, me->depth, &me->room))) {
         aero_lock();
         aero_stop("out of memory");
         aero_unlock();
         return 0;
     }
-    if (UNLIKELY(is_first)) aero_end_with_thread();
+    if (UNLIKELY(!me->has_end)) aero_end_with_thread();
     return 1;
 }
 
@@ -40,15 +39,18 @@ static void push(const struct code *function, uintptr_t frame, uintptr_t call) {
     *top = (struct frame){frame, function, call, me->outside, CLOSED};
     if (UNLIKELY(kind & IS_RUNTIME || me->outside)) note_outside(me, top, kind & IS_RUNTIME);
     me->depth++;
-    if (!block) return;
-    aero_lock();
-    aero_line("begin", "", 0, function->label, call);
-    top->block = OPEN;
-    aero_unlock();
+    if (block) {
+        aero_lock();
+        aero_line("begin", "", 0, function->label, call);
+        top->block = OPEN;
+        aero_unlock();
+    }
+    if (UNLIKELY(kind >= LOCK_FUNCTION)) aero_enter_lock_function(kind / LOCK_FUNCTION, call);
 }
 static void pop(uintptr_t code) {
     struct thread *me = &aero_me;
     struct frame *top = &me->frames[me->depth - 1];
+    if (UNLIKELY(me->locking.what && me->locking.depth == me->depth)) aero_leave_lock_function(code);
     if (top->block == OPEN) {
         aero_lock();
         top->block = CLOSED;
@@ -98,31 +100,28 @@ void aero_forget_blocks(void) {
 
 /* ---- blocks that are split */
 
-void aero_split_end(void) {
-    struct thread *me = &aero_me;
-    if (!aero_settings.splits || !aero_enter()) return;
-    aero_lock();
+static void end_for_a_wait(struct thread *me) {
     for (size_t place = me->depth; place > 0; place--) {
         struct frame *it = &me->frames[place - 1];
         if (it->block != OPEN) continue;
         it->block = SPLIT;
         aero_line("end", NULL, 0, NULL, it->call);
     }
-    aero_unlock();
-    aero_leave();
 }
-void aero_split_begin(void) {
-    struct thread *me = &aero_me;
-    if (!aero_settings.splits || !aero_enter()) return;
-    aero_lock();
+static void begin_again(struct thread *me) {
     for (size_t place = 0; place < me->depth; place++) {
         struct frame *it = &me->frames[place];
         if (it->block != SPLIT) continue;
         aero_line("begin", "", 0, it->function->label, it->call);
         it->block = OPEN;
     }
+}
+void aero_split_blocks(int begins) {
+    if (!aero_settings.splits) return;
+    aero_lock();
+    if (begins) begin_again(&aero_me);
+    else end_for_a_wait(&aero_me);
     aero_unlock();
-    aero_leave();
 }
 
 /* ---- longjmp */

@@ -7,7 +7,7 @@
  *   none       none
  *
  * Without it all are but main, those that threads start with (blocks.c), the bodies of OpenMP's teams, and the functions of std::
- * and of the C++ runtime. */
+ * and of the C++ runtime, for Rust those of std, core and alloc. */
 #include "log.h"
 
 #include <stdio.h>
@@ -64,24 +64,27 @@ static int is_of_std(const char *symbol) {
 }
 static int is_of_runtime(const char *label, const char *symbol) {
     static const char *const heads[] = {"_GLOBAL__", "__cxx_global_", "__static_initialization", "__tls_init", "__cxa_", "__gthread_",
-                                        "__clang_call_terminate", "TLS init function for ", "TLS wrapper function for "};
+                                        "__clang_call_terminate", "__rust", "TLS init function for ", "TLS wrapper function for "};
     for (size_t one = 0; one < sizeof heads / sizeof *heads; one++)
         if (begins(label, heads[one]) || begins(symbol, heads[one])) return 1;
-    return is_of_std(symbol);
+    return aero_is_rust(symbol) ? aero_is_of_rust_library(label) : is_of_std(symbol);
+}
+static int is_main(const char *label, const char *symbol) {
+    return !strcmp(symbol, "main") || (aero_is_rust(symbol) && aero_is_rust_main(label));
 }
 
 /* The part of a function that the threads of a team run. */
 static int is_of_team(const char *symbol) { return strstr(symbol, "._omp_fn.") || strstr(symbol, ".omp_outlined"); }
 
 int aero_kind(const char *label, const char *symbol) {
-    int runtime = is_of_runtime(label, symbol);
-    int block = base == ALL || (base == USUAL && !runtime && strcmp(symbol, "main") && !is_of_team(symbol));
+    int runtime = is_of_runtime(label, symbol), locks = aero_is_rust(symbol) ? aero_lock_function(label) : 0;
+    int block = base == ALL || (base == USUAL && !runtime && !is_main(label, symbol) && !is_of_team(symbol));
     for (size_t one = 0; one < name_count; one++)
         if (is_called(&names[one], label, symbol)) {
             block = !names[one].leaves_out;
             if (!block) break;
         }
-    return (block ? IS_BLOCK : 0) | (runtime ? IS_RUNTIME : 0);
+    return (block ? IS_BLOCK : 0) | (runtime ? IS_RUNTIME : 0) | locks * LOCK_FUNCTION;
 }
 
 /* ---- the variable */

@@ -80,20 +80,30 @@ static void ends_by(int signal, siginfo_t *how, void *unused) {
     if (!is_fault || how->si_code <= 0) syscall(SYS_tgkill, getpid(), syscall(SYS_gettid), signal);
 }
 
-/* A stack that is used up has no room for the handler, so each thread has another one for that. */
-enum { SIGNAL_STACK = 1 << 16 };
+/* A stack that is used up has no room for the handler, so each thread has another one for that. Those of threads that have ended
+ * are kept for others. */
+enum { SIGNAL_STACK = 1 << 16, MOST_SPARE = 256 };
+static void *spare[MOST_SPARE];
+static int spare_count;
+static lock_word spare_lock;
 static __thread void *signal_stack;
+
 void aero_take_signal_stack(void) {
-    stack_t now, ours = {.ss_size = SIGNAL_STACK};
-    if (sigaltstack(NULL, &now) || !(now.ss_flags & SS_DISABLE)) return;
-    signal_stack = ours.ss_sp = aero_pages(SIGNAL_STACK);
+    aero_take(&spare_lock);
+    signal_stack = spare_count ? spare[--spare_count] : NULL;
+    aero_let_go(&spare_lock);
+    if (!signal_stack) signal_stack = aero_pages(SIGNAL_STACK);
+    stack_t ours = {.ss_sp = signal_stack, .ss_size = SIGNAL_STACK};
     if (signal_stack) sigaltstack(&ours, NULL);
 }
 void aero_drop_signal_stack(void) {
-    stack_t now, none = {.ss_flags = SS_DISABLE};
-    if (!signal_stack || sigaltstack(NULL, &now)) return;
-    if (now.ss_sp == signal_stack) sigaltstack(&none, NULL);
-    aero_free_pages(signal_stack, SIGNAL_STACK);
+    const stack_t none = {.ss_flags = SS_DISABLE};
+    if (!signal_stack || sigaltstack(&none, NULL)) return;
+    aero_take(&spare_lock);
+    int is_kept = spare_count < MOST_SPARE;
+    if (is_kept) spare[spare_count++] = signal_stack;
+    aero_let_go(&spare_lock);
+    if (!is_kept) aero_free_pages(signal_stack, SIGNAL_STACK);
     signal_stack = NULL;
 }
 

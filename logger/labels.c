@@ -1,4 +1,4 @@
-/* Names as the log has them: those that people know of C++ functions and variables, within the format's 255 bytes. */
+/* Names as the log has them: those that people know of C++ and Rust functions and variables, within the format's 255 bytes. */
 #include "log.h"
 
 #include <stdlib.h>
@@ -53,16 +53,21 @@ static void put_within(char *to, const char *text, size_t most) {
 }
 
 /* A suffix of the compiler or of a version, as in pay.constprop.0 and environ@GLIBC, goes. */
-void aero_put_label(char *to, const char *symbol, int is_function, size_t most) {
+static char *readable_cpp(const char *symbol, int is_function) {
     size_t length = strcspn(symbol, ".@");
     char *plain = length ? strndup(symbol, length) : strdup(symbol);
     char *readable = plain && __cxa_demangle && !strncmp(plain, "_Z", 2) ? __cxa_demangle(plain, NULL, NULL, NULL) : NULL;
-    const char *from = readable ? readable : plain ? plain : symbol;
-    if (readable && is_function) {
-        cut_parameters(readable);
-        from = behind_type(readable);
-    }
+    if (!readable) return plain;
+    free(plain);
+    if (is_function) cut_parameters(readable);
+    return readable;
+}
+
+void aero_put_label(char *to, const char *symbol, int is_function, size_t most) {
+    int is_rust = aero_is_rust(symbol);
+    char *readable = is_rust ? aero_rust_name(symbol) : readable_cpp(symbol, is_function);
+    const char *from = readable ? readable : symbol;
+    if (readable && is_function && !is_rust && !strncmp(symbol, "_Z", 2)) from = behind_type(readable);
     put_within(to, from, most);
     free(readable);
-    free(plain);
 }

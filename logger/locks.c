@@ -10,25 +10,30 @@ typedef const struct timespec *until_type;
 
 /* ---- what a thread holds; the log's lock is held */
 
+static struct held *held_at(struct thread *me, size_t place) {
+    return LIKELY(place < FEW_HELD) ? &me->few[place] : &me->held[place - FEW_HELD];
+}
+
 static void hold(uintptr_t lock, enum holding how) {
     struct thread *me = &aero_me;
-    int is_first = !me->held;
-    if (UNLIKELY(!aero_has_room((void **)&me->held, sizeof *me->held, me->holds, &me->held_room))) {
+    if (UNLIKELY(me->holds >= FEW_HELD)
+        && !aero_has_room((void **)&me->held, sizeof *me->held, me->holds - FEW_HELD, &me->held_room)) {
         aero_stop("out of memory");
         return;
     }
-    me->held[me->holds++] = (struct held){lock, how};
-    if (UNLIKELY(is_first)) aero_end_with_thread();
+    *held_at(me, me->holds) = (struct held){lock, how};
+    me->holds++;
+    if (UNLIKELY(!me->has_end)) aero_end_with_thread();
 }
 
 /* How the thread holds the lock, which it gives back; 0 if it isn't known to hold it. */
 static enum holding let_go(uintptr_t lock) {
     struct thread *me = &aero_me;
     for (size_t place = me->holds; place > 0; place--) {
-        struct held *it = &me->held[place - 1];
+        struct held *it = held_at(me, place - 1);
         if (it->lock != lock) continue;
         enum holding how = it->how;
-        *it = me->held[--me->holds];
+        *it = *held_at(me, --me->holds);
         return how;
     }
     return 0;
@@ -42,28 +47,42 @@ static void lock_line(const char *operation, uintptr_t lock, enum holding how, u
 void aero_release_all(void) {
     struct thread *me = &aero_me;
     while (me->holds) {
-        struct held it = me->held[--me->holds];
+        struct held it = *held_at(me, --me->holds);
         lock_line("rel", it.lock, it.how, 0);
     }
 }
 
 /* A process that ends between the line and what is noted releases nothing that it hasn't acquired, and nothing twice. */
-void aero_acquired(uintptr_t lock, enum holding how, uintptr_t code) {
-    if (!aero_enter()) return;
-    aero_lock();
+void aero_hold(uintptr_t lock, enum holding how, uintptr_t code) {
     lock_line("acq", lock, how, code);
     hold(lock, how);
-    aero_unlock();
-    aero_leave();
 }
 
 /* How the thread held what it is about to give back. A lock that it isn't known to hold, as one that it had before the log
  * began, isn't released there. */
+enum holding aero_release(uintptr_t lock, uintptr_t code) {
+    enum holding how = let_go(lock);
+    if (how) lock_line("rel", lock, how, code);
+    return how;
+}
+
+uintptr_t aero_last_mutex(void) {
+    for (size_t place = aero_me.holds; place > 0; place--)
+        if (held_at(&aero_me, place - 1)->how == MUTEX) return held_at(&aero_me, place - 1)->lock;
+    return 0;
+}
+
+void aero_acquired(uintptr_t lock, enum holding how, uintptr_t code) {
+    if (!aero_enter()) return;
+    aero_lock();
+    aero_hold(lock, how, code);
+    aero_unlock();
+    aero_leave();
+}
 enum holding aero_releasing(uintptr_t lock, uintptr_t code) {
     if (!aero_enter()) return 0;
     aero_lock();
-    enum holding how = let_go(lock);
-    if (how) lock_line("rel", lock, how, code);
+    enum holding how = aero_release(lock, code);
     aero_unlock();
     aero_leave();
     return how;
@@ -119,9 +138,14 @@ struct wait {
     uintptr_t lock, code;
     enum holding how;
 };
+static void split(int begins) {
+    if (!aero_settings.splits || !aero_enter()) return;
+    aero_split_blocks(begins);
+    aero_leave();
+}
 static void has_again(void *given) {
     struct wait *wait = given;
-    aero_split_begin();
+    split(1);
     if (wait->how) aero_acquired(wait->lock, wait->how, wait->code);
 }
 
@@ -131,7 +155,7 @@ static void has_again(void *given) {
         struct wait wait = {(uintptr_t)lock, HERE, 0}; \
         int result; \
         wait.how = aero_releasing(wait.lock, wait.code); \
-        aero_split_end(); \
+        split(0); \
         pthread_cleanup_push(has_again, &wait) \
         result = real arguments; \
         pthread_cleanup_pop(1); \

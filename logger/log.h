@@ -48,20 +48,31 @@ struct held {
     uintptr_t lock;
     enum holding how;
 };
+enum { FEW_HELD = 16 };
+
+/* A function of Rust's std that locks, which the thread is in; rust.c. */
+struct locking {
+    int what;                /* 0: none */
+    int is_had;
+    size_t depth;            /* of its frame */
+    uintptr_t word;          /* 0: not known yet */
+};
 
 struct thread {
     int number;              /* from 1; 0: it has none yet */
     volatile int busy;       /* in the logger: what a signal handler does meanwhile isn't logged */
     int error;               /* errno as the program had it */
     int jumped;              /* functions may have been left without their hook: by longjmp, or by exec in a child of vfork */
+    int has_end;             /* what it has left open is ended with it */
     int length;
     char prefix[16];         /* "T12|" */
     struct frame *frames;
     size_t depth, room;
     size_t leading;          /* so many frames, from the first one, are functions of the runtime */
     uintptr_t outside;       /* in a function of the runtime: where code that isn't of it has called that; else 0 */
-    struct held *held;
+    struct held few[FEW_HELD], *held;    /* the first ones, and those behind them */
     size_t holds, held_room;
+    struct locking locking;
 };
 extern __thread struct thread aero_me;
 
@@ -142,7 +153,7 @@ void aero_start(void);
 extern pid_t aero_owner;             /* the process whose log it is */
 void aero_ends_start(void);
 void aero_finish(void);
-void aero_take_signal_stack(void);             /* of the calling thread */
+void aero_take_signal_stack(void);             /* for the calling thread */
 void aero_drop_signal_stack(void);
 
 /* processes.c */
@@ -150,7 +161,7 @@ void aero_processes_start(void);
 
 /* names.c */
 extern lock_word aero_names_lock;
-enum { IS_BLOCK = 1, IS_RUNTIME = 2 };
+enum { IS_BLOCK = 1, IS_RUNTIME = 2, LOCK_FUNCTION = 4 };    /* and LOCK_FUNCTION times what aero_lock_function says */
 struct code {
     uintptr_t at;
     _Atomic(const char *) label;     /* of the function that it lies in; NULL: not looked up yet */
@@ -214,8 +225,7 @@ int aero_starts_are_blocks(void);                     /* whether the functions a
 void aero_left(uintptr_t frame);                      /* ends the blocks of functions below the frame */
 void aero_end_blocks(void);                           /* ends all of the calling thread's; the log's lock is held */
 void aero_forget_blocks(void);                        /* as the log that they began in isn't written here */
-void aero_split_end(void);                            /* ends the blocks, which begin again by aero_split_begin */
-void aero_split_begin(void);
+void aero_split_blocks(int begins);                   /* ends them where they are to be split, and then begins them again */
 
 /* threads.c */
 void aero_threads_start(void);
@@ -228,6 +238,22 @@ void aero_end_with_thread(void);                      /* has that done, and its 
 /* locks.c */
 void aero_acquired(uintptr_t lock, enum holding how, uintptr_t code);
 enum holding aero_releasing(uintptr_t lock, uintptr_t code);
-void aero_release_all(void);                          /* the log's lock is held */
+/* With the log's lock held: */
+void aero_hold(uintptr_t lock, enum holding how, uintptr_t code);
+enum holding aero_release(uintptr_t lock, uintptr_t code);
+uintptr_t aero_last_mutex(void);                      /* that the thread has taken and still holds, or 0 */
+void aero_release_all(void);
+
+/* rust.c */
+int aero_is_rust(const char *symbol);
+char *aero_rust_name(const char *symbol);
+int aero_is_of_rust_library(const char *label);
+int aero_is_rust_main(const char *label);
+int aero_lock_function(const char *label);            /* 0: it locks nothing */
+void aero_enter_lock_function(int what, uintptr_t code);
+void aero_leave_lock_function(uintptr_t code);
+/* Of an atomic operation in such a function, with the log's lock held: whether it gives the lock back, or takes or wants it. */
+int aero_gives_back(uintptr_t word, uintptr_t code);
+int aero_takes(uintptr_t word, int changes, uintptr_t code);
 
 #endif

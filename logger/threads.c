@@ -80,6 +80,7 @@ static void free_memory(struct thread *me) {
     void *frames = me->frames, *held = me->held;
     size_t frame_room = me->room, held_room = me->held_room;
     me->depth = me->room = me->holds = me->held_room = 0;
+    me->has_end = 0;
     me->frames = NULL;
     me->held = NULL;
     atomic_signal_fence(memory_order_seq_cst);
@@ -95,11 +96,14 @@ static void ends(void *unused) {
         aero_unlock();
     }
     free_memory(&aero_me);
-    if (logs) aero_leave();
     aero_drop_signal_stack();
+    if (logs) aero_leave();
 }
 void aero_threads_start(void) { pthread_key_create(&at_end, ends); }
-void aero_end_with_thread(void) { pthread_setspecific(at_end, &aero_me); }
+void aero_end_with_thread(void) {
+    aero_me.has_end = 1;
+    pthread_setspecific(at_end, &aero_me);
+}
 
 /* ---- starts */
 

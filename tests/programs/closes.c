@@ -1,5 +1,6 @@
-/* Closes each file but the three that it began with, and fills all numbers with pipes of its own. Then it does something that is
- * logged, and says what has come into its pipes, and which of them a child of its own finds closed. */
+/* Closes each file but the three that it began with, and fills all numbers with pipes of its own: with a word as its argument the
+ * even numbers are the ends to read from, else the odd ones. Then it does something that is logged, and says what has come into its
+ * pipes, and which of them a child of its own finds closed. */
 #include <stdio.h>
 #include <sys/ioctl.h>
 #include <sys/wait.h>
@@ -27,9 +28,11 @@ static int closed_pipes(void) {
     return closed;
 }
 
-int main(void) {
+int main(int words, char **word) {
     int status;
+    (void)word;
     for (long number = 3; number < sysconf(_SC_OPEN_MAX); number++) close((int)number);
+    if (words > 1) dup(0);
     while (pipes < MOST && !pipe(ends[pipes])) pipes++;
     for (int times = 0; times < 100000; times++) add();
     printf("%d bytes in pipes of the program\n", bytes_in_pipes());

@@ -1,6 +1,6 @@
 /* Other processes: children, and programs that take this one's place. It adds ten times first, in a block each.
  *
- *   others system    runs itself by system, as `others nothing`, and adds ten times more
+ *   others system    forks, so that its log is written out, runs itself by system, as `others nothing`, and adds ten times more
  *   others fork      three children add ten times each, one of them from a thread of its own that has been in a block at the fork
  *   others spawn     starts programs by posix_spawn, and by vfork and exec in a function of its own; adds ten times more
  *   others daemon    becomes a daemon, whose parent ends within the C library, and says so by the file `done`
@@ -33,6 +33,8 @@ static void add_ten_times(void) {
 
 static void run_by_system(void) {
     char command[4200];
+    if (!fork()) _exit(0);
+    wait(NULL);
     snprintf(command, sizeof command, "%s nothing", self);
     if (system(command)) puts("system failed");
     add_ten_times();
