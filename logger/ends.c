@@ -22,8 +22,9 @@ void aero_finish(void) {
     if (atomic_load(&aero_state) == ON) aero_end_thread();
     aero_flush();
     atomic_store(&aero_state, OFF);
+    aero_close();
     aero_unlock();
-    aero_close(1);
+    aero_end_command(1);
     aero_me.busy = was_busy;
 }
 

@@ -134,7 +134,8 @@ int aero_is_kept(const struct kept *file);     /* whether the number still is th
 int aero_target_is_of_process(const char *said);    /* whether each process has a target of its own, by %p */
 const char *aero_target(const char *said);     /* with the process's number in the place of each %p */
 int aero_open(const char *target);             /* opens the log, and says whether it could */
-void aero_close(int waits);                    /* closes the log, and then waits for the command that reads it, if it is to */
+void aero_close(void);                         /* closes the log; its lock is held */
+void aero_end_command(int waits);              /* lets go of the command that reads it, and waits for its end, if it is to */
 int aero_is_read_by_command(void);
 
 /* settings.c */

@@ -15,7 +15,7 @@
 #include <string.h>
 
 /* These names stand in the log. */
-char omp_critical[8], omp_atomic[8];
+char aero_omp_critical[8], aero_omp_atomic[8];
 
 typedef void (*body_type)(void *);
 
@@ -126,12 +126,12 @@ BARRIER(GOMP_sections_end)
         if (taken) aero_acquired((uintptr_t)lock, MUTEX, HERE); \
         return taken; \
     }
-TAKE(GOMP_critical_start, (), omp_critical, void)
-GIVE(GOMP_critical_end, (), omp_critical, void)
+TAKE(GOMP_critical_start, (), aero_omp_critical, void)
+GIVE(GOMP_critical_end, (), aero_omp_critical, void)
 TAKE(GOMP_critical_name_start, (name), name, void **name)
 GIVE(GOMP_critical_name_end, (name), name, void **name)
-TAKE(GOMP_atomic_start, (), omp_atomic, void)
-GIVE(GOMP_atomic_end, (), omp_atomic, void)
+TAKE(GOMP_atomic_start, (), aero_omp_atomic, void)
+GIVE(GOMP_atomic_end, (), aero_omp_atomic, void)
 TAKE(omp_set_lock, (lock), lock, void *lock)
 GIVE(omp_unset_lock, (lock), lock, void *lock)
 TAKE(omp_set_nest_lock, (lock), lock, void *lock)
@@ -177,12 +177,15 @@ static struct task *new_task(body_type body, void *data, void (*copy)(void *, vo
     return task;
 }
 
+/* It has its event in its data, so these can't be others. */
+enum { DETACHED = 1 << 13 };
+
 #define TASK(name) \
     void name(body_type body, void *data, void (*copy)(void *, void *), long size, long alignment, bool is_new, unsigned flags, \
               void **depends, int priority, void *event)
 EXPORT TASK(GOMP_task) {
     REAL(void, GOMP_task, body_type, void *, void (*)(void *, void *), long, long, bool, unsigned, void **, int, void *)
-    int is_logged = atomic_load(&aero_state) == ON;
+    int is_logged = atomic_load(&aero_state) == ON && !(flags & DETACHED);
     struct task *task = is_logged ? new_task(body, data, copy, (size_t)size, alignment > 0 ? (size_t)alignment : 1) : NULL;
     if (!task) {
         real(body, data, copy, size, alignment, is_new, flags, depends, priority, event);

@@ -47,7 +47,8 @@ static void in_child(void) {
     atomic_store(&aero_state, OFF);
     aero_unlock_threads();
     aero_unlock_names();
-    aero_close(0);
+    aero_close();
+    aero_end_command(0);
     aero_empty();
     aero_unlock();
     if (logs) log_child();

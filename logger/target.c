@@ -157,8 +157,8 @@ int aero_open(const char *target) {
     return 0;
 }
 
-void aero_close(int waits) {
-    drop(&aero_log);
+void aero_close(void) { drop(&aero_log); }
+void aero_end_command(int waits) {
     if (waits) wait_for_command();
     else drop(&command_ends);
 }
