@@ -5,45 +5,38 @@
 #include <linux/futex.h>
 #include <sched.h>
 #include <sys/syscall.h>
+#include <time.h>
 #include <unistd.h>
 
-/* Of a thread without a number yet; beside a number: others may sleep. */
-enum { NUMBERLESS = 1 << 29, WAITED_FOR = 1 << 30 };
 enum { TRIES = 50, YIELDS = 50 };
-
-static int own_number(void) { return aero_me.number ? aero_me.number : NUMBERLESS; }
 
 static int is_taken(lock_word *lock, int *found, int by) {
     *found = 0;
-    return atomic_compare_exchange_strong_explicit(lock, found, by, memory_order_acquire, memory_order_relaxed);
+    return atomic_compare_exchange_strong_explicit(&lock->owner, found, by, memory_order_acquire, memory_order_relaxed);
 }
 
-/* Who has slept takes it as one that others wait for, since some may. */
-static void sleep_for(lock_word *lock) {
+/* Who lets go looks for sleepers without a fence, which would cost each event more than the event itself; so it may miss one that
+ * comes to sleep at that moment, which then looks for itself some time later. */
+static void sleep_for(lock_word *lock, int number) {
+    const struct timespec some_time = {0, 10000000};
     int found, error = errno;
-    while (!is_taken(lock, &found, own_number() | WAITED_FOR)) {
-        int waited = found | WAITED_FOR;
-        if (found == waited || atomic_compare_exchange_strong(lock, &found, waited))
-            syscall(SYS_futex, lock, FUTEX_WAIT_PRIVATE, waited, NULL, NULL, 0);
-    }
+    atomic_fetch_add(&lock->sleepers, 1);
+    while (!is_taken(lock, &found, number)) syscall(SYS_futex, &lock->owner, FUTEX_WAIT_PRIVATE, found, &some_time, NULL, 0);
+    atomic_fetch_sub(&lock->sleepers, 1);
     errno = error;
 }
 
-void aero_take(lock_word *lock) {
-    int number = own_number(), found;
-    if (LIKELY(is_taken(lock, &found, number))) return;
+void aero_wait_for(lock_word *lock, int number) {
+    int found;
     for (int tries = 0; tries < TRIES + YIELDS; tries++) {
         if (is_taken(lock, &found, number)) return;
         if (tries >= TRIES) sched_yield();
     }
-    sleep_for(lock);
+    sleep_for(lock, number);
 }
 
-void aero_let_go(lock_word *lock) {
-    if (LIKELY(!(atomic_exchange_explicit(lock, 0, memory_order_release) & WAITED_FOR))) return;
+void aero_wake(lock_word *lock) {
     int error = errno;
-    syscall(SYS_futex, lock, FUTEX_WAKE_PRIVATE, 1, NULL, NULL, 0);
+    syscall(SYS_futex, &lock->owner, FUTEX_WAKE_PRIVATE, 1, NULL, NULL, 0);
     errno = error;
 }
-
-int aero_has(lock_word *lock) { return (atomic_load(lock) & ~WAITED_FOR) == own_number(); }

@@ -65,7 +65,7 @@ atomic_int aero_state;
 int aero_grain = 8;
 __thread struct thread aero_me;
 
-static lock_word log_lock;
+lock_word aero_log_lock;
 static volatile int flushing;
 static atomic_int last_number;
 static const char *target;
@@ -101,10 +101,6 @@ int aero_has_room(void **items, size_t size, size_t count, size_t *room) {
     *room = more;
     return 1;
 }
-
-void aero_lock(void) { aero_take(&log_lock); }
-void aero_unlock(void) { aero_let_go(&log_lock); }
-int aero_writes(void) { return aero_has(&log_lock); }
 
 int aero_next_number(void) { return atomic_fetch_add(&last_number, 1) + 1; }
 void aero_number(int number) {

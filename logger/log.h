@@ -76,19 +76,34 @@ struct thread {
 };
 extern __thread struct thread aero_me;
 
-/* A lock that has the number of the thread that holds it, or 0. Who waits long for it sleeps. */
-typedef atomic_int lock_word;
-void aero_take(lock_word *lock);
-void aero_let_go(lock_word *lock);
-int aero_has(lock_word *lock);       /* whether the calling thread holds it */
+/* A lock. Who waits long for it sleeps. */
+typedef struct {
+    atomic_int owner;                /* the number of the thread that holds it, or 0 */
+    atomic_int sleepers;
+} lock_word;
+enum { NUMBERLESS = 1 << 30 };       /* in the place of the number of a thread that has none yet */
+void aero_wait_for(lock_word *lock, int number);
+void aero_wake(lock_word *lock);
+static inline int aero_own_number(void) { return LIKELY(aero_me.number) ? aero_me.number : NUMBERLESS; }
+static inline void aero_take(lock_word *lock) {
+    int number = aero_own_number(), found = 0;
+    if (UNLIKELY(!atomic_compare_exchange_strong_explicit(&lock->owner, &found, number, memory_order_acquire, memory_order_relaxed)))
+        aero_wait_for(lock, number);
+}
+static inline void aero_let_go(lock_word *lock) {
+    atomic_store_explicit(&lock->owner, 0, memory_order_release);
+    if (UNLIKELY(atomic_load_explicit(&lock->sleepers, memory_order_relaxed))) aero_wake(lock);
+}
+static inline int aero_has(lock_word *lock) { return atomic_load(&lock->owner) == aero_own_number(); }
 
 /* log.c */
 enum { OFF, ON };
 extern atomic_int aero_state;        /* OFF before the start, after the end, and in a child of fork() that isn't logged */
 extern int aero_grain;               /* bytes of a variable */
-void aero_lock(void);
-void aero_unlock(void);
-int aero_writes(void);               /* whether the calling thread holds the log's lock */
+extern lock_word aero_log_lock;
+static inline void aero_lock(void) { aero_take(&aero_log_lock); }
+static inline void aero_unlock(void) { aero_let_go(&aero_log_lock); }
+static inline int aero_writes(void) { return aero_has(&aero_log_lock); }    /* whether the calling thread holds the log's lock */
 void aero_interrupted(void);         /* a signal handler that came into the logger leaves it by longjmp */
 void aero_number(int number);        /* gives the calling thread its number */
 int aero_next_number(void);

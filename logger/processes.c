@@ -38,6 +38,8 @@ static void log_child(void) {
     aero_me.holds = 0;
     aero_forget_blocks();
     aero_forget_threads();
+    atomic_store(&aero_log_lock.sleepers, 0);
+    atomic_store(&aero_names_lock.sleepers, 0);
     if (!aero_open(target)) return;
     aero_write_to(target);
     atomic_store(&aero_state, ON);

@@ -22,7 +22,10 @@ static lock_word joinable_lock;
 
 void aero_lock_threads(void) { aero_take(&joinable_lock); }
 void aero_unlock_threads(void) { aero_let_go(&joinable_lock); }
-void aero_forget_threads(void) { joinable_count = 0; }
+void aero_forget_threads(void) {
+    joinable_count = 0;
+    atomic_store(&joinable_lock.sleepers, 0);
+}
 
 /* The place of the thread, or else a free one, which is the last if there is none but that. */
 static size_t place_of(pthread_t id, int or_free) {
