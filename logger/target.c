@@ -14,6 +14,7 @@
 #define NONE {-1, 0, 0}
 struct kept aero_log = NONE;
 static struct kept command_ends = NONE;     /* reads nothing until the command behind | has ended */
+static char folder[4096];                   /* in which the program has started; a child of its may be elsewhere */
 
 /* ---- files that are kept open */
 
@@ -56,6 +57,7 @@ static char **without_the_log(void) {
 
 static void run_command(const char *command, int input, int ends) {
     char *words[] = {"sh", "-c", (char *)command, NULL}, **rest = without_the_log();
+    if (chdir(folder)) syscall(SYS_exit_group, 127);
     dup2(input, STDIN_FILENO);
     fcntl(STDIN_FILENO, F_SETFD, 0);
     fcntl(ends, F_SETFD, 0);
@@ -125,8 +127,10 @@ const char *aero_target(const char *said) {
 
 /* Opens the file. One that another process writes its log to stays as it is; so it is emptied only once it is locked. */
 static int open_file(const char *path) {
-    int file = open(path, O_WRONLY | O_CREAT | O_CLOEXEC, 0666);
+    char whole[2 * sizeof folder];
     struct stat is;
+    snprintf(whole, sizeof whole, "%s%s%s", *path == '/' ? "" : folder, *path == '/' ? "" : "/", path);
+    int file = open(whole, O_WRONLY | O_CREAT | O_CLOEXEC, 0666);
     if (file < 0 || fstat(file, &is) || !S_ISREG(is.st_mode)) return file;
     int is_written = flock(file, LOCK_EX | LOCK_NB) && errno == EWOULDBLOCK;
     if (!is_written && !ftruncate(file, 0)) return file;
@@ -144,6 +148,7 @@ static void never_block(int file) {
 
 int aero_open(const char *target) {
     int command = *target == '|';
+    if (!*folder && !getcwd(folder, sizeof folder)) strcpy(folder, ".");
     if (command && start_command(target + 1)) drop(&aero_log);
     if (!command) aero_log = out_of_the_way(open_file(target));
     if (aero_log.number >= 0) {

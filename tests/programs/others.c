@@ -1,7 +1,8 @@
 /* Other processes: children, and programs that take this one's place. It adds ten times first, in a block each.
  *
  *   others system    forks, so that its log is written out, runs itself by system, as `others nothing`, and adds ten times more
- *   others fork      three children add ten times each, one of them from a thread of its own that has been in a block at the fork
+ *   others fork      goes to another folder, where three children add ten times each, one of them from a thread of its own that has
+ *                    been in a block at the fork
  *   others spawn     starts programs by posix_spawn, and by vfork and exec in a function of its own; adds ten times more
  *   others daemon    becomes a daemon, whose parent ends within the C library, and says so by the file `done`
  *   others FORM      calls exec..: l, lp, le, v, vp, ve, vpe, fe, at
@@ -58,6 +59,7 @@ static void *forks(void *unused) {
 }
 static void fork_three(void) {
     pthread_t thread;
+    if (chdir("/")) puts("chdir failed");
     fork_within();
     fork_within();
     pthread_create(&thread, NULL, forks, NULL);
