@@ -83,13 +83,30 @@ char *aero_rust_name(const char *symbol) {
 
 static int begins(const char *text, const char *with) { return !strncmp(text, with, strlen(with)); }
 
-/* Of std, core and alloc are also those that these have for any type, as <T as core::convert::Into<U>>::into. */
+/* Whether the path is of std, core or alloc, or of none, as a type that has any parameter (T) or is built in (&[u8]). */
+static int is_of_library(const char *path) {
+    static const char *const words[] = {"mut ", "dyn ", "const "};
+    path += strspn(path, "<&*([");
+    for (size_t one = 0; one < sizeof words / sizeof *words; one++)
+        if (begins(path, words[one])) path += strlen(words[one]);
+    size_t crate = strspn(path, "abcdefghijklmnopqrstuvwxyzABCDEFGHIJKLMNOPQRSTUVWXYZ0123456789_");
+    return begins(path, "std::") || begins(path, "core::") || begins(path, "alloc::") || !crate || !begins(path + crate, "::");
+}
+
+/* The trait of <TYPE as TRAIT>::function, or NULL. */
+static const char *trait_of(const char *label) {
+    int depth = 0;
+    for (; *label; label++) {
+        depth += (*label == '<') - (*label == '>' && label[-1] != '-');
+        if (depth == 1 && begins(label, " as ")) return label + 4;
+    }
+    return NULL;
+}
+
+/* What implements a trait is the program's if the type or the trait is. */
 int aero_is_of_rust_library(const char *label) {
-    label += strspn(label, "<&*([");
-    for (const char *const *word = (const char *const[]){"mut ", "dyn ", "const ", NULL}; *word; word++)
-        if (begins(label, *word)) label += strlen(*word);
-    size_t crate = strspn(label, "abcdefghijklmnopqrstuvwxyzABCDEFGHIJKLMNOPQRSTUVWXYZ0123456789_");
-    return begins(label, "std::") || begins(label, "core::") || begins(label, "alloc::") || !crate || !begins(label + crate, "::");
+    const char *trait = *label == '<' ? trait_of(label) : NULL;
+    return is_of_library(label) && (!trait || is_of_library(trait));
 }
 
 int aero_is_rust_main(const char *label) {

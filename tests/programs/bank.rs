@@ -24,8 +24,22 @@ impl Place {
     }
 }
 
+trait Counted {
+    fn count(&self) -> usize;
+}
+impl Counted for Vec<i64> {
+    fn count(&self) -> usize {
+        self.len()
+    }
+}
+
 struct Account {
     balance: Mutex<i64>,
+}
+impl Drop for Account {
+    fn drop(&mut self) {
+        println!("{}", vec![self.get()].count());
+    }
 }
 impl Account {
     fn get(&self) -> i64 {
