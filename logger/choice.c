@@ -73,8 +73,10 @@ static int is_main(const char *label, const char *symbol) {
     return !strcmp(symbol, "main") || (aero_is_rust(symbol) && aero_is_rust_main(label));
 }
 
-/* The part of a function that the threads of a team run. */
-static int is_of_team(const char *symbol) { return strstr(symbol, "._omp_fn.") || strstr(symbol, ".omp_outlined"); }
+/* The part of a function that the threads of a team run, or that copies for a task. */
+static int is_of_team(const char *symbol) {
+    return strstr(symbol, "._omp_fn.") || strstr(symbol, "._omp_cpyfn.") || strstr(symbol, ".omp_outlined");
+}
 
 int aero_kind(const char *label, const char *symbol) {
     int runtime = is_of_runtime(label, symbol), locks = aero_is_rust(symbol) ? aero_lock_function(label) : 0;
