@@ -63,8 +63,8 @@ static int is_of_std(const char *symbol) {
         || begins(symbol, "10__cxxabiv1");
 }
 static int is_of_runtime(const char *label, const char *symbol) {
-    static const char *const heads[] = {"_GLOBAL__", "__cxx_global_", "__static_initialization", "__tls_init", "__cxa_", "__gthread_",
-                                        "__clang_call_terminate", "__rust", "TLS init function for ", "TLS wrapper function for "};
+    static const char *const heads[] = {"_GLOBAL__", "__cxx_global_", "__static_initialization", "__tls_init", "__cxa_",
+                                        "__gthread_", "__clang_call_terminate", "__rust", "TLS init function for ", "TLS wrapper function for "};
     for (size_t one = 0; one < sizeof heads / sizeof *heads; one++)
         if (begins(label, heads[one]) || begins(symbol, heads[one])) return 1;
     return aero_is_rust(symbol) ? aero_is_of_rust_library(label) : is_of_std(symbol);
@@ -128,17 +128,21 @@ static int find_names(const char *label, const char *symbol) {
     return found < name_count;
 }
 
+static void tell_unknown(const char *list, const struct name *name) {
+    char what[256], why[256];
+    snprintf(what, sizeof what, "AERODROME_BLOCKS=%.180s", list);
+    snprintf(why, sizeof why, "no function is called %.*s: nothing is logged", name->length < 150 ? (int)name->length : 150,
+             name->text);
+    aero_say(what, why);
+}
+
 /* What a pattern would leave out needn't be there. */
 static int has_unknown_name(const char *list) {
-    char why[256];
     if (name_count) aero_each_function(find_names);
     for (size_t one = 0; one < name_count; one++) {
         const struct name *name = &names[one];
         if (name->is_found || (name->leaves_out && memchr(name->text, '*', name->length))) continue;
-        snprintf(why, sizeof why, "no function is called %.*s: nothing is logged", name->length < 150 ? (int)name->length : 150, name->text);
-        char what[256];
-        snprintf(what, sizeof what, "AERODROME_BLOCKS=%.180s", list);
-        aero_say(what, why);
+        tell_unknown(list, name);
         return 1;
     }
     return 0;

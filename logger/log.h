@@ -87,8 +87,8 @@ void aero_wake(lock_word *lock);
 static inline int aero_own_number(void) { return LIKELY(aero_me.number) ? aero_me.number : NUMBERLESS; }
 static inline void aero_take(lock_word *lock) {
     int number = aero_own_number(), found = 0;
-    if (UNLIKELY(!atomic_compare_exchange_strong_explicit(&lock->owner, &found, number, memory_order_acquire, memory_order_relaxed)))
-        aero_wait_for(lock, number);
+    int is_had = atomic_compare_exchange_strong_explicit(&lock->owner, &found, number, memory_order_acquire, memory_order_relaxed);
+    if (UNLIKELY(!is_had)) aero_wait_for(lock, number);
 }
 static inline void aero_let_go(lock_word *lock) {
     atomic_store_explicit(&lock->owner, 0, memory_order_release);

@@ -40,7 +40,8 @@ int aero_is_rust(const char *symbol) {
 
 /* Puts the character that stands for the escape ($LT$, $u7b$), and returns what is behind it; NULL: it is none. */
 static const char *put_escaped(char **to, const char *escape, const char *end) {
-    static const char escapes[][2][4] = {{"LT", "<"}, {"GT", ">"}, {"RF", "&"}, {"BP", "*"}, {"C", ","}, {"SP", "@"}, {"LP", "("}, {"RP", ")"}};
+    static const char escapes[][2][4] = {{"LT", "<"}, {"GT", ">"}, {"RF", "&"}, {"BP", "*"},
+                                         {"C", ","}, {"SP", "@"}, {"LP", "("}, {"RP", ")"}};
     const char *name = escape + 1, *last = memchr(name, '$', (size_t)(end - name));
     if (!last) return NULL;
     if (*name == 'u') {
@@ -168,7 +169,8 @@ void aero_leave_lock_function(uintptr_t code) {
     struct locking it = aero_me.locking;
     aero_me.locking.what = 0;
     if (it.what == WAITS) aero_split_blocks(1);
-    if (!it.word || it.is_had || it.what == TRIES || it.what == TRIES_READER || it.what == TRIES_WRITER || it.what == GIVES_BACK) return;
+    int is_tried = it.what == TRIES || it.what == TRIES_READER || it.what == TRIES_WRITER;
+    if (!it.word || it.is_had || is_tried || it.what == GIVES_BACK) return;
     aero_lock();
     aero_hold(it.word, holding_of(it.what), code);
     aero_unlock();

@@ -56,7 +56,8 @@ static int is_one_of(const char *variable, unsigned bits, const char *wanted, in
 
 int aero_read_settings(const char *target) {
     struct settings *it = &aero_settings;
-    *it = (struct settings){.target = target, .blocks = text_of("AERODROME_BLOCKS"), .grain = 8, .fresh = 1, .places = 1, .limit = -1};
+    *it = (struct settings){.target = target, .grain = 8, .fresh = 1, .places = 1, .limit = -1};
+    it->blocks = text_of("AERODROME_BLOCKS");
     const char *split = text_of("AERODROME_SPLIT"), *limit = text_of("AERODROME_LIMIT");
     if (!is_one_of("AERODROME_GRAIN", 1 << 1 | 1 << 2 | 1 << 4 | 1 << 8, "1, 2, 4 or 8", &it->grain)) return 0;
     if (!is_one_of("AERODROME_FRESH", 1 << 0 | 1 << 1, "0 or 1", &it->fresh)) return 0;

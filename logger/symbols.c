@@ -50,7 +50,8 @@ struct image aero_image(const char *path) {
 static const ElfW(Shdr) *section_of(struct image image, unsigned type) {
     const ElfW(Ehdr) *head = (const void *)image.bytes;
     if (!head || image.size < sizeof *head || memcmp(head->e_ident, ELFMAG, SELFMAG)) return NULL;
-    if (head->e_shentsize != sizeof(ElfW(Shdr)) || head->e_shoff + (size_t)head->e_shnum * sizeof(ElfW(Shdr)) > image.size) return NULL;
+    if (head->e_shentsize != sizeof(ElfW(Shdr))) return NULL;
+    if (head->e_shoff + (size_t)head->e_shnum * sizeof(ElfW(Shdr)) > image.size) return NULL;
     const ElfW(Shdr) *sections = (const void *)(image.bytes + head->e_shoff);
     for (int place = 0; place < head->e_shnum; place++)
         if (sections[place].sh_type == type && sections[place].sh_offset + sections[place].sh_size <= image.size)
