@@ -72,11 +72,12 @@ static int is_deadly(int signal) {
 }
 
 /* The handler is gone by now (SA_RESETHAND), so the signal ends the process when it comes again: what the kernel found faulty by
- * itself, others because they are sent. */
+ * itself, others because they are sent. Another one that comes meanwhile doesn't wait for the log. */
 static void ends_by(int signal, siginfo_t *how, void *unused) {
+    static __thread int is_ending;
     int error = errno, is_fault = signal == SIGSEGV || signal == SIGBUS || signal == SIGFPE || signal == SIGILL;
     (void)unused;
-    aero_finish();
+    if (!is_ending++) aero_finish();
     errno = error;
     if (!is_fault || how->si_code <= 0) syscall(SYS_tgkill, getpid(), syscall(SYS_gettid), signal);
 }
@@ -111,6 +112,7 @@ void aero_drop_signal_stack(void) {
 static struct sigaction at_the_end(void) {
     struct sigaction action = {.sa_sigaction = ends_by, .sa_flags = SA_SIGINFO | SA_RESETHAND | SA_NODEFER | SA_ONSTACK};
     sigfillset(&action.sa_mask);
+    for (size_t one = 0; one < sizeof deadly / sizeof *deadly; one++) sigdelset(&action.sa_mask, deadly[one]);
     return action;
 }
 

@@ -3,7 +3,7 @@
  *   openmp locks      each adds under a critical section, one with a name, and a lock of omp.h
  *   openmp barrier    each writes a place of its own, and behind a barrier reads that of the next one, in a block each
  *   openmp tasks      a sum by tasks that wait for tasks of their own
- *   openmp loop       a loop whose parts are given out while it runs */
+ *   openmp loop       loops whose parts are given out while they run, and sections */
 #include <omp.h>
 #include <stdio.h>
 #include <string.h>
@@ -67,10 +67,20 @@ static void tasks(void) {
 }
 
 static void loop(void) {
-    long result = 0;
-#pragma omp parallel for num_threads(TEAM) schedule(dynamic) reduction(+ : result)
-    for (int one = 0; one < 100; one++) result += one;
-    printf("%ld\n", result);
+#pragma omp parallel for num_threads(TEAM) schedule(dynamic)
+    for (int one = 0; one < 100; one++) add();
+#pragma omp parallel for num_threads(TEAM) schedule(guided)
+    for (int one = 0; one < 100; one++) add();
+#pragma omp parallel for num_threads(TEAM) schedule(runtime)
+    for (int one = 0; one < 100; one++) add();
+#pragma omp parallel sections num_threads(TEAM)
+    {
+#pragma omp section
+        add();
+#pragma omp section
+        add();
+    }
+    printf("%ld\n", total);
 }
 
 int main(int words, char **word) {
