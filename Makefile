@@ -36,7 +36,7 @@ install: bin/aerodrome
 	install -D -m 755 bin/aerodrome $(DESTDIR)$(PREFIX)/bin/aerodrome
 	install -D -m 755 tools/merge $(DESTDIR)$(PREFIX)/bin/aerodrome-merge
 	install -D -m 755 tools/refine $(DESTDIR)$(PREFIX)/bin/aerodrome-refine
-	install -D -m 644 -t $(DESTDIR)$(PREFIX)/share/man/man1 docs/aerodrome.1 docs/aerodrome-merge.1 docs/aerodrome-refine.1
+	install -D -m 644 -t $(DESTDIR)$(PREFIX)/share/man/man1 docs/*.1
 	install -D -m 644 completions/aerodrome.bash $(DESTDIR)$(PREFIX)/share/bash-completion/completions/aerodrome
 	install -D -m 644 completions/aerodrome.bash $(DESTDIR)$(PREFIX)/share/bash-completion/completions/aerodrome-merge
 	install -D -m 644 completions/aerodrome.bash $(DESTDIR)$(PREFIX)/share/bash-completion/completions/aerodrome-refine

@@ -10,8 +10,10 @@ enum { SEQUENTIAL = __ATOMIC_SEQ_CST };
     else { \
         if (UNLIKELY(aero_me.jumped)) aero_left(FRAME); \
         aero_lock(); \
+        int locks = aero_me.locking.what, gives = UNLIKELY(locks) && aero_gives_back((uintptr_t)(at), HERE); \
         work; \
-        aero_span(operation, (uintptr_t)(at), sizeof(type), HERE); \
+        if (LIKELY(!locks) || !(gives || aero_takes((uintptr_t)(at), *(operation) == 'w', HERE))) \
+            aero_span(operation, (uintptr_t)(at), sizeof(type), HERE); \
         aero_unlock(); \
         aero_leave(); \
     }

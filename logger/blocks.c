@@ -1,92 +1,65 @@
-/* Blocks: which functions are atomic blocks, their begins and ends, and those that longjmp leaves.
- *
- * AERODROME_BLOCKS is all, none, a list of names with a comma or a newline between two, or such a list behind `-`: all but
- * these. Without it it is -main. A name is that of the symbol (_ZN4Bank3payEl), or the label in the log (Bank::pay). */
+/* Blocks: the begins and ends of functions, and those that longjmp leaves. */
 #include "log.h"
 
 #include <setjmp.h>
-#include <string.h>
 
-static enum { ALL, NONE, THESE, ALL_BUT } which;
-static const char *list;
+/* Of a frame's block, in the log: it was split where it waits, and is to begin again. */
+enum { CLOSED, OPEN, SPLIT };
 
-void aero_blocks_start(const char *blocks) {
-    if (!blocks || !*blocks) blocks = "-main";
-    list = blocks + (*blocks == '-');
-    if (!strcmp(blocks, "all")) which = ALL;
-    else if (!strcmp(blocks, "none")) which = NONE;
-    else which = *blocks == '-' ? ALL_BUT : THESE;
-}
-
-/* How long the name is with which the list begins. A comma within brackets, as in pair<int, long>::get, belongs to it. */
-static size_t name_length(const char *names) {
-    int depth = 0;
-    size_t length = 0;
-    for (; names[length] && names[length] != '\n'; length++) {
-        char byte = names[length];
-        if (byte == ',' && depth <= 0) break;
-        depth += (byte == '<' || byte == '(') - (byte == '>' || byte == ')');
-    }
-    return length;
-}
-
-static int is_listed(const char *name) {
-    size_t length = strlen(name);
-    for (const char *names = list; *names;) {
-        size_t one = name_length(names);
-        if (one == length && !memcmp(names, name, length)) return 1;
-        names += one + (names[one] != 0);
-    }
-    return 0;
-}
-
-int aero_is_block(const char *label, const char *symbol) {
-    if (which == ALL || which == NONE) return which == ALL;
-    return (is_listed(label) || is_listed(symbol)) == (which == THESE);
-}
-
-/* Makes room for one frame more, and says whether there is some. */
 static int has_room(struct thread *me) {
-    if (LIKELY(me->depth < me->room)) return 1;
-    size_t room = me->room ? 2 * me->room : 4096 / sizeof(struct frame);
-    struct frame *frames = aero_pages(room * sizeof *frames);
-    if (!frames) {
+    if (UNLIKELY(!aero_has_room((void **)&me->frames, sizeof *me->frames, me->depth, &me->room))) {
         aero_lock();
         aero_stop("out of memory");
         aero_unlock();
         return 0;
     }
-    for (size_t place = 0; place < me->depth; place++) frames[place] = me->frames[place];
-    aero_free_pages(me->frames, me->room * sizeof *frames);
-    if (!me->frames) aero_end_with_thread();
-    me->frames = frames;
-    me->room = room;
+    if (UNLIKELY(!me->has_end)) aero_end_with_thread();
     return 1;
 }
 
-/* What a frame says of its begin changes where the line is written: a signal handler may leave from anywhere by longjmp. */
-static void push(const char *label, int block, uintptr_t frame, uintptr_t code) {
+/* Whether it is the function that a thread other than main's starts with: below it are at most functions of the runtime, by
+ * which std::thread calls it. */
+static int is_start(const struct thread *me) { return me->number != 1 && me->depth == me->leading; }
+
+/* In the runtime, events have the place from where other code has called that. */
+static void note_outside(struct thread *me, const struct frame *top, int is_runtime) {
+    if (is_runtime && me->depth == me->leading) me->leading++;
+    if (!is_runtime) me->outside = 0;
+    else if (!me->outside && me->depth) me->outside = top->call;
+}
+
+/* What a frame says of its begin changes where the line is written: a signal handler may leave from anywhere by longjmp. A process
+ * that ends between the two writes no end that has no begin. */
+static void push(const struct code *function, uintptr_t frame, uintptr_t call) {
     struct thread *me = &aero_me;
     if (!has_room(me)) return;
     struct frame *top = &me->frames[me->depth];
-    *top = (struct frame){frame, 0};
+    int kind = function ? atomic_load_explicit(&function->kind, memory_order_relaxed) : 0;
+    int block = kind & IS_BLOCK && (!is_start(me) || aero_starts_are_blocks());
+    *top = (struct frame){frame, function, call, me->outside, CLOSED};
+    if (UNLIKELY(kind & IS_RUNTIME || me->outside)) note_outside(me, top, kind & IS_RUNTIME);
     me->depth++;
-    if (!block) return;
-    aero_lock();
-    aero_line("begin", "", 0, label, code);
-    top->block = 1;
-    aero_unlock();
+    if (block) {
+        aero_lock();
+        aero_line("begin", "", 0, function->label, call);
+        top->block = OPEN;
+        aero_unlock();
+    }
+    if (UNLIKELY(kind >= LOCK_FUNCTION)) aero_enter_lock_function(kind / LOCK_FUNCTION, call);
 }
 static void pop(uintptr_t code) {
     struct thread *me = &aero_me;
     struct frame *top = &me->frames[me->depth - 1];
-    if (top->block) {
+    if (UNLIKELY(me->locking.what && me->locking.depth == me->depth)) aero_leave_lock_function(code);
+    if (top->block == OPEN) {
         aero_lock();
-        aero_line("end", "", 0, NULL, code);
-        top->block = 0;
+        top->block = CLOSED;
+        aero_line("end", NULL, 0, NULL, code);
         aero_unlock();
     }
+    me->outside = top->outside;
     me->depth--;
+    if (me->leading > me->depth) me->leading = me->depth;
 }
 
 /* Stacks grow down: a function's frames lie below those of who called it. */
@@ -95,12 +68,11 @@ void aero_left(uintptr_t frame) {
     while (me->depth && me->frames[me->depth - 1].at < frame) pop(0);
 }
 
+/* What no hooked function has called, as main or what a thread starts with, has its own place. */
 EXPORT void __tsan_func_entry(void *caller) {
-    (void)caller;
     if (!aero_enter()) return;
     if (UNLIKELY(aero_me.jumped)) aero_left(FRAME + 1);
-    const struct code *function = aero_function(HERE);
-    push(function ? function->label : NULL, function && function->block, FRAME, HERE);
+    push(aero_function(HERE), FRAME, aero_me.depth ? (uintptr_t)caller : HERE);
     aero_leave();
 }
 EXPORT void __tsan_func_exit(void) {
@@ -112,9 +84,47 @@ EXPORT void __tsan_func_exit(void) {
 
 void aero_end_blocks(void) {
     struct thread *me = &aero_me;
-    for (; me->depth; me->depth--)
-        if (me->frames[me->depth - 1].block) aero_line("end", "", 0, NULL, 0);
+    for (; me->depth; me->depth--) {
+        struct frame *top = &me->frames[me->depth - 1];
+        int block = top->block;
+        top->block = CLOSED;
+        if (block == OPEN) aero_line("end", NULL, 0, NULL, 0);
+    }
+    me->leading = 0;
+    me->outside = 0;
 }
+
+void aero_forget_blocks(void) {
+    for (size_t place = 0; place < aero_me.depth; place++) aero_me.frames[place].block = CLOSED;
+}
+
+/* ---- blocks that are split */
+
+static void end_for_a_wait(struct thread *me) {
+    for (size_t place = me->depth; place > 0; place--) {
+        struct frame *it = &me->frames[place - 1];
+        if (it->block != OPEN) continue;
+        it->block = SPLIT;
+        aero_line("end", NULL, 0, NULL, it->call);
+    }
+}
+static void begin_again(struct thread *me) {
+    for (size_t place = 0; place < me->depth; place++) {
+        struct frame *it = &me->frames[place];
+        if (it->block != SPLIT) continue;
+        aero_line("begin", "", 0, it->function->label, it->call);
+        it->block = OPEN;
+    }
+}
+void aero_split_blocks(int begins) {
+    if (!aero_settings.splits) return;
+    aero_lock();
+    if (begins) begin_again(&aero_me);
+    else end_for_a_wait(&aero_me);
+    aero_unlock();
+}
+
+/* ---- longjmp */
 
 #define JUMP(name, buffer) \
     EXPORT void name(buffer to, int value) { \

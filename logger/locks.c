@@ -8,53 +8,81 @@
 
 typedef const struct timespec *until_type;
 
-/* ---- what a thread holds */
+/* ---- what a thread holds; the log's lock is held */
+
+static struct held *held_at(struct thread *me, size_t place) {
+    return LIKELY(place < FEW_HELD) ? &me->few[place] : &me->held[place - FEW_HELD];
+}
 
 static void hold(uintptr_t lock, enum holding how) {
     struct thread *me = &aero_me;
-    if (me->holds < MOST_HELD) me->held[me->holds++] = (struct held){lock, how};
+    if (UNLIKELY(me->holds >= FEW_HELD)
+        && !aero_has_room((void **)&me->held, sizeof *me->held, me->holds - FEW_HELD, &me->held_room)) {
+        aero_stop("out of memory");
+        return;
+    }
+    *held_at(me, me->holds) = (struct held){lock, how};
+    me->holds++;
+    if (UNLIKELY(!me->has_end)) aero_end_with_thread();
 }
 
 /* How the thread holds the lock, which it gives back; 0 if it isn't known to hold it. */
 static enum holding let_go(uintptr_t lock) {
     struct thread *me = &aero_me;
     for (size_t place = me->holds; place > 0; place--) {
-        struct held *it = &me->held[place - 1];
+        struct held *it = held_at(me, place - 1);
         if (it->lock != lock) continue;
         enum holding how = it->how;
-        *it = me->held[--me->holds];
+        *it = *held_at(me, --me->holds);
         return how;
     }
     return 0;
 }
 
+static void lock_line(const char *operation, uintptr_t lock, enum holding how, uintptr_t code) {
+    if (how == MUTEX) aero_line(operation, "", lock, NULL, code);
+    else aero_line(how == READER ? "r" : "w", "rw.", lock, NULL, code);
+}
+
 void aero_release_all(void) {
     struct thread *me = &aero_me;
     while (me->holds) {
-        struct held *it = &me->held[--me->holds];
-        if (it->how == MUTEX) aero_line("rel", "", it->lock, NULL, 0);
-        else aero_line(it->how == READER ? "r" : "w", "rw.", it->lock, NULL, 0);
+        struct held it = *held_at(me, --me->holds);
+        lock_line("rel", it.lock, it.how, 0);
     }
 }
 
-static void acquired(uintptr_t lock, enum holding how, uintptr_t code) {
-    if (!aero_enter()) return;
+/* A process that ends between the line and what is noted releases nothing that it hasn't acquired, and nothing twice. */
+void aero_hold(uintptr_t lock, enum holding how, uintptr_t code) {
+    lock_line("acq", lock, how, code);
     hold(lock, how);
-    aero_lock();
-    if (how == MUTEX) aero_line("acq", "", lock, NULL, code);
-    else aero_line(how == READER ? "r" : "w", "rw.", lock, NULL, code);
-    aero_unlock();
-    aero_leave();
 }
 
 /* How the thread held what it is about to give back. A lock that it isn't known to hold, as one that it had before the log
  * began, isn't released there. */
-static enum holding releasing(uintptr_t lock, uintptr_t code) {
-    if (!aero_enter()) return 0;
+enum holding aero_release(uintptr_t lock, uintptr_t code) {
     enum holding how = let_go(lock);
+    if (how) lock_line("rel", lock, how, code);
+    return how;
+}
+
+uintptr_t aero_last_mutex(void) {
+    for (size_t place = aero_me.holds; place > 0; place--)
+        if (held_at(&aero_me, place - 1)->how == MUTEX) return held_at(&aero_me, place - 1)->lock;
+    return 0;
+}
+
+void aero_acquired(uintptr_t lock, enum holding how, uintptr_t code) {
+    if (!aero_enter()) return;
     aero_lock();
-    if (how == MUTEX) aero_line("rel", "", lock, NULL, code);
-    else if (how) aero_line(how == READER ? "r" : "w", "rw.", lock, NULL, code);
+    aero_hold(lock, how, code);
+    aero_unlock();
+    aero_leave();
+}
+enum holding aero_releasing(uintptr_t lock, uintptr_t code) {
+    if (!aero_enter()) return 0;
+    aero_lock();
+    enum holding how = aero_release(lock, code);
     aero_unlock();
     aero_leave();
     return how;
@@ -69,13 +97,13 @@ static int is_had(int result) { return result == 0 || result == EOWNERDEAD; }
     EXPORT int name(__VA_ARGS__) { \
         REAL(int, name, __VA_ARGS__) \
         int result = real arguments; \
-        if (is_had(result)) acquired((uintptr_t)lock, how, HERE); \
+        if (is_had(result)) aero_acquired((uintptr_t)lock, how, HERE); \
         return result; \
     }
 #define RELEASE(name, type) \
     EXPORT int name(type *lock) { \
         REAL(int, name, type *) \
-        releasing((uintptr_t)lock, HERE); \
+        aero_releasing((uintptr_t)lock, HERE); \
         return real(lock); \
     }
 ACQUIRE(pthread_mutex_lock, MUTEX, (lock), pthread_mutex_t *lock)
@@ -110,9 +138,15 @@ struct wait {
     uintptr_t lock, code;
     enum holding how;
 };
+static void split(int begins) {
+    if (!aero_settings.splits || !aero_enter()) return;
+    aero_split_blocks(begins);
+    aero_leave();
+}
 static void has_again(void *given) {
     struct wait *wait = given;
-    if (wait->how) acquired(wait->lock, wait->how, wait->code);
+    split(1);
+    if (wait->how) aero_acquired(wait->lock, wait->how, wait->code);
 }
 
 #define WAIT(name, version, arguments, ...) \
@@ -120,7 +154,8 @@ static void has_again(void *given) {
         REAL_VERSION(int, name, version, __VA_ARGS__) \
         struct wait wait = {(uintptr_t)lock, HERE, 0}; \
         int result; \
-        wait.how = releasing(wait.lock, wait.code); \
+        wait.how = aero_releasing(wait.lock, wait.code); \
+        split(0); \
         pthread_cleanup_push(has_again, &wait) \
         result = real arguments; \
         pthread_cleanup_pop(1); \
@@ -215,11 +250,11 @@ EXPORT void __tsan_mutex_destroy(void *at, unsigned flags) { (void)at, (void)fla
 EXPORT void __tsan_mutex_pre_lock(void *at, unsigned flags) { (void)at, (void)flags; }
 EXPORT void __tsan_mutex_post_lock(void *at, unsigned flags, int times) {
     (void)times;
-    if (!(flags & TRY_FAILED)) acquired((uintptr_t)at, flags & READ_LOCK ? READER : WRITER, HERE);
+    if (!(flags & TRY_FAILED)) aero_acquired((uintptr_t)at, flags & READ_LOCK ? READER : WRITER, HERE);
 }
 EXPORT int __tsan_mutex_pre_unlock(void *at, unsigned flags) {
     (void)flags;
-    releasing((uintptr_t)at, HERE);
+    aero_releasing((uintptr_t)at, HERE);
     return 0;
 }
 EXPORT void __tsan_mutex_post_unlock(void *at, unsigned flags) { (void)at, (void)flags; }

@@ -10,6 +10,7 @@
 #include <stdatomic.h>
 #include <stddef.h>
 #include <stdint.h>
+#include <sys/types.h>
 
 /* The files of the logger are compiled with hidden names. What the compiler and the program call is exported, and weak: a
  * program that has a function of that name, as an allocator of its own, keeps it. */
@@ -31,10 +32,14 @@ void *aero_next(const char *name, const char *version);
     }
 #define REAL(result, name, ...) REAL_VERSION(result, name, NULL, __VA_ARGS__)
 
-/* A function that was entered: where its hook's frame lay, and whether it is a block. */
+/* A function that was entered. */
+struct code;
 struct frame {
-    uintptr_t at;
-    int block;
+    uintptr_t at;                    /* where its hook's frame lay */
+    const struct code *function;     /* NULL where memory was refused */
+    uintptr_t call;                  /* where it was called */
+    uintptr_t outside;               /* what `outside` of the thread was before */
+    int block;                       /* whether its block is open in the log; blocks.c */
 };
 
 /* A lock that a thread holds, and how. */
@@ -43,44 +48,76 @@ struct held {
     uintptr_t lock;
     enum holding how;
 };
-#define MOST_HELD 256
+enum { FEW_HELD = 16 };
+
+/* A function of Rust's std that locks, which the thread is in; rust.c. */
+struct locking {
+    int what;                /* 0: none */
+    int is_had;
+    size_t depth;            /* of its frame */
+    uintptr_t word;          /* 0: not known yet */
+};
 
 struct thread {
     int number;              /* from 1; 0: it has none yet */
     volatile int busy;       /* in the logger: what a signal handler does meanwhile isn't logged */
     int error;               /* errno as the program had it */
-    int jumped;              /* longjmp was called, so functions may have been left without their hook */
+    int jumped;              /* functions may have been left without their hook: by longjmp, or by exec in a child of vfork */
+    int has_end;             /* what it has left open is ended with it */
     int length;
     char prefix[16];         /* "T12|" */
     struct frame *frames;
     size_t depth, room;
-    struct held held[MOST_HELD];
-    size_t holds;
+    size_t leading;          /* so many frames, from the first one, are functions of the runtime */
+    uintptr_t outside;       /* in a function of the runtime: where code that isn't of it has called that; else 0 */
+    struct held few[FEW_HELD], *held;    /* the first ones, and those behind them */
+    size_t holds, held_room;
+    struct locking locking;
 };
 extern __thread struct thread aero_me;
 
-/* A spin lock that has the number of the thread that holds it, or 0. */
-typedef atomic_int spin_lock;
-void aero_spin(spin_lock *lock);
-static inline void aero_let_go(spin_lock *lock) { atomic_store_explicit(lock, 0, memory_order_release); }
-int aero_has(spin_lock *lock);       /* whether the calling thread holds it */
+/* A lock. Who waits long for it sleeps. */
+typedef struct {
+    atomic_int owner;                /* the number of the thread that holds it, or 0 */
+    atomic_int sleepers;
+} lock_word;
+enum { NUMBERLESS = 1 << 30 };       /* in the place of the number of a thread that has none yet */
+void aero_wait_for(lock_word *lock, int number);
+void aero_wake(lock_word *lock);
+static inline int aero_own_number(void) { return LIKELY(aero_me.number) ? aero_me.number : NUMBERLESS; }
+static inline void aero_take(lock_word *lock) {
+    int number = aero_own_number(), found = 0;
+    int is_had = atomic_compare_exchange_strong_explicit(&lock->owner, &found, number, memory_order_acquire, memory_order_relaxed);
+    if (UNLIKELY(!is_had)) aero_wait_for(lock, number);
+}
+static inline void aero_let_go(lock_word *lock) {
+    atomic_store_explicit(&lock->owner, 0, memory_order_release);
+    if (UNLIKELY(atomic_load_explicit(&lock->sleepers, memory_order_relaxed))) aero_wake(lock);
+}
+static inline int aero_has(lock_word *lock) { return atomic_load(&lock->owner) == aero_own_number(); }
 
 /* log.c */
 enum { OFF, ON };
-extern atomic_int aero_state;        /* OFF before the start, after the end, and in a child of fork() */
+extern atomic_int aero_state;        /* OFF before the start, after the end, and in a child of fork() that isn't logged */
 extern int aero_grain;               /* bytes of a variable */
-void aero_lock(void);
-void aero_unlock(void);
+extern lock_word aero_log_lock;
+static inline void aero_lock(void) { aero_take(&aero_log_lock); }
+static inline void aero_unlock(void) { aero_let_go(&aero_log_lock); }
+static inline int aero_writes(void) { return aero_has(&aero_log_lock); }    /* whether the calling thread holds the log's lock */
 void aero_interrupted(void);         /* a signal handler that came into the logger leaves it by longjmp */
 void aero_number(int number);        /* gives the calling thread its number */
 int aero_next_number(void);
+void aero_say(const char *what, const char *why);   /* one line on standard error */
 void aero_stop(const char *why);     /* says why on standard error; the log's lock is held */
-void aero_start(void);
-void aero_finish(void);
+void aero_flush(void);               /* writes out what is there; the log's lock is held */
+void aero_write_to(const char *target);
+void aero_empty(void);               /* drops what the buffer has, and begins to count anew */
 void *aero_pages(size_t bytes);      /* zeroed memory, or NULL */
 void aero_free_pages(void *at, size_t bytes);
+/* Makes room for one item of `size` bytes more behind `count` of them, and says whether there is some. */
+int aero_has_room(void **items, size_t size, size_t count, size_t *room);
 /* Writes the line OPERATION(KIND NAME)|PLACE of the calling thread; the log's lock is held. The name is that of the variable at
- * the address, or `text` where it isn't NULL; without both there are no parentheses. */
+ * the address, or `text` where it isn't NULL; without a kind there are no parentheses. */
 void aero_line(const char *operation, const char *kind, uintptr_t address, const char *text, uintptr_t code);
 /* The same as an event of its own, which takes the log's lock. */
 void aero_event(const char *operation, const char *kind, uintptr_t address, uintptr_t code);
@@ -100,19 +137,62 @@ static inline void aero_leave(void) {
     aero_me.busy = 0;
 }
 
+/* target.c */
+/* A file that the logger keeps open. The program may close its number, and open a file of its own by it. */
+struct kept {
+    int number;                      /* -1: none */
+    dev_t device;
+    ino_t node;
+};
+extern struct kept aero_log;
+int aero_is_kept(const struct kept *file);     /* whether the number still is that of the file */
+int aero_target_is_of_process(const char *said);    /* whether each process has a target of its own, by %p */
+const char *aero_target(const char *said);     /* with the process's number in the place of each %p */
+int aero_open(const char *target);             /* opens the log, and says whether it could */
+void aero_close(void);                         /* closes the log; its lock is held */
+void aero_end_command(int waits);              /* lets go of the command that reads it, and waits for its end, if it is to */
+int aero_is_read_by_command(void);
+
+/* settings.c */
+struct settings {
+    const char *target, *blocks;
+    int grain, fresh, places, splits;
+    int64_t limit;                   /* -1: not said */
+};
+extern struct settings aero_settings;
+int aero_read_settings(const char *target);    /* from the environment; whether they can be used, else it says why not */
+
+/* start.c */
+void aero_start(void);
+
+/* ends.c */
+extern pid_t aero_owner;             /* the process whose log it is */
+void aero_ends_start(void);
+void aero_finish(void);
+void aero_take_signal_stack(void);             /* for the calling thread */
+void aero_drop_signal_stack(void);
+
+/* processes.c */
+void aero_processes_start(void);
+
 /* names.c */
-extern spin_lock aero_names_lock;
+extern lock_word aero_names_lock;
+enum { IS_BLOCK = 1, IS_RUNTIME = 2, LOCK_FUNCTION = 4 };    /* and LOCK_FUNCTION times what aero_lock_function says */
 struct code {
     uintptr_t at;
     _Atomic(const char *) label;     /* of the function that it lies in; NULL: not looked up yet */
-    atomic_int block;
+    atomic_int kind;
     unsigned length;                 /* of place */
     char place[];                    /* "|program+0x1234" */
 };
 #define MOST_NAME 255
-void aero_names_start(int places);
+void aero_names_start(void);
+void aero_lock_names(void);
+void aero_unlock_names(void);
 const struct code *aero_code(uintptr_t at);           /* NULL where memory is refused */
-const struct code *aero_function(uintptr_t at);       /* with its label and whether it is a block */
+const struct code *aero_function(uintptr_t at);       /* with its label and its kind */
+/* Calls `each` with the label and the symbol of each function that has hooks, until it returns 0. */
+void aero_each_function(int (*each)(const char *label, const char *symbol));
 char *aero_put_hex(char *to, uintptr_t number);
 char *aero_put_text(char *to, const char *text);
 char *aero_put_variable(char *to, uintptr_t address);
@@ -120,24 +200,76 @@ char *aero_put_variable(char *to, uintptr_t address);
 uintptr_t aero_variable_start(uintptr_t address);
 uintptr_t aero_variable_end(uintptr_t address);
 
+/* labels.c */
+/* Puts the name of the symbol as the log has it, of at most `most` bytes, with a byte 0 behind it. */
+void aero_put_label(char *to, const char *symbol, int is_function, size_t most);
+char aero_fitting(char byte);        /* the byte, or ! for one that the format doesn't have in a name */
+
+/* symbols.c */
+struct symbol {
+    uintptr_t at, size;
+    const char *name;
+    int several;             /* others have the name too */
+};
+struct table {
+    struct symbol *symbols;  /* in the order of their addresses, no two at one */
+    size_t count;
+};
+/* A file that is mapped, as long as the program runs. */
+struct image {
+    const char *bytes;       /* NULL: none */
+    size_t size;
+};
+struct image aero_image(const char *path);
+struct table aero_symbols(struct image image, unsigned kind, uintptr_t bias);
+int aero_has_hooks(struct image image);        /* whether code in it calls the logger */
+const struct symbol *aero_symbol_at(const struct table *table, uintptr_t address);
+void aero_sort_symbols(struct table *table);
+
 /* memory.c */
-void aero_memory_start(int fresh);
+void aero_memory_start(void);
 void aero_span(const char *operation, uintptr_t address, size_t bytes, uintptr_t code);    /* the log's lock is held */
 void aero_renew(uintptr_t from, uintptr_t to);        /* what lies there is new variables */
 uint32_t aero_generation(uintptr_t address);          /* how often it was renewed */
 
+/* choice.c */
+int aero_choose_blocks(const char *blocks);           /* whether each name is that of a function; else it says which isn't */
+int aero_kind(const char *label, const char *symbol);
+int aero_starts_are_blocks(void);                     /* whether the functions are that threads start with */
+
 /* blocks.c */
-void aero_blocks_start(const char *blocks);
-int aero_is_block(const char *label, const char *symbol);
 void aero_left(uintptr_t frame);                      /* ends the blocks of functions below the frame */
 void aero_end_blocks(void);                           /* ends all of the calling thread's; the log's lock is held */
+void aero_forget_blocks(void);                        /* as the log that they began in isn't written here */
+void aero_split_blocks(int begins);                   /* ends them where they are to be split, and then begins them again */
 
 /* threads.c */
 void aero_threads_start(void);
-void aero_end_thread(void);                           /* ends its blocks and releases its locks */
-void aero_end_with_thread(void);                      /* has that done, and its frames freed, where it ends */
+void aero_lock_threads(void);
+void aero_unlock_threads(void);
+void aero_forget_threads(void);                       /* all but the calling one, which has the first number */
+void aero_end_thread(void);                           /* ends its blocks and releases its locks; the log's lock is held */
+void aero_end_with_thread(void);                      /* has that done, and its memory freed, where it ends */
 
 /* locks.c */
-void aero_release_all(void);                          /* the log's lock is held */
+void aero_acquired(uintptr_t lock, enum holding how, uintptr_t code);
+enum holding aero_releasing(uintptr_t lock, uintptr_t code);
+/* With the log's lock held: */
+void aero_hold(uintptr_t lock, enum holding how, uintptr_t code);
+enum holding aero_release(uintptr_t lock, uintptr_t code);
+uintptr_t aero_last_mutex(void);                      /* that the thread has taken and still holds, or 0 */
+void aero_release_all(void);
+
+/* rust.c */
+int aero_is_rust(const char *symbol);
+char *aero_rust_name(const char *symbol);
+int aero_is_of_rust_library(const char *label);
+int aero_is_rust_main(const char *label);
+int aero_lock_function(const char *label);            /* 0: it locks nothing */
+void aero_enter_lock_function(int what, uintptr_t code);
+void aero_leave_lock_function(uintptr_t code);
+/* Of an atomic operation in such a function, with the log's lock held: whether it gives the lock back, or takes or wants it. */
+int aero_gives_back(uintptr_t word, uintptr_t code);
+int aero_takes(uintptr_t word, int changes, uintptr_t code);
 
 #endif

@@ -22,7 +22,7 @@ struct leaf {
 static _Atomic(struct leaf *) leaves[1 << (47 - LEAF_BITS)];
 static int with_fresh;
 
-void aero_memory_start(int fresh) { with_fresh = fresh; }
+void aero_memory_start(void) { with_fresh = aero_settings.fresh; }
 
 static struct leaf *leaf_of(uintptr_t address, int make) {
     if (address >> 47) return NULL;

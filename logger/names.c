@@ -1,47 +1,46 @@
-/* Names: of functions and global variables, by the symbol tables of the program and its libraries, and of places in the code. */
+/* Names of functions and global variables of the program and its libraries, and of places in the code. */
 #include "log.h"
 
 #include <elf.h>
-#include <fcntl.h>
 #include <link.h>
+#include <signal.h>
 #include <stdlib.h>
 #include <string.h>
-#include <sys/mman.h>
-#include <sys/stat.h>
 #include <unistd.h>
 
-/* Of C++ programs it is there, of others not. */
-extern char *__cxa_demangle(const char *, char *, size_t *, int *) __attribute__((weak));
-
-struct symbol {
-    uintptr_t at, size;
-    const char *name;
-    int several;             /* others have the name too */
-};
-struct table {
-    struct symbol *symbols;  /* in the order of their addresses, no two at one */
-    size_t count;
-};
 /* The program, or a library that was loaded. */
 struct object {
     uintptr_t low, high, bias;
     char name[64];           /* of its file, without folders */
+    char *path;
     struct table functions;
+    int has_functions;       /* they were looked for */
 };
 #define MOST_OBJECTS 256
 static struct object objects[MOST_OBJECTS];
 static int object_count;
 static struct table variables;          /* those of the program, by their addresses in memory */
 static uintptr_t variables_low, variables_high;
-static int with_places;
 
 #define CODE_BITS 20
 #define MOST_TRIES 64
 static _Atomic(struct code *) codes[1 << CODE_BITS];
-spin_lock aero_names_lock;
+lock_word aero_names_lock;
+static sigset_t mask_before;
 
-static void lock_names(void) { aero_spin(&aero_names_lock); }
-static void unlock_names(void) { aero_let_go(&aero_names_lock); }
+/* Signals wait meanwhile, so that none finds a name half done. */
+void aero_lock_names(void) {
+    sigset_t all, before;
+    sigfillset(&all);
+    pthread_sigmask(SIG_BLOCK, &all, &before);
+    aero_take(&aero_names_lock);
+    mask_before = before;
+}
+void aero_unlock_names(void) {
+    sigset_t before = mask_before;
+    aero_let_go(&aero_names_lock);
+    pthread_sigmask(SIG_SETMASK, &before, NULL);
+}
 
 /* ---- text */
 
@@ -71,152 +70,10 @@ static void *keep(size_t bytes) {
     return room - bytes;
 }
 
-/* ---- names as the log has them */
-
-/* The byte, or ! for one that the format doesn't have in a name. */
-static char fitting(char byte) { return byte == '|' || (unsigned char)byte < ' ' || byte == 127 ? '!' : byte; }
-
-/* Ends the text before its parameters: `Bank::pay(long) const` becomes `Bank::pay`, `X::operator()(int)` `X::operator()`. */
-static void cut_parameters(char *text) {
-    char *end = strrchr(text, ')');
-    if (!end || end == text) return;
-    int depth = 0;
-    for (; end > text; end--) {
-        depth += (*end == ')') - (*end == '(');
-        if (!depth) break;
-    }
-    if (end > text) *end = 0;
-}
-
-/* Where the name begins behind the type that a template returns: a blank outside brackets stands before it. */
-static char *behind_type(char *text) {
-    int depth = 0;
-    char *from = text;
-    if (strstr(text, "operator")) return text;
-    for (char *byte = text; *byte; byte++) {
-        depth += (*byte == '<' || *byte == '(' || *byte == '{') - (*byte == '>' || *byte == ')' || *byte == '}');
-        if (!depth && *byte == ' ') from = byte + 1;
-    }
-    return *from ? from : text;
-}
-
-static const char *keep_text(const char *text, size_t length) {
-    char *kept = keep(length + 1);
-    for (size_t place = 0; kept && place < length; place++) kept[place] = fitting(text[place]);
+static char *keep_text(const char *text) {
+    char *kept = keep(strlen(text) + 1);
+    if (kept) *aero_put_text(kept, text) = 0;
     return kept;
-}
-
-/* A name of at most `most` bytes as the format has it, kept; NULL where memory is refused. A suffix of the compiler or of a
- * version, as in pay.constprop.0 and environ@GLIBC, goes. */
-static const char *tidy(const char *symbol, int is_function, size_t most) {
-    size_t length = strcspn(symbol, ".@");
-    char *plain = length ? strndup(symbol, length) : strdup(symbol);
-    if (!plain) return NULL;
-    char *readable = __cxa_demangle && !strncmp(plain, "_Z", 2) ? __cxa_demangle(plain, NULL, NULL, NULL) : NULL;
-    char *from = readable ? readable : plain;
-    if (readable && is_function) {
-        cut_parameters(from);
-        from = behind_type(from);
-    }
-    const char *kept = keep_text(from, strnlen(from, most));
-    free(readable);
-    free(plain);
-    return kept;
-}
-
-/* ---- symbol tables */
-
-static int by_address(const void *one, const void *other) {
-    const struct symbol *a = one, *b = other;
-    if (a->at != b->at) return a->at < b->at ? -1 : 1;
-    return strcmp(a->name, b->name);
-}
-static int by_name(const void *one, const void *other) {
-    const struct symbol *a = one, *b = other;
-    return strcmp(a->name, b->name);
-}
-
-/* Of several symbols at one address the first counts. */
-static void sort(struct table *table) {
-    size_t kept = 0;
-    qsort(table->symbols, table->count, sizeof *table->symbols, by_address);
-    for (size_t place = 0; place < table->count; place++)
-        if (!kept || table->symbols[kept - 1].at != table->symbols[place].at)
-            table->symbols[kept++] = table->symbols[place];
-    table->count = kept;
-}
-
-static const struct symbol *symbol_at(const struct table *table, uintptr_t address) {
-    size_t low = 0, high = table->count;
-    while (low < high) {
-        size_t middle = (low + high) / 2;
-        if (table->symbols[middle].at <= address) low = middle + 1;
-        else high = middle;
-    }
-    if (!low) return NULL;
-    const struct symbol *it = &table->symbols[low - 1];
-    return address - it->at < (it->size ? it->size : 1) ? it : NULL;
-}
-
-static const ElfW(Shdr) *section_of(const char *file, size_t size, unsigned type) {
-    const ElfW(Ehdr) *head = (const void *)file;
-    if (size < sizeof *head || memcmp(head->e_ident, ELFMAG, SELFMAG) || head->e_shentsize != sizeof(ElfW(Shdr))) return NULL;
-    if (head->e_shoff + (size_t)head->e_shnum * sizeof(ElfW(Shdr)) > size) return NULL;
-    const ElfW(Shdr) *sections = (const void *)(file + head->e_shoff);
-    for (int place = 0; place < head->e_shnum; place++)
-        if (sections[place].sh_type == type && sections[place].sh_offset + sections[place].sh_size <= size)
-            return &sections[place];
-    return NULL;
-}
-
-/* The symbols of a kind (STT_FUNC, STT_OBJECT) of a file that is mapped. */
-static struct table symbols_of(const char *file, size_t size, unsigned kind, uintptr_t bias) {
-    struct table table = {NULL, 0};
-    const ElfW(Shdr) *section = section_of(file, size, SHT_SYMTAB);
-    if (!section) section = section_of(file, size, SHT_DYNSYM);
-    if (!section) return table;
-    const ElfW(Sym) *symbols = (const void *)(file + section->sh_offset);
-    const ElfW(Shdr) *sections = (const void *)(file + ((const ElfW(Ehdr) *)file)->e_shoff);
-    const char *names = file + sections[section->sh_link].sh_offset;
-    size_t count = section->sh_size / sizeof *symbols;
-    table.symbols = aero_pages(count * sizeof *table.symbols + 1);
-    for (size_t place = 0; table.symbols && place < count; place++) {
-        const ElfW(Sym) *it = &symbols[place];
-        if ((it->st_info & 15) == kind && it->st_shndx != SHN_UNDEF && names[it->st_name])
-            table.symbols[table.count++] = (struct symbol){it->st_value + bias, it->st_size, names + it->st_name, 0};
-    }
-    return table;
-}
-
-/* Maps the file, which stays so, as the names lie in it. */
-static const char *map(const char *path, size_t *size) {
-    struct stat is;
-    int file = open(path, O_RDONLY | O_CLOEXEC);
-    void *at = MAP_FAILED;
-    if (file >= 0 && !fstat(file, &is)) {
-        *size = (size_t)is.st_size;
-        at = mmap(NULL, *size, PROT_READ, MAP_PRIVATE, file, 0);
-    }
-    if (file >= 0) close(file);
-    return at == MAP_FAILED ? NULL : at;
-}
-
-static void name_variables(void) {
-    struct symbol *symbols = variables.symbols;
-    sort(&variables);
-    for (size_t place = 0; place < variables.count; place++) {
-        const char *kept = tidy(symbols[place].name, 0, 200);
-        if (kept) symbols[place].name = kept;
-        else symbols[place].several = 1;
-    }
-    qsort(symbols, variables.count, sizeof *symbols, by_name);
-    for (size_t place = 1; place < variables.count; place++)
-        if (!strcmp(symbols[place - 1].name, symbols[place].name)) symbols[place - 1].several = symbols[place].several = 1;
-    sort(&variables);
-    if (!variables.count) return;
-    const struct symbol *last = &symbols[variables.count - 1];
-    variables_low = symbols[0].at;
-    variables_high = last->at + last->size;
 }
 
 /* ---- objects */
@@ -248,28 +105,57 @@ static struct object *object_at(uintptr_t at) {
     if (object_count == MOST_OBJECTS) return NULL;
     search = (struct search){.at = at, .found = &objects[object_count]};
     if (!dl_iterate_phdr(look_into, &search)) return NULL;
-    const char *path = *search.path ? search.path : "/proc/self/exe";
-    char real[4096];
-    ssize_t length = *search.path ? -1 : readlink(path, real, sizeof real - 1);
-    if (length >= 0) real[length] = 0;
-    const char *shown = length >= 0 ? real : path, *folder = strrchr(shown, '/');
+    ssize_t length = *search.path ? 0 : readlink("/proc/self/exe", search.path, sizeof search.path - 1);
+    if (length > 0) search.path[length] = 0;
+    const char *folder = strrchr(search.path, '/'), *shown = folder ? folder + 1 : search.path;
     struct object *object = &objects[object_count++];
-    shown = folder ? folder + 1 : shown;
     for (size_t place = 0; shown[place] && place < sizeof object->name - 1; place++)
-        object->name[place] = fitting(shown[place]);
-    size_t size = 0;
-    const char *file = map(path, &size);
-    if (file) object->functions = symbols_of(file, size, STT_FUNC, object->bias);
-    sort(&object->functions);
-    if (file && !*search.path) variables = symbols_of(file, size, STT_OBJECT, object->bias);
+        object->name[place] = aero_fitting(shown[place]);
+    object->path = keep_text(length ? "/proc/self/exe" : search.path);
     return object;
 }
 
-void aero_names_start(int places) {
-    with_places = places;
-    lock_names();
-    if (object_at((uintptr_t)aero_names_start)) name_variables();
-    unlock_names();
+/* The functions of an object whose code has hooks; the lock of the names is held. */
+static const struct table *functions_of(struct object *object) {
+    if (object->has_functions || !object->path) return &object->functions;
+    struct image image = aero_image(object->path);
+    if (aero_has_hooks(image)) object->functions = aero_symbols(image, STT_FUNC, object->bias);
+    object->has_functions = 1;
+    return &object->functions;
+}
+
+/* ---- global variables of the program */
+
+static int by_name(const void *one, const void *other) {
+    const struct symbol *a = one, *b = other;
+    return strcmp(a->name, b->name);
+}
+
+static void name_variables(void) {
+    struct symbol *symbols = variables.symbols;
+    char name[256];
+    for (size_t place = 0; place < variables.count; place++) {
+        aero_put_label(name, symbols[place].name, 0, 200);
+        const char *kept = keep_text(name);
+        if (kept) symbols[place].name = kept;
+        else symbols[place].several = 1;
+    }
+    qsort(symbols, variables.count, sizeof *symbols, by_name);
+    for (size_t place = 1; place < variables.count; place++)
+        if (!strcmp(symbols[place - 1].name, symbols[place].name)) symbols[place - 1].several = symbols[place].several = 1;
+    aero_sort_symbols(&variables);
+    if (!variables.count) return;
+    const struct symbol *last = &symbols[variables.count - 1];
+    variables_low = symbols[0].at;
+    variables_high = last->at + last->size;
+}
+
+void aero_names_start(void) {
+    aero_lock_names();
+    const struct object *program = object_at((uintptr_t)aero_names_start);
+    if (program && program->path) variables = aero_symbols(aero_image(program->path), STT_OBJECT, program->bias);
+    if (variables.symbols) name_variables();
+    aero_unlock_names();
 }
 
 /* ---- code */
@@ -284,7 +170,7 @@ static char *put_place(char *to, uintptr_t at) {
 
 static struct code *new_code(uintptr_t at) {
     char place[128], *end = place;
-    if (with_places) {
+    if (aero_settings.places) {
         *end++ = '|';
         /* (the call that the code at the address returns from) */
         end = put_place(end, at - 1);
@@ -305,29 +191,59 @@ const struct code *aero_code(uintptr_t at) {
         struct code *code = atomic_load_explicit(slot, memory_order_acquire);
         if (LIKELY(code && code->at == at)) return code;
         if (code) continue;
-        lock_names();
+        aero_lock_names();
         code = atomic_load_explicit(slot, memory_order_acquire);
         if (!code) atomic_store_explicit(slot, code = new_code(at), memory_order_release);
-        unlock_names();
+        aero_unlock_names();
         if (!code || code->at == at) return code;
     }
     return NULL;
 }
 
+/* The name is made out without the lock, as that allocates memory, which another thread may have been interrupted in. */
 const struct code *aero_function(uintptr_t at) {
     struct code *code = (struct code *)aero_code(at);
     if (!code || LIKELY(atomic_load_explicit(&code->label, memory_order_acquire) != NULL)) return code;
-    lock_names();
-    const struct object *object = object_at(at);
-    const struct symbol *symbol = object ? symbol_at(&object->functions, at) : NULL;
-    char nameless[128];
+    char nameless[128], label[MOST_NAME + 1];
+    aero_lock_names();
+    struct object *object = object_at(at);
+    const struct symbol *symbol = object ? aero_symbol_at(functions_of(object), at) : NULL;
     *put_place(nameless, at) = 0;
-    const char *label = symbol ? tidy(symbol->name, 1, MOST_NAME) : keep_text(nameless, strlen(nameless));
+    aero_unlock_names();
     const char *name = symbol ? symbol->name : nameless;
-    if (label) atomic_store(&code->block, aero_is_block(label, name));
-    if (label) atomic_store_explicit(&code->label, label, memory_order_release);
-    unlock_names();
-    return label ? code : NULL;
+    if (symbol) aero_put_label(label, name, 1, MOST_NAME);
+    else *aero_put_text(label, name) = 0;
+    int kind = aero_kind(label, name);
+    aero_lock_names();
+    const char *kept = atomic_load(&code->label) ? atomic_load(&code->label) : keep_text(label);
+    if (kept) atomic_store(&code->kind, kind);
+    if (kept) atomic_store_explicit(&code->label, kept, memory_order_release);
+    aero_unlock_names();
+    return kept ? code : NULL;
+}
+
+static int know_object(struct dl_phdr_info *info, size_t size, void *unused) {
+    (void)size, (void)unused;
+    for (int place = 0; place < info->dlpi_phnum; place++)
+        if (info->dlpi_phdr[place].p_type == PT_LOAD && info->dlpi_phdr[place].p_flags & PF_X) {
+            object_at(info->dlpi_addr + info->dlpi_phdr[place].p_vaddr);
+            return 0;
+        }
+    return 0;
+}
+void aero_each_function(int (*each)(const char *label, const char *symbol)) {
+    char label[MOST_NAME + 1];
+    aero_lock_names();
+    dl_iterate_phdr(know_object, NULL);
+    for (int place = 0; place < object_count; place++) functions_of(&objects[place]);
+    aero_unlock_names();
+    for (int place = 0; place < object_count; place++) {
+        const struct table *functions = &objects[place].functions;
+        for (size_t one = 0; one < functions->count; one++) {
+            aero_put_label(label, functions->symbols[one].name, 1, MOST_NAME);
+            if (!each(label, functions->symbols[one].name)) return;
+        }
+    }
 }
 
 /* ---- variables; the log's lock is held */
@@ -335,7 +251,7 @@ const struct code *aero_function(uintptr_t at) {
 static const struct symbol *variable_at(uintptr_t address) {
     static const struct symbol *recent;
     if (LIKELY(address - variables_low >= variables_high - variables_low)) return NULL;
-    if (!recent || address - recent->at >= recent->size) recent = symbol_at(&variables, address);
+    if (!recent || address - recent->at >= recent->size) recent = aero_symbol_at(&variables, address);
     return recent;
 }
 

@@ -2,11 +2,12 @@
 #include "log.h"
 
 #include <stdio.h>
-#include <stdlib.h>
 #include <threads.h>
 #include <time.h>
 
+/* The program may have an allocator of its own. */
 extern void *__libc_malloc(size_t);
+extern void __libc_free(void *);
 
 static pthread_key_t at_end;             /* its destructor runs however a thread ends */
 
@@ -17,10 +18,14 @@ struct joinable {
 };
 static struct joinable *joinable;
 static size_t joinable_count, joinable_room;
-static spin_lock joinable_lock;
+static lock_word joinable_lock;
 
-static void lock_joinable(void) { aero_spin(&joinable_lock); }
-static void unlock_joinable(void) { aero_let_go(&joinable_lock); }
+void aero_lock_threads(void) { aero_take(&joinable_lock); }
+void aero_unlock_threads(void) { aero_let_go(&joinable_lock); }
+void aero_forget_threads(void) {
+    joinable_count = 0;
+    atomic_store(&joinable_lock.sleepers, 0);
+}
 
 /* The place of the thread, or else a free one, which is the last if there is none but that. */
 static size_t place_of(pthread_t id, int or_free) {
@@ -31,23 +36,10 @@ static size_t place_of(pthread_t id, int or_free) {
     return or_free ? free_place : joinable_count;
 }
 
-/* Makes room for one more, and says whether there is some. */
-static int has_room(void) {
-    if (joinable_count < joinable_room) return 1;
-    size_t room = joinable_room ? 2 * joinable_room : 4096 / sizeof *joinable;
-    struct joinable *more = aero_pages(room * sizeof *more);
-    if (!more) return 0;
-    for (size_t one = 0; one < joinable_count; one++) more[one] = joinable[one];
-    aero_free_pages(joinable, joinable_room * sizeof *more);
-    joinable = more;
-    joinable_room = room;
-    return 1;
-}
-
 /* The system uses the id of a thread again that was joined, or detached and has ended: then the new number counts. */
 static void note(pthread_t id, int number) {
     size_t place = place_of(id, 1);
-    if (place == joinable_count && !has_room()) return;
+    if (!aero_has_room((void **)&joinable, sizeof *joinable, place, &joinable_room)) return;
     joinable[place] = (struct joinable){id, number};
     if (place == joinable_count) joinable_count++;
 }
@@ -56,20 +48,20 @@ static void note(pthread_t id, int number) {
 static int take(pthread_t id) {
     int number = 0;
     if (atomic_load_explicit(&aero_state, memory_order_relaxed) != ON) return 0;
-    lock_joinable();
+    aero_lock_threads();
     size_t place = place_of(id, 0);
     if (place < joinable_count) {
         number = joinable[place].number;
         joinable[place].number = 0;
     }
-    unlock_joinable();
+    aero_unlock_threads();
     return number;
 }
 
 static void note_again(pthread_t id, int number) {
-    lock_joinable();
+    aero_lock_threads();
     note(id, number);
-    unlock_joinable();
+    aero_unlock_threads();
 }
 
 static void thread_line(const char *operation, int number, uintptr_t code) {
@@ -83,22 +75,38 @@ static void thread_line(const char *operation, int number, uintptr_t code) {
 }
 
 void aero_end_thread(void) {
-    if (!aero_enter()) return;
-    aero_lock();
     aero_end_blocks();
     aero_release_all();
-    aero_unlock();
-    aero_leave();
+}
+/* A signal may still come to the thread, whose handler begins anew. */
+static void free_memory(struct thread *me) {
+    void *frames = me->frames, *held = me->held;
+    size_t frame_room = me->room, held_room = me->held_room;
+    me->depth = me->room = me->holds = me->held_room = 0;
+    me->has_end = 0;
+    me->frames = NULL;
+    me->held = NULL;
+    atomic_signal_fence(memory_order_seq_cst);
+    aero_free_pages(frames, frame_room * sizeof *me->frames);
+    aero_free_pages(held, held_room * sizeof *me->held);
 }
 static void ends(void *unused) {
+    int logs = aero_enter();
     (void)unused;
-    aero_end_thread();
-    aero_free_pages(aero_me.frames, aero_me.room * sizeof *aero_me.frames);
-    aero_me.frames = NULL;
-    aero_me.room = 0;
+    if (logs) {
+        aero_lock();
+        aero_end_thread();
+        aero_unlock();
+    }
+    free_memory(&aero_me);
+    aero_drop_signal_stack();
+    if (logs) aero_leave();
 }
 void aero_threads_start(void) { pthread_key_create(&at_end, ends); }
-void aero_end_with_thread(void) { pthread_setspecific(at_end, &aero_me); }
+void aero_end_with_thread(void) {
+    aero_me.has_end = 1;
+    pthread_setspecific(at_end, &aero_me);
+}
 
 /* ---- starts */
 
@@ -122,13 +130,13 @@ static struct seed *new_seed(struct seed is, uintptr_t code) {
     return seed;
 }
 static void let_go(struct seed *seed) {
-    if (atomic_fetch_sub(&seed->users, 1) == 1) free(seed);
+    if (atomic_fetch_sub(&seed->users, 1) == 1) __libc_free(seed);
 }
 static void note_once(struct seed *seed, pthread_t id) {
-    lock_joinable();
+    aero_lock_threads();
     if (!seed->noted) note(id, seed->number);
     seed->noted = 1;
-    unlock_joinable();
+    aero_unlock_threads();
     let_go(seed);
 }
 
@@ -149,6 +157,7 @@ static struct seed grow(void *given) {
     renew_stack();
     note_once(given, pthread_self());
     aero_end_with_thread();
+    aero_take_signal_stack();
     aero_me.busy = 0;
     return seed;
 }
@@ -170,7 +179,7 @@ static int run_c11(void *given) {
         if (atomic_load(&aero_state) == ON) seed = new_seed((struct seed){.field = start, .with = with}, HERE); \
         if (!seed) return real(id attributes_given, start, with); \
         int refused = real(id attributes_given, runs, seed); \
-        if (refused) free(seed); \
+        if (refused) __libc_free(seed); \
         else note_once(seed, *id); \
         return refused; \
     }

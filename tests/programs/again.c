@@ -1,15 +1,34 @@
 /* A block allocates memory, writes it and hands it to another thread, which gives it back, allocates memory at the same address,
  * since the allocator gives a thread what it gave back last, writes that and hands it over; then the block does as much. Where
- * all that is one variable, the other thread's write comes between two of the block. Pipes hand over, which no log has. */
+ * all that is one variable, the other thread's write comes between two of the block. Pipes hand over, which no log has.
+ *
+ *   again [NAME]   allocates by the function NAME (malloc): calloc, realloc, reallocarray, memalign, aligned_alloc, posix_memalign */
+#define _GNU_SOURCE
+#include <malloc.h>
 #include <pthread.h>
 #include <stdio.h>
 #include <stdlib.h>
+#include <string.h>
 #include <unistd.h>
 
+/* More than the allocator keeps for each thread. */
+enum { BYTES = 2048 };
+static const char *name = "malloc";
 static int there[2], back[2];
 
+static void *allocate(void) {
+    void *memory = NULL;
+    if (!strcmp(name, "calloc")) return calloc(BYTES, 1);
+    if (!strcmp(name, "realloc")) return realloc(NULL, BYTES);
+    if (!strcmp(name, "reallocarray")) return reallocarray(NULL, BYTES, 1);
+    if (!strcmp(name, "memalign")) return memalign(16, BYTES);
+    if (!strcmp(name, "aligned_alloc")) return aligned_alloc(16, BYTES);
+    if (!strcmp(name, "posix_memalign")) return posix_memalign(&memory, 16, BYTES) ? NULL : memory;
+    return malloc(BYTES);
+}
+
 static long *use(long number) {
-    long *memory = malloc(200);
+    long *memory = allocate();
     *memory = number;
     return memory;
 }
@@ -38,8 +57,10 @@ static void *other(void *unused) {
     return unused;
 }
 
-int main(void) {
+int main(int words, char **word) {
     pthread_t thread;
+    if (words > 1) name = word[1];
+    mallopt(M_ARENA_MAX, 1);
     if (pipe(there) || pipe(back)) return 2;
     pthread_create(&thread, NULL, other, NULL);
     uses_twice();

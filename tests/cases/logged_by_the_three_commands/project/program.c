@@ -30,11 +30,14 @@ static void set(long now) {
     pthread_mutex_unlock(&lock);
 }
 
-static void *first(void *unused) {
+static void withdraw_slowly(long amount) {
     long now = get();
     signal_by(go);
     wait_for(gone);
-    set(now - 20);
+    set(now - amount);
+}
+static void *first(void *unused) {
+    withdraw_slowly(20);
     return unused;
 }
 

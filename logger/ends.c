@@ -1,0 +1,144 @@
+/* The ways in which a process ends: the log is written out, and the command that reads it is waited for. */
+#include "log.h"
+
+#include <signal.h>
+#include <stdio.h>
+#include <stdlib.h>
+#include <string.h>
+#include <sys/syscall.h>
+#include <unistd.h>
+
+pid_t aero_owner;
+
+/* A signal handler may have come into the logger, and hold its lock already: then what was being written out goes on, and the
+ * line that was begun isn't written. A child that shares the program's memory, by vfork(), ends without ending the log. */
+void aero_finish(void) {
+    if (aero_log.number < 0 || getpid() != aero_owner) return;
+    int was_busy = aero_me.busy, writes = aero_writes();
+    aero_me.busy = 1;
+    if (!aero_me.number) aero_number(aero_next_number());
+    if (!writes) aero_lock();
+    aero_flush();
+    if (atomic_load(&aero_state) == ON) aero_end_thread();
+    aero_flush();
+    atomic_store(&aero_state, OFF);
+    aero_close();
+    aero_unlock();
+    aero_end_command(1);
+    aero_me.busy = was_busy;
+}
+
+/* What the program has said stands before what the command says. */
+static void say_what_is_left(void) {
+    if (!aero_is_read_by_command() || ftrylockfile(stdout)) return;
+    fflush(stdout);
+    funlockfile(stdout);
+}
+__attribute__((destructor(101))) static void late(void) {
+    say_what_is_left();
+    aero_finish();
+}
+
+/* ---- ends that call no destructor */
+
+EXPORT void _exit(int status) {
+    aero_me.jumped |= getpid() != aero_owner;    /* what a child of vfork has entered its parent has left */
+    aero_finish();
+    for (;;) syscall(SYS_exit_group, status);
+}
+EXPORT void _Exit(int status) { _exit(status); }
+EXPORT void abort(void) {
+    REAL(void, abort, void)
+    aero_finish();
+    real();
+    __builtin_unreachable();
+}
+EXPORT void __assert_fail(const char *what, const char *file, unsigned line, const char *function) {
+    REAL(void, __assert_fail, const char *, const char *, unsigned, const char *)
+    aero_finish();
+    real(what, file, line, function);
+    __builtin_unreachable();
+}
+
+/* ---- signals that end the process, where the program has no handler for them */
+
+static const int deadly[] = {SIGHUP, SIGINT, SIGQUIT, SIGILL, SIGTRAP, SIGABRT, SIGBUS, SIGFPE, SIGUSR1, SIGSEGV, SIGUSR2, SIGPIPE,
+                             SIGALRM, SIGTERM, SIGXCPU, SIGXFSZ, SIGVTALRM, SIGPROF, SIGIO, SIGSYS};
+
+static int is_deadly(int signal) {
+    for (size_t one = 0; one < sizeof deadly / sizeof *deadly; one++)
+        if (deadly[one] == signal) return 1;
+    return 0;
+}
+
+/* The handler is gone by now (SA_RESETHAND), so the signal ends the process when it comes again: what the kernel found faulty by
+ * itself, others because they are sent. Another one that comes meanwhile doesn't wait for the log. */
+static void ends_by(int signal, siginfo_t *how, void *unused) {
+    static __thread int is_ending;
+    int error = errno, is_fault = signal == SIGSEGV || signal == SIGBUS || signal == SIGFPE || signal == SIGILL;
+    (void)unused;
+    if (!is_ending++) aero_finish();
+    errno = error;
+    if (!is_fault || how->si_code <= 0) syscall(SYS_tgkill, getpid(), syscall(SYS_gettid), signal);
+}
+
+/* A stack that is used up has no room for the handler, so each thread has another one for that. Those of threads that have ended
+ * are kept for others. */
+enum { SIGNAL_STACK = 1 << 16, MOST_SPARE = 256 };
+static void *spare[MOST_SPARE];
+static int spare_count;
+static lock_word spare_lock;
+static __thread void *signal_stack;
+
+void aero_take_signal_stack(void) {
+    aero_take(&spare_lock);
+    signal_stack = spare_count ? spare[--spare_count] : NULL;
+    aero_let_go(&spare_lock);
+    if (!signal_stack) signal_stack = aero_pages(SIGNAL_STACK);
+    stack_t ours = {.ss_sp = signal_stack, .ss_size = SIGNAL_STACK};
+    if (signal_stack) sigaltstack(&ours, NULL);
+}
+void aero_drop_signal_stack(void) {
+    const stack_t none = {.ss_flags = SS_DISABLE};
+    if (!signal_stack || sigaltstack(&none, NULL)) return;
+    aero_take(&spare_lock);
+    int is_kept = spare_count < MOST_SPARE;
+    if (is_kept) spare[spare_count++] = signal_stack;
+    aero_let_go(&spare_lock);
+    if (!is_kept) aero_free_pages(signal_stack, SIGNAL_STACK);
+    signal_stack = NULL;
+}
+
+static struct sigaction at_the_end(void) {
+    struct sigaction action = {.sa_sigaction = ends_by, .sa_flags = SA_SIGINFO | SA_RESETHAND | SA_NODEFER | SA_ONSTACK};
+    sigfillset(&action.sa_mask);
+    for (size_t one = 0; one < sizeof deadly / sizeof *deadly; one++) sigdelset(&action.sa_mask, deadly[one]);
+    return action;
+}
+
+/* The program is told of its own handlers only. */
+EXPORT int sigaction(int signal, const struct sigaction *action, struct sigaction *before) {
+    REAL(int, sigaction, int, const struct sigaction *, struct sigaction *)
+    struct sigaction ours = at_the_end();
+    int kills = action && aero_log.number >= 0 && is_deadly(signal) && action->sa_handler == SIG_DFL;
+    int result = real(signal, kills ? &ours : action, before);
+    if (!result && before && before->sa_sigaction == ends_by) *before = (struct sigaction){.sa_handler = SIG_DFL};
+    return result;
+}
+EXPORT void (*signal(int number, void (*handler)(int)))(int) {
+    typedef void (*handler_type)(int);
+    REAL(handler_type, signal, int, handler_type)
+    struct sigaction by_default = {.sa_handler = SIG_DFL};
+    handler_type before = real(number, handler);
+    if (before != SIG_ERR && handler == SIG_DFL) sigaction(number, &by_default, NULL);
+    return before == (handler_type)(void (*)(void))ends_by ? SIG_DFL : before;
+}
+
+void aero_ends_start(void) {
+    struct sigaction by_default = {.sa_handler = SIG_DFL}, now;
+    aero_owner = getpid();
+    aero_take_signal_stack();
+    at_quick_exit(aero_finish);
+    for (size_t one = 0; one < sizeof deadly / sizeof *deadly; one++)
+        if (!sigaction(deadly[one], NULL, &now) && now.sa_handler == SIG_DFL) sigaction(deadly[one], &by_default, NULL);
+}

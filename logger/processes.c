@@ -1,0 +1,125 @@
+/* Other processes: children of fork, and programs that take this one's place. */
+#include "log.h"
+
+#include <stdarg.h>
+#include <sys/syscall.h>
+#include <unistd.h>
+
+/* ---- fork */
+
+static int forked_within;                /* by a signal handler that has come into the logger */
+
+/* The log is written out first, as the parent may end without a word, by daemon(). */
+static void before_fork(void) {
+    int within = aero_writes();
+    aero_me.busy++;
+    if (!within) {
+        if (!aero_me.number) aero_number(aero_next_number());
+        aero_lock();
+        aero_flush();
+    }
+    aero_lock_names();
+    aero_lock_threads();
+    forked_within = within;
+}
+static void in_parent(void) {
+    int within = forked_within;
+    aero_unlock_threads();
+    aero_unlock_names();
+    if (!within) aero_unlock();
+    aero_me.busy--;
+}
+
+/* Begins a log of the child's own, in which what it holds, has open and was started by is forgotten. */
+static void log_child(void) {
+    const char *target = aero_target(aero_settings.target);
+    aero_owner = getpid();
+    aero_number(aero_next_number());
+    aero_me.holds = 0;
+    aero_forget_blocks();
+    aero_forget_threads();
+    atomic_store(&aero_log_lock.sleepers, 0);
+    atomic_store(&aero_names_lock.sleepers, 0);
+    if (!aero_open(target)) return;
+    aero_write_to(target);
+    atomic_store(&aero_state, ON);
+}
+static void in_child(void) {
+    int within = forked_within, logs = atomic_load(&aero_state) == ON && aero_target_is_of_process(aero_settings.target);
+    atomic_store(&aero_state, OFF);
+    aero_unlock_threads();
+    aero_unlock_names();
+    aero_close();
+    aero_end_command(0);
+    aero_empty();
+    aero_unlock();
+    if (logs) log_child();
+    aero_me.busy = within;
+}
+void aero_processes_start(void) { pthread_atfork(before_fork, in_parent, in_child); }
+
+/* ---- exec */
+
+/* Another program may take this one's place: what is there is written out, and nobody logs more before that has failed. In a child
+ * of vfork() the parent has left what the child has entered, and goes on with the log. */
+static int before_exec(void) {
+    if (getpid() != aero_owner) {
+        aero_me.jumped = 1;
+        return 0;
+    }
+    if (!aero_enter()) return 0;
+    aero_lock();
+    aero_flush();
+    return 1;
+}
+static int behind_exec(int entered, int result) {
+    if (entered) {
+        int error = errno;
+        aero_unlock();
+        aero_leave();
+        errno = error;
+    }
+    return result;
+}
+
+#define EXEC(name, arguments, ...) \
+    EXPORT int name(__VA_ARGS__) { \
+        REAL(int, name, __VA_ARGS__) \
+        int entered = before_exec(); \
+        return behind_exec(entered, real arguments); \
+    }
+EXEC(execv, (path, words), const char *path, char *const words[])
+EXEC(execvp, (path, words), const char *path, char *const words[])
+EXEC(execve, (path, words, environment), const char *path, char *const words[], char *const environment[])
+EXEC(execvpe, (path, words, environment), const char *path, char *const words[], char *const environment[])
+EXEC(fexecve, (file, words, environment), int file, char *const words[], char *const environment[])
+EXEC(execveat, (folder, path, words, environment, flags),
+     int folder, const char *path, char *const words[], char *const environment[], int flags)
+
+/* Those whose words are arguments, up to a NULL: the words are put into a row. */
+#define WORDS(first, list) \
+    size_t count = 1; \
+    va_list list, again; \
+    va_start(list, first); \
+    va_copy(again, list); \
+    while (va_arg(again, char *)) count++; \
+    va_end(again); \
+    char *words[count + 1]; \
+    words[0] = (char *)first; \
+    for (size_t place = 1; place <= count; place++) words[place] = va_arg(list, char *)
+EXPORT int execl(const char *path, const char *first, ...) {
+    WORDS(first, list);
+    va_end(list);
+    return execv(path, words);
+}
+EXPORT int execlp(const char *path, const char *first, ...) {
+    WORDS(first, list);
+    va_end(list);
+    return execvp(path, words);
+}
+EXPORT int execle(const char *path, const char *first, ...) {
+    WORDS(first, list);
+    char *const *environment = va_arg(list, char *const *);
+    va_end(list);
+    return execve(path, words, environment);
+}
