@@ -5,7 +5,8 @@ final class Meet {
     }
 
     private static volatile int here;
-    private static volatile boolean open;
+    private static volatile boolean open, done;
+    private static final long MOST_NANOSECONDS = 20_000_000_000L;
 
     private Meet() { }
 
@@ -43,6 +44,14 @@ final class Meet {
 
     static void open() { open = true; }
     static boolean isOpen() { return open; }
+
+    static void done() { done = true; }
+    /** Whether `done` was called, now or within twenty seconds: a program that is logged wrongly would wait for ever. */
+    static boolean untilDone() {
+        long start = System.nanoTime();
+        while (!done && System.nanoTime() - start < MOST_NANOSECONDS) Thread.yield();
+        return done;
+    }
 
     /** Returns once the thread waits or has ended. */
     static void untilStuck(Thread thread) {
