@@ -6,9 +6,9 @@ public class Ends {
     static final CountDownLatch spinning = new CountDownLatch(1);
 
     static void spin() {
+        spinning.countDown();
         for (;;) {
             count++;
-            spinning.countDown();
             Thread.yield();
         }
     }
