@@ -32,14 +32,16 @@ public class Handles {
             setState(0);
             return true;
         }
-        void add() {
+        /** It tries to acquire several times, so that it is no atomic block; what it guards is one. */
+        void enter() {
             acquire(1);
             try {
-                guarded++;
+                add();
             } finally {
                 release(1);
             }
         }
+        void add() { guarded++; }
         boolean isHeld() { return getState() == 1; }
     }
     static class Counting extends HashMap<String, Integer> {
@@ -96,7 +98,7 @@ public class Handles {
                     it.store();
                     it.load();
                     it.plain();
-                    it.mutex.add();
+                    it.mutex.enter();
                     it.putGuarded("k" + one);
                 }
             }

@@ -53,12 +53,8 @@ final class Meet {
         return done;
     }
 
-    /** Returns once the thread waits or has ended. */
-    static void untilStuck(Thread thread) {
-        for (;;) {
-            Thread.State state = thread.getState();
-            if (state != Thread.State.NEW && state != Thread.State.RUNNABLE) return;
-            Thread.yield();
-        }
+    /** Returns once the thread is stuck so. */
+    static void untilStuck(Thread thread, Thread.State how) {
+        while (thread.getState() != how && thread.getState() != Thread.State.TERMINATED) Thread.yield();
     }
 }
