@@ -5,7 +5,8 @@ final class Meet {
     }
 
     private static volatile int here;
-    private static volatile boolean open, done;
+    private static volatile boolean open;
+    private static volatile int turn, answered;
     private static final long MOST_NANOSECONDS = 20_000_000_000L;
 
     private Meet() { }
@@ -45,12 +46,19 @@ final class Meet {
     static void open() { open = true; }
     static boolean isOpen() { return open; }
 
-    static void done() { done = true; }
-    /** Whether `done` was called, now or within twenty seconds: a program that is logged wrongly would wait for ever. */
-    static boolean untilDone() {
+    static void done() { answered = 1; }
+    static boolean untilDone() { return isAnswered(1); }
+
+    static void turn(int number) { turn = number; }
+    static void untilTurn(int number) {
+        while (turn < number) Thread.yield();
+    }
+    static void answer(int number) { answered = number; }
+    /** Whether the turn is answered, now or within twenty seconds: a program that is logged wrongly would wait for ever. */
+    static boolean isAnswered(int number) {
         long start = System.nanoTime();
-        while (!done && System.nanoTime() - start < MOST_NANOSECONDS) Thread.yield();
-        return done;
+        while (answered < number && System.nanoTime() - start < MOST_NANOSECONDS) Thread.yield();
+        return answered >= number;
     }
 
     /** Returns once the thread is stuck so. */
