@@ -129,6 +129,18 @@ public class Rules {
         }
     }
 
+    static class Own extends ReentrantLock {
+        void enter() { super.lock(); } //: acq(ReentrantLock$NonfairSync@)
+        @Override public void lock() { super.lock(); } //: acq(ReentrantLock$NonfairSync@)
+        void leave() { unlock(); } //: rel(ReentrantLock$NonfairSync@)
+    }
+    static class Words extends ArrayList<String> {
+        void addTwice(String word) {
+            add(word); //: w(Rules$Words@)
+            super.add(word); //: w(Rules$Words@)
+        }
+    }
+
     static void locks() throws InterruptedException {
         ReentrantLock lock = new ReentrantLock();
         lock.lock(); //: acq(ReentrantLock$NonfairSync@)
@@ -142,6 +154,11 @@ public class Rules {
             lock.unlock(); //: rel(ReentrantLock$NonfairSync@)
         }
         lock.unlock(); //: rel(ReentrantLock$NonfairSync@)
+        Own own = new Own();
+        own.enter();
+        own.lock();
+        own.leave();
+        own.leave();
         ReentrantReadWriteLock both = new ReentrantReadWriteLock();
         both.readLock().lock(); //: r(rw.ReentrantReadWriteLock$NonfairSync@)
         if (both.writeLock().tryLock()) return;
@@ -272,6 +289,7 @@ public class Rules {
         list.remove(map); //: w(ArrayList@)
         list.isEmpty(); //: r(ArrayList@)
         new CopyOnWriteArrayList<>(list).contains(map); //: r(CopyOnWriteArrayList@)
+        new Words().addTwice("word");
         Queue<Object> queue = new ArrayDeque<>();
         queue.add(map); //: w(ArrayDeque@)
         queue.remove(); //: w(ArrayDeque@)

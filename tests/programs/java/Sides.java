@@ -5,6 +5,7 @@ import java.util.concurrent.CountDownLatch;
 import java.util.concurrent.ExecutorService;
 import java.util.concurrent.Executors;
 import java.util.concurrent.Future;
+import java.util.concurrent.PriorityBlockingQueue;
 import java.util.concurrent.Semaphore;
 import java.util.concurrent.SynchronousQueue;
 import java.util.concurrent.atomic.AtomicInteger;
@@ -101,13 +102,17 @@ public class Sides {
         });
     }
 
-    static class Key {
+    static class Key implements Comparable<Key> {
         final int number;
 
         Key(int number) { this.number = number; }
         @Override public int hashCode() {
             within = number;
             return 5;
+        }
+        @Override public int compareTo(Key other) {
+            within = number;
+            return 1;
         }
     }
 
@@ -119,12 +124,15 @@ public class Sides {
         ConcurrentHashMap<Key, Integer> many = new ConcurrentHashMap<>();
         many.put(new Key(3), 1);
         many.get(new Key(4));
-        new AtomicInteger().updateAndGet(value -> within = 5);
+        PriorityBlockingQueue<Key> queue = new PriorityBlockingQueue<>();
+        queue.add(new Key(5));
+        queue.add(new Key(6));
+        new AtomicInteger().updateAndGet(value -> within = 7);
     }
 
     static void tasks() throws Exception {
         ExecutorService pool = Executors.newSingleThreadExecutor();
-        Future<Integer> future = pool.submit(() -> within = 6);
+        Future<Integer> future = pool.submit(() -> within = 8);
         future.get();
         pool.shutdown();
     }

@@ -1,6 +1,5 @@
 package aerodrome.weave;
 
-import static org.objectweb.asm.Opcodes.INVOKEINTERFACE;
 import static org.objectweb.asm.Opcodes.INVOKESPECIAL;
 import static org.objectweb.asm.Opcodes.INVOKESTATIC;
 import static org.objectweb.asm.Opcodes.INVOKEVIRTUAL;
@@ -23,6 +22,8 @@ import java.util.Map;
 /** What becomes what, as the file `table` has it. */
 public final class Table {
     private static final String ANY = "*";
+    /** The only class whose static methods are logged. */
+    private static final String STATIC_OWNER = "java/util/concurrent/locks/LockSupport";
 
     /** Methods of one kind. */
     private static final class Row {
@@ -101,20 +102,17 @@ public final class Table {
 
     /** How a call is logged, as Kind.code has it; 0 if it isn't. */
     int code(int opcode, String owner, String name, String descriptor) {
-        Row row = row(owner, name, descriptor);
-        boolean isOwn = row == null && opcode != INVOKESTATIC && opcode != INVOKEINTERFACE && !name.equals("<init>");
-        if (isOwn) row = inherited(owner, name, descriptor);
-        boolean isCalled = opcode == INVOKEVIRTUAL || opcode == INVOKEINTERFACE || isOwn
-                || opcode == INVOKESPECIAL && row != null && row.kind.isCollection()
-                || opcode == INVOKESTATIC && owner.equals("java/util/concurrent/locks/LockSupport");
-        return row == null || !isCalled || row.kind.isContents() && !Options.collections ? 0 : row.code;
+        if (opcode == INVOKESTATIC && !owner.equals(STATIC_OWNER)) return 0;
+        Row row = opcode == INVOKESPECIAL ? null : row(owner, name, descriptor);
+        if (row == null && (opcode == INVOKEVIRTUAL || opcode == INVOKESPECIAL)) row = inherited(opcode, owner, name, descriptor);
+        return row == null || row.kind.isContents() && !Options.collections ? 0 : row.code;
     }
 
-    /** The row of a method that the class may have from one of the JDK: what it extends says so, or the method's name does. */
-    private Row inherited(String owner, String name, String descriptor) {
+    /** The row of a method that the class may have from one of the JDK: the method's name says so, or what the class extends. */
+    private Row inherited(int opcode, String owner, String name, String descriptor) {
         Row row = row(ANY, name, descriptor);
-        if (row != null || !Options.covers(owner)) return row;
-        String base = Fields.base(owner);
+        if (row != null) return row;
+        String base = Options.covers(owner) ? Fields.base(owner) : opcode == INVOKESPECIAL ? owner : null;
         row = base == null ? null : row(base, name, descriptor);
         return row != null && row.kind.isCollection() ? row : null;
     }
