@@ -66,8 +66,8 @@ public class Helps {
         sum += cell.get() + rendezvous.take().get() + exchanger.exchange(new Cell()).get();
         phaser.arriveAndAwaitAdvance();
         sum += cells[7].get();
-        do LockSupport.park();
-        while (!Meet.isOpen());
+        // (where the permit went to one of the waits above, it is open already)
+        while (!Meet.isOpen()) LockSupport.park();
         return sum + cells[8].get();
     }
 
