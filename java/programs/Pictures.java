@@ -6,8 +6,8 @@ import org.apache.batik.transcoder.image.PNGTranscoder;
 
 /** Threads that draw a picture by Batik: Pictures THREADS ROUNDS. Says how many bytes were made. */
 public class Pictures {
-    private static final String PICTURE = "<svg xmlns='http://www.w3.org/2000/svg' width='20' height='20'><defs><linearGradient id='g'>"
-            + "<stop offset='0' stop-color='red'/><stop offset='1' stop-color='blue'/></linearGradient></defs>"
+    private static final String PICTURE = "<svg xmlns='http://www.w3.org/2000/svg' width='20' height='20'><defs>"
+            + "<linearGradient id='g'><stop offset='0' stop-color='red'/><stop offset='1' stop-color='blue'/></linearGradient></defs>"
             + "<style>rect{fill:url(#g)}</style><rect x='2' y='2' width='16' height='16' rx='3'/>"
             + "<circle cx='10' cy='10' r='4' fill='green' opacity='.5'/></svg>";
 

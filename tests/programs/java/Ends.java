@@ -1,6 +1,6 @@
 import java.util.concurrent.CountDownLatch;
 
-/** The ways in which a program ends, by its argument. A daemon is within a block meanwhile, and a hook of the program's own runs last. */
+/** The ways in which a program ends, by its argument. A daemon is within a block meanwhile, and a hook of the program's runs last. */
 public class Ends {
     static volatile int count, last;
     static final CountDownLatch spinning = new CountDownLatch(1);

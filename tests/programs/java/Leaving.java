@@ -50,8 +50,9 @@ public class Leaving {
     static void all() {
         Leaving it = new Leaving(true);
         Runnable[] all = {
-            () -> it.fail(5), Leaving::failStatic, Leaving::writeNull, Leaving::readNull, () -> element(null), () -> element(new int[0]),
-            () -> store(new Integer[1]), it::returnThenWrite, () -> new Leaving(7), () -> it.endless(0), () -> new int[1].equals(it.factorial(10))
+            () -> it.fail(5), Leaving::failStatic, Leaving::writeNull, Leaving::readNull, () -> element(null),
+            () -> element(new int[0]), () -> store(new Integer[1]), it::returnThenWrite, () -> new Leaving(7),
+            () -> it.endless(0), () -> it.factorial(10)
         };
         for (Runnable one : all)
             try {

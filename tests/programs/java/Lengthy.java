@@ -1,4 +1,4 @@
-/** The case puts many accesses in the place of LINES: the method is too long once they are logged. Then it loads a class of its own. */
+/** The case puts many accesses in the place of LINES: the method is too long once they are logged. It makes the class Full too. */
 public class Lengthy {
     static int count;
     int own;

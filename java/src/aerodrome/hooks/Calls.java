@@ -60,6 +60,7 @@ public final class Calls {
     }
     private static boolean isConcurrent(Object receiver, Kind kind) {
         if (kind.ofKeys()) return receiver instanceof ConcurrentMap;
-        return receiver instanceof BlockingQueue || receiver instanceof ConcurrentLinkedQueue || receiver instanceof ConcurrentLinkedDeque;
+        return receiver instanceof BlockingQueue || receiver instanceof ConcurrentLinkedQueue
+                || receiver instanceof ConcurrentLinkedDeque;
     }
 }

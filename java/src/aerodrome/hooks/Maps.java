@@ -12,7 +12,9 @@ import aerodrome.names.Text;
  * the whole map conflict.
  */
 final class Maps {
-    private static final byte[] HASHED = Text.bytes(".key"), SAME = Text.bytes(".key@"), ALL = Text.bytes(".all"), CLEAR = Text.bytes(".clear");
+    private static final byte[] HASHED = Text.bytes(".key"), SAME = Text.bytes(".key@");
+    private static final byte[] ALL = Text.bytes(".all"), CLEAR = Text.bytes(".clear");
+    private static final String KNOWN = "java.lang.(String|Integer|Long|Short|Byte|Character)";
 
     private Maps() { }
 
@@ -20,7 +22,7 @@ final class Maps {
     private enum Telling { BY_HASH, BY_IDENTITY, NOT }
     private static final ClassValue<Telling> TELLING = new ClassValue<Telling>() {
         @Override protected Telling computeValue(Class<?> of) {
-            if (of.getClassLoader() == null && of.getName().matches("java.lang.(String|Integer|Long|Short|Byte|Character)")) return Telling.BY_HASH;
+            if (of.getClassLoader() == null && of.getName().matches(KNOWN)) return Telling.BY_HASH;
             try {
                 Class<?> by = of.getMethod("hashCode").getDeclaringClass();
                 return by == Object.class || by == Enum.class ? Telling.BY_IDENTITY : Telling.NOT;
@@ -31,19 +33,29 @@ final class Maps {
     };
 
     static void write(LoggedThread me, Kind kind, Object map, Object key, int site) {
-        variable(me, kind == Kind.WHOLE_WRITE ? Events.WRITE : Events.READ, map, CLEAR, -1, site);
+        close(begin(me, kind == Kind.WHOLE_WRITE ? Events.WRITE : Events.READ, map, CLEAR), -1, site);
         if (kind == Kind.WHOLE_READ)
-            for (int one = 0; one < LoggedThread.groups(); one++) variable(me, Events.READ, map, ALL, one, site);
-        if (kind != Kind.KEY_READ && kind != Kind.KEY_WRITE) return;
-        Telling telling = key == null ? Telling.NOT : TELLING.get(key.getClass());
-        long number = telling == Telling.BY_HASH ? key.hashCode() & 0xffffffffL : telling == Telling.BY_IDENTITY ? Numbers.of(key) : -1;
-        byte[] name = telling == Telling.BY_IDENTITY ? SAME : HASHED;
-        variable(me, kind == Kind.KEY_READ ? Events.READ : Events.WRITE, map, name, number, site);
-        if (kind == Kind.KEY_WRITE) variable(me, Events.WRITE, map, ALL, me.group(), site);
+            for (int one = 0; one < LoggedThread.groups(); one++) close(begin(me, Events.READ, map, ALL), one, site);
+        if (kind == Kind.KEY_READ) key(me, Events.READ, map, key, site);
+        if (kind != Kind.KEY_WRITE) return;
+        key(me, Events.WRITE, map, key, site);
+        close(begin(me, Events.WRITE, map, ALL), me.group(), site);
     }
 
-    private static void variable(LoggedThread me, byte[] operation, Object map, byte[] part, long number, int site) {
-        Line line = Events.putObject(me.line.begin().put(operation), map).put(part);
+    private static void key(LoggedThread me, byte[] operation, Object map, Object key, int site) {
+        Telling telling = key == null ? Telling.NOT : TELLING.get(key.getClass());
+        long number = -1;
+        if (telling == Telling.BY_HASH) number = key.hashCode() & 0xffffffffL;
+        else if (telling == Telling.BY_IDENTITY) number = Numbers.of(key);
+        close(begin(me, operation, map, telling == Telling.BY_IDENTITY ? SAME : HASHED), number, site);
+    }
+
+    // ---- a line on a part of the map, which has a number behind it unless that is below 0
+
+    private static Line begin(LoggedThread me, byte[] operation, Object map, byte[] part) {
+        return Events.putObject(me.line.begin().put(operation), map).put(part);
+    }
+    private static void close(Line line, long number, int site) {
         if (number >= 0) line.put(number);
         Events.end(line, site);
         Log.write(line);

@@ -16,12 +16,14 @@ final class Offsets {
         @Override protected Map<Long, FieldName> computeValue(Class<?> of) {
             Map<Long, FieldName> fields = new HashMap<>();
             try {
-                Field unsafe = Unsafe.class.getDeclaredField("theUnsafe");
-                unsafe.setAccessible(true);
+                Field known = Unsafe.class.getDeclaredField("theUnsafe");
+                known.setAccessible(true);
+                Unsafe unsafe = (Unsafe) known.get(null);
                 for (Class<?> one = of; one != null; one = one.getSuperclass())
-                    for (Field field : one.getDeclaredFields())
-                        if (!Modifier.isStatic(field.getModifiers()))
-                            fields.put(((Unsafe) unsafe.get(null)).objectFieldOffset(field), new FieldName(one, field.getName(), false));
+                    for (Field field : one.getDeclaredFields()) {
+                        if (Modifier.isStatic(field.getModifiers())) continue;
+                        fields.put(unsafe.objectFieldOffset(field), new FieldName(one, field.getName(), false));
+                    }
             } catch (Throwable unknown) {
                 // An offset is the name then.
             }

@@ -28,6 +28,7 @@ final class JdkHook {
     }
 
     boolean isAt(String owner, String method, String descriptor) {
-        return this.owner.equals(owner) && this.method.equals(method) && (this.descriptor.isEmpty() || this.descriptor.equals(descriptor));
+        return this.owner.equals(owner) && this.method.equals(method)
+                && (this.descriptor.isEmpty() || this.descriptor.equals(descriptor));
     }
 }

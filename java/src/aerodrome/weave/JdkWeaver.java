@@ -34,7 +34,8 @@ public final class JdkWeaver implements ClassFileTransformer {
 
     public void sayWhatIsMissing() {
         for (JdkHook one : hooks)
-            if (!one.isFound) Log.say("this JDK has no " + one.owner.replace('/', '.') + "." + one.method + ": what it does isn't logged");
+            if (!one.isFound)
+                Log.say("this JDK has no " + one.owner.replace('/', '.') + "." + one.method + ": what it does isn't logged");
     }
 
     @Override
@@ -83,9 +84,10 @@ public final class JdkWeaver implements ClassFileTransformer {
         private void call(JdkHook.Where where) {
             for (JdkHook one : hooks) {
                 if (one.where != where) continue;
-                if (!one.given.isEmpty()) mv.visitVarInsn(ALOAD, one.given.equals("first") && (methodAccess & ACC_STATIC) == 0 ? 1 : 0);
+                if (!one.given.isEmpty()) mv.visitVarInsn(ALOAD, one.given.equals("first") ? 1 : 0);
                 String type = one.hookOwner.endsWith("Threads") ? "Ljava/lang/Thread;" : "Ljava/lang/Object;";
-                mv.visitMethodInsn(INVOKESTATIC, one.hookOwner, one.hookName, one.given.isEmpty() ? "()V" : "(" + type + ")V", false);
+                String descriptor = one.given.isEmpty() ? "()V" : "(" + type + ")V";
+                mv.visitMethodInsn(INVOKESTATIC, one.hookOwner, one.hookName, descriptor, false);
             }
         }
 

@@ -12,7 +12,8 @@ final class Naming {
     /** Whether such a method makes one. */
     static boolean isMade(String owner, String method) {
         if (owner.startsWith("java/util/concurrent/atomic/")) return method.equals("newUpdater");
-        return owner.equals("java/lang/invoke/MethodHandles$Lookup") && (method.equals("findVarHandle") || method.equals("findStaticVarHandle"));
+        boolean finds = method.equals("findVarHandle") || method.equals("findStaticVarHandle");
+        return finds && owner.equals("java/lang/invoke/MethodHandles$Lookup");
     }
 
     /** The class is the first argument of each, and the name is the string. */

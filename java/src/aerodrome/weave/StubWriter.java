@@ -88,16 +88,16 @@ final class StubWriter {
 
     private void before() {
         code.visitLdcInsn(stub.form >= 0 ? stub.form : stub.code);
-        if (stub.isStatic()) code.visitMethodInsn(INVOKESTATIC, "java/lang/Thread", "currentThread", "()Ljava/lang/Thread;", false);
-        else code.visitVarInsn(ALOAD, 0);
+        if (!stub.isStatic()) code.visitVarInsn(ALOAD, 0);
+        else code.visitMethodInsn(INVOKESTATIC, "java/lang/Thread", "currentThread", "()Ljava/lang/Thread;", false);
         boolean hasObject = arguments.length > 0 && arguments[0].getSort() >= Type.ARRAY;
         if (hasObject) code.visitVarInsn(ALOAD, stub.firstArgument());
         else code.visitInsn(ACONST_NULL);
         if (stub.form >= 0) handleIndex();
         else index(hasObject);
         code.visitVarInsn(ILOAD, stub.site());
-        if (stub.form >= 0) code.visitMethodInsn(INVOKESTATIC, HANDLES, "before", "(I" + HANDLE + OBJECT + "II)L" + CALL + ";", false);
-        else code.visitMethodInsn(INVOKESTATIC, CALLS, "before", "(I" + OBJECT + OBJECT + "JI)L" + CALL + ";", false);
+        String given = stub.form >= 0 ? HANDLE + OBJECT + "I" : OBJECT + OBJECT + "J";
+        code.visitMethodInsn(INVOKESTATIC, stub.form >= 0 ? HANDLES : CALLS, "before", "(I" + given + "I)L" + CALL + ";", false);
         code.visitVarInsn(ASTORE, call);
     }
     /** The first argument if it is an int, the second if it is a long behind an object, else -1. */
@@ -105,7 +105,8 @@ final class StubWriter {
         if (arguments.length > 0 && arguments[0] == Type.INT_TYPE) {
             code.visitVarInsn(ILOAD, stub.firstArgument());
             code.visitInsn(I2L);
-        } else if (hasObject && arguments.length > 1 && arguments[1] == Type.LONG_TYPE) code.visitVarInsn(LLOAD, stub.firstArgument() + 1);
+        } else if (hasObject && arguments.length > 1 && arguments[1] == Type.LONG_TYPE)
+            code.visitVarInsn(LLOAD, stub.firstArgument() + 1);
         else code.visitLdcInsn(-1L);
     }
     private void handleIndex() {

@@ -77,7 +77,8 @@ public final class Weaver implements ClassFileTransformer {
     private static Map<String, Integer> firstLines(ClassReader reader) {
         Map<String, Integer> lines = new HashMap<>();
         reader.accept(new ClassVisitor(ASM9) {
-            @Override public MethodVisitor visitMethod(int access, String name, String descriptor, String signature, String[] thrown) {
+            @Override
+            public MethodVisitor visitMethod(int access, String name, String descriptor, String signature, String[] thrown) {
                 return new MethodVisitor(ASM9) {
                     @Override public void visitLineNumber(int line, Label at) { lines.putIfAbsent(name + descriptor, line); }
                 };

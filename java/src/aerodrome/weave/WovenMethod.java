@@ -13,7 +13,8 @@ import org.objectweb.asm.commons.AdviceAdapter;
 
 /** A method as it is instrumented. What leaves the stack as it was goes to `mv`, past the adapter. */
 final class WovenMethod extends AdviceAdapter {
-    private static final String ACCESSES = "aerodrome/hooks/Accesses", BLOCKS = "aerodrome/hooks/Blocks", OBJECT = "Ljava/lang/Object;";
+    private static final String ACCESSES = "aerodrome/hooks/Accesses", BLOCKS = "aerodrome/hooks/Blocks";
+    private static final String OBJECT = "Ljava/lang/Object;";
 
     private final WovenClass of;
     private final String label;
@@ -41,7 +42,9 @@ final class WovenMethod extends AdviceAdapter {
         super.visitLineNumber(line, at);
     }
 
-    private void call(String owner, String hook, String descriptor) { mv.visitMethodInsn(INVOKESTATIC, owner, hook, descriptor, false); }
+    private void call(String owner, String hook, String descriptor) {
+        mv.visitMethodInsn(INVOKESTATIC, owner, hook, descriptor, false);
+    }
     private void pushSite() { mv.visitLdcInsn(of.site(line)); }
 
     // ---- entry and exit
