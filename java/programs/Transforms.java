@@ -5,7 +5,7 @@ import javax.xml.transform.TransformerFactory;
 import javax.xml.transform.stream.StreamResult;
 import javax.xml.transform.stream.StreamSource;
 
-/** One stylesheet of Xalan's, by which threads transform: Transforms THREADS ROUNDS. Says a sum of all that was made. */
+/** One stylesheet of Xalan's, by which threads transform: Transforms THREADS ROUNDS. Says how many rows were made. */
 public class Transforms {
     private static final String STYLESHEET = "<xsl:stylesheet version='1.0' xmlns:xsl='http://www.w3.org/1999/XSL/Transform'>"
             + "<xsl:key name='by' match='row' use='@id'/><xsl:template match='/'><out><xsl:for-each select='//row'>"
@@ -21,16 +21,16 @@ public class Transforms {
         String document = rows.append("</t>").toString();
         TransformerFactory factory = TransformerFactory.newInstance("org.apache.xalan.processor.TransformerFactoryImpl", null);
         Templates templates = factory.newTemplates(new StreamSource(new StringReader(STYLESHEET)));
-        long[] sums = new long[Integer.parseInt(words[0])];
-        Threads.run(sums.length, me -> {
+        int[] made = new int[Integer.parseInt(words[0])];
+        Threads.run(made.length, me -> {
             for (int round = 0; round < rounds; round++) {
-                StringWriter made = new StringWriter();
-                templates.newTransformer().transform(new StreamSource(new StringReader(document)), new StreamResult(made));
-                sums[me] += made.toString().hashCode();
+                StringWriter text = new StringWriter();
+                templates.newTransformer().transform(new StreamSource(new StringReader(document)), new StreamResult(text));
+                made[me] += text.toString().split("<r n=").length - 1;
             }
         });
-        long sum = 0;
-        for (long one : sums) sum += one;
-        System.out.println("sum " + sum);
+        int sum = 0;
+        for (int one : made) sum += one;
+        System.out.println("rows " + sum);
     }
 }

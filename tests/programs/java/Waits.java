@@ -38,8 +38,12 @@ public class Waits {
             queue.wait(1);
             queue.wait(0, 5);
         }
-        // A join gives back the monitor of the thread that it waits for.
-        Thread last = new Thread(() -> add(1));
+        // A join gives back the monitor of the thread that it waits for, which that takes.
+        Thread last = new Thread(() -> {
+            synchronized (Thread.currentThread()) {
+                add(1);
+            }
+        });
         synchronized (last) {
             last.start();
             last.join();
