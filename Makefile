@@ -9,7 +9,7 @@ SOURCES := HANDLES crates.txt $(shell find $(wildcard $(CRATES:=/src) $(CRATES:=
 LIBRARY := $(shell find $(wildcard crates/aero_c/src crates/aero_c/specs crates/aero_c/proofs) -type f)
 
 LOGGER := $(wildcard logger/*)
-JAVA := java/build $(shell find java/src -type f)
+JAVA := java/build $(wildcard java/src/aerodrome/table java/src/aerodrome/*.java java/src/aerodrome/*/*.java)
 
 .PHONY: all library logger java test install clean
 
