@@ -6,7 +6,7 @@ import java.util.concurrent.atomic.AtomicIntegerArray;
 import java.util.concurrent.atomic.AtomicIntegerFieldUpdater;
 
 /**
- * Four threads that race by fields, elements, atomics, handles and updaters, and write values that are written once each. At the end
+ * Eight threads that race by fields, elements, atomics, handles and updaters, and write values that are written once each. At the end
  * it prints what each thread did: the kind of variable, r or w, and the value.
  */
 public class Order {
@@ -19,7 +19,7 @@ public class Order {
             throw new AssertionError(wrong);
         }
     }
-    static final int KINDS = 9, THREADS = 4;
+    static final int THREADS = 8;
 
     static int shared;
     int plain, handled;
@@ -56,7 +56,7 @@ public class Order {
         }
     }
 
-    /** With the one kind that is given, or all. */
+    /** Order STEPS KINDS: each thread makes so many accesses of variables of these kinds, which are digits. */
     public static void main(String[] words) throws Exception {
         int steps = Integer.parseInt(words[0]);
         Order it = new Order();
@@ -66,7 +66,7 @@ public class Order {
             StringBuilder mine = did[me] = new StringBuilder();
             Meet.all(THREADS);
             for (int step = 0; step < steps; step++) {
-                int kind = words.length > 1 ? Integer.parseInt(words[1]) : random.nextInt(KINDS);
+                int kind = words[1].charAt(random.nextInt(words[1].length())) - '0';
                 int value = step * THREADS + me + 1;
                 boolean writes = random.nextBoolean();
                 if (writes) it.write(kind, value);
