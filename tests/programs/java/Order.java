@@ -1,6 +1,5 @@
 import java.lang.invoke.MethodHandles;
 import java.lang.invoke.VarHandle;
-import java.util.Random;
 import java.util.concurrent.atomic.AtomicInteger;
 import java.util.concurrent.atomic.AtomicIntegerArray;
 import java.util.concurrent.atomic.AtomicIntegerFieldUpdater;
@@ -59,21 +58,24 @@ public class Order {
     /** Order STEPS KINDS: each thread makes so many accesses of variables of these kinds, which are digits. */
     public static void main(String[] words) throws Exception {
         int steps = Integer.parseInt(words[0]);
+        int[] kinds = words[1].chars().map(one -> one - '0').toArray();
         Order it = new Order();
-        StringBuilder[] did = new StringBuilder[THREADS];
+        Record[] did = new Record[THREADS];
         Meet.run(THREADS, me -> {
-            Random random = new Random(me);
-            StringBuilder mine = did[me] = new StringBuilder();
+            Record mine = did[me] = new Record(steps, me);
             Meet.all(THREADS);
             for (int step = 0; step < steps; step++) {
-                int kind = words[1].charAt(random.nextInt(words[1].length())) - '0';
+                int kind = mine.pick(kinds);
                 int value = step * THREADS + me + 1;
-                boolean writes = random.nextBoolean();
-                if (writes) it.write(kind, value);
+                boolean isWrite = mine.next(2) == 0;
+                if (isWrite) it.write(kind, value);
                 else value = it.read(kind);
-                mine.append(kind).append(writes ? " w " : " r ").append(value).append('\n');
+                mine.add(kind, isWrite, value);
             }
         });
-        for (int me = 0; me < THREADS; me++) System.out.print("T" + (me + 2) + "\n" + did[me]);
+        for (int me = 0; me < THREADS; me++) {
+            System.out.println("T" + (me + 2));
+            did[me].print();
+        }
     }
 }
