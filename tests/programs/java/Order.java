@@ -5,7 +5,7 @@ import java.util.concurrent.atomic.AtomicIntegerArray;
 import java.util.concurrent.atomic.AtomicIntegerFieldUpdater;
 
 /**
- * Eight threads that race by fields, elements, atomics, handles and updaters, and write values that are written once each. At the end
+ * Threads that race by fields, elements, atomics, handles and updaters, and write values that are written once each. At the end
  * it prints what each thread did: the kind of variable, r or w, and the value.
  */
 public class Order {
@@ -18,7 +18,7 @@ public class Order {
             throw new AssertionError(wrong);
         }
     }
-    static final int THREADS = 8;
+    static final int THREADS = 32;
 
     static int shared;
     int plain, handled;
