@@ -269,6 +269,22 @@ public class Rules {
         queue.poll();
     }
 
+    interface Looking {
+        default Object look(Map<Object, Object> map) {
+            return map.get("a"); //: r(HashMap@)
+        }
+    }
+    /** A call before the constructor of the class above. */
+    static class Fed extends Below implements Looking {
+        Fed(Map<Object, Object> map) {
+            this(map.get("a")); //: r(HashMap@)
+        }
+        Fed(Object found) {
+            super();
+            own = found.hashCode(); //: w(Rules$Below.own@)
+        }
+    }
+
     static void maps() {
         ConcurrentMap<Object, Object> map = new ConcurrentHashMap<>();
         map.put("a", 1); //: r(ConcurrentHashMap@.clear) w(ConcurrentHashMap@.key#) w(ConcurrentHashMap@.all#)
@@ -284,6 +300,7 @@ public class Rules {
         plain.put("a", 1); //: w(HashMap@)
         plain.get("a"); //: r(HashMap@)
         plain.keySet(); //: r(HashMap@)
+        new Fed(plain).look(plain);
         List<Object> list = new ArrayList<>();
         list.add(map); //: w(ArrayList@)
         list.remove(map); //: w(ArrayList@)
