@@ -13,12 +13,14 @@ import java.util.Set;
  * belongs to the one before. Where the string doesn't set an option the environment may: AERODROME_LOG and so on.
  */
 public final class Options {
+    /** What is one variable of an array. */
     public enum Grain { EACH, WHOLE, OFF }
 
     public static String log;
+    /** How many bytes are written; 0 is any number, and below 0 as many as fit where the log goes. */
     public static long limit = -1;
     public static Grain arrays = Grain.EACH;
-    /** What an option leaves out is logged by default, or isn't. */
+    /** Whether final fields are logged, objects of one thread, calls of collections, and places in the source. */
     public static boolean finals, local = true, collections = true, places = true;
     private static String blocks = "-main,run,call,<init>,<clinit>";
     private static String only = "", skip = "";

@@ -24,13 +24,13 @@ final class Naming {
             if (one.getDescriptor().equals("Ljava/lang/String;")) name = at;
             at += one.getSize();
         }
-        code.visitMethodInsn(stub.opcode, stub.owner, stub.method, stub.called, stub.isInterface);
+        stub.call.write(code);
         code.visitVarInsn(ALOAD, stub.firstArgument());
         code.visitVarInsn(ALOAD, name);
-        code.visitInsn(stub.method.equals("findStaticVarHandle") ? ICONST_1 : ICONST_0);
+        code.visitInsn(stub.call.name.equals("findStaticVarHandle") ? ICONST_1 : ICONST_0);
         code.visitMethodInsn(INVOKESTATIC, "aerodrome/hooks/Handles", "named",
                 "(Ljava/lang/Object;Ljava/lang/Class;Ljava/lang/String;Z)Ljava/lang/Object;", false);
-        code.visitTypeInsn(CHECKCAST, stub.result().getInternalName());
+        code.visitTypeInsn(CHECKCAST, stub.call.result().getInternalName());
         code.visitInsn(ARETURN);
     }
 }

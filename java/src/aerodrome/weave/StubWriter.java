@@ -29,13 +29,15 @@ final class StubWriter {
     private final Stub stub;
     private final boolean hasFrames;
     private final Type[] arguments;
+    private final Type gives;
     private final int call, result;
 
     StubWriter(MethodVisitor code, Stub stub, boolean hasFrames) {
         this.code = code;
         this.stub = stub;
         this.hasFrames = hasFrames;
-        arguments = stub.arguments();
+        arguments = stub.call.arguments();
+        gives = stub.call.result();
         call = stub.site() + 1;
         result = call + 1;
     }
@@ -47,11 +49,11 @@ final class StubWriter {
         before();
         code.visitLabel(start);
         invoke();
-        if (stub.result() != Type.VOID_TYPE) code.visitVarInsn(stub.result().getOpcode(ISTORE), result);
+        if (gives != Type.VOID_TYPE) code.visitVarInsn(gives.getOpcode(ISTORE), result);
         code.visitLabel(end);
         after();
-        if (stub.result() != Type.VOID_TYPE) code.visitVarInsn(stub.result().getOpcode(ILOAD), result);
-        code.visitInsn(stub.result().getOpcode(IRETURN));
+        if (gives != Type.VOID_TYPE) code.visitVarInsn(gives.getOpcode(ILOAD), result);
+        code.visitInsn(gives.getOpcode(IRETURN));
         code.visitLabel(handler);
         frame(true, true);
         code.visitVarInsn(ASTORE, result);
@@ -71,8 +73,8 @@ final class StubWriter {
         code.visitLabel(start);
         code.visitInsn(ACONST_NULL);
         loadArguments();
-        code.visitMethodInsn(stub.opcode, stub.owner, stub.method, stub.called, stub.isInterface);
-        if (stub.result() != Type.VOID_TYPE) code.visitInsn(stub.result().getSize() == 2 ? POP2 : POP);
+        stub.call.write(code);
+        if (gives != Type.VOID_TYPE) code.visitInsn(gives.getSize() == 2 ? POP2 : POP);
         code.visitLabel(end);
         code.visitJumpInsn(GOTO, made);
         code.visitLabel(handler);
@@ -88,7 +90,7 @@ final class StubWriter {
 
     private void before() {
         code.visitLdcInsn(stub.form >= 0 ? stub.form : stub.code);
-        if (!stub.isStatic()) code.visitVarInsn(ALOAD, 0);
+        if (!stub.call.isStatic()) code.visitVarInsn(ALOAD, 0);
         else code.visitMethodInsn(INVOKESTATIC, "java/lang/Thread", "currentThread", "()Ljava/lang/Thread;", false);
         boolean hasObject = arguments.length > 0 && arguments[0].getSort() >= Type.ARRAY;
         if (hasObject) code.visitVarInsn(ALOAD, stub.firstArgument());
@@ -115,9 +117,9 @@ final class StubWriter {
     }
 
     private void invoke() {
-        if (!stub.isStatic()) code.visitVarInsn(ALOAD, 0);
+        if (!stub.call.isStatic()) code.visitVarInsn(ALOAD, 0);
         loadArguments();
-        code.visitMethodInsn(stub.opcode, stub.owner, stub.method, stub.called, stub.isInterface);
+        stub.call.write(code);
     }
     private void loadArguments() {
         int at = stub.firstArgument();
@@ -129,7 +131,7 @@ final class StubWriter {
 
     private void after() {
         code.visitVarInsn(ALOAD, call);
-        boolean isObject = stub.result().getSort() >= Type.ARRAY, isTruth = stub.result() == Type.BOOLEAN_TYPE;
+        boolean isObject = gives.getSort() >= Type.ARRAY, isTruth = gives == Type.BOOLEAN_TYPE;
         if (isObject || isTruth) code.visitVarInsn(isObject ? ALOAD : ILOAD, result);
         String given = isObject ? OBJECT : isTruth ? "Z" : "";
         code.visitMethodInsn(INVOKESTATIC, CALLS, "after", "(L" + CALL + ";" + given + ")V", false);

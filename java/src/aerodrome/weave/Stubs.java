@@ -47,14 +47,13 @@ final class Stubs {
         if (owner.startsWith("[")) return null;
         int code = table.code(opcode, owner, name, descriptor);
         if (code == 0 && !Naming.isMade(owner, name)) return null;
-        String key = opcode + " " + owner + "." + name + descriptor;
-        Stub known = byCall.get(key);
+        Invocation call = new Invocation(opcode, owner, name, descriptor, isInterface);
+        Stub known = byCall.get(call.key());
         if (known != null) return known;
         boolean isHandle = code != 0 && owner.equals("java/lang/invoke/VarHandle");
         int form = isHandle ? Handles.form(code, name) : -1;
-        Stub.Call call = new Stub.Call(opcode, owner, name, descriptor, isInterface);
-        Stub made = call.stub(Hidden.PREFIX + all.size(), of.name, code, form);
-        byCall.put(key, made);
+        Stub made = new Stub(call, Hidden.PREFIX + all.size(), of.name, code, form);
+        byCall.put(call.key(), made);
         all.add(made);
         return made;
     }
@@ -95,7 +94,7 @@ final class Stubs {
         }
         code.visitLdcInsn(reference.site);
         code.visitMethodInsn(INVOKESTATIC, of.name, reference.stub.name, reference.stub.descriptor, of.isInterface);
-        code.visitInsn(reference.stub.result().getOpcode(IRETURN));
+        code.visitInsn(reference.stub.call.result().getOpcode(IRETURN));
         end(code);
     }
 }
