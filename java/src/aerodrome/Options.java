@@ -37,14 +37,15 @@ public final class Options {
         for (String option : KNOWN) {
             String name = "AERODROME_" + option.toUpperCase(Locale.ROOT);
             String value = environment.get(name);
-            if (value != null && !value.isEmpty() && !set(option, value)) return name + "=" + value + " isn't known";
+            String wrong = value == null || value.isEmpty() ? null : set(option, value);
+            if (wrong != null) return name + "=" + value + ": " + wrong;
         }
         for (String piece : pieces(string == null ? "" : string)) {
             int at = piece.indexOf('=');
-            if (at < 0 || !set(piece.substring(0, at), piece.substring(at + 1))) return piece + " isn't known";
+            String wrong = set(at < 0 ? piece : piece.substring(0, at), at < 0 ? "" : piece.substring(at + 1));
+            if (wrong != null) return piece + ": " + wrong;
         }
-        if (log == null) return "no log=PATH or log=|COMMAND is given";
-        return null;
+        return log == null ? "log=PATH or log=|COMMAND is wanted" : null;
     }
 
     private static List<String> pieces(String string) {
@@ -63,27 +64,40 @@ public final class Options {
         return at > 0 && (KNOWN.contains(piece.substring(0, at)) || piece.matches("[a-z]+=.*") && !before.startsWith("log=|"));
     }
 
-    /** Whether there are such an option and such a value. */
-    private static boolean set(String option, String value) {
+    /** Says what is wanted in the value's place, or null. */
+    private static String set(String option, String value) {
         switch (option) {
-            case "log": log = value.replace("%p", "" + ProcessHandle.current().pid()); return !value.isEmpty();
-            case "blocks": blocks = value; return !value.isEmpty();
-            case "only": only = value; return true;
-            case "skip": skip = value; return true;
+            case "log":
+                log = value.replace("%p", "" + ProcessHandle.current().pid());
+                return value.isEmpty() ? "a path or |COMMAND is wanted" : null;
+            case "blocks":
+                blocks = value;
+                return value.isEmpty() ? "all, none or names of methods are wanted" : null;
+            case "only": only = value; return null;
+            case "skip": skip = value; return null;
             case "limit":
-                boolean number = value.matches("[0-9]{1,18}");
-                if (number) limit = Long.parseLong(value);
-                return number;
+                limit = bytes(value);
+                return limit < 0 ? "a number of bytes, as 4096, 500K, 20M or 1G, is wanted" : null;
             case "arrays":
-                boolean known = value.matches("each|whole|off");
-                if (known) arrays = Grain.valueOf(value.toUpperCase(Locale.ROOT));
-                return known;
-            case "finals": finals = value.equals("log"); return value.matches("log|skip");
-            case "local": local = value.equals("log"); return value.matches("log|skip");
-            case "collections": collections = value.equals("log"); return value.matches("log|skip");
-            case "places": places = value.equals("1"); return value.matches("[01]");
-            default: return false;
+                if (!value.matches("each|whole|off")) return "each, whole or off is wanted";
+                arrays = Grain.valueOf(value.toUpperCase(Locale.ROOT));
+                return null;
+            case "finals": finals = value.equals("log"); return logOrSkip(value);
+            case "local": local = value.equals("log"); return logOrSkip(value);
+            case "collections": collections = value.equals("log"); return logOrSkip(value);
+            case "places": places = value.equals("1"); return value.matches("[01]") ? null : "0 or 1 is wanted";
+            default: return "no option is called " + option;
         }
+    }
+    private static String logOrSkip(String value) { return value.matches("log|skip") ? null : "log or skip is wanted"; }
+
+    /** A number of bytes, which may have a unit; below 0 where it is none. */
+    private static long bytes(String value) {
+        if (!value.matches("[0-9]{1,18}[KMG]?")) return -1;
+        int unit = " KMG".indexOf(value.charAt(value.length() - 1));
+        long number = Long.parseLong(unit < 0 ? value : value.substring(0, value.length() - 1));
+        long factor = unit < 0 ? 1 : 1L << 10 * unit;
+        return number > Long.MAX_VALUE / factor ? -1 : number * factor;
     }
 
     /** Whether the class, as a/b/C, is one of the program's that are logged. */
@@ -117,12 +131,12 @@ public final class Options {
         }
         return any;
     }
-    /** The names of blocks that no method had, so that they may be wrong. */
+    /** What is to be said at the end of names of blocks that no method had, as they may be wrong. */
     public static List<String> blocksNotMet() {
         List<String> left = new ArrayList<>();
         if (blocks.startsWith("-") || blocks.equals("all") || blocks.equals("none")) return left;
         synchronized (MET) {
-            for (String one : blocks.split(",")) if (!MET.contains(one)) left.add(one);
+            for (String one : blocks.split(",")) if (!MET.contains(one)) left.add("blocks=" + blocks + ": no method is called " + one);
         }
         return left;
     }

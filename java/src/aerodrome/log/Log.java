@@ -79,7 +79,7 @@ public final class Log {
         if (!on) return;
         if (limit > 0 && written + used + line.length > limit) {
             flush();
-            if (on) stop("the limit is reached");
+            if (on) stop("limit is reached");
             return;
         }
         if (used + line.length > BUFFER.length) flush();
@@ -107,7 +107,7 @@ public final class Log {
         finished = true;
         if (isFirst && on) {
             flush();
-            for (String name : Options.blocksNotMet()) say("blocks: no method " + name + " was loaded");
+            for (String one : Options.blocksNotMet()) say(one);
         }
         on = false;
         unlock();
