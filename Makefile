@@ -1,5 +1,6 @@
 # `make` proves what the program needs and builds bin/aerodrome; `make test` is the whole gate.
-# Both need the kit's command rt on the path. `make logger` builds what logs C and C++ programs, with gcc or clang alone.
+# Both need the kit's command rt on the path. `make logger` builds what logs C and C++ programs, with gcc or clang alone, and
+# `make java` what logs Java programs, with a JDK, ASM and jarjar (java/build says where Debian has them).
 # `make library` proves the library for C and builds it, which needs ar too.
 PREFIX ?= /usr/local
 # What the program is made of: no edit that must fail, no crate of tests, and not the library for C.
@@ -8,8 +9,9 @@ SOURCES := HANDLES crates.txt $(shell find $(wildcard $(CRATES:=/src) $(CRATES:=
 LIBRARY := $(shell find $(wildcard crates/aero_c/src crates/aero_c/specs crates/aero_c/proofs) -type f)
 
 LOGGER := $(wildcard logger/*)
+JAVA := java/build $(wildcard java/src/aerodrome/table java/src/aerodrome/*.java java/src/aerodrome/*/*.java)
 
-.PHONY: all library logger test install clean
+.PHONY: all library logger java test install clean
 
 all: bin/aerodrome
 
@@ -21,6 +23,12 @@ logger: lib/aerodrome/libaerodrome-log.a
 
 lib/aerodrome/libaerodrome-log.a: $(LOGGER)
 	@logger/build .
+
+# The agent for Java, into lib/aerodrome.
+java: lib/aerodrome/aerodrome-agent.jar
+
+lib/aerodrome/aerodrome-agent.jar: $(JAVA)
+	@java/build lib/aerodrome
 
 library: lib/aerodrome/libaerodrome.a
 
@@ -44,6 +52,9 @@ install: bin/aerodrome
 	@if [ -f lib/aerodrome/libaerodrome.a ]; then \
 	install -D -m 644 lib/aerodrome/libaerodrome.a $(DESTDIR)$(PREFIX)/lib/aerodrome/libaerodrome.a; \
 	install -D -m 644 include/aerodrome.h $(DESTDIR)$(PREFIX)/include/aerodrome.h; fi
+	@if [ -f lib/aerodrome/aerodrome-agent.jar ]; then \
+	install -D -m 644 lib/aerodrome/aerodrome-agent.jar $(DESTDIR)$(PREFIX)/share/java/aerodrome-agent.jar; \
+	install -D -m 644 docs/aerodrome-java.1 $(DESTDIR)$(PREFIX)/share/man/man1/aerodrome-java.1; fi
 	@if command -v $${CC:-gcc} > /dev/null; then logger/build $(DESTDIR)$(PREFIX); \
 	else echo "no $${CC:-gcc} here: the logger isn't installed"; fi
 

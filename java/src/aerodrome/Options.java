@@ -1,0 +1,143 @@
+package aerodrome;
+
+import java.util.ArrayList;
+import java.util.Arrays;
+import java.util.HashSet;
+import java.util.List;
+import java.util.Locale;
+import java.util.Map;
+import java.util.Set;
+
+/**
+ * What the agent's string says, as `log=trace.std,blocks=-main,run`. Its pieces have commas between, and one that sets no option
+ * belongs to the one before. Where the string doesn't set an option the environment may: AERODROME_LOG and so on.
+ */
+public final class Options {
+    /** What is one variable of an array. */
+    public enum Grain { EACH, WHOLE, OFF }
+
+    public static String log;
+    /** How many bytes are written; 0 is any number, and below 0 as many as fit where the log goes. */
+    public static long limit = -1;
+    public static Grain arrays = Grain.EACH;
+    /** Whether final fields are logged, objects of one thread, calls of collections, and places in the source. */
+    public static boolean finals, local = true, collections = true, places = true;
+    private static String blocks = "-main,run,call,<init>,<clinit>";
+    private static String only = "", skip = "";
+
+    private static final List<String> KNOWN = Arrays.asList(
+            "log", "blocks", "only", "skip", "limit", "arrays", "finals", "local", "collections", "places");
+    /** The names of `blocks` that a method had. */
+    private static final Set<String> MET = new HashSet<>();
+
+    private Options() { }
+
+    /** Says what is wrong, or null. */
+    static String read(String string, Map<String, String> environment) {
+        for (String option : KNOWN) {
+            String name = "AERODROME_" + option.toUpperCase(Locale.ROOT);
+            String value = environment.get(name);
+            String wrong = value == null || value.isEmpty() ? null : set(option, value);
+            if (wrong != null) return name + "=" + value + ": " + wrong;
+        }
+        for (String piece : pieces(string == null ? "" : string)) {
+            int at = piece.indexOf('=');
+            String wrong = set(at < 0 ? piece : piece.substring(0, at), at < 0 ? "" : piece.substring(at + 1));
+            if (wrong != null) return piece + ": " + wrong;
+        }
+        return log == null ? "log=PATH or log=|COMMAND is wanted" : null;
+    }
+
+    private static List<String> pieces(String string) {
+        List<String> pieces = new ArrayList<>();
+        for (String piece : string.split(",")) {
+            int last = pieces.size() - 1;
+            if (last < 0 || begins(piece, pieces.get(last))) pieces.add(piece);
+            else pieces.set(last, pieces.get(last) + "," + piece);
+        }
+        pieces.removeIf(String::isEmpty);
+        return pieces;
+    }
+    /** What looks like an option is one, though it isn't known; but a command may have such words. */
+    private static boolean begins(String piece, String before) {
+        int at = piece.indexOf('=');
+        return at > 0 && (KNOWN.contains(piece.substring(0, at)) || piece.matches("[a-z]+=.*") && !before.startsWith("log=|"));
+    }
+
+    /** Says what is wanted in the value's place, or null. */
+    private static String set(String option, String value) {
+        switch (option) {
+            case "log":
+                log = value.replace("%p", "" + ProcessHandle.current().pid());
+                return value.isEmpty() ? "a path or |COMMAND is wanted" : null;
+            case "blocks":
+                blocks = value;
+                return value.isEmpty() ? "all, none or names of methods are wanted" : null;
+            case "only": only = value; return null;
+            case "skip": skip = value; return null;
+            case "limit":
+                limit = bytes(value);
+                return limit < 0 ? "a number of bytes, as 4096, 500K, 20M or 1G, is wanted" : null;
+            case "arrays":
+                if (!value.matches("each|whole|off")) return "each, whole or off is wanted";
+                arrays = Grain.valueOf(value.toUpperCase(Locale.ROOT));
+                return null;
+            case "finals": finals = value.equals("log"); return logOrSkip(value);
+            case "local": local = value.equals("log"); return logOrSkip(value);
+            case "collections": collections = value.equals("log"); return logOrSkip(value);
+            case "places": places = value.equals("1"); return value.matches("[01]") ? null : "0 or 1 is wanted";
+            default: return "no option is called " + option;
+        }
+    }
+    private static String logOrSkip(String value) { return value.matches("log|skip") ? null : "log or skip is wanted"; }
+
+    /** A number of bytes, which may have a unit; below 0 where it is none. */
+    private static long bytes(String value) {
+        if (!value.matches("[0-9]{1,18}[KMG]?")) return -1;
+        int unit = " KMG".indexOf(value.charAt(value.length() - 1));
+        long number = Long.parseLong(unit < 0 ? value : value.substring(0, value.length() - 1));
+        long factor = unit < 0 ? 1 : 1L << 10 * unit;
+        return number > Long.MAX_VALUE / factor ? -1 : number * factor;
+    }
+
+    /** Whether the class, as a/b/C, is one of the program's that are logged. */
+    public static boolean covers(String name) {
+        for (String one : new String[] {"java/", "javax/", "jdk/", "sun/"}) if (name.startsWith(one)) return false;
+        return (only.isEmpty() || begin(only, name)) && !begin(skip, name);
+    }
+    private static boolean begin(String prefixes, String name) {
+        for (String one : prefixes.split(",")) if (!one.isEmpty() && name.startsWith(one.replace('.', '/'))) return true;
+        return false;
+    }
+
+    /** Whether the method, as a.b.C.m, is a block. One that the compiler made is none unless it is asked for. */
+    public static boolean isBlock(String label, boolean isSynthetic) {
+        if (blocks.equals("all")) return true;
+        if (blocks.equals("none")) return false;
+        if (!blocks.startsWith("-")) return isListed(blocks, label);
+        return !isListed(blocks.substring(1), label) && !isSynthetic;
+    }
+    /** A name is a method's, or a label, or the begin of labels with a `*` behind it. */
+    private static boolean isListed(String names, String label) {
+        String method = label.substring(label.lastIndexOf('.') + 1);
+        boolean any = false;
+        for (String one : names.split(",")) {
+            boolean starts = one.endsWith("*") && label.startsWith(one.substring(0, one.length() - 1));
+            if (!starts && !one.equals(label) && !one.equals(method)) continue;
+            any = true;
+            synchronized (MET) {
+                MET.add(one);
+            }
+        }
+        return any;
+    }
+    /** What is to be said at the end of names of blocks that no method had, as they may be wrong. */
+    public static List<String> blocksNotMet() {
+        List<String> left = new ArrayList<>();
+        if (blocks.startsWith("-") || blocks.equals("all") || blocks.equals("none")) return left;
+        synchronized (MET) {
+            for (String one : blocks.split(",")) if (!MET.contains(one)) left.add("blocks=" + blocks + ": no method is called " + one);
+        }
+        return left;
+    }
+}

@@ -1,0 +1,66 @@
+package aerodrome.hooks;
+
+import aerodrome.log.LoggedThread;
+import aerodrome.names.Numbered;
+import aerodrome.names.Text;
+import java.util.concurrent.BlockingQueue;
+import java.util.concurrent.ConcurrentLinkedDeque;
+import java.util.concurrent.ConcurrentLinkedQueue;
+import java.util.concurrent.ConcurrentMap;
+import java.util.concurrent.locks.AbstractQueuedSynchronizer;
+
+/** What the code round a call calls. Stubs.java has that code, and Call.java what is logged. */
+public final class Calls {
+    static final byte[] ITEM = Text.bytes(".item");
+
+    private Calls() { }
+
+    /** Of a class: whether calls of its methods stand for its contents, since no event of its own code does. */
+    private static final ClassValue<Boolean> OPAQUE = new ClassValue<Boolean>() {
+        @Override protected Boolean computeValue(Class<?> of) {
+            if (!Numbered.class.isAssignableFrom(of)) return true;
+            for (Class<?> one = of; one != null; one = one.getSuperclass())
+                if (one.getName().startsWith("java.util.")) return !one.getSimpleName().startsWith("Abstract");
+            return false;
+        }
+    };
+
+    /** Before a call. What it gives goes to `after` or `failed`, and is null where nothing is logged. */
+    public static Call before(int code, Object receiver, Object argument, long index, int site) {
+        LoggedThread me = receiver == null ? null : LoggedThread.logging();
+        Kind kind = me == null ? Kind.NOTHING : kind(code, receiver, argument);
+        if (kind == Kind.NOTHING || me.initializing > 0 && kind.isAccess()) return null;
+        Call call = new Call(me, receiver, argument, index, site);
+        call.before(kind);
+        return call;
+    }
+
+    /** Behind a call. */
+    public static void after(Call call) {
+        if (call != null) call.after(null, false);
+    }
+    public static void after(Call call, Object result) {
+        if (call != null) call.after(result, false);
+    }
+    public static void after(Call call, boolean isTrue) {
+        if (call != null) call.after(null, isTrue);
+    }
+    public static void failed(Call call) {
+        if (call != null) call.failed();
+    }
+
+    /** The kind that fits the receiver. */
+    private static Kind kind(int code, Object receiver, Object argument) {
+        Kind kind = Kind.kind(code), concurrent = Kind.concurrent(code);
+        if (kind.ofState()) return receiver instanceof AbstractQueuedSynchronizer ? kind : Kind.NOTHING;
+        if (receiver instanceof sun.misc.Unsafe && argument == null) return Kind.NOTHING;
+        if (!kind.isContents()) return kind;
+        if (!OPAQUE.get(receiver.getClass())) return Kind.NOTHING;
+        return concurrent != Kind.NOTHING && isConcurrent(receiver, concurrent) ? concurrent : kind;
+    }
+    private static boolean isConcurrent(Object receiver, Kind kind) {
+        if (kind.ofKeys()) return receiver instanceof ConcurrentMap;
+        return receiver instanceof BlockingQueue || receiver instanceof ConcurrentLinkedQueue
+                || receiver instanceof ConcurrentLinkedDeque;
+    }
+}

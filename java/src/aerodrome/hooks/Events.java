@@ -1,0 +1,52 @@
+package aerodrome.hooks;
+
+import aerodrome.log.Line;
+import aerodrome.log.Log;
+import aerodrome.log.LoggedThread;
+import aerodrome.names.ClassNames;
+import aerodrome.names.Numbers;
+import aerodrome.names.Site;
+import aerodrome.names.Text;
+
+/** Lines that several kinds of hooks write. */
+final class Events {
+    static final byte[] READ = Text.bytes("r("), WRITE = Text.bytes("w(");
+    private static final byte[] ACQUIRE = Text.bytes("acq("), RELEASE = Text.bytes("rel("), CLASS = Text.bytes(".class");
+    private static final int MOST_CLASS = 200;
+
+    private Events() { }
+
+    /** Puts what the object is called: `Bank@12`, or `bank.Bank.class` of a class. */
+    static Line putObject(Line line, Object object) {
+        if (!(object instanceof Class)) return line.put(ClassNames.of(object.getClass())).put('@').put(Numbers.of(object));
+        return line.put(Text.bytes(Text.clean(((Class<?>) object).getName(), MOST_CLASS))).put(CLASS);
+    }
+
+    static void end(Line line, int site) { line.put(')').put(Site.get(site).place); }
+
+    /** Writes the operation on a variable that stands for the object, with the kind before its name and the part behind it. */
+    static void write(LoggedThread me, byte[] operation, byte[] kind, Object object, int site) {
+        Line line = me.line.begin().put(operation);
+        if (kind != null) line.put(kind);
+        end(putObject(line, object), site);
+        Log.write(line);
+    }
+    static void write(LoggedThread me, byte[] operation, Object object, int site) { write(me, operation, null, object, site); }
+
+    /** Acquires the lock so often. */
+    static void acquire(LoggedThread me, Object lock, int times, int site) {
+        long number = Numbers.of(lock);
+        for (int left = times; left > 0; left--) {
+            write(me, ACQUIRE, lock, site);
+            me.held.add(number);
+        }
+    }
+
+    /** Releases the lock so often, or as often as it is held. Says how often. */
+    static int release(LoggedThread me, Object lock, int times, int site) {
+        long number = Numbers.of(lock);
+        int done = 0;
+        for (; done < times && me.held.remove(number); done++) write(me, RELEASE, lock, site);
+        return done;
+    }
+}

@@ -1,0 +1,74 @@
+package aerodrome.hooks;
+
+import aerodrome.log.LoggedThread;
+import aerodrome.names.Numbers;
+import aerodrome.names.Text;
+import java.lang.invoke.MethodHandles;
+import java.lang.invoke.VarHandle;
+import java.lang.reflect.Field;
+import java.util.concurrent.locks.AbstractQueuedSynchronizer.ConditionObject;
+import java.util.concurrent.locks.Lock;
+import java.util.concurrent.locks.ReentrantLock;
+import java.util.concurrent.locks.ReentrantReadWriteLock.ReadLock;
+import java.util.concurrent.locks.ReentrantReadWriteLock.WriteLock;
+
+/** The locks of java.util.concurrent. A lock, its views and its conditions share a synchronizer, which is the lock by the log. */
+public final class Locks {
+    private static final byte[] READ_WRITE = Text.bytes("rw.");
+    private static VarHandle ofLock, ofReader, ofWriter, ofCondition;
+
+    private Locks() { }
+
+    /** Needs java.util.concurrent.locks to be open to this module. */
+    public static void start() throws ReflectiveOperationException {
+        ofLock = handle(ReentrantLock.class, "sync");
+        ofReader = handle(ReadLock.class, "sync");
+        ofWriter = handle(WriteLock.class, "sync");
+        ofCondition = handle(ConditionObject.class, "this$0");
+    }
+    private static VarHandle handle(Class<?> of, String name) throws ReflectiveOperationException {
+        Field field = of.getDeclaredField(name);
+        return MethodHandles.privateLookupIn(of, MethodHandles.lookup()).unreflectVarHandle(field);
+    }
+
+    /** Behind a call that has the lock. A class that extends it may come here twice for one call: the lock's own count says so. */
+    static void locked(LoggedThread me, Object lock, int site) {
+        if (lock instanceof ReentrantLock) {
+            Object of = ofLock.get(lock);
+            int more = ((ReentrantLock) lock).getHoldCount() - me.held.count(Numbers.of(of));
+            Events.acquire(me, of, more, site);
+        } else other(me, lock, site);
+    }
+
+    static void unlocking(LoggedThread me, Object lock, int site) {
+        if (lock instanceof ReentrantLock) {
+            Object of = ofLock.get(lock);
+            int count = ((ReentrantLock) lock).getHoldCount();
+            if (count > 0 && count == me.held.count(Numbers.of(of))) Events.release(me, of, 1, site);
+        } else other(me, lock, site);
+    }
+
+    /** Readers may overlap, so a read-write lock is no lock by the log; nor is one that isn't known. */
+    private static void other(LoggedThread me, Object lock, int site) {
+        if (lock instanceof ReadLock) Events.write(me, Events.READ, READ_WRITE, ofReader.get(lock), site);
+        else if (lock instanceof WriteLock) Events.write(me, Events.WRITE, READ_WRITE, ofWriter.get(lock), site);
+        else if (lock instanceof Lock && lock.getClass().getClassLoader() == null) Events.write(me, Events.WRITE, lock, site);
+    }
+
+    /** A condition's lock while it is waited on. Gives how often the lock was held. */
+    static int giveBack(LoggedThread me, Object condition, int site) {
+        if (!(condition instanceof ConditionObject)) return 0;
+        Object of = ofCondition.get(condition);
+        if (isReadWrite(of)) Events.write(me, Events.WRITE, READ_WRITE, of, site);
+        return Events.release(me, of, Integer.MAX_VALUE, site);
+    }
+    static void takeBack(LoggedThread me, Object condition, int times, int site) {
+        if (!(condition instanceof ConditionObject)) return;
+        Object of = ofCondition.get(condition);
+        if (isReadWrite(of)) Events.write(me, Events.WRITE, READ_WRITE, of, site);
+        Events.acquire(me, of, times, site);
+    }
+    private static boolean isReadWrite(Object synchronizer) {
+        return synchronizer.getClass().getName().startsWith("java.util.concurrent.locks.ReentrantReadWriteLock");
+    }
+}

@@ -1,0 +1,45 @@
+package aerodrome.hooks;
+
+import aerodrome.log.Line;
+import aerodrome.names.FieldName;
+import java.lang.reflect.Field;
+import java.lang.reflect.Modifier;
+import java.util.HashMap;
+import java.util.Map;
+import sun.misc.Unsafe;
+
+/** What Unsafe accesses: an element, or a field by the name that its other accesses have. */
+final class Offsets {
+    private Offsets() { }
+
+    private static final ClassValue<Map<Long, FieldName>> FIELDS = new ClassValue<Map<Long, FieldName>>() {
+        @Override protected Map<Long, FieldName> computeValue(Class<?> of) {
+            Map<Long, FieldName> fields = new HashMap<>();
+            try {
+                Field known = Unsafe.class.getDeclaredField("theUnsafe");
+                known.setAccessible(true);
+                Unsafe unsafe = (Unsafe) known.get(null);
+                for (Class<?> one = of; one != null; one = one.getSuperclass())
+                    for (Field field : one.getDeclaredFields()) {
+                        if (Modifier.isStatic(field.getModifiers())) continue;
+                        fields.put(unsafe.objectFieldOffset(field), new FieldName(one, field.getName(), false));
+                    }
+            } catch (Throwable unknown) {
+                // An offset is the name then.
+            }
+            return fields;
+        }
+    };
+
+    static void put(Line line, Unsafe unsafe, Object object, long offset) {
+        Class<?> of = object.getClass();
+        FieldName field = of.isArray() ? null : FIELDS.get(of).get(offset);
+        if (field != null) {
+            field.put(line, object);
+            return;
+        }
+        Events.putObject(line, object);
+        if (of.isArray()) Accesses.putIndex(line, (offset - unsafe.arrayBaseOffset(of)) / unsafe.arrayIndexScale(of));
+        else line.put('+').put(Math.max(offset, 0));
+    }
+}

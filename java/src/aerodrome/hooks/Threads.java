@@ -1,0 +1,48 @@
+package aerodrome.hooks;
+
+import aerodrome.log.Log;
+import aerodrome.log.LoggedThread;
+import aerodrome.names.Numbers;
+import aerodrome.names.Site;
+import aerodrome.names.Text;
+
+/** Starts and ends of threads, and the program's end. The JDK's own methods call these, so it doesn't matter who starts a thread. */
+public final class Threads {
+    private static final byte[] FORK = Text.bytes("fork(T"), JOIN = Text.bytes("join(T");
+
+    private Threads() { }
+
+    private static void write(LoggedThread me, byte[] operation, LoggedThread other) {
+        me.line.begin().put(operation).put(other.number);
+        Events.end(me.line, Site.NOWHERE);
+        Log.write(me.line);
+    }
+
+    public static void starts(Thread thread) {
+        LoggedThread me = LoggedThread.logging();
+        if (me == null || thread.getState() != Thread.State.NEW || Numbers.tied(thread) != null) return;
+        write(me, FORK, LoggedThread.of(thread));
+    }
+
+    public static void ends() {
+        if (Log.on) LoggedThread.current().end();
+    }
+
+    /** While a thread waits for the end of another, it gives the other's monitor back, if it holds that. */
+    public static void joining(Thread thread) {
+        LoggedThread me = LoggedThread.logging();
+        if (me != null) me.gaveBack = Events.release(me, thread, Integer.MAX_VALUE, Site.NOWHERE);
+    }
+
+    public static void joined(Thread thread) {
+        LoggedThread me = LoggedThread.logging();
+        if (me == null) return;
+        Events.acquire(me, thread, me.gaveBack, Site.NOWHERE);
+        me.gaveBack = 0;
+        LoggedThread other = (LoggedThread) Numbers.tied(thread);
+        if (other != null && other != me && thread.getState() == Thread.State.TERMINATED) write(me, JOIN, other);
+    }
+
+    /** The program has ended, and its own hooks for that too. */
+    public static void finish() { Log.finish(); }
+}

@@ -1,0 +1,136 @@
+package aerodrome.log;
+
+import aerodrome.Options;
+import java.io.FileDescriptor;
+import java.io.FileOutputStream;
+import java.io.IOException;
+import java.lang.invoke.MethodHandles;
+import java.lang.invoke.VarHandle;
+import java.nio.charset.StandardCharsets;
+
+/**
+ * The log and its one order. A line is written under the log's lock, and an access is made under the same lock, just behind its
+ * line: so the log has accesses in the order in which they happened, also where they race. Nothing that waits, no code of the
+ * program and no class's loading comes under the lock.
+ */
+public final class Log {
+    /** Whether events are logged: from the end of the agent's start to the program's end, or to the first error. */
+    public static volatile boolean on;
+
+    private static volatile Thread holder;
+    private static final VarHandle HOLDER;
+    static {
+        try {
+            HOLDER = MethodHandles.lookup().findStaticVarHandle(Log.class, "holder", Thread.class);
+        } catch (ReflectiveOperationException impossible) {
+            throw new ExceptionInInitializerError(impossible);
+        }
+    }
+    private static final int SPINS = 50;
+    private static final byte[] BUFFER = new byte[1 << 20];
+    private static int used;
+    private static long written, limit;
+    private static Sink sink;
+    private static boolean finished;
+
+    private Log() { }
+
+    /** @param most how many bytes are written; 0 is any number, and below 0 what fits the sink */
+    public static void start(Sink to, long most) {
+        sink = to;
+        limit = most < 0 ? to.limit() : most;
+    }
+
+    // ---- the lock
+
+    /** A thread that has the lock still, since an error such as a full stack came between, goes on with it. */
+    public static void lock() {
+        Thread me = Thread.currentThread();
+        if (holder == me) return;
+        for (int tries = 0; holder != null || !HOLDER.compareAndSet((Thread) null, me); tries++)
+            if (tries < SPINS) Thread.onSpinWait();
+            else Thread.yield();
+    }
+
+    /** Does nothing where the thread hasn't the lock, since it wrote no line. */
+    public static void unlock() {
+        if (holder == Thread.currentThread()) HOLDER.setRelease((Thread) null);
+    }
+
+    /** Writes the thread's line as one event. */
+    public static void write(Line line) {
+        hold(line);
+        unlock();
+    }
+
+    /** Writes the line and keeps the lock, for the access behind it. */
+    public static void hold(Line line) {
+        lock();
+        try {
+            append(line);
+        } catch (Throwable full) {
+            unlock();
+            throw full;
+        }
+    }
+
+    /** Writes the line; the lock is held. */
+    public static void append(Line line) {
+        if (!on) return;
+        if (limit > 0 && written + used + line.length > limit) {
+            flush();
+            if (on) stop("limit is reached");
+            return;
+        }
+        if (used + line.length > BUFFER.length) flush();
+        System.arraycopy(line.bytes, 0, BUFFER, used, line.length);
+        used += line.length;
+    }
+
+    private static void flush() {
+        try {
+            sink.write(BUFFER, used);
+            written += used;
+        } catch (IOException wrong) {
+            stop(Sink.why(wrong));
+            sink.cut(BUFFER, written);
+        }
+        used = 0;
+    }
+
+    // ---- the end
+
+    /** Writes the log out, and waits for the command that reads it. */
+    public static void finish() {
+        lock();
+        boolean isFirst = !finished && sink != null;
+        finished = true;
+        if (isFirst && on) {
+            flush();
+            for (String one : Options.blocksNotMet()) say(one);
+        }
+        on = false;
+        unlock();
+        if (!isFirst) return;
+        try {
+            sink.close();
+        } catch (IOException wrong) {
+            say(sink.target + ": " + Sink.why(wrong));
+        }
+    }
+
+    private static void stop(String why) {
+        on = false;
+        say(sink.target + ": " + why + ": the rest isn't logged");
+    }
+
+    /** Past System.err, which may be the program's own. */
+    public static void say(String what) {
+        byte[] text = ("aerodrome-agent: " + what + "\n").getBytes(StandardCharsets.UTF_8);
+        try {
+            new FileOutputStream(FileDescriptor.err).write(text);
+        } catch (IOException cannot) {
+            // There is nobody else to tell.
+        }
+    }
+}

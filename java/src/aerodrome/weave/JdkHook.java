@@ -1,0 +1,34 @@
+package aerodrome.weave;
+
+import java.util.Locale;
+
+/** A method of the JDK that calls a hook. */
+final class JdkHook {
+    enum Where { ENTRY, EXIT, ALWAYS, RUN, RESULT }
+
+    /** Names of classes are a/b/C. */
+    final String owner, method;
+    private final String descriptor;
+    final Where where;
+    final String hookOwner, hookName, given;
+    boolean isFound;
+
+    /** A line of the table: hook CLASS.METHOD[DESCRIPTOR] WHERE CLASS.HOOK [WHAT IT IS GIVEN]. */
+    JdkHook(String[] words) {
+        int end = words[1].indexOf('(') < 0 ? words[1].length() : words[1].indexOf('(');
+        int dot = words[1].lastIndexOf('.', end);
+        owner = words[1].substring(0, dot).replace('.', '/');
+        method = words[1].substring(dot + 1, end);
+        descriptor = words[1].substring(end);
+        where = Where.valueOf(words[2].toUpperCase(Locale.ROOT));
+        dot = words[3].indexOf('.');
+        hookOwner = "aerodrome/hooks/" + words[3].substring(0, dot);
+        hookName = words[3].substring(dot + 1);
+        given = words.length > 4 ? words[4] : "";
+    }
+
+    boolean isAt(String owner, String method, String descriptor) {
+        return this.owner.equals(owner) && this.method.equals(method)
+                && (this.descriptor.isEmpty() || this.descriptor.equals(descriptor));
+    }
+}

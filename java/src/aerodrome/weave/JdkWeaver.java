@@ -1,0 +1,137 @@
+package aerodrome.weave;
+
+import static org.objectweb.asm.Opcodes.*;
+
+import aerodrome.log.Log;
+import java.lang.instrument.ClassFileTransformer;
+import java.security.ProtectionDomain;
+import java.util.ArrayList;
+import java.util.LinkedHashSet;
+import java.util.List;
+import java.util.Set;
+import org.objectweb.asm.ClassReader;
+import org.objectweb.asm.ClassVisitor;
+import org.objectweb.asm.ClassWriter;
+import org.objectweb.asm.Label;
+import org.objectweb.asm.MethodVisitor;
+import org.objectweb.asm.Type;
+import org.objectweb.asm.commons.AdviceAdapter;
+
+/**
+ * Has a few methods of the JDK call hooks, by the second part of the table. Their classes are loaded already, so they are
+ * transformed anew, and only code is put into their methods.
+ */
+public final class JdkWeaver implements ClassFileTransformer {
+    private final List<JdkHook> hooks;
+
+    public JdkWeaver(Table table) { hooks = table.hooks; }
+
+    public Class<?>[] classes() throws ClassNotFoundException {
+        Set<Class<?>> classes = new LinkedHashSet<>();
+        for (JdkHook one : hooks) classes.add(Class.forName(one.owner.replace('/', '.'), false, null));
+        return classes.toArray(new Class<?>[0]);
+    }
+
+    public void sayWhatIsMissing() {
+        for (JdkHook one : hooks)
+            if (!one.isFound)
+                Log.say("this JDK has no " + one.owner.replace('/', '.') + "." + one.method + ": what it does isn't logged");
+    }
+
+    @Override
+    public byte[] transform(ClassLoader loader, String name, Class<?> redefined, ProtectionDomain domain, byte[] bytes) {
+        if (redefined == null || loader != null || !isHooked(name)) return null;
+        try {
+            ClassReader reader = new ClassReader(bytes);
+            ClassWriter writer = new ClassWriter(ClassWriter.COMPUTE_MAXS);
+            reader.accept(new ClassVisitor(ASM9, writer) {
+                @Override
+                public MethodVisitor visitMethod(int access, String method, String descriptor, String signature, String[] thrown) {
+                    MethodVisitor to = super.visitMethod(access, method, descriptor, signature, thrown);
+                    List<JdkHook> here = at(name, method, descriptor);
+                    return here.isEmpty() ? to : new Hooked(to, access, method, descriptor, here);
+                }
+            }, ClassReader.EXPAND_FRAMES);
+            return writer.toByteArray();
+        } catch (Throwable wrong) {
+            Log.say(name.replace('/', '.') + " has no hooks: " + wrong);
+            return null;
+        }
+    }
+    private boolean isHooked(String owner) {
+        for (JdkHook one : hooks) if (one.owner.equals(owner)) return true;
+        return false;
+    }
+    private List<JdkHook> at(String owner, String method, String descriptor) {
+        List<JdkHook> here = new ArrayList<>();
+        for (JdkHook one : hooks) if (one.isAt(owner, method, descriptor)) here.add(one);
+        return here;
+    }
+
+    private static final class Hooked extends AdviceAdapter {
+        private final List<JdkHook> hooks;
+        private final String result;
+        private final Label start = new Label();
+
+        Hooked(MethodVisitor to, int access, String method, String descriptor, List<JdkHook> hooks) {
+            super(ASM9, to, access, method, descriptor);
+            this.hooks = hooks;
+            result = Type.getReturnType(descriptor).getDescriptor();
+            for (JdkHook one : hooks) one.isFound |= one.where != JdkHook.Where.RUN;
+        }
+
+        /** Calls the hooks that stand there. They are given `this`, the first argument, or nothing. */
+        private void call(JdkHook.Where where) {
+            for (JdkHook one : hooks) {
+                if (one.where != where) continue;
+                if (!one.given.isEmpty()) mv.visitVarInsn(ALOAD, one.given.equals("first") ? 1 : 0);
+                String type = one.hookOwner.endsWith("Threads") ? "Ljava/lang/Thread;" : "Ljava/lang/Object;";
+                String descriptor = one.given.isEmpty() ? "()V" : "(" + type + ")V";
+                mv.visitMethodInsn(INVOKESTATIC, one.hookOwner, one.hookName, descriptor, false);
+            }
+        }
+
+        @Override
+        protected void onMethodEnter() {
+            call(JdkHook.Where.ENTRY);
+            mv.visitLabel(start);
+        }
+
+        @Override
+        protected void onMethodExit(int opcode) {
+            if (opcode == ATHROW) return;
+            call(JdkHook.Where.EXIT);
+            call(JdkHook.Where.ALWAYS);
+            for (JdkHook one : hooks)
+                if (one.where == JdkHook.Where.RESULT)
+                    mv.visitMethodInsn(INVOKESTATIC, one.hookOwner, one.hookName, "(" + result + ")" + result, false);
+        }
+
+        /** Before a task is run: the task. */
+        @Override
+        public void visitMethodInsn(int opcode, String owner, String name, String descriptor, boolean isInterface) {
+            for (JdkHook one : hooks) {
+                if (one.where != JdkHook.Where.RUN || !owner.equals("java/lang/Runnable") || !name.equals("run")) continue;
+                one.isFound = true;
+                mv.visitInsn(DUP);
+                mv.visitMethodInsn(INVOKESTATIC, one.hookOwner, one.hookName, "(Ljava/lang/Object;)V", false);
+            }
+            super.visitMethodInsn(opcode, owner, name, descriptor, isInterface);
+        }
+
+        @Override
+        public void visitMaxs(int stack, int locals) {
+            for (JdkHook one : hooks) {
+                if (one.where != JdkHook.Where.ALWAYS) continue;
+                Label end = new Label();
+                mv.visitTryCatchBlock(start, end, end, null);
+                mv.visitLabel(end);
+                // Of these methods `this` is never assigned to.
+                mv.visitFrame(F_NEW, 1, new Object[] {one.owner}, 1, new Object[] {"java/lang/Throwable"});
+                call(JdkHook.Where.ALWAYS);
+                mv.visitInsn(ATHROW);
+            }
+            super.visitMaxs(stack, locals);
+        }
+    }
+}

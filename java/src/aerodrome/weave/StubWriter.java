@@ -1,0 +1,158 @@
+package aerodrome.weave;
+
+import static org.objectweb.asm.Opcodes.*;
+
+import java.util.ArrayList;
+import java.util.List;
+import org.objectweb.asm.Label;
+import org.objectweb.asm.MethodVisitor;
+import org.objectweb.asm.Type;
+
+/**
+ * The code of a stub:
+ *
+ *     static R aero$N(Owner receiver, A a, .., int site) {
+ *         Call call = Calls.before(CODE, receiver, a, index, site);
+ *         R result;
+ *         try { result = receiver.method(a, ..); } catch (Throwable thrown) { Calls.failed(call); throw thrown; }
+ *         Calls.after(call, result);
+ *         return result;
+ *     }
+ *
+ * That of a VarHandle's method begins with what links the call (Handles), and calls Handles.before.
+ */
+final class StubWriter {
+    private static final String CALLS = "aerodrome/hooks/Calls", HANDLES = "aerodrome/hooks/Handles", CALL = "aerodrome/hooks/Call";
+    private static final String OBJECT = "Ljava/lang/Object;", HANDLE = "Ljava/lang/invoke/VarHandle;";
+
+    private final MethodVisitor code;
+    private final Stub stub;
+    private final boolean hasFrames;
+    private final Type[] arguments;
+    private final Type gives;
+    private final int call, result;
+
+    StubWriter(MethodVisitor code, Stub stub, boolean hasFrames) {
+        this.code = code;
+        this.stub = stub;
+        this.hasFrames = hasFrames;
+        arguments = stub.call.arguments();
+        gives = stub.call.result();
+        call = stub.site() + 1;
+        result = call + 1;
+    }
+
+    void write() {
+        Label start = new Label(), end = new Label(), handler = new Label();
+        code.visitTryCatchBlock(start, end, handler, null);
+        if (stub.form >= 0) link();
+        before();
+        code.visitLabel(start);
+        invoke();
+        if (gives != Type.VOID_TYPE) code.visitVarInsn(gives.getOpcode(ISTORE), result);
+        code.visitLabel(end);
+        after();
+        if (gives != Type.VOID_TYPE) code.visitVarInsn(gives.getOpcode(ILOAD), result);
+        code.visitInsn(gives.getOpcode(IRETURN));
+        code.visitLabel(handler);
+        frame(true, true);
+        code.visitVarInsn(ASTORE, result);
+        code.visitVarInsn(ALOAD, call);
+        code.visitMethodInsn(INVOKESTATIC, CALLS, "failed", "(L" + CALL + ";)V", false);
+        code.visitVarInsn(ALOAD, result);
+        code.visitInsn(ATHROW);
+    }
+
+    /** Makes the call of no handle, once. */
+    private void link() {
+        Label start = new Label(), end = new Label(), handler = new Label(), made = new Label(), linked = new Label();
+        code.visitTryCatchBlock(start, end, handler, null);
+        code.visitLdcInsn(stub.form);
+        code.visitMethodInsn(INVOKESTATIC, HANDLES, "isLinked", "(I)Z", false);
+        code.visitJumpInsn(IFNE, linked);
+        code.visitLabel(start);
+        code.visitInsn(ACONST_NULL);
+        loadArguments();
+        stub.call.write(code);
+        if (gives != Type.VOID_TYPE) code.visitInsn(gives.getSize() == 2 ? POP2 : POP);
+        code.visitLabel(end);
+        code.visitJumpInsn(GOTO, made);
+        code.visitLabel(handler);
+        frame(false, true);
+        code.visitInsn(POP);
+        code.visitLabel(made);
+        frame(false, false);
+        code.visitLdcInsn(stub.form);
+        code.visitMethodInsn(INVOKESTATIC, HANDLES, "link", "(I)V", false);
+        code.visitLabel(linked);
+        frame(false, false);
+    }
+
+    private void before() {
+        code.visitLdcInsn(stub.form >= 0 ? stub.form : stub.code);
+        if (!stub.call.isStatic()) code.visitVarInsn(ALOAD, 0);
+        else code.visitMethodInsn(INVOKESTATIC, "java/lang/Thread", "currentThread", "()Ljava/lang/Thread;", false);
+        boolean hasObject = arguments.length > 0 && arguments[0].getSort() >= Type.ARRAY;
+        if (hasObject) code.visitVarInsn(ALOAD, stub.firstArgument());
+        else code.visitInsn(ACONST_NULL);
+        if (stub.form >= 0) handleIndex();
+        else index(hasObject);
+        code.visitVarInsn(ILOAD, stub.site());
+        String given = stub.form >= 0 ? HANDLE + OBJECT + "I" : OBJECT + OBJECT + "J";
+        code.visitMethodInsn(INVOKESTATIC, stub.form >= 0 ? HANDLES : CALLS, "before", "(I" + given + "I)L" + CALL + ";", false);
+        code.visitVarInsn(ASTORE, call);
+    }
+    /** The first argument if it is an int, the second if it is a long behind an object, else -1. */
+    private void index(boolean hasObject) {
+        if (arguments.length > 0 && arguments[0] == Type.INT_TYPE) {
+            code.visitVarInsn(ILOAD, stub.firstArgument());
+            code.visitInsn(I2L);
+        } else if (hasObject && arguments.length > 1 && arguments[1] == Type.LONG_TYPE)
+            code.visitVarInsn(LLOAD, stub.firstArgument() + 1);
+        else code.visitLdcInsn(-1L);
+    }
+    private void handleIndex() {
+        if (arguments.length > 1 && arguments[0].getSize() == 1 && arguments[1] == Type.INT_TYPE) code.visitVarInsn(ILOAD, 2);
+        else code.visitInsn(ICONST_M1);
+    }
+
+    private void invoke() {
+        if (!stub.call.isStatic()) code.visitVarInsn(ALOAD, 0);
+        loadArguments();
+        stub.call.write(code);
+    }
+    private void loadArguments() {
+        int at = stub.firstArgument();
+        for (Type one : arguments) {
+            code.visitVarInsn(one.getOpcode(ILOAD), at);
+            at += one.getSize();
+        }
+    }
+
+    private void after() {
+        code.visitVarInsn(ALOAD, call);
+        boolean isObject = gives.getSort() >= Type.ARRAY, isTruth = gives == Type.BOOLEAN_TYPE;
+        if (isObject || isTruth) code.visitVarInsn(isObject ? ALOAD : ILOAD, result);
+        String given = isObject ? OBJECT : isTruth ? "Z" : "";
+        code.visitMethodInsn(INVOKESTATIC, CALLS, "after", "(L" + CALL + ";" + given + ")V", false);
+    }
+
+    /** The stub's arguments, with the call behind them or without, and on the stack what was thrown or nothing. */
+    private void frame(boolean hasCall, boolean hasThrown) {
+        if (!hasFrames) return;
+        List<Object> locals = new ArrayList<>();
+        for (Type one : Type.getArgumentTypes(stub.descriptor)) locals.add(inFrame(one));
+        if (hasCall) locals.add(CALL);
+        Object[] stack = hasThrown ? new Object[] {"java/lang/Throwable"} : new Object[0];
+        code.visitFrame(F_NEW, locals.size(), locals.toArray(), stack.length, stack);
+    }
+    private static Object inFrame(Type type) {
+        switch (type.getSort()) {
+            case Type.LONG: return LONG;
+            case Type.DOUBLE: return DOUBLE;
+            case Type.FLOAT: return FLOAT;
+            case Type.ARRAY: case Type.OBJECT: return type.getInternalName();
+            default: return INTEGER;
+        }
+    }
+}

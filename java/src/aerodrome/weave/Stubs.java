@@ -1,0 +1,100 @@
+package aerodrome.weave;
+
+import static org.objectweb.asm.Opcodes.*;
+
+import aerodrome.hooks.Handles;
+import aerodrome.hooks.Hidden;
+import java.util.ArrayList;
+import java.util.HashMap;
+import java.util.List;
+import java.util.Map;
+import org.objectweb.asm.ClassVisitor;
+import org.objectweb.asm.Handle;
+import org.objectweb.asm.MethodVisitor;
+import org.objectweb.asm.Type;
+
+/** The stubs of a class, each in the place of the calls of one method. As methods of the class they may make any call that it may. */
+final class Stubs {
+    private final WovenClass of;
+    private final ClassVisitor to;
+    private final Table table;
+    private final Map<String, Stub> byCall = new HashMap<>();
+    private final List<Stub> all = new ArrayList<>();
+
+    /** A stub of a stub, for what refers to a method: it has no site. */
+    private static final class Reference {
+        final Stub stub;
+        final String name, descriptor;
+        final int site;
+
+        Reference(Stub stub, String name, int site) {
+            this.stub = stub;
+            this.name = name;
+            this.site = site;
+            descriptor = stub.descriptor.replace("I)", ")");
+        }
+    }
+    private final List<Reference> references = new ArrayList<>();
+
+    Stubs(WovenClass of, ClassVisitor to, Table table) {
+        this.of = of;
+        this.to = to;
+        this.table = table;
+    }
+
+    /** The stub round such a call, or null where it isn't logged. */
+    Stub round(int opcode, String owner, String name, String descriptor, boolean isInterface) {
+        if (owner.startsWith("[")) return null;
+        int code = table.code(opcode, owner, name, descriptor);
+        if (code == 0 && !Naming.isMade(owner, name)) return null;
+        Invocation call = new Invocation(opcode, owner, name, descriptor, isInterface);
+        Stub known = byCall.get(call.key());
+        if (known != null) return known;
+        boolean isHandle = code != 0 && owner.equals("java/lang/invoke/VarHandle");
+        int form = isHandle ? Handles.form(code, name) : -1;
+        Stub made = new Stub(call, Hidden.PREFIX + all.size(), of.name, code, form);
+        byCall.put(call.key(), made);
+        all.add(made);
+        return made;
+    }
+
+    /** What a reference to the stub's method is led to, from the site. */
+    Handle from(Stub stub, int site) {
+        Reference made = new Reference(stub, Hidden.PREFIX + "from" + references.size(), site);
+        references.add(made);
+        return new Handle(H_INVOKESTATIC, of.name, made.name, made.descriptor, of.isInterface);
+    }
+
+    /** Adds them to the class. */
+    void write() {
+        for (Stub one : all) {
+            MethodVisitor code = begin(one.name, one.descriptor);
+            if (one.code == 0) Naming.write(code, one);
+            else new StubWriter(code, one, of.version >= WovenClass.FRAMES).write();
+            end(code);
+        }
+        for (Reference one : references) write(one);
+    }
+    private MethodVisitor begin(String name, String descriptor) {
+        MethodVisitor code = to.visitMethod(ACC_PRIVATE | ACC_STATIC | ACC_SYNTHETIC, name, descriptor, null, null);
+        code.visitCode();
+        return code;
+    }
+    private static void end(MethodVisitor code) {
+        code.visitMaxs(0, 0);
+        code.visitEnd();
+    }
+
+    private void write(Reference reference) {
+        MethodVisitor code = begin(reference.name, reference.descriptor);
+        int at = 0;
+        for (Type one : Type.getArgumentTypes(reference.descriptor)) {
+            code.visitVarInsn(one.getOpcode(ILOAD), at);
+            at += one.getSize();
+        }
+        code.visitLdcInsn(reference.site);
+        code.visitMethodInsn(INVOKESTATIC, of.name, reference.stub.name, reference.stub.descriptor, of.isInterface);
+        code.visitInsn(reference.stub.call.result().getOpcode(IRETURN));
+        end(code);
+    }
+}

@@ -1,0 +1,119 @@
+package aerodrome.weave;
+
+import static org.objectweb.asm.Opcodes.INVOKESPECIAL;
+import static org.objectweb.asm.Opcodes.INVOKESTATIC;
+import static org.objectweb.asm.Opcodes.INVOKEVIRTUAL;
+
+import aerodrome.Options;
+import aerodrome.hooks.Kind;
+import aerodrome.names.Fields;
+import java.io.BufferedReader;
+import java.io.IOException;
+import java.io.InputStream;
+import java.io.InputStreamReader;
+import java.nio.charset.StandardCharsets;
+import java.util.ArrayList;
+import java.util.Arrays;
+import java.util.HashMap;
+import java.util.List;
+import java.util.Locale;
+import java.util.Map;
+
+/** What becomes what, as the file `table` has it. */
+public final class Table {
+    private static final String ANY = "*";
+    /** The only class whose static methods are logged. */
+    private static final String STATIC_OWNER = "java/util/concurrent/locks/LockSupport";
+
+    /** Methods of one kind. */
+    private static final class Row {
+        final String[] methods;
+        final Kind kind;
+        final int code;
+
+        Row(String kinds, String[] methods) {
+            String[] both = kinds.toUpperCase(Locale.ROOT).replace('-', '_').split("/");
+            this.methods = methods;
+            kind = Kind.valueOf(both[0]);
+            code = Kind.code(kind, both.length > 1 ? Kind.valueOf(both[1]) : Kind.NOTHING);
+        }
+
+        boolean fits(String name, String descriptor) {
+            for (String one : methods) {
+                boolean fits = one.endsWith("*") ? name.startsWith(one.substring(0, one.length() - 1))
+                        : one.endsWith("()") ? descriptor.startsWith("()") && one.equals(name + "()")
+                        : one.equals(name) || one.indexOf('(') > 0 && one.equals(name + descriptor);
+                if (fits) return true;
+            }
+            return false;
+        }
+    }
+
+    private final Map<String, List<Row>> rows = new HashMap<>();
+    /** The methods of the JDK that call a hook. */
+    final List<JdkHook> hooks = new ArrayList<>();
+
+    // ---- the file
+
+    private Table() { }
+
+    public static Table read() throws IOException {
+        Table table = new Table();
+        InputStream file = Table.class.getResourceAsStream("/aerodrome/table");
+        try (BufferedReader lines = new BufferedReader(new InputStreamReader(file, StandardCharsets.UTF_8))) {
+            for (String line; (line = lines.readLine()) != null; )
+                if (!line.isEmpty() && !line.startsWith("#")) table.read(line.trim().split(" +"));
+        }
+        return table;
+    }
+
+    /** What the lines so far say of the next row. */
+    private String prefix = "";
+    private List<String> classes = new ArrayList<>();
+    private boolean hasRow;
+
+    private void read(String[] words) {
+        switch (words[0]) {
+            case "hook": hooks.add(new JdkHook(words)); return;
+            case "in": prefix = words[1].equals(ANY) ? "" : words[1].replace('.', '/') + "/"; return;
+            case "of":
+                if (hasRow) classes = new ArrayList<>();
+                hasRow = false;
+                for (int one = 1; one < words.length; one++) classes.add(prefix + words[one].replace('.', '/'));
+                return;
+            default:
+                hasRow = true;
+                add(classes, new Row(words[0], Arrays.copyOfRange(words, 1, words.length)));
+        }
+    }
+    private void add(List<String> classes, Row row) {
+        for (String one : classes) {
+            if (!rows.containsKey(one)) rows.put(one, new ArrayList<>());
+            rows.get(one).add(row);
+        }
+    }
+
+    // ---- looking up
+
+    private Row row(String owner, String name, String descriptor) {
+        for (Row row : rows.getOrDefault(owner, List.of())) if (row.fits(name, descriptor)) return row;
+        return null;
+    }
+
+    /** How a call is logged, as Kind.code has it; 0 if it isn't. */
+    int code(int opcode, String owner, String name, String descriptor) {
+        if (opcode == INVOKESTATIC && !owner.equals(STATIC_OWNER)) return 0;
+        Row row = opcode == INVOKESPECIAL ? null : row(owner, name, descriptor);
+        if (row == null && (opcode == INVOKEVIRTUAL || opcode == INVOKESPECIAL)) row = inherited(opcode, owner, name, descriptor);
+        return row == null || row.kind.isContents() && !Options.collections ? 0 : row.code;
+    }
+
+    /** The row of a method that the class may have from one of the JDK: the method's name says so, or what the class extends. */
+    private Row inherited(int opcode, String owner, String name, String descriptor) {
+        Row row = row(ANY, name, descriptor);
+        if (row != null) return row;
+        String base = Options.covers(owner) ? Fields.base(owner) : opcode == INVOKESPECIAL ? owner : null;
+        row = base == null ? null : row(base, name, descriptor);
+        return row != null && row.kind.isCollection() ? row : null;
+    }
+}

@@ -1,0 +1,89 @@
+package aerodrome.weave;
+
+import static org.objectweb.asm.Opcodes.ASM9;
+
+import aerodrome.Options;
+import aerodrome.log.Log;
+import java.lang.instrument.ClassFileTransformer;
+import java.lang.instrument.Instrumentation;
+import java.security.ProtectionDomain;
+import java.util.HashMap;
+import java.util.HashSet;
+import java.util.Map;
+import java.util.Set;
+import org.objectweb.asm.ClassReader;
+import org.objectweb.asm.ClassVisitor;
+import org.objectweb.asm.ClassWriter;
+import org.objectweb.asm.Label;
+import org.objectweb.asm.MethodTooLargeException;
+import org.objectweb.asm.MethodVisitor;
+
+/**
+ * Instruments the classes of the program when they are loaded. No frames are computed, so no class is loaded for it: the code
+ * that is put into a method has no branches, and one handler, whose frame says nothing of the variables. A class that can't be
+ * instrumented is left as it is.
+ */
+public final class Weaver implements ClassFileTransformer {
+    private static final ClassLoader PLATFORM = ClassLoader.getPlatformClassLoader();
+
+    private final Instrumentation with;
+    private final Table table;
+    private final Module own = Weaver.class.getModule();
+
+    public Weaver(Instrumentation with, Table table) {
+        this.with = with;
+        this.table = table;
+    }
+
+    @Override
+    public byte[] transform(Module in, ClassLoader loader, String name, Class<?> redefined, ProtectionDomain domain, byte[] bytes) {
+        byte[] woven = transform(loader, name, redefined, domain, bytes);
+        if (woven != null && in != null && !in.canRead(own))
+            with.redefineModule(in, Set.of(own), Map.of(), Map.of(), Set.of(), Map.of());
+        return woven;
+    }
+
+    @Override
+    public byte[] transform(ClassLoader loader, String name, Class<?> redefined, ProtectionDomain domain, byte[] bytes) {
+        if (redefined != null || loader == null || loader == PLATFORM || name == null || !Options.covers(name)) return null;
+        // Accessors that reflection makes.
+        if (loader.getClass().getName().startsWith("jdk.internal.reflect")) return null;
+        try {
+            return weave(name, bytes);
+        } catch (Throwable wrong) {
+            Log.say(name.replace('/', '.') + " isn't logged: " + wrong);
+            return null;
+        }
+    }
+
+    /** A method that would be too long has its accesses left out. */
+    private byte[] weave(String name, byte[] bytes) {
+        Set<String> light = new HashSet<>();
+        ClassReader reader = new ClassReader(bytes);
+        Map<String, Integer> lines = firstLines(reader);
+        for (;;) {
+            ClassWriter writer = new ClassWriter(ClassWriter.COMPUTE_MAXS);
+            reader.accept(new WovenClass(writer, table, light, lines), ClassReader.EXPAND_FRAMES);
+            try {
+                return writer.toByteArray();
+            } catch (MethodTooLargeException wrong) {
+                if (!light.add(wrong.getMethodName() + wrong.getDescriptor())) throw wrong;
+                Log.say(name.replace('/', '.') + "." + wrong.getMethodName() + " is too long: its accesses aren't logged");
+            }
+        }
+    }
+
+    /** The lines in which the methods begin. */
+    private static Map<String, Integer> firstLines(ClassReader reader) {
+        Map<String, Integer> lines = new HashMap<>();
+        reader.accept(new ClassVisitor(ASM9) {
+            @Override
+            public MethodVisitor visitMethod(int access, String name, String descriptor, String signature, String[] thrown) {
+                return new MethodVisitor(ASM9) {
+                    @Override public void visitLineNumber(int line, Label at) { lines.putIfAbsent(name + descriptor, line); }
+                };
+            }
+        }, ClassReader.SKIP_FRAMES);
+        return lines;
+    }
+}

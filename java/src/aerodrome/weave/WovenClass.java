@@ -1,0 +1,121 @@
+package aerodrome.weave;
+
+import static org.objectweb.asm.Opcodes.*;
+
+import aerodrome.Options;
+import aerodrome.hooks.Hidden;
+import aerodrome.names.Fields;
+import aerodrome.names.Site;
+import aerodrome.names.Text;
+import java.util.Arrays;
+import java.util.Map;
+import java.util.Set;
+import org.objectweb.asm.ClassVisitor;
+import org.objectweb.asm.FieldVisitor;
+import org.objectweb.asm.MethodVisitor;
+import org.objectweb.asm.commons.JSRInlinerAdapter;
+
+/** A class as it is instrumented. The topmost one of those that are gets the number of its objects. */
+final class WovenClass extends ClassVisitor {
+    /** The versions of class files from which on there are frames, constants that are classes, and code in interfaces. */
+    static final int FRAMES = V1_6, CLASS_CONSTANTS = V1_5, CODE_IN_INTERFACES = V1_8;
+    private static final String NUMBER = Hidden.PREFIX + "number", NUMBERED = "aerodrome/names/Numbered";
+    private static final int MOST_SOURCE = 200;
+
+    private final Set<String> light;
+    private final Map<String, Integer> lines;
+    final Stubs stubs;
+    String name;
+    int version;
+    boolean isInterface;
+    private String source;
+    private boolean isNumbered;
+
+    /**
+     * @param light the methods whose accesses are left out
+     * @param lines the lines in which methods begin
+     */
+    WovenClass(ClassVisitor to, Table table, Set<String> light, Map<String, Integer> lines) {
+        super(ASM9, to);
+        this.light = light;
+        this.lines = lines;
+        stubs = new Stubs(this, to, table);
+    }
+
+    @Override
+    public void visit(int version, int access, String name, String signature, String above, String[] interfaces) {
+        this.name = name;
+        this.version = version & 0xffff;
+        source = Text.withoutPackage(name);
+        isInterface = (access & ACC_INTERFACE) != 0;
+        String[] all = interfaces == null ? new String[0] : interfaces;
+        Fields.note(name, above, all);
+        isNumbered = (access & (ACC_INTERFACE | ACC_MODULE)) == 0 && above != null && !Options.covers(above);
+        if (isNumbered) {
+            all = Arrays.copyOf(all, all.length + 1);
+            all[all.length - 1] = NUMBERED;
+        }
+        super.visit(version, access, name, signature, above, all);
+    }
+
+    @Override
+    public void visitSource(String source, String debug) {
+        if (source != null) this.source = source;
+        super.visitSource(source, debug);
+    }
+
+    @Override
+    public FieldVisitor visitField(int access, String name, String descriptor, String signature, Object value) {
+        Fields.noteField(this.name, name, (access & ACC_FINAL) != 0);
+        return super.visitField(access, name, descriptor, signature, value);
+    }
+
+    @Override
+    public MethodVisitor visitMethod(int access, String method, String descriptor, String signature, String[] thrown) {
+        MethodVisitor to = super.visitMethod(access, method, descriptor, signature, thrown);
+        if (to == null || (access & (ACC_ABSTRACT | ACC_NATIVE)) != 0) return to;
+        MethodVisitor woven = new WovenMethod(to, access, method, descriptor, this);
+        return version < FRAMES ? new JSRInlinerAdapter(woven, access, method, descriptor, signature, thrown) : woven;
+    }
+
+    @Override
+    public void visitEnd() {
+        if (isNumbered) addNumber();
+        stubs.write();
+        super.visitEnd();
+    }
+
+    private void addNumber() {
+        super.visitField(ACC_PRIVATE | ACC_TRANSIENT | ACC_SYNTHETIC, NUMBER, "J", null, null).visitEnd();
+        MethodVisitor get = super.visitMethod(ACC_PUBLIC | ACC_SYNTHETIC, NUMBER, "()J", null, null);
+        get.visitCode();
+        get.visitVarInsn(ALOAD, 0);
+        get.visitFieldInsn(GETFIELD, name, NUMBER, "J");
+        get.visitInsn(LRETURN);
+        get.visitMaxs(0, 0);
+        get.visitEnd();
+        MethodVisitor set = super.visitMethod(ACC_PUBLIC | ACC_SYNTHETIC, NUMBER, "(J)V", null, null);
+        set.visitCode();
+        set.visitVarInsn(ALOAD, 0);
+        set.visitVarInsn(LLOAD, 1);
+        set.visitFieldInsn(PUTFIELD, name, NUMBER, "J");
+        set.visitInsn(RETURN);
+        set.visitMaxs(0, 0);
+        set.visitEnd();
+    }
+
+    // ---- for its methods
+
+    boolean isLight(String method, String descriptor) { return light.contains(method + descriptor); }
+    int firstLine(String method, String descriptor) { return lines.getOrDefault(method + descriptor, 0); }
+
+    /** Whether methods may be added that have code. */
+    boolean takesStubs() { return !isInterface || version >= CODE_IN_INTERFACES; }
+
+    /** How a line of the log ends that tells of this line of the source. */
+    byte[] place(int line) {
+        if (!Options.places) return Text.bytes("\n");
+        return Text.bytes("|" + Text.clean(source, MOST_SOURCE) + (line > 0 ? ":" + line : "") + "\n");
+    }
+    int site(int line) { return Site.place(place(line)); }
+}
