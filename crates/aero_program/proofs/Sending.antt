@@ -42,6 +42,6 @@ pub input_send : (S O F : RattleType) → IsSend S → IsSend O → IsSend F →
 input_send S O F s o f = struct_send (structs.shape (Input.the_type S O F))
     (stage_send S O F s o f, (start_send, (search (sendable, crosses, reason_send) depth 40, (search (sendable, crosses) depth 40, tt))))
 
-pub input_row_send : (S O F : RattleType) → IsSend S → IsSend O → IsSend F → IsSend (structs.row (Input.the_type S O F))
+pub input_row_send : (S O F : RattleType) → IsSend S → IsSend O → IsSend F → IsSend (Input.the_row S O F)
 input_row_send S O F s o f =
     recorded_send (Struct (structs.shape (Input.the_type S O F))) (Input.the_type S O F).D (Input.the_type S O F).to (Input.the_type S O F).to_one (input_send S O F s o f)

@@ -17,8 +17,9 @@ use Rattle.aero_program.specs.Streams.{shown_by, written_by}
 use Rattle.aero_program.proofs.Faulting.{is_fault}
 use Rattle.aero_program.proofs.Judged.{judged}
 use Rattle.aero_program.proofs.Sending.{input_row_send}
+use denote.Exit
 use denote.Param.{param}
-use denote.Param.Send.{param_send, sendable}
+use denote.Param.Send.{arg_send, param_send, sendable}
 use denote.Struct.Field.{shr_ref_field}
 use mir.Syntax.{named}
 use Rattle.aero_program.proofs.answer.judge.Goals as goal
@@ -61,9 +62,9 @@ run_all-report-requires-after_bounds g c = λ κs within.
     c.in-Ok-sources_of.ensures.few few
 
 pub run_all-report-requires-send-R : goal.run_all-report-requires-send-R
-run_all-report-requires-send-R g c κs within = param_send 0 _ (input_row_send (param 0 g.row.S)
+run_all-report-requires-send-R g c κs within = param_send 0 _ (arg_send _ Exit.no _ (input_row_send (param 0 g.row.S)
     (shr_ref_field (record { mir = named 5; lft = κs.1.1.1.1.1.0 }) (param 1 g.row.F) tt).row (param 5 g.row.F-File)
-    c.type_bounds.send-S (search (sendable, c.type_bounds.sync-F) depth 20) c.type_bounds.send-F-File)
+    c.type_bounds.send-S (search (sendable, c.type_bounds.sync-F) depth 20) c.type_bounds.send-F-File))
 
 pub returns-in-Err : goal.returns-in-Err
 returns-in-Err g c =
