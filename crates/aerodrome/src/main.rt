@@ -141,6 +141,7 @@ where
     L: Write + Drop + Send + 'static,
     R: Files + Drop + Threads + Wait + Copy + Send + Sync + 'static,
     R::File: Send,
+    R::Dir: Send,
 {
     let line = ticker.map(|ticker| ticker.line());
     let meter = ticker.map(|ticker| ticker.meter());

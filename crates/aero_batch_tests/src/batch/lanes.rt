@@ -92,6 +92,7 @@ const SUMMARY_OF_LONG_AND_SHORT: &str =
     "traces 21: serializable 21, open 0, violations 0, faults 0/";
 
 // A run's sources, their names, one behind the other, and the report.
+#[derive(Clone, Copy)]
 struct Wanted<'a> {
     places: &'a [usize],
     names: &'a [u8],
@@ -277,20 +278,17 @@ fn order_at(alloc: Global, number: usize) -> Result<Vec<usize>, AllocError> {
     Ok(order)
 }
 
+// Each order by one number of workers.
 #[test]
-fn each_order_of_sources_is_told_in_lanes_as_in_turn(rt: HostRuntime) -> Result<(), Fail> {
+fn each_order_of_sources_is_told_in_lanes(rt: HostRuntime) -> Result<(), Fail> {
     let texts = texts_of(rt.alloc())?;
     for number in 0..120 {
         let places = order_at(rt.alloc(), number)?;
         let (names, report) = told_of(rt.alloc(), &places, SUMMARY_OF_FIVE)?;
-        let wanted = Wanted {
-            places: &places,
-            names: &names,
-            report: &report,
-        };
-        for workers in [2, 4, 16] {
-            assert!(rt; is_as_in_turn(&rt, &texts, &wanted, workers)?, "{number}");
-        }
+        let workers = if number % 2 == 0 { 2 } else { 4 };
+        let writer = Vec::new(rt.alloc());
+        let (lanes, _, back) = in_lanes(&rt, &texts, &places, (writer, workers))?;
+        assert!(rt; lanes == report && back == names, "{number}");
     }
     Ok(())
 }
