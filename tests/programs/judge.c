@@ -18,10 +18,10 @@ static int judge(const char *name, char **words, size_t size)
 {
     struct aerodrome monitor = AERODROME_NONE;
     struct aerodrome_verdict verdict;
-    char piece[64], line[AERODROME_LINE];
+    char line[AERODROME_LINE], *piece = malloc(size);
     size_t length;
     FILE *file = fopen(name, "rb");
-    if (file == NULL || size > sizeof piece || begin(&monitor, words[2], words[3]) != AERODROME_DONE) {
+    if (file == NULL || piece == NULL || begin(&monitor, words[2], words[3]) != AERODROME_DONE) {
         return 1;
     }
     while ((length = fread(piece, 1, size, file)) != 0) {
@@ -30,6 +30,7 @@ static int judge(const char *name, char **words, size_t size)
         }
     }
     fclose(file);
+    free(piece);
     if (aerodrome_verdict(&monitor, &verdict, line, sizeof line, &length) != AERODROME_DONE) {
         return 1;
     }

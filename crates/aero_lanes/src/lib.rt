@@ -15,4 +15,4 @@ mod shared;
 mod steps;
 mod tell;
 
-pub use run::{Report, run_in_lanes};
+pub use run::{Report, run_in_lanes, run_in_turn};

@@ -81,8 +81,9 @@ pub fn run_in_lanes<
     judge_all(shared, room, writer)
 }
 
-// One source after the other, where there is one, or one worker.
-fn run_in_turn<R: Read, W: Write, T: Threads + Wait + Copy + Send + 'static>(
+/// The same by `aero_batch::run`, which reads the sources one after the other, and whose workers serve the one that is read.
+/// For one source, and for small ones, it is faster.
+pub fn run_in_turn<R: Read, W: Write, T: Threads + Wait + Copy + Send + 'static>(
     rt: T,
     alloc: Global,
     mut sources: Vec<Source<R>>,

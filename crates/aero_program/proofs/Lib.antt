@@ -10,3 +10,4 @@ mod Parts
 mod Sizing
 mod Tells
 mod Wording
+mod Sending

@@ -1,7 +1,8 @@
 //! What the program does with what its words ask for.
-ghost use Rattle.std.specs.Prelude.{◌≡◌, ◌⊎◌, List, [], if◌then◌else◌, IfOk, OnOk, OnErr};
+ghost use Rattle.std.specs.Prelude.{◌≡◌, ◌⊎◌, ◌≤◌, List, [], if◌then◌else◌, map, vec_len, IfOk, OnOk, OnErr};
 ghost use Rattle.aero_model.specs.CallCounts.{seen_by};
-ghost use Rattle.aero_batch.specs.Founds.{Took};
+ghost use Rattle.aero_batch.specs.Founds.{sighted, Took, WasRun};
+ghost use Rattle.aero_intake.specs.PlanTerms.{terms_of};
 ghost use Rattle.aero_program.specs.Answers.{AnswersTo, Ends, Fails, Helps, Judges, Stops, TellsNoWords, TellsUnlisted, TellsWord};
 ghost use Rattle.aero_program.specs.declared.failure.Failure.TheVariants.{Memory};
 ghost use Rattle.aero_program.specs.declared.listing.Unlisted.TheVariants.{Unread};
@@ -21,17 +22,18 @@ use crate::notes::{Naming, notes_of, reason_note};
 use crate::output::Output;
 use crate::reason::Reason;
 use crate::retrying::Retrying;
+use crate::sizes::{Sizes, are_worth_threads};
 use crate::sources::sources_of;
-use crate::status::status_after;
-use aero_batch::run::run;
+use crate::status::end_after;
 use aero_batch::source::Source;
+use aero_intake::plan::Plan;
+use aero_lanes::{Report, run_in_lanes, run_in_turn};
 use aero_model::counting::Counting;
 use aero_model::verdict::Ending;
 use aero_report::{Cut, put};
-use aero_worker::NoGate;
 use std::alloc::{AllocError, Global};
 use std::io::{Read, Write};
-use std::sync::{Arc, Wait};
+use std::sync::Wait;
 use std::thread::Threads;
 
 /// Does what the words ask for, and gives the exit status.
@@ -45,11 +47,11 @@ use std::thread::Threads;
 /// standard error. Where standard error takes nothing, the status still tells. A read, a write or a
 /// flush that is interrupted is tried again.
 pub fn answer<
-    S: Read + Drop,
-    F: Opener + Drop,
+    S: Read + Drop + Send,
+    F: Opener + Sizes + Drop + Sync,
     O: Write,
     E: Write,
-    T: Threads + Wait + Copy + Send + 'static,
+    T: Threads + Wait + Copy + Send + Sync + 'static,
 >(
     rt: T,
     alloc: Global,
@@ -59,6 +61,8 @@ pub fn answer<
     output: &mut Output<O>,
     errors: &mut Counting<Retrying<E>>,
 ) -> u8
+where
+    F::File: Send,
     ensures { AnswersTo asked (S.remaining stdin) (shown_by O.contents output.old) (shown_by O.contents output.new)
         (seen_by (λ w. E.contents (tried_by w)) errors.old) (seen_by (λ w. E.contents (tried_by w)) errors.new) result }
 {
@@ -70,11 +74,11 @@ pub fn answer<
 
 // Judges the sources, and tells what is found.
 fn judge<
-    S: Read + Drop,
-    F: Opener + Drop,
+    S: Read + Drop + Send,
+    F: Opener + Sizes + Drop + Sync,
     O: Write,
     E: Write,
-    T: Threads + Wait + Copy + Send + 'static,
+    T: Threads + Wait + Copy + Send + Sync + 'static,
 >(
     rt: T,
     alloc: Global,
@@ -84,33 +88,63 @@ fn judge<
     output: &mut Output<O>,
     errors: &mut Counting<E>,
 ) -> u8
+where
+    F::File: Send,
     ensures { Judges config (S.remaining stdin) (shown_by O.contents output.old) (shown_by O.contents output.new)
         (seen_by E.contents errors.old) (seen_by E.contents errors.new) result }
 {
-    let Ok(gate) = Arc::new(alloc, NoGate) else {
-        return fail(Failure::Memory, errors);
-    };
     let long = config.long;
     let fail_open = config.fail_open;
     let on_terminal = config.terminals.errors;
     let Ok((plan, asked)) = config.into_plan(alloc) else {
         return fail(Failure::Memory, errors);
     };
-    let mut sources = match sources_of(alloc, files, stdin, &asked) {
+    let sources = match sources_of(alloc, files, stdin, &asked) {
         Ok(sources) => sources,
         Err(why) => return tell_unlisted(alloc, asked.list_path(), why, on_terminal, errors),
     };
-    let outcome = run(rt, alloc, &mut sources, &mut output.writer, &plan, gate);
+    let host = Host { rt, alloc };
+    let in_lanes = are_worth_threads(files, &sources);
+    let (report, sources) = run_all(host, in_lanes, sources, &mut output.writer, &plan);
     let flushed = output.flush();
-    let end = status_after(&outcome, &flushed, fail_open);
-    let endings = noted(&outcome.endings, long);
+    let end = end_after(report.cause, &report.counts, &flushed, fail_open);
+    let endings = noted(&report.endings, long);
     let looker = Looker::new(alloc, files);
     let naming = Naming {
         are_words: asked.are_words(),
         on_terminal,
     };
-    let notes = notes_of(&looker, sources, endings, &outcome.faults, naming);
+    let notes = notes_of(&looker, sources, endings, &report.faults, naming);
     finish(end, notes, errors)
+}
+
+// What a run takes time and memory from.
+#[derive(Clone, Copy)]
+struct Host<T> {
+    rt: T,
+    alloc: Global,
+}
+
+// Runs over the sources: by a thread for each, or in turn.
+fn run_all<
+    R: Read + Drop + Send,
+    W: Write,
+    T: Threads + Wait + Copy + Send + Sync + 'static,
+>(
+    host: Host<T>,
+    in_lanes: bool,
+    sources: Vec<Source<R>>,
+    writer: &mut Counting<W>,
+    plan: &Plan,
+) -> (Report, Vec<Source<R>>)
+    requires { vec_len sources ≤ 65536 }
+    ensures ran { WasRun (terms_of plan.now) plan.now.form (map (sighted R.remaining) sources.items) (map (sighted R.remaining) result.1.items)
+        (seen_by W.contents writer.old) (seen_by W.contents writer.new) result.0.endings.items result.0.faults.items result.0.counts result.0.cause }
+{
+    if in_lanes {
+        return run_in_lanes(host.rt, host.alloc, sources, writer, plan);
+    }
+    run_in_turn(host.rt, host.alloc, sources, writer, plan)
 }
 
 // Tells why there are no sources, where the list with their names, at this path, can't be had.

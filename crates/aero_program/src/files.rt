@@ -94,6 +94,11 @@ impl<'a, O: Opener> MeteredFiles<'a, O> {
     pub fn new(opener: O, meter: Option<&'a Meter>) -> MeteredFiles<'a, O> {
         MeteredFiles { opener, meter }
     }
+
+    // What opens them.
+    pub(crate) fn opener(&self) -> &O {
+        &self.opener
+    }
 }
 
 impl<'a, O: Opener> Opener for MeteredFiles<'a, O> {

@@ -2,9 +2,14 @@
 ghost use Rattle.std.specs.Prelude.{ℕ, List, IfSome, map, string_bytes, ⊤};
 ghost use Rattle.aero_program.specs.Sizes.{AreSizes};
 
-use crate::files::FilesOf;
+use crate::files::{FilesOf, MeteredFiles, Opener};
+use aero_batch::source::Source;
 use std::fs;
 use std::rt::Files;
+use std::str;
+
+// A file with so many bytes is large: it has some thousand events.
+const LARGE: u64 = 65_536;
 
 /// What tells how large files are. Its ghost member `has_size` says which files may have which sizes.
 pub trait Sizes {
@@ -26,6 +31,36 @@ impl<F: Files> Sizes for FilesOf<F> {
         } else {
             None
         }
+    }
+}
+
+impl<O: Opener + Sizes> Sizes for MeteredFiles<'_, O> {
+    ghost has_size = { O.has_size };
+
+    fn size(&self, path: &str) -> Option<u64> {
+        self.opener().size(path)
+    }
+}
+
+/// Whether the sources are best judged by a thread each: the plain files among them have 65,536 bytes each on average, since
+/// a thread takes time to start, and none has over four sevenths of all bytes. One that has would have a single thread at
+/// work on it for longer than it takes to judge all in turn, with workers that read ahead.
+pub(crate) fn are_worth_threads<R, Z: Sizes>(files: &Z, sources: &[Source<R>]) -> bool {
+    let mut whole: u64 = 0;
+    let mut largest: u64 = 0;
+    for source in sources {
+        let size = size_of(files, source);
+        whole = whole.saturating_add(size);
+        largest = largest.max(size);
+    }
+    whole / 7 >= largest / 4 && whole / LARGE >= sources.len() as u64
+}
+
+// How many bytes the plain file has that the source is named as. What is none counts for nothing.
+fn size_of<R, Z: Sizes>(files: &Z, source: &Source<R>) -> u64 {
+    match str::from_utf8(&source.name) {
+        Ok(path) => files.size(path).unwrap_or(0),
+        Err(_) => 0,
     }
 }
 

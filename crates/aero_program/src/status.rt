@@ -7,6 +7,7 @@ ghost use Rattle.aero_program.specs.Status.{status_of, end_of_run};
 use crate::failure::Failure;
 use crate::lasting::flush_fault;
 use aero_batch::outcome::{Cause, Outcome};
+use aero_model::verdict::Counts;
 use std::io;
 
 /// The exit status of a run: 4 where it stopped before its summary was written, else 2 where a
@@ -15,11 +16,18 @@ use std::io;
 pub fn status(outcome: &Outcome, fail_open: bool) -> u8
     ensures { result ≡ status_of fail_open outcome.now.cause outcome.now.counts }
 {
-    if outcome.cause.is_some() {
+    status_by(outcome.cause, &outcome.counts, fail_open)
+}
+
+// The same by why the run stopped, if it did, and its counts.
+fn status_by(cause: Option<Cause>, counts: &Counts, fail_open: bool) -> u8
+    ensures { result ≡ status_of fail_open cause counts.now }
+{
+    if cause.is_some() {
         4
-    } else if outcome.counts.faults > 0 {
+    } else if counts.faults > 0 {
         2
-    } else if outcome.counts.violations > 0 || (fail_open && outcome.counts.pending > 0) {
+    } else if counts.violations > 0 || (fail_open && counts.pending > 0) {
         1
     } else {
         0
@@ -40,10 +48,22 @@ pub fn status_after(
 ) -> Result<u8, Failure>
     ensures { result ≡ end_of_run fail_open outcome.now.cause outcome.now.counts (fault_of error_kind flushed.now) }
 {
-    match (outcome.cause, flush_fault(flushed)) {
+    end_after(outcome.cause, &outcome.counts, flushed, fail_open)
+}
+
+// The same by why the run stopped, if it did, and its counts.
+pub(crate) fn end_after(
+    cause: Option<Cause>,
+    counts: &Counts,
+    flushed: &io::Result<()>,
+    fail_open: bool,
+) -> Result<u8, Failure>
+    ensures { result ≡ end_of_run fail_open cause counts.now (fault_of error_kind flushed.now) }
+{
+    match (cause, flush_fault(flushed)) {
         (Some(Cause::Memory), _) => Err(Failure::Memory),
         (Some(Cause::Write), fault) => Err(Failure::of_cut(fault)),
         (None, Some(kind)) => Err(Failure::of_write(kind)),
-        (None, None) => Ok(status(outcome, fail_open)),
+        (None, None) => Ok(status_by(None, counts, fail_open)),
     }
 }

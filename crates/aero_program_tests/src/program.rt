@@ -19,6 +19,7 @@ use aero_program::input::Input;
 use aero_program::output::Output;
 use aero_program::reason::Reason;
 use aero_program::retrying::Retrying;
+use aero_program::sizes::Sizes;
 use std::alloc::{AllocError, Global};
 use std::io::{ErrorKind, Read};
 use std::sync::Wait;
@@ -119,8 +120,8 @@ fn errors_of(alloc: Global, damage: &Damage) -> Interrupted<Narrow> {
 
 // Whether a call answers so, where standard input has this text.
 pub(crate) fn is_answered<
-    R: AllocGlobal + Threads + Wait + Copy + Drop + Send + 'static,
-    F: Opener + Drop,
+    R: AllocGlobal + Threads + Wait + Copy + Drop + Send + Sync + 'static,
+    F: Opener + Sizes + Drop + Sync,
 >(
     rt: R,
     files: &F,
@@ -128,7 +129,10 @@ pub(crate) fn is_answered<
     text: &'static [u8],
     damage: &Damage,
     wanted: Wanted,
-) -> bool {
+) -> bool
+where
+    F::File: Send,
+{
     let stdin = Text {
         left: text,
         failures: damage.reads,
@@ -525,7 +529,7 @@ fn what_is_not_judged_is_told(rt: HostRuntime) -> Result<(), Fail> {
 }
 
 // What standard output and standard error have after a call, where standard input has this text.
-fn flushes_of<R: AllocGlobal + Threads + Wait + Copy + Drop + Send + 'static>(
+fn flushes_of<R: AllocGlobal + Threads + Wait + Copy + Drop + Send + Sync + 'static>(
     rt: R,
     asked: Result<Config, Stop>,
     text: &'static [u8],

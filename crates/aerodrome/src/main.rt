@@ -135,11 +135,13 @@ fn answer_beside<I, O, E, L, R>(
     ticker: Option<&Ticker<L>>,
 ) -> u8
 where
-    I: Read + Drop,
+    I: Read + Drop + Send,
     O: Write + Drop,
     E: Write + Drop,
     L: Write + Drop + Send + 'static,
-    R: Files + Drop + Threads + Wait + Copy + Send + 'static,
+    R: Files + Drop + Threads + Wait + Copy + Send + Sync + 'static,
+    R::File: Send,
+    R::Dir: Send,
 {
     let line = ticker.map(|ticker| ticker.line());
     let meter = ticker.map(|ticker| ticker.meter());

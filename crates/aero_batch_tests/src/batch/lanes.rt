@@ -17,16 +17,36 @@ use std::thread::Threads;
 
 const NEVER: usize = 1_000_000_000;
 
-// A source has this name, and this text so many times, and its reader fails after so many bytes.
-type Part = (&'static str, (&'static str, usize), usize);
+// A source has this name, and this text so many times, its reader fails after so many bytes, and this is its line.
+type Part = (&'static str, (&'static str, usize), usize, &'static str);
 
 // The last takes many reads.
 static PARTS: [Part; 5] = [
-    ("s", (ONE_BLOCK, 1), NEVER),
-    ("v", (CROSSED, 1), NEVER),
-    ("m", ("T1|r(x)/T1|r()", 1), NEVER),
-    ("b", (CROSSED, 1), 20),
-    ("l", ("T1|r(x)/", 5_000), NEVER),
+    (
+        "s",
+        (ONE_BLOCK, 1),
+        NEVER,
+        "s: serializable (5 events, 1 blocks)/",
+    ),
+    (
+        "v",
+        (CROSSED, 1),
+        NEVER,
+        "v: violation at line 6: block of T1 from line 1/",
+    ),
+    (
+        "m",
+        ("T1|r(x)/T1|r()", 1),
+        NEVER,
+        "m:2: malformed: MissingTarget/",
+    ),
+    ("b", (CROSSED, 1), 20, "b: broken after 20 bytes/"),
+    (
+        "l",
+        ("T1|r(x)/", 5_000),
+        NEVER,
+        "l: serializable (5000 events, 0 blocks)/",
+    ),
 ];
 
 // The places of a run's sources among these, their names, and the report.
@@ -59,6 +79,44 @@ static ROWS: [Row; 5] = [
         "s: serializable (5 events, 1 blocks)/v: violation at line 6: block of T1 from line 1/l: serializable (5000 events, 0 blocks)/b: broken after 20 bytes/l: serializable (5000 events, 0 blocks)/traces 5: serializable 3, open 0, violations 1, faults 1/",
     ),
 ];
+
+// The summary of all parts, in any order.
+const SUMMARY_OF_FIVE: &str = "traces 5: serializable 2, open 0, violations 1, faults 2/";
+
+// The last part, and then the first one twenty times, and the summary.
+static LONG_AND_SHORT: [usize; 21] = [
+    4, 0, 0, 0, 0, 0, 0, 0, 0, 0, 0, 0, 0, 0, 0, 0, 0, 0, 0, 0, 0,
+];
+
+const SUMMARY_OF_LONG_AND_SHORT: &str =
+    "traces 21: serializable 21, open 0, violations 0, faults 0/";
+
+// A run's sources, their names, one behind the other, and the report.
+#[derive(Clone, Copy)]
+struct Wanted<'a> {
+    places: &'a [usize],
+    names: &'a [u8],
+    report: &'a [u8],
+}
+
+// The names of the sources, one behind the other, and the report, by their lines and the summary.
+fn told_of(
+    alloc: Global,
+    places: &[usize],
+    summary: &str,
+) -> Result<(Vec<u8>, Vec<u8>), AllocError> {
+    let mut names = Vec::new(alloc);
+    let mut report = Vec::new(alloc);
+    for place in places {
+        let Some(part) = PARTS.get(*place) else {
+            continue;
+        };
+        names.extend_from_slice(part.0.as_bytes())?;
+        report.extend_from_slice(&lines_of(alloc, part.3)?)?;
+    }
+    report.extend_from_slice(&lines_of(alloc, summary)?)?;
+    Ok((names, report))
+}
 
 // The texts of the parts.
 fn texts_of(alloc: Global) -> Result<Vec<Vec<u8>>, AllocError> {
@@ -108,7 +166,7 @@ fn names_of<R>(alloc: Global, sources: &[Source<R>]) -> Result<Vec<u8>, AllocErr
     Ok(names)
 }
 
-// Runs over at most nine sources in lanes.
+// Runs over at most 30 sources in lanes.
 fn run_few<
     R: Read + Drop + Send,
     W: Write,
@@ -119,7 +177,7 @@ fn run_few<
     writer: &mut Counting<W>,
     plan: &Plan,
 ) -> Result<(Report, Vec<Source<R>>), Fail> {
-    if sources.len() > 9 {
+    if sources.len() > 30 {
         return Err("too many sources".into());
     }
     Ok(run_in_lanes(*rt, rt.alloc(), sources, writer, plan))
@@ -143,15 +201,15 @@ fn is_told_so(report: &Report, outcome: &Outcome) -> bool {
         && report.cause == outcome.cause
 }
 
-// What a run in turn writes of a row's sources, and tells.
+// What a run in turn writes of these sources, and tells.
 fn in_turn<T: AllocGlobal + Threads + Wait + Copy + Send + Sync + 'static>(
     rt: &T,
     texts: &[Vec<u8>],
-    row: &Row,
+    places: &[usize],
     workers: u32,
 ) -> Result<(Vec<u8>, Outcome), Fail> {
     let plan = plan_with(rt.alloc(), workers)?;
-    let mut sources = sources_of(rt.alloc(), texts, row.0)?;
+    let mut sources = sources_of(rt.alloc(), texts, places)?;
     let mut writer = Counting::new(Vec::new(rt.alloc()));
     let outcome = run_planned(*rt, Who::Crew(workers), &mut sources, &mut writer, &plan)?;
     Ok((writer.into_inner(), outcome))
@@ -161,42 +219,91 @@ fn in_turn<T: AllocGlobal + Threads + Wait + Copy + Send + Sync + 'static>(
 fn in_lanes<W: Write + Drop, T: AllocGlobal + Threads + Wait + Copy + Send + Sync + 'static>(
     rt: &T,
     texts: &[Vec<u8>],
-    row: &Row,
+    places: &[usize],
     (writer, workers): (W, u32),
 ) -> Result<(W, Report, Vec<u8>), Fail> {
     let plan = plan_with(rt.alloc(), workers)?;
-    let sources = sources_of(rt.alloc(), texts, row.0)?;
+    let sources = sources_of(rt.alloc(), texts, places)?;
     let mut writer = Counting::new(writer);
     let (report, back) = run_few(rt, sources, &mut writer, &plan)?;
     let names = names_of(rt.alloc(), &back)?;
     Ok((writer.into_inner(), report, names))
 }
 
-// Whether both write this row's report and tell the same, and the lanes give all sources back.
+// Whether both write the report and tell the same, and the lanes give all sources back.
 fn is_as_in_turn<T: AllocGlobal + Threads + Wait + Copy + Send + Sync + 'static>(
     rt: &T,
     texts: &[Vec<u8>],
-    row: &Row,
+    wanted: &Wanted<'_>,
     workers: u32,
 ) -> Result<bool, Fail> {
-    let wanted = lines_of(rt.alloc(), row.2)?;
-    let (turns, outcome) = in_turn(rt, texts, row, workers)?;
-    let (lanes, report, names) = in_lanes(rt, texts, row, (Vec::new(rt.alloc()), workers))?;
-    Ok(
-        turns == wanted
-            && lanes == wanted
-            && is_told_so(&report, &outcome)
-            && names.as_slice() == row.1.as_bytes(),
-    )
+    let (turns, outcome) = in_turn(rt, texts, wanted.places, workers)?;
+    let writer = Vec::new(rt.alloc());
+    let (lanes, report, names) = in_lanes(rt, texts, wanted.places, (writer, workers))?;
+    Ok(turns.as_slice() == wanted.report
+        && lanes.as_slice() == wanted.report
+        && is_told_so(&report, &outcome)
+        && names.as_slice() == wanted.names)
 }
 
 #[test]
 fn the_report_in_lanes_is_that_of_a_run_in_turn(rt: HostRuntime) -> Result<(), Fail> {
     let texts = texts_of(rt.alloc())?;
     for row in ROWS.iter() {
+        let report = lines_of(rt.alloc(), row.2)?;
+        let wanted = Wanted {
+            places: row.0,
+            names: row.1.as_bytes(),
+            report: &report,
+        };
         for workers in [1, 2, 4, 16] {
-            assert!(rt; is_as_in_turn(&rt, &texts, row, workers)?, "{}", row.2);
+            assert!(rt; is_as_in_turn(&rt, &texts, &wanted, workers)?, "{}", row.2);
         }
+    }
+    Ok(())
+}
+
+// One of the 120 orders of the parts, by its number from 0.
+fn order_at(alloc: Global, number: usize) -> Result<Vec<usize>, AllocError> {
+    let mut left = Vec::from_slice(alloc, &[0, 1, 2, 3, 4])?;
+    let mut order = Vec::with_capacity(alloc, 5)?;
+    let mut number = number;
+    for size in [5, 4, 3, 2, 1] {
+        let at = number % size;
+        number /= size;
+        if at < left.len() {
+            order.push(left.remove(at))?;
+        }
+    }
+    Ok(order)
+}
+
+// Each order by one number of workers.
+#[test]
+fn each_order_of_sources_is_told_in_lanes(rt: HostRuntime) -> Result<(), Fail> {
+    let texts = texts_of(rt.alloc())?;
+    for number in 0..120 {
+        let places = order_at(rt.alloc(), number)?;
+        let (names, report) = told_of(rt.alloc(), &places, SUMMARY_OF_FIVE)?;
+        let workers = if number % 2 == 0 { 2 } else { 4 };
+        let writer = Vec::new(rt.alloc());
+        let (lanes, _, back) = in_lanes(&rt, &texts, &places, (writer, workers))?;
+        assert!(rt; lanes == report && back == names, "{number}");
+    }
+    Ok(())
+}
+
+#[test]
+fn a_long_source_is_told_before_twenty_short_ones(rt: HostRuntime) -> Result<(), Fail> {
+    let texts = texts_of(rt.alloc())?;
+    let (names, report) = told_of(rt.alloc(), &LONG_AND_SHORT, SUMMARY_OF_LONG_AND_SHORT)?;
+    let wanted = Wanted {
+        places: &LONG_AND_SHORT,
+        names: &names,
+        report: &report,
+    };
+    for workers in [2, 4, 16] {
+        assert!(rt; is_as_in_turn(&rt, &texts, &wanted, workers)?, "{workers}");
     }
     Ok(())
 }
@@ -214,7 +321,7 @@ fn is_cut_in_lanes<T: AllocGlobal + Threads + Wait + Copy + Send + Sync + 'stati
         left: front.len(),
         takes_nothing: false,
     };
-    let (writer, report, names) = in_lanes(rt, texts, row, (writer, 2))?;
+    let (writer, report, names) = in_lanes(rt, texts, row.0, (writer, 2))?;
     Ok(
         writer.taken.as_slice() == front
             && report.endings.len() == lines_in(front)

@@ -26,7 +26,7 @@ pub(crate) enum Who {
     Crew(u32),
 }
 
-// Runs over at most nine sources, with no label listed, and asks for no order.
+// Runs over at most nine sources, or 30 with a crew, with no label listed, and asks for no order.
 pub(crate) fn run_by<R: Read, W: Write, T: AllocGlobal + Threads + Wait + Copy + Send + 'static>(
     rt: T,
     who: Who,
@@ -143,7 +143,7 @@ pub(crate) fn run_gated<
     plan: &Plan,
     gate: Arc<G>,
 ) -> Option<Outcome> {
-    if sources.len() > 9 {
+    if sources.len() > 30 {
         return None;
     }
     let Ok(shared) = Arc::try_clone(&gate) else {

@@ -56,7 +56,7 @@ fn asked(alloc: Global) -> Result<Config, AllocError> {
 }
 
 // Whether the fault of a file with this text is told so.
-fn is_told<R: AllocGlobal + Threads + Wait + Copy + Drop + Send + 'static>(
+fn is_told<R: AllocGlobal + Threads + Wait + Copy + Drop + Send + Sync + 'static>(
     rt: R,
     text: &'static [u8],
     report: &'static [u8],
@@ -68,7 +68,7 @@ fn is_told<R: AllocGlobal + Threads + Wait + Copy + Drop + Send + 'static>(
     Some(is_answered(rt, &files, Ok(config), b"", &SOUND, wanted))
 }
 
-fn first_held<R: AllocGlobal + Threads + Wait + Copy + Drop + Send + 'static>(
+fn first_held<R: AllocGlobal + Threads + Wait + Copy + Drop + Send + Sync + 'static>(
     rt: R,
 ) -> Option<usize> {
     for i in 0..HELD_ROWS.len() {
@@ -79,7 +79,7 @@ fn first_held<R: AllocGlobal + Threads + Wait + Copy + Drop + Send + 'static>(
     None
 }
 
-fn first_unknown<R: AllocGlobal + Threads + Wait + Copy + Drop + Send + 'static>(
+fn first_unknown<R: AllocGlobal + Threads + Wait + Copy + Drop + Send + Sync + 'static>(
     rt: R,
 ) -> Option<usize> {
     for i in 0..UNKNOWN_ROWS.len() {

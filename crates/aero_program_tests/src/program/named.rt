@@ -13,7 +13,7 @@ use std::thread::Threads;
 // blocks make the status 1.
 type Named = (&'static str, &'static [u8], Damage, u32, Wanted);
 
-fn is_named_so<R: AllocGlobal + Threads + Wait + Copy + Drop + Send + 'static>(
+fn is_named_so<R: AllocGlobal + Threads + Wait + Copy + Drop + Send + Sync + 'static>(
     rt: R,
     sources: Sources,
     row: &Named,
@@ -94,7 +94,7 @@ static SHOWN_ROWS: [Shown; 4] = [
 ];
 
 // Whether standard input, which fails behind its text, is told so under the name.
-fn is_shown_so<R: AllocGlobal + Threads + Wait + Copy + Drop + Send + 'static>(
+fn is_shown_so<R: AllocGlobal + Threads + Wait + Copy + Drop + Send + Sync + 'static>(
     rt: R,
     row: &Shown,
 ) -> bool {
@@ -112,7 +112,7 @@ fn is_shown_so<R: AllocGlobal + Threads + Wait + Copy + Drop + Send + 'static>(
 }
 
 // The first row that doesn't hold.
-fn first_misshown<R: AllocGlobal + Threads + Wait + Copy + Drop + Send + 'static>(
+fn first_misshown<R: AllocGlobal + Threads + Wait + Copy + Drop + Send + Sync + 'static>(
     rt: R,
     rows: &[Shown],
 ) -> Option<usize> {
@@ -208,6 +208,59 @@ fn the_files_of_a_list_are_judged(rt: HostRuntime) -> Result<(), Fail> {
     for row in rows {
         let path = String::from_str(rt.alloc(), row.0)?;
         assert!(rt; is_named_so(rt, Sources::Listed(path), &row));
+    }
+    Ok(())
+}
+
+// What is told of the files f, g and h, which are said to be large, where so many opens and so many reads of each fail.
+type Large = (u32, u32, Wanted);
+
+static LARGE_ROWS: [Large; 3] = [
+    (
+        0,
+        0,
+        (
+            b"f: serializable (1 events, 0 blocks)\ng: serializable (1 events, 0 blocks)\n\
+                h: serializable (1 events, 0 blocks)\n\
+                traces 3: serializable 3, open 0, violations 0, faults 0\n",
+            b"",
+            0,
+        ),
+    ),
+    (
+        EVER,
+        0,
+        (
+            b"f: broken after 0 bytes\ng: broken after 0 bytes\nh: broken after 0 bytes\n\
+                traces 3: serializable 0, open 0, violations 0, faults 3\n",
+            b"aerodrome: f: Permission denied\naerodrome: g: Permission denied\n\
+                aerodrome: h: Permission denied\n",
+            2,
+        ),
+    ),
+    (
+        0,
+        EVER,
+        (
+            b"f: broken after 8 bytes\ng: broken after 8 bytes\nh: broken after 8 bytes\n\
+                traces 3: serializable 0, open 0, violations 0, faults 3\n",
+            b"aerodrome: f: Input/output error\naerodrome: g: Input/output error\n\
+                aerodrome: h: Input/output error\n",
+            2,
+        ),
+    ),
+];
+
+// Large files are judged by a thread each. What is told is what is told of small ones.
+#[test]
+fn large_files_are_told_as_small_ones_are(rt: HostRuntime) -> Result<(), Fail> {
+    for row in LARGE_ROWS.iter() {
+        for size in [0, 1_000_000] {
+            let path = String::from_str(rt.alloc(), "-")?;
+            let config = config_for(rt.alloc(), Sources::Listed(path), false, false);
+            let shelf = Shelf::new(WRITE, 0, row.0, row.1).with_size(size);
+            assert!(rt; is_answered(rt, &shelf, Ok(config), b"f\0g\0h\0", &SOUND, row.2));
+        }
     }
     Ok(())
 }

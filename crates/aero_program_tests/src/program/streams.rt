@@ -138,7 +138,8 @@ impl<W: Write> Write for Interrupted<W> {
 }
 
 // Files that all have one text, of which so many opens are interrupted and then so many fail. Reads go as
-// those of a `Text`, each interrupted as often as the opens were to be.
+// those of a `Text`, each interrupted as often as the opens were to be. They are no plain files, or are said to have
+// `size` bytes each.
 #[derive(Drop)]
 pub(crate) struct Shelf {
     text: &'static [u8],
@@ -146,6 +147,7 @@ pub(crate) struct Shelf {
     interruptions: AtomicU64,
     open_failures: AtomicU64,
     read_failures: u32,
+    size: Option<u64>,
 }
 
 impl Shelf {
@@ -161,7 +163,14 @@ impl Shelf {
             interruptions: AtomicU64::new(u64::from(times)),
             open_failures: AtomicU64::new(u64::from(open_failures)),
             read_failures,
+            size: None,
         }
+    }
+
+    // The same with plain files of so many bytes each, as it is said.
+    pub(crate) fn with_size(mut self, bytes: u64) -> Shelf {
+        self.size = Some(bytes);
+        self
     }
 }
 
@@ -239,7 +248,15 @@ impl Opener for Shelf {
     }
 
     fn is_plain(&self, _path: &str) -> bool {
-        false
+        self.size.is_some()
+    }
+}
+
+impl Sizes for Shelf {
+    ghost has_size = { λ _ _. ⊤ };
+
+    fn size(&self, _path: &str) -> Option<u64> {
+        self.size
     }
 }
 
@@ -300,5 +317,14 @@ impl Opener for Changing {
 
     fn is_plain(&self, _path: &str) -> bool {
         self.are_plain
+    }
+}
+
+// How many bytes they have isn't said.
+impl Sizes for Changing {
+    ghost has_size = { λ _ _. ⊤ };
+
+    fn size(&self, _path: &str) -> Option<u64> {
+        None
     }
 }

@@ -16,50 +16,60 @@ use Rattle.aero_program.specs.Faults.{fault_of}
 use Rattle.aero_program.specs.Streams.{shown_by, written_by}
 use Rattle.aero_program.proofs.Faulting.{is_fault}
 use Rattle.aero_program.proofs.Judged.{judged}
+use Rattle.aero_program.proofs.Sending.{input_row_send}
+use denote.Exit
+use denote.Param.{param}
+use denote.Param.Send.{arg_send, param_send, sendable}
+use denote.Struct.Field.{shr_ref_field}
+use mir.Syntax.{named}
 use Rattle.aero_program.proofs.answer.judge.Goals as goal
 
 pub returns : goal.returns
 returns g c =
-    let kept : length c.run-outcome.new.sources ≡ c.in-Ok-sources_of.sources.len = omega (arith, c.run-outcome.auto.sources, c.deref_mut.ensures.len) in
     let given = g.S.Read.remaining c.args.stdin in
     let config = c.args.config in
-    let asked_is = c.in-Ok-into_plan.ensures.files in
+    let asked_is = c.in-Ok.ensures.files in
     let names : List (List ℕ) = map (λ s. s.name.items) c.in-Ok-sources_of.sources.items in
     let named : AreNames config.files given names = subst (λ (s : Sources). AreNames s given names) asked_is c.in-Ok-sources_of.ensures.names in
     let seen = c.in-Ok-sources_of.ensures.sighted ∙ ap (λ (s : Sources). source_sightings s given names) asked_is in
     let naming_of : Bool → Naming = λ words. record { are_words = words; on_terminal = config.terminals.errors } in
     let words_are = ap naming_of (c.are_words.ensures ∙ ap are_words asked_is) in
-    let told = noted_as (λ text. text.items) (naming_of c.are_words.result) (naming_of (are_words config.files)) _ c.noted-endings.result.now (if config.long then [] else c.run-outcome.result.endings.items) c.deref-2.result.now c.run-outcome.result.faults.items
-    words_are (c.noted-endings.ensures ∙ ap (λ l. if config.long then [] else l) c.deref.ensures.value) c.deref-2.ensures.value c.notes_of-notes.result c.notes_of-notes.ensures in
+    let told = noted_as (λ text. text.items) (naming_of c.are_words.result) (naming_of (are_words config.files)) _ c.noted-endings.result.now (if config.long then [] else c.run_all-report.result.0.endings.items) c.deref-3.result.now c.run_all-report.result.0.faults.items
+    words_are (c.noted-endings.ensures ∙ ap (λ l. if config.long then [] else l) c.deref-2.ensures.value) c.deref-3.ensures.value c.notes_of-notes.result c.notes_of-notes.ensures in
     inl (judged (λ input. bytes_left (standing_of g.S.Read.remaining input)) config given
-    c.in-Ok-into_plan.plan.limits names c.in-Ok-sources_of.sources.items c.deref_mut.result.now c.run-outcome.new.sources _
+    c.in-Ok.plan.limits names c.in-Ok-sources_of.sources.items c.in-Ok-sources_of.sources.items c.run_all-report.result.1.items c.run_all-report.result.1.items
     (shown_by g.O.Write.contents c.args.output.now)
     (record {
-      writer = seen_by (λ w. g.O.Write.contents (written_by w)) c.run-outcome.new.writer;
+      writer = seen_by (λ w. g.O.Write.contents (written_by w)) c.run_all-report.new.writer;
       unflushed = c.args.output.now.unflushed.number;
     })
     (shown_by g.O.Write.contents c.flush-flushed.new.self)
-    c.run-outcome.result.endings.items c.run-outcome.result.faults.items c.run-outcome.result.counts c.run-outcome.result.cause (fault_of error_kind c.flush-flushed.result) c.status_after-end.result _ _ c.finish.result (terms_of c.in-Ok-into_plan.plan) c.in-Ok-into_plan.plan.form
-    (λ i. asking c.in-Ok-into_plan.plan.limits (c.in-Ok-into_plan.ensures.except i) (c.in-Ok-into_plan.ensures.order i) (c.in-Ok-into_plan.ensures.explain i)) c.in-Ok-into_plan.ensures.form c.in-Ok-into_plan.ensures.limits
+    c.run_all-report.result.0.endings.items c.run_all-report.result.0.faults.items c.run_all-report.result.0.counts c.run_all-report.result.0.cause (fault_of error_kind c.flush-flushed.result) c.end_after-end.result _ _ c.finish.result (terms_of c.in-Ok.plan) c.in-Ok.plan.form
+    (λ i. asking c.in-Ok.plan.limits (c.in-Ok.ensures.except i) (c.in-Ok.ensures.order i) (c.in-Ok.ensures.explain i)) c.in-Ok.ensures.form c.in-Ok.ensures.limits
     named seen
-    c.deref_mut.ensures.value (with_items_is c.in-Ok-sources_of.sources c.run-outcome.new.sources kept)
-    c.run-outcome.ensures.ran refl
+    refl refl
+    c.run_all-report.ensures.ran refl
     (record {
       bytes = c.flush-flushed.ensures.bytes;
       faults = c.flush-flushed.ensures.faults;
       unflushed = c.flush-flushed.ensures.unflushed ∙ ap (λ b. c.args.output.now.unflushed.number + (if b then 1 else 0)) (is_fault error_kind c.flush-flushed.result);
     })
-    c.status_after-end.ensures told.remarks told.are told.shown (c.finish.ensures told.remarks told.told))
+    c.end_after-end.ensures told.remarks told.are told.shown (c.finish.ensures told.remarks told.told))
 
-pub run-outcome-requires-after_bounds : goal.run-outcome-requires-after_bounds
-run-outcome-requires-after_bounds g c = λ κs within.
-    let few : count_named c.in-Ok-into_plan.asked ≤ 2 ^ 16 = subst (λ (s : Sources). count_named s ≤ 2 ^ 16) (sym c.in-Ok-into_plan.ensures.files) c.args.config.most_files in
-    subst (λ n. n ≤ 2 ^ 16) (sym c.deref_mut.ensures.len) (c.in-Ok-sources_of.ensures.few few)
+pub run_all-report-requires-after_bounds : goal.run_all-report-requires-after_bounds
+run_all-report-requires-after_bounds g c = λ κs within.
+    let few : count_named c.in-Ok.asked ≤ 2 ^ 16 = subst (λ (s : Sources). count_named s ≤ 2 ^ 16) (sym c.in-Ok.ensures.files) c.args.config.most_files in
+    c.in-Ok-sources_of.ensures.few few
+
+pub run_all-report-requires-send-R : goal.run_all-report-requires-send-R
+run_all-report-requires-send-R g c κs within = param_send 0 _ (arg_send _ Exit.no _ (input_row_send (param 0 g.row.S)
+    (shr_ref_field (record { mir = named 5; lft = κs.1.1.1.1.1.0 }) (param 1 g.row.F) tt).row (param 5 g.row.F-File)
+    c.type_bounds.send-S (search (sendable, c.type_bounds.sync-F) depth 20) c.type_bounds.send-F-File))
 
 pub returns-in-Err : goal.returns-in-Err
 returns-in-Err g c =
     let given = g.S.Read.remaining c.args.stdin in
-    let asked_is = c.in-Ok-into_plan.ensures.files in
+    let asked_is = c.in-Ok.ensures.files in
     let why = c.in-Err.why in
     elim c.tell_unlisted.ensures [
       | inl tells ↦ inr (
