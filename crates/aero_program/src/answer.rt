@@ -126,11 +126,7 @@ struct Host<T> {
 }
 
 // Runs over the sources: by a thread for each, or in turn.
-fn run_all<
-    R: Read + Drop + Send,
-    W: Write,
-    T: Threads + Wait + Copy + Send + Sync + 'static,
->(
+fn run_all<R: Read + Drop + Send, W: Write, T: Threads + Wait + Copy + Send + Sync + 'static>(
     host: Host<T>,
     in_lanes: bool,
     sources: Vec<Source<R>>,

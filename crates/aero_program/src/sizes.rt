@@ -4,9 +4,8 @@ ghost use Rattle.aero_program.specs.Sizes.{AreSizes};
 
 use crate::files::{FilesOf, MeteredFiles, Opener};
 use aero_batch::source::Source;
-use std::fs;
 use std::rt::Files;
-use std::str;
+use std::{fs, str};
 
 // A file with so many bytes is large: it has some thousand events.
 const LARGE: u64 = 65_536;

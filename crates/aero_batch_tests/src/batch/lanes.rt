@@ -240,10 +240,12 @@ fn is_as_in_turn<T: AllocGlobal + Threads + Wait + Copy + Send + Sync + 'static>
     let (turns, outcome) = in_turn(rt, texts, wanted.places, workers)?;
     let writer = Vec::new(rt.alloc());
     let (lanes, report, names) = in_lanes(rt, texts, wanted.places, (writer, workers))?;
-    Ok(turns.as_slice() == wanted.report
-        && lanes.as_slice() == wanted.report
-        && is_told_so(&report, &outcome)
-        && names.as_slice() == wanted.names)
+    Ok(
+        turns.as_slice() == wanted.report
+            && lanes.as_slice() == wanted.report
+            && is_told_so(&report, &outcome)
+            && names.as_slice() == wanted.names,
+    )
 }
 
 #[test]
