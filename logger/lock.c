@@ -18,7 +18,7 @@ static int is_taken(lock_word *lock, int *found, int by) {
 /* Who lets go looks for sleepers without a fence, which would cost each event more than the event itself; so it may miss one that
  * comes to sleep at that moment, which then looks for itself some time later. */
 static void sleep_for(lock_word *lock, int number) {
-    const struct timespec some_time = {0, 10000000};
+    const struct timespec some_time = {0, 200000000};
     int found, error = errno;
     atomic_fetch_add(&lock->sleepers, 1);
     while (!is_taken(lock, &found, number)) syscall(SYS_futex, &lock->owner, FUTEX_WAIT_PRIVATE, found, &some_time, NULL, 0);

@@ -7,7 +7,7 @@
  *                               no hook sees
  *   killed abort, assert        it adds ten times, and then calls abort or fails an assertion; a handler of its own lets that pass
  *   killed by-default           its own handler of SIGTERM gives way to the default, and sends the signal again
- *   killed never                two threads add until somebody ends it */
+ *   killed never, alone         two threads, or one, add until somebody ends it */
 #include <assert.h>
 #include <fcntl.h>
 #include <pthread.h>
@@ -90,11 +90,11 @@ int main(int words, char **word) {
     if (ftruncate(file, sizeof *progress)) return 2;
     progress = mmap(NULL, sizeof *progress, PROT_READ | PROT_WRITE, MAP_SHARED, file, 0);
     if (words > 2) arrange(word[1], atol(word[2]));
-    else if (strcmp(word[1], "never")) fail(word[1]);
+    else if (strcmp(word[1], "never") && strcmp(word[1], "alone")) fail(word[1]);
     sigset_t all, before;
     sigfillset(&all);
     pthread_sigmask(SIG_BLOCK, &all, &before);
-    pthread_create(&other, NULL, add_for_ever, NULL);
+    if (strcmp(word[1], "alone")) pthread_create(&other, NULL, add_for_ever, NULL);
     pthread_sigmask(SIG_SETMASK, &before, NULL);
     add_for_ever(progress);
     return 0;

@@ -2,7 +2,8 @@
  *
  *   openmp locks      each adds under a critical section, one with a name, and a lock of omp.h
  *   openmp barrier    each writes a place of its own, and behind a barrier reads that of the next one, in a block each
- *   openmp tasks      a sum by tasks that wait for tasks of their own
+ *   openmp ends       a loop and sections within a team, which each end with a barrier
+ *   openmp tasks      a sum by tasks that wait for tasks of their own, and a task that an event ends, which isn't logged
  *   openmp loop       loops whose parts are given out while they run, and sections */
 #include <omp.h>
 #include <stdio.h>
@@ -48,6 +49,23 @@ static void barrier(void) {
     }
 }
 
+static void ends(void) {
+#pragma omp parallel num_threads(TEAM)
+    {
+#pragma omp for schedule(dynamic)
+        for (int one = 0; one < 100; one++) add();
+#pragma omp sections
+        {
+#pragma omp section
+            add();
+#pragma omp section
+            add();
+        }
+        add();
+    }
+    printf("%ld\n", total);
+}
+
 static long sum(long from, long to) {
     long low = 0, high = 0, middle = (from + to) / 2;
     if (from + 1 == to) return from;
@@ -62,7 +80,12 @@ static void tasks(void) {
     long result = 0;
 #pragma omp parallel num_threads(TEAM)
 #pragma omp single
-    result = sum(0, 8);
+    {
+        omp_event_handle_t event;
+        result = sum(0, 8);
+#pragma omp task detach(event)
+        omp_fulfill_event(event);
+    }
     printf("%ld\n", result);
 }
 
@@ -87,6 +110,7 @@ int main(int words, char **word) {
     const char *what = words > 1 ? word[1] : "";
     if (!strcmp(what, "locks")) locks();
     if (!strcmp(what, "barrier")) barrier();
+    if (!strcmp(what, "ends")) ends();
     if (!strcmp(what, "tasks")) tasks();
     if (!strcmp(what, "loop")) loop();
     return 0;
