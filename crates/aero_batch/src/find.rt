@@ -8,11 +8,9 @@ use crate::helpers::Helpers;
 use crate::setting::Setting;
 use crate::step::step;
 use crate::underway::Underway;
-use aero_intake::plan::Plan;
 use aero_intake::source::Source;
 use aero_intake::track::Track;
 use aero_model::verdict::{Ending, Finding};
-use std::alloc::Global;
 use std::io::Read;
 use std::sync::Wait;
 use std::sync::atomic::{AtomicBool, Ordering};
@@ -29,23 +27,21 @@ pub struct Judged {
 /// of whom nothing is promised. `None` says that memory was refused, or that the flag was set before it was found: then
 /// the source is left as it stands.
 pub fn find<R: Read, H: Helpers, T: Wait>(
-    rt: &T,
-    alloc: Global,
+    setting: &Setting<'_, T>,
     sources: &mut [Source<R>],
-    plan: &Plan,
     helpers: &mut H,
     is_given_up: &AtomicBool,
 ) -> Option<Judged>
     requires { length sources.old ≡ 1 }
-    ensures found { IfSome result (λ judged. TellsOf (terms_of plan.now) (map (sighted R.remaining) sources.old) (map (sighted R.remaining) sources.new) 0
+    ensures found { IfSome result (λ judged. TellsOf (terms_of setting.now.plan.now) (map (sighted R.remaining) sources.old) (map (sighted R.remaining) sources.new) 0
         (Track.Found judged.bytes judged.ending judged.finding)) }
     ensures names { map (λ s. s.name) (map (sighted R.remaining) sources.new) ≡ map (λ s. s.name) (map (sighted R.remaining) sources.old) }
 {
-    let Ok(mut underway) = Underway::new(alloc, plan, 1, helpers.workers() == 0) else {
+    let is_alone = helpers.workers() == 0;
+    let Ok(mut underway) = Underway::new(setting.alloc, setting.plan, 1, is_alone) else {
         return None;
     };
-    let setting = Setting { rt, alloc, plan };
-    match find_on(&setting, sources, helpers, &mut underway, is_given_up) {
+    match find_on(setting, sources, helpers, &mut underway, is_given_up) {
         Some(track) => judged_by(track),
         None => None,
     }

@@ -58,7 +58,7 @@ pub mod outcome;
 mod reading;
 mod replies;
 pub mod run;
-mod setting;
+pub mod setting;
 mod standing;
 mod step;
 pub mod told;

@@ -59,6 +59,14 @@ pub struct Style {
     pub form: Form,
 }
 
+/// What is said of a source: how many bytes came, how they ended, and what was found of it.
+#[derive(Clone, Copy)]
+pub struct Said<'a> {
+    pub bytes: u64,
+    pub ending: Ending,
+    pub finding: &'a Finding,
+}
+
 /// Writes the text of the next source, where it is found what is to be said of it, and notes its
 /// ending. The answer says whether it is. A refusal changes nothing that was told.
 pub fn tell_next<W: Write>(
@@ -76,30 +84,35 @@ pub fn tell_next<W: Write>(
             bytes,
             ending,
             finding,
-        } => tell_found(style, name, *bytes, *ending, finding, writer, told),
+        } => {
+            let said = Said {
+                bytes: *bytes,
+                ending: *ending,
+                finding,
+            };
+            tell_found(style, name, said, writer, told)
+        }
         _ => Ok(false),
     }
 }
 
-/// Writes the text of the next source, of which so many bytes came and ended so, and notes its ending: the answer is
-/// true. A refusal changes nothing that was told.
+/// Writes the text of the next source, of which this is said, and notes its ending: the answer is true. A refusal changes
+/// nothing that was told.
 pub fn tell_found<W: Write>(
     style: Style,
     name: &[u8],
-    bytes: u64,
-    ending: Ending,
-    finding: &Finding,
+    said: Said<'_>,
     writer: &mut Counting<W>,
     told: &mut Told,
 ) -> Result<bool, Cause>
     requires room { HasRoom told.old }
-    ensures { TellsNext style.form name.now (Track.Found bytes ending finding.now) (seen_by W.contents writer.old) (seen_by W.contents writer.new) told.old told.new result }
+    ensures { TellsNext style.form name.now (Track.Found said.entry.bytes said.entry.ending said.entry.finding.now) (seen_by W.contents writer.old) (seen_by W.contents writer.new) told.old told.new result }
 {
-    let text = source_text(style.alloc, style.form, name, finding).map_err(|_| Cause::Memory)?;
+    let text = source_text(style.alloc, style.form, name, said.finding).map_err(|_| Cause::Memory)?;
     tell(writer, &text)?;
-    told.endings.push_reserved((bytes, ending));
-    told.faults.push_reserved(fault_of(finding));
-    told.counts = with_finding(&told.counts, finding);
+    told.endings.push_reserved((said.bytes, said.ending));
+    told.faults.push_reserved(fault_of(said.finding));
+    told.counts = with_finding(&told.counts, said.finding);
     Ok(true)
 }
 

@@ -6,6 +6,7 @@ ghost use Rattle.aero_lanes.specs.Ends.{IsEndOf};
 use crate::shared::Shared;
 use aero_batch::find::{Judged, find};
 use aero_batch::helpers::Nobody;
+use aero_batch::setting::Setting;
 use aero_intake::plan::Plan;
 use aero_intake::source::Source;
 use std::io::Read;
@@ -61,14 +62,12 @@ fn find_alone<R: Read + Drop, T: Wait + Copy>(shared: Shared<'_, T>, source: Sou
         };
     };
     one.push_reserved(source);
-    let judged = find(
-        shared.rt,
-        shared.alloc,
-        &mut one,
-        shared.plan,
-        &mut Nobody,
-        shared.is_given_up,
-    );
+    let setting = Setting {
+        rt: shared.rt,
+        alloc: shared.alloc,
+        plan: shared.plan,
+    };
+    let judged = find(&setting, &mut one, &mut Nobody, shared.is_given_up);
     let Some(source) = one.pop() else {
         unreachable!()
     };

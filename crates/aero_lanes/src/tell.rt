@@ -10,7 +10,7 @@ use crate::seat::Seat;
 use crate::shared::Shared;
 use aero_batch::find::Judged;
 use aero_batch::outcome::Cause;
-use aero_batch::told::{Style, Told, tell_found};
+use aero_batch::told::{Said, Style, Told, tell_found};
 use aero_model::counting::Counting;
 use std::io::{Read, Write};
 
@@ -97,15 +97,14 @@ fn tell_end<W: Write>(
     ensures { TellsEnd style.form name.now judged.now (seen_by W.contents writer.old) (seen_by W.contents writer.new) told.old told.new result }
 {
     match judged {
-        Some(judged) => tell_found(
-            style,
-            name,
-            judged.bytes,
-            judged.ending,
-            &judged.finding,
-            writer,
-            told,
-        ),
+        Some(judged) => {
+            let said = Said {
+                bytes: judged.bytes,
+                ending: judged.ending,
+                finding: &judged.finding,
+            };
+            tell_found(style, name, said, writer, told)
+        }
         None => Err(Cause::Memory),
     }
 }

@@ -52,7 +52,7 @@ pub(crate) fn are_worth_threads<R, Z: Sizes>(files: &Z, sources: &[Source<R>]) -
         whole = whole.saturating_add(size);
         largest = largest.max(size);
     }
-    whole / 7 >= largest / 4 && whole / LARGE >= sources.len() as u64
+    largest.saturating_mul(7) <= whole.saturating_mul(4) && whole / LARGE >= sources.len() as u64
 }
 
 // How many bytes the plain file has that the source is named as. What is none counts for nothing.
