@@ -26,4 +26,5 @@
 
 pub mod feed;
 mod ghost_text;
+mod judge;
 mod text_monitor;

@@ -89,10 +89,14 @@ abbrev pub label_line : Option (List ℕ) → List ℕ
 label_line None = []
 label_line (Some label) = codes "  label " ++ (label ++ codes "\n")
 
+-- the lines that show a violation: that of the block's label, if it has one, and those of the events of the cycle
+abbrev pub cycle_lines : Cycle → List ℕ
+cycle_lines cycle = label_line cycle.label ++ flat_map cycle_line cycle.steps.items
+
 -- the lines of the transactions in order, or of the block's label and the events of a cycle, where the finding has them
 abbrev pub step_lines : Finding → List ℕ
 step_lines (Ordered verdict steps) = flat_map step_line steps.items
-step_lines (Explained verdict cycle) = label_line cycle.label ++ flat_map cycle_line cycle.steps.items
+step_lines (Explained verdict cycle) = cycle_lines cycle
 step_lines (Judged verdict) = []
 step_lines (Broken bytes) = []
 step_lines TooLarge = []

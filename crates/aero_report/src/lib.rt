@@ -29,7 +29,7 @@
 //! # What is proved
 //!
 //! - The line of a source, with its name, its finding and the steps of its order or of its cycle, is byte by byte as
-//!   defined: `trace_text`.
+//!   defined: `trace_text`. So are the steps of a cycle alone: `cycle_text`.
 //! - So is the summary of what was counted: `summary_text`.
 //! - In each form both are as defined, for a terminal too: `source_text`, `totals_text`. A line of JSON is a document by
 //!   the grammar of the `json` crate, and means the value that is defined: `readable`.
@@ -47,4 +47,4 @@ mod texts;
 pub use form::{Form, source_text, totals_text};
 pub use output::{Cut, put};
 pub use summary::summary_text;
-pub use texts::trace_text;
+pub use texts::{cycle_text, trace_text};

@@ -1,6 +1,6 @@
 //! The text of a finding.
 ghost use Rattle.std.specs.Prelude.{◌≡◌, ◌++◌, codes, decimal, flat_map, IfOk, OnOk};
-ghost use Rattle.aero_report.specs.Texts.{line_fault_name, shape_fault_name, sizes_text, verdict_text, finding_text, op_name, target_text, event_text, cycle_line, label_line, step_line, step_lines, source_line};
+ghost use Rattle.aero_report.specs.Texts.{line_fault_name, shape_fault_name, sizes_text, verdict_text, finding_text, op_name, target_text, event_text, cycle_line, cycle_lines, label_line, step_line, step_lines, source_line};
 
 use aero_model::event::{Event, Op};
 use aero_model::name::Name;
@@ -19,6 +19,16 @@ pub fn trace_text(alloc: Global, name: &[u8], finding: &Finding) -> Result<Vec<u
     append_finding(&mut text, finding)?;
     text.push(b'\n')?;
     append_steps_of(&mut text, finding)?;
+    Ok(text)
+}
+
+/// The lines that show a violation behind its source's line: the label of the block, if it has one, and the events of the
+/// cycle, a line of each. Fails only where memory runs out.
+pub fn cycle_text(alloc: Global, cycle: &Cycle) -> Result<Vec<u8>, AllocError>
+    ensures { IfOk result (λ text. text.items ≡ cycle_lines cycle.now) }
+{
+    let mut text = Vec::new(alloc);
+    append_cycle(&mut text, cycle)?;
     Ok(text)
 }
 
@@ -72,7 +82,7 @@ fn append_step(text: &mut Vec<u8>, line: u32, thread: &[u8]) -> Result<(), Alloc
 
 // The label of the block, if it has one, and the events.
 fn append_cycle(text: &mut Vec<u8>, cycle: &Cycle) -> Result<(), AllocError>
-    ensures { OnOk result (text.new.items ≡ text.old.items ++ (label_line cycle.now.label ++ flat_map cycle_line cycle.now.steps.items)) }
+    ensures { OnOk result (text.new.items ≡ text.old.items ++ cycle_lines cycle.now) }
 {
     append_label(text, &cycle.label)?;
     append_cycle_steps(text, &cycle.steps)

@@ -1,5 +1,5 @@
 -- The telling cycle that shows a violation, event by event.
-use Rattle.std.specs.Prelude.{◌≡◌, ◌≢◌, ◌<◌, ◌≤◌, ◌==◌, ℕ, suc, Bool, true, false, if◌then◌else◌, List, [], ◌∷◌, ◌++◌, length, flat_map, slice_get, option_map, Option, Some, is_some, IfSome}
+use Rattle.std.specs.Prelude.{◌≡◌, ◌≢◌, ◌<◌, ◌≤◌, ◌==◌, ℕ, suc, Bool, true, false, if◌then◌else◌, List, [], ◌∷◌, ◌++◌, length, flat_map, slice_get, option_map, Option, Some, None, is_some, IfSome}
 use Rattle.std.specs.List.{AllZip}
 use Rattle.aero_model.specs.declared.numbered.Numbered.{Numbered}
 use Rattle.aero_model.specs.declared.verdict.Cycle.{Cycle}
@@ -56,6 +56,15 @@ pub record IsExplained (parts : List Reading) (rules : Rules) (line : ℕ) (thre
 abbrev pub IsCycleOf : List Reading → Rules → Verdict → Cycle → Type 0
 IsCycleOf parts rules (Violation line thread begun) cycle = IsExplained parts rules line thread begun cycle
 IsCycleOf parts rules _ cycle = ⊥
+
+-- what shows the verdict: such a cycle where it is a violation, and else none
+abbrev pub ShowsVerdict : List Reading → Rules → Verdict → Option Cycle → Type 0
+ShowsVerdict parts rules verdict cycle = (is_some cycle ≡ has_cycle true verdict) × IfSome cycle (IsCycleOf parts rules verdict)
+
+-- what shows the verdict that is certain, where one is
+abbrev pub ShowsCertain : Option Verdict → List Reading → Rules → Option Cycle → Type 0
+ShowsCertain None parts rules cycle = cycle ≡ None
+ShowsCertain (Some verdict) parts rules cycle = ShowsVerdict parts rules verdict cycle
 
 -- the verdict, and a cycle exactly where it goes with that
 pub record TellsExplained (parts : List Reading) (rules : Rules) (verdict : Verdict) (cycle : Option Cycle) : Type 0 where

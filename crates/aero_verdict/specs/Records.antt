@@ -1,5 +1,5 @@
 -- What is recorded of a trace up to the event with which a cycle closes, and what is told of its events.
-use Rattle.std.specs.Prelude.{◌≡◌, ◌<◌, ◌^◌, ℕ, suc, All, List, [], ◌∷◌, length, take, slice_get, Some}
+use Rattle.std.specs.Prelude.{◌≡◌, ◌<◌, ◌≤◌, ◌^◌, ℕ, suc, All, List, [], ◌∷◌, length, take, slice_get, Some}
 use Rattle.aero_model.specs.declared.numbered.Numbered.{Numbered}
 use Rattle.aero_model.specs.declared.verdict.CycleStep.{CycleStep}
 use Rattle.aero_model.specs.Named.{Named}
@@ -7,13 +7,16 @@ use Rattle.aero_model.specs.Numbering.{tables_of}
 use Rattle.aero_grammar.specs.Reading.{Reading, IsReading}
 use Rattle.aero_witness.specs.declared.visit.Visit.{Visit}
 use Rattle.aero_witness.specs.Telling.{visit_of, visits_of}
-use Rattle.aero_engine.specs.Given.{Given}
+use Rattle.aero_model.specs.declared.verdict.Verdict.{Verdict}
+use Rattle.aero_engine.specs.Given.{Given, words_of}
+use Rattle.aero_verdict.specs.declared.checker.Checker.{Checker}
 use Rattle.aero_verdict.specs.declared.numbering.Numbering.{Numbering}
 use Rattle.aero_verdict.specs.declared.recorder.Recorder.{Recorder}
 use Rattle.aero_verdict.specs.Explained.{round_places}
 use Rattle.aero_verdict.specs.Limited.{names_in}
 use Rattle.aero_verdict.specs.Standing.{AreGiven}
-use Rattle.aero_verdict.specs.Recorded.{HasRecorded}
+use Rattle.aero_verdict.specs.Monitored.{TellsFed}
+use Rattle.aero_verdict.specs.Recorded.{HasRecorded, StandsForLeads}
 use Rattle.aero_verdict.specs.Shown.{shown, CanShow}
 use Rattle.aero_verdict.specs.Verdict.{Rules, counted_events, events_of, IsViolation}
 
@@ -26,6 +29,12 @@ pub record IsRecordOf (parts : List Reading) (rules : Rules) (numbering : Number
   pub are_given : AreGiven rules (counted_events parts rules) (suc violation.place) given
   pub kept : HasRecorded recorder given
   pub names_are : names_in numbering ≡ tables_of (take (suc violation.place) (events_of parts rules))
+
+-- the verdict on these parts, and the checker has recorded them, up to an event with which a cycle closes
+pub record IsJudged (parts : List Reading) (rules : Rules) (checker : Checker Recorder) (verdict : Verdict) : Type 0 where
+  pub readings : All IsReading parts
+  pub few : rules.limits.lines ≤ 4000000000
+  pub tells : TellsFed (words_of StandsForLeads HasRecorded) rules parts checker verdict
 
 -- so it is for some violation whose block begins on this line
 abbrev pub IsRecord : Numbering → Recorder → ℕ → Type 0

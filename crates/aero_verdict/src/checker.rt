@@ -90,6 +90,19 @@ impl<E: Engine> Checker<E> {
         (numbering, engine)
     }
 
+    // The same of a checker that goes on.
+    pub(crate) fn names(&self) -> &Numbering
+        ensures { result.now ≡ self.now.numbering }
+    {
+        &self.numbering
+    }
+
+    pub(crate) fn engine(&self) -> &E
+        ensures { result.now ≡ self.now.engine }
+    {
+        &self.engine
+    }
+
     // How many events were admitted.
     pub(crate) fn events(&self) -> u32
         ensures { result ≡ self.now.shape.admitted }

@@ -4,11 +4,12 @@ ghost use Rattle.std.specs.List.{AllZip};
 ghost use Rattle.aero_grammar.specs.Reading.{Reading};
 ghost use Rattle.aero_model.specs.Verdicts.{HasOwnFault};
 ghost use Rattle.aero_witness.specs.Telling.{visit_of, visits_of};
-ghost use Rattle.aero_verdict.specs.Explained.{TellsExplained, visit_places, IsExplained};
-ghost use Rattle.aero_verdict.specs.Records.{IsRecord, IsRecordOf, AreShown, CanBeShown, IsEventAt, IsStepAt, round_of};
+ghost use Rattle.aero_verdict.specs.Explained.{TellsExplained, ShowsVerdict, visit_places, IsExplained};
+ghost use Rattle.aero_verdict.specs.Records.{IsJudged, IsRecord, IsRecordOf, AreShown, CanBeShown, IsEventAt, IsStepAt, round_of};
 ghost use Rattle.aero_verdict.specs.Verdict.{Rules, under};
 
-use crate::monitor::{Monitor, feed_all};
+use crate::checker::Checker;
+use crate::monitor::{Monitor, State, feed_all};
 use crate::numbering::Numbering;
 use crate::recorder::Recorder;
 use crate::shown::event_shown;
@@ -45,7 +46,7 @@ pub fn check_trace_explained(
 impl Monitor<Recorder> {
     ghost use Rattle.std.specs.Prelude.{IfOk};
     ghost use Rattle.aero_model.specs.Verdicts.{HasOwnFault};
-    ghost use Rattle.aero_verdict.specs.Explained.{TellsExplained};
+    ghost use Rattle.aero_verdict.specs.Explained.{ShowsCertain, TellsExplained};
 
     /// The verdict on exactly the parts that were fed. Where it is a `Violation`, what shows it comes with it, though
     /// no part was kept: the label of the block that the verdict names, and the events of a telling cycle.
@@ -58,14 +59,38 @@ impl Monitor<Recorder> {
         let alloc = self.alloc;
         let (verdict, checker) = self.into_verdict();
         let verdict = verdict?;
-        let begun = match &verdict {
-            Verdict::Violation { begun, .. } => *begun,
-            _ => return Ok((verdict, None)),
-        };
-        let (names, recorder) = checker.into_parts();
-        let cycle = cycle_of(alloc, &names, &recorder, begun)?;
-        Ok((verdict, Some(cycle)))
+        let cycle = cycle_in(alloc, &checker, &verdict)?;
+        Ok((verdict, cycle))
     }
+
+    /// What shows the verdict that is certain by now, as `finish_explained` tells it, whatever parts come: `None` where
+    /// no verdict is certain, or one that is no `Violation`. It takes as long as there are events, each time.
+    ///
+    /// An `AllocError` says that memory was refused. The monitor goes on as before.
+    pub fn explain(&self) -> Result<Option<Cycle>, AllocError>
+        ensures { IfOk result (ShowsCertain self.now.certain self.now.parts self.now.rules) }
+    {
+        match &self.state {
+            State::Decided(verdict) => cycle_in(self.alloc, &self.checker, verdict),
+            State::Undecided | State::Spent => Ok(None),
+        }
+    }
+}
+
+// What shows the verdict, where it is a violation.
+fn cycle_in(
+    alloc: Global,
+    checker: &Checker<Recorder>,
+    verdict: &Verdict,
+) -> Result<Option<Cycle>, AllocError>
+    requires { (parts : List Reading) × (rules : Rules) × IsJudged parts rules checker.now verdict.now }
+    ensures { (parts : List Reading) (rules : Rules) → IsJudged parts rules checker.now verdict.now → IfOk result (ShowsVerdict parts rules verdict.now) }
+{
+    let Verdict::Violation { begun, .. } = verdict else {
+        return Ok(None);
+    };
+    let cycle = cycle_of(alloc, checker.names(), checker.engine(), *begun)?;
+    Ok(Some(cycle))
 }
 
 // A shortest cycle that begins in the block that begins on this line.

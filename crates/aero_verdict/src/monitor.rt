@@ -91,10 +91,10 @@ pub(crate) enum State {
 pub struct Monitor<E: Engine> {
     pub(crate) alloc: Global,
     limits: Limits,
-    checker: Checker<E>,
+    pub(crate) checker: Checker<E>,
     // The lines of the parts so far, up to the one that decides. A number that a `u32` can't tell is past every limit.
     lines: u32,
-    state: State,
+    pub(crate) state: State,
     fed: GhostParts,
 }
 
