@@ -1,4 +1,9 @@
 pub mod Deciding
+pub mod Kinded
+pub mod Filling
+pub mod Taken
+pub mod Drawing
+pub mod Gathering
 pub mod Nests
 pub mod Ended
 pub mod Following

@@ -31,6 +31,9 @@
 #![tactic(auto)]
 
 mod conflict;
+mod kinds;
+mod lanes;
+mod left;
 pub mod laws;
 mod marks;
 mod quest;
