@@ -1,14 +1,14 @@
 -- What a front takes of a lane, one place after another.
-use Rattle.std.proofs.Common.{◌≡◌, ◌⊎◌, ℕ, ◌+◌, ◌<◌, ◌≤◌, List, [], ◌∷◌, ◌++◌, length, Option, Some, None, inl, inr, refl, sym, ◌∙◌, ap, subst, arith}
+use Rattle.std.proofs.Common.{ℕ, List, [], ◌∷◌, ◌++◌, length, Option, inl, inr, refl, sym, ◌∙◌, ap, subst, arith}
 use Rattle.std.specs.Prelude.{Contains}
-use Rattle.std.proofs.lemmas.List.Elements.{Contains-append_left, Contains-append_right, Contains-push, Contains-push_cases}
+use Rattle.std.proofs.lemmas.List.Elements.{Contains-append_left, Contains-append_right, Contains-push_cases}
 use Rattle.aero_model.proofs.Elements.{here, none_in}
 use Rattle.aero_model.specs.declared.numbered.Numbered.{Numbered}
 use Rattle.aero_witness.specs.declared.kinds.Kind.{Kind}
 use Rattle.aero_witness.specs.declared.lanes.Lane.{Lane}
 use Rattle.aero_witness.specs.declared.lanes.Lead.{Lead}
 use Rattle.aero_witness.specs.Kinds.{targets}
-use Rattle.aero_witness.specs.Lanes.{head_at, AreLinks, AreHeads, IsLane, IsSameBut, IsBy, AreDrawn}
+use Rattle.aero_witness.specs.Lanes.{AreLinks, AreHeads, IsLane, IsSameBut, IsBy, AreDrawn}
 use Rattle.aero_witness.proofs.Taken.{has_kept}
 
 pub same_but : (lane : Lane) → IsSameBut lane lane

@@ -1,9 +1,8 @@
 -- The last places with each number, with one place more.
-use Rattle.std.proofs.Common.{◌≡◌, ℕ, zero, suc, ◌+◌, ◌<◌, ◌≤◌, ◌==◌, ◌&&◌, if◌then◌else◌, Bool, true, false, List, [], ◌∷◌, ◌++◌, length, get_or, Option, Some, None, inl, inr, refl, sym, ◌∙◌, ap, subst, arith}
+use Rattle.std.proofs.Common.{◌≡◌, ℕ, zero, suc, ◌+◌, ◌<◌, ◌≤◌, ◌&&◌, if◌then◌else◌, Bool, true, false, List, [], ◌∷◌, ◌++◌, length, Option, Some, None, inl, inr, refl, sym, ◌∙◌, ap, subst, arith}
 use Rattle.std.specs.Prelude.{◌↔◌, slice_get}
-use Rattle.std.proofs.lemmas.Bool.{cases_eq, cases_lt, cond-true, cond-false, eq-eqb, eqb-true, false≢true, and_parts, and_from}
+use Rattle.std.proofs.lemmas.Bool.{cases_eq, cases_lt, eq-eqb, eqb-true, false≢true, and_parts, and_from}
 use Rattle.std.proofs.lemmas.List.{length_push, get_or_append_left, get_or_push, get_or_past}
-use Rattle.std.proofs.lemmas.Option.{same_Some}
 use Rattle.aero_witness.specs.declared.kinds.Kind.{Kind}
 use Rattle.aero_witness.specs.declared.lanes.Lane.{Lane}
 use Rattle.aero_witness.specs.Lanes.{head_at, head_of, is_number, IsLast, IsOf, IsHomeOf, AreLinks, IsAdded, AreFilled, IsFilled, IsLane, AreHomes, IsFull}

@@ -1,5 +1,5 @@
 -- What a front takes of all lanes, one after another.
-use Rattle.std.proofs.Common.{◌≡◌, ◌⊎◌, ℕ, ◌+◌, ◌<◌, ◌≤◌, List, [], ◌∷◌, length, Option, Some, None, inl, inr, refl, sym, ◌∙◌, ap, subst, arith}
+use Rattle.std.proofs.Common.{◌⊎◌, ℕ, List, length, inl, inr, sym, subst}
 use Rattle.std.specs.Prelude.{Contains}
 use Rattle.aero_model.specs.declared.numbered.Numbered.{Numbered}
 use Rattle.aero_model.specs.Graph.{Conflict}
@@ -9,7 +9,7 @@ use Rattle.aero_witness.specs.declared.lanes.Lane.{Lane}
 use Rattle.aero_witness.specs.declared.lanes.Lead.{Lead}
 use Rattle.aero_witness.specs.declared.left.Left.{Left}
 use Rattle.aero_witness.specs.Kinds.{sources, targets}
-use Rattle.aero_witness.specs.Lanes.{head_at, AreHeads, IsLane, HasLead, Keeps, IsSameBut, IsBy, AreDrawn}
+use Rattle.aero_witness.specs.Lanes.{IsLane, Keeps, IsSameBut, IsBy, AreDrawn}
 use Rattle.aero_witness.specs.Left.{lane_of, AreGathered}
 use Rattle.aero_witness.proofs.Drawing.{still_lane}
 use Rattle.aero_witness.proofs.Kinded.{conflict_by}

@@ -10,8 +10,11 @@ pub mod Following
 pub mod Noted
 pub mod Linking
 pub mod Walked
+pub mod Fronts
 pub mod Starting
-pub mod Swept
-pub mod Round
 pub mod Walking
 pub mod Trail
+pub mod Swept
+pub mod Round
+pub mod Advancing
+pub mod Homing

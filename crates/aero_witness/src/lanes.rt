@@ -69,12 +69,7 @@ fn only_if(home: bool, number: Option<u32>) -> Option<u32>
 }
 
 // The place comes next, and has this number, if any.
-fn add(
-    lane: &mut Lane,
-    number: Option<u32>,
-    home: bool,
-    place: u32,
-) -> Result<(), AllocError>
+fn add(lane: &mut Lane, number: Option<u32>, home: bool, place: u32) -> Result<(), AllocError>
     requires { place + 1 < 2 ^ 32 }
     ensures { OnOk result (IsAdded number home place lane.old lane.new) }
 {

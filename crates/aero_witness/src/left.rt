@@ -22,11 +22,7 @@ pub(crate) struct Left {
 }
 
 // Nothing is taken yet.
-pub(crate) fn left_of(
-    alloc: Global,
-    events: &[Numbered],
-    quest: &Quest,
-) -> Result<Left, AllocError>
+pub(crate) fn left_of(alloc: Global, events: &[Numbered], quest: &Quest) -> Result<Left, AllocError>
     requires few { length events.now < 2 ^ 32 }
     requires each { length quest.now.transactions.firsts.items ≡ length events.now }
     ensures lanes { IfOk result (λ left. (k : Kind) → IsLane events.now k (lane_of left k)) }

@@ -33,11 +33,12 @@
 mod conflict;
 mod kinds;
 mod lanes;
-mod left;
 pub mod laws;
+mod left;
 mod marks;
 mod quest;
 mod reached;
+mod rounds;
 pub mod search;
 pub mod telling;
 pub mod transactions;

@@ -1,10 +1,8 @@
-use Rattle.std.proofs.Common.{◌≡◌, ℕ, get_or, refl, sym, ◌∙◌, ap}
+use Rattle.std.proofs.Common.{◌≡◌, sym, ◌∙◌, ap}
 use Rattle.std.proofs.lemmas.Option.{slice_get-get_or}
 use Rattle.aero_model.specs.declared.numbered.Numbered.{Numbered}
 use Rattle.aero_model.specs.declared.numbered.What.TheVariants.{Read}
-use Rattle.aero_witness.specs.declared.kinds.Kind.{Kind}
 use Rattle.aero_witness.specs.Kinds.{target_number, of_event, targets}
-use Rattle.aero_witness.specs.Lanes.{AreFilled}
 use Rattle.aero_witness.proofs.Filling.{one_filled, same_kind}
 use Rattle.aero_witness.proofs.lanes.fill.Goals as goal
 

@@ -1,4 +1,4 @@
-use Rattle.std.proofs.Common.{◌≡◌, ◌+◌, ◌-◌, ◌<◌, ◌≤◌, length, refl, arith}
+use Rattle.std.proofs.Common.{◌-◌, refl, arith}
 use Rattle.aero_witness.proofs.Taken.{one_taken}
 use Rattle.aero_witness.proofs.lanes.take_from.Goals as goal
 

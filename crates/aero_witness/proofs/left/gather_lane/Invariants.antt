@@ -1,7 +1,6 @@
-use Rattle.std.proofs.Common.{◌≡◌, length, take}
+use Rattle.std.proofs.Common.{length, take}
 use Rattle.aero_witness.specs.Kinds.{sources, targets}
 use Rattle.aero_witness.specs.Lanes.{IsSameBut, AreDrawn}
-use Rattle.aero_witness.proofs.Drawing.{no_front}
 use Rattle.aero_witness.proofs.left.gather_lane.Given as goal
 
 abbrev pub invariant-loop-place : goal.invariant-loop-place
