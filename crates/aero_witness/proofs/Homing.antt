@@ -5,7 +5,7 @@ use Rattle.std.proofs.lemmas.Bool.{cases_eq, false≢true}
 use Rattle.aero_model.specs.declared.numbered.Numbered.{Numbered}
 use Rattle.aero_witness.specs.Marks.{Key, of_key, source_of, IsNoted, AreNoted}
 use Rattle.aero_witness.specs.Reached.{HasSource, IsHomecoming}
-use Rattle.aero_witness.proofs.Noted.{source_sound, source_complete}
+use Rattle.aero_witness.proofs.Noted.{none_noted, source_sound, source_complete}
 
 module _ (trace : List Numbered) (firsts : List ℕ) (first : ℕ) (noted : ℕ → Bool) where
   -- so far none
@@ -15,7 +15,7 @@ module _ (trace : List Numbered) (firsts : List ℕ) (first : ℕ) (noted : ℕ 
 
   pub none_homing : (marks : Key → Option ℕ) → ((k : Key) → marks k ≡ None) → Homing 0 marks
   none_homing marks none =
-      record { noted_are = λ k. subst (IsNoted trace noted (of_key k) 0) (sym (none k)) (λ i e l f at t. omega arith); homeless = λ j l. absurd (omega arith) }
+      record { noted_are = none_noted trace noted marks none; homeless = λ j l. absurd (omega arith) }
 
   module _ (n : ℕ) (e : Numbered) (at : slice_get trace n ≡ Some e) (marks : Key → Option ℕ) (h : Homing n marks) where
     -- a source that is asked for at home

@@ -41,11 +41,7 @@ pub record IsFront (level : ℕ) (reached : List (Option Reached)) (front : List
   pub noted : (k : ℕ) → Contains front k → is_noted reached level k ≡ true
   pub all : (k : ℕ) → is_noted reached level k ≡ true → Contains front k
 
--- a noted event with which the one at place j conflicts as a later one, if there is one
-abbrev pub IsSource : List Numbered → (ℕ → Bool) → ℕ → Option ℕ → Type 0
-IsSource trace noted j None = (i : ℕ) → noted i ≡ true → Conflict trace i j → ⊥
-IsSource trace noted j (Some i) = (noted i ≡ true) × Conflict trace i j
-
+-- with a noted event the one at place j conflicts as a later one
 abbrev pub HasSource : List Numbered → (ℕ → Bool) → ℕ → Type 0
 HasSource trace noted j = (i : ℕ) × (noted i ≡ true) × Conflict trace i j
 
