@@ -1,20 +1,19 @@
 -- The levels of reached places with one level more.
-use Rattle.std.proofs.Common.{◌≡◌, ◌≢◌, ℕ, ◌+◌, ◌<◌, ◌≤◌, false, List, length, Option, Some, None, inl, inr, refl, sym, ◌∙◌, ap, subst, arith}
+use Rattle.std.proofs.Common.{◌≡◌, ◌≢◌, ℕ, ◌+◌, ◌<◌, ◌≤◌, true, List, [], length, Option, Some, inl, inr, sym, ◌∙◌, subst, arith}
 use Rattle.std.specs.Prelude.{slice_get}
-use Rattle.std.proofs.lemmas.Bool.{cases_eq, cases_lt, ne_eqb}
+use Rattle.std.proofs.lemmas.Bool.{cases_eq, cases_lt}
 use Rattle.std.proofs.lemmas.Option.{slice_get_within}
+use Rattle.aero_model.proofs.Elements.{none_in}
 use Rattle.aero_model.specs.declared.numbered.Numbered.{Numbered}
 use Rattle.aero_model.specs.Blocks.{Transaction, transaction, HasEnded}
 use Rattle.aero_model.specs.Graph.{Conflict, IsVisit, IsForward, BeginsCycle}
 use Rattle.aero_witness.specs.declared.reached.Reached.{Reached}
-use Rattle.aero_witness.specs.declared.reached.Round.TheVariants.{Home, Next}
 use Rattle.aero_witness.specs.Parts.{AreFirstsTo}
-use Rattle.aero_witness.specs.Reached.{reached_at, has_level, AreHome, is_noted, visit, IsNew, IsSwept, IsSweep, IsBefore, AreAtMost}
+use Rattle.aero_witness.specs.Reached.{reached_at, is_noted, visit, IsNew, IsSwept, IsHomeless, IsFront, AreAtMost}
 use Rattle.aero_witness.specs.Levels.{ByVisit, AreLevels}
-use Rattle.aero_witness.specs.Search.{unreached, IsAt, IsRound}
+use Rattle.aero_witness.specs.Search.{unreached}
 use Rattle.aero_witness.proofs.Starting.{fewer_left}
-use Rattle.aero_witness.proofs.Swept.{same_noted}
-use Rattle.aero_witness.proofs.Walked.{noted_is, noted_from, some_is, not_both, same_transaction, same_first}
+use Rattle.aero_witness.proofs.Walked.{noted_is, noted_from, some_is, some_from, not_both, reached_within, same_first}
 use Rattle.aero_witness.proofs.Walking.{none_left}
 
 module _ (trace : List Numbered) (begin first : ℕ) (firsts : List ℕ) (firsts_are : AreFirstsTo trace (length trace) firsts) (first_at : slice_get firsts begin ≡ Some first) (d : ℕ) (old : List (Option Reached)) (levels : AreLevels trace (transaction trace begin) old d) (most : AreAtMost d old) where
@@ -24,15 +23,9 @@ module _ (trace : List Numbered) (begin first : ℕ) (firsts : List ℕ) (firsts
   begin_within : begin < length trace
   begin_within = let l = slice_get_within firsts begin first first_at in let each = firsts_are.each in omega arith
 
-  pub are_home : AreHome firsts first old
-  are_home k at =
-      let l = slice_get_within firsts k first at in
-      let each = firsts_are.each in
-      levels.start k (omega arith) (same_transaction trace firsts firsts_are k begin (omega arith) begin_within (at ∙ sym first_at))
-
-  module _ (n least : ℕ) (new : List (Option Reached)) (s : IsSwept trace firsts first d old n least new) where
+  module _ (new : List (Option Reached)) (s : IsSwept trace d old new) where
     -- a place that is newly reached
-    module _ (k : ℕ) (r : Reached) (h : IsNew trace firsts first d old least k r) where
+    module _ (k : ℕ) (r : Reached) (h : IsNew trace d old k r) where
       outside : transaction trace k ≢ x
       outside e = let is = h.is in let q = levels.start k is.leaves e in not_both (reached_at old k) q.0 h.none q.1
 
@@ -89,52 +82,37 @@ module _ (trace : List Numbered) (begin first : ℕ) (firsts : List ℕ) (firsts
     sound : (k : ℕ) (r : Reached) → reached_at new k ≡ Some r → 0 < r.level → ByVisit trace x new k r
     sound k r at pos = elim (s.only k r at) [ inl before ↦ old_visit k r (levels.sound k r before pos) | inr h ↦ new_visit k r h ]
 
-    -- the level itself, whatever is reached with one visit more
-    pub still_levels : AreLevels trace x new d
-    still_levels =
-        record {
-          each = s.each ∙ levels.each;
-          start = start;
-          at_start = at_start;
-          sound = sound;
-          leads = λ i j k r at less c is f. elim (s.only i r at) [
-            | inl before ↦ (let q = levels.leads i j k r before less c is f in (q.0, s.kept k q.0 q.1, q.2))
-            | inr h ↦ (let more = h.one_more in absurd (omega arith))
-          ];
-          no_home = λ i j r at pos less e c. elim (s.only i r at) [
-            | inl before ↦ levels.no_home i j r before pos less e c
-            | inr h ↦ (let more = h.one_more in absurd (omega arith))
-          ];
-        }
-
     pub most_next : AreAtMost (d + 1) new
     most_next k r at = elim (s.only k r at) [ inl before ↦ (let le = most k r before in omega arith) | inr h ↦ (let more = h.one_more in omega arith) ]
 
-    pub before_next : IsBefore (d + 1) least new
-    before_next i l = go (reached_at new i) refl
-      where
-        go : (o : Option Reached) → reached_at new i ≡ o → is_noted new (d + 1) i ≡ false
-        go None e = ap (has_level (d + 1)) e
-        go (Some r) e = elim (s.only i r e) [
-          | inl before ↦ (let le = most i r before in ap (has_level (d + 1)) e ∙ ne_eqb r.level (d + 1) (omega arith))
-          | inr h ↦ (let later = h.later in absurd (omega arith))
-        ]
+    -- what isn't reached before is
+    module _ (k : ℕ) (noted : is_noted new (d + 1) k ≡ true) where
+      here_is : (r : Reached) × (reached_at new k ≡ Some r) × (r.level ≡ d + 1)
+      here_is = noted_is (d + 1) (reached_at new k) noted
 
-    pub fewer : least < length trace → unreached new < unreached old
-    fewer less = let g = s.grown less in let each = levels.each in fewer_left old new g.0 s.each s.kept (let l = g.1 in omega arith) g.2 g.3
+      pub fewer : unreached new < unreached old
+      fewer =
+          let r = here_is in
+          let more = r.2 in
+          let each = levels.each in
+          let new_each = s.each in
+          let l = reached_within new k r.0 r.1 in
+          elim (s.only k r.0 r.1) [
+            | inl before ↦ (let le = most k r.0 before in absurd (omega arith))
+            | inr h ↦ fewer_left old new k s.each s.kept (omega arith) h.none (some_from (reached_at new k) r.0 r.1)
+          ]
 
-    module _ (all : n ≡ length trace) where
-      leads_on : (i j k : ℕ) (r : Reached) → reached_at old i ≡ Some r → r.level ≡ d → Conflict trace i j → IsVisit trace (length trace) (visit j k) → IsForward trace (length trace) (visit j k) → (q : Reached) × (reached_at new k ≡ Some q) × (q.level ≤ r.level + 1)
-      leads_on i j k r at level c is f =
-          let enters = is.enters in
-          let q = some_is (reached_at new k) (s.covered j k (omega arith) (i, noted_from d (reached_at old i) r at level, c) is f) in
-          let le = most_next k q.0 q.1 in
-          (q.0, q.1, omega arith)
+    leads_on : (i j k : ℕ) (r : Reached) → reached_at old i ≡ Some r → r.level ≡ d → Conflict trace i j → IsVisit trace (length trace) (visit j k) → IsForward trace (length trace) (visit j k) → (q : Reached) × (reached_at new k ≡ Some q) × (q.level ≤ r.level + 1)
+    leads_on i j k r at level c is f =
+        let q = some_is (reached_at new k) (s.covered j k (i, noted_from d (reached_at old i) r at level, c) is f) in
+        let le = most_next k q.0 q.1 in
+        (q.0, q.1, omega arith)
 
+    module _ (homeless : 0 < d → IsHomeless trace firsts first (is_noted old d)) where
       home : (i j : ℕ) (r : Reached) → reached_at old i ≡ Some r → r.level ≡ d → 0 < d → transaction trace j ≡ x → Conflict trace i j → ⊥
       home i j r at level pos e c =
           let l = slice_get_within trace j c.second c.second_at in
-          s.homeless pos j (omega arith) (same_first trace firsts firsts_are j begin l begin_within e ∙ first_at) (i, noted_from d (reached_at old i) r at level, c)
+          homeless pos j (same_first trace firsts firsts_are j begin l begin_within e ∙ first_at) (i, noted_from d (reached_at old i) r at level, c)
 
       pub next_levels : AreLevels trace x new (d + 1)
       next_levels =
@@ -160,23 +138,11 @@ module _ (trace : List Numbered) (begin first : ℕ) (firsts : List ℕ) (firsts
           }
 
       -- where nothing is newly reached, no telling cycle begins there
-      pub stuck : length trace ≤ least → BeginsCycle trace (length trace) x → ⊥
-      stuck none begins =
+      pub stuck : IsFront (d + 1) new [] → BeginsCycle trace (length trace) x → ⊥
+      stuck front begins =
           none_left trace x new (d + 1) next_levels
           (λ i r at. elim (s.only i r at) [
             | inl before ↦ (let le = most i r before in omega arith)
-            | inr h ↦ (let later = h.later in let is = h.is in let l = is.leaves in absurd (omega arith))
+            | inr h ↦ absurd (none_in {x = i} (front.all i (noted_from (d + 1) (reached_at new i) r at h.one_more)))
           ])
           begins
-
-  pub home_round : (home out : ℕ) (new : List (Option Reached)) → IsSweep trace firsts first d old new (Home home out) → IsRound trace begin old d new (Home home out)
-  home_round home out new (pos, at, noted, c, (least, s)) =
-      (still_levels home least new s, pos, same_noted trace firsts first d old home least new s out ∙ noted, same_transaction trace firsts firsts_are home begin (slice_get_within trace home c.second c.second_at) begin_within (at ∙ sym first_at), c)
-
-  pub further_round : (least : ℕ) (new : List (Option Reached)) → least < length trace → IsSweep trace firsts first d old new (Next least) → IsRound trace begin old d new (Next least)
-  further_round least new less (le, s) =
-      let at : IsAt trace begin new (d + 1) least = record { levels = next_levels (length trace) least new s refl; closed = s.closed; within = le; before = before_next (length trace) least new s; most = most_next (length trace) least new s } in
-      (at, fewer (length trace) least new s less)
-
-  pub no_round : (least : ℕ) (new : List (Option Reached)) → length trace ≤ least → IsSweep trace firsts first d old new (Next least) → BeginsCycle trace (length trace) x → ⊥
-  no_round least new none (le, s) begins = stuck (length trace) least new s refl none begins

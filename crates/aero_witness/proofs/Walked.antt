@@ -153,8 +153,8 @@ module _ (trace : List Numbered) (firsts : List ℕ) (firsts_are : AreFirstsTo t
       }
 
   -- from there on all are walked
-  pub entered : (how : Reached) (from : ℕ) (old new : List (Option Reached)) → how.enters < length trace → IsFrom trace firsts how.enters from → length old ≡ length trace → reached_at old how.enters ≡ None → IsWalked firsts from how old new → IsEntered trace how from old new
-  entered how from old new l is each none w =
+  pub entered : (how : Reached) (from : ℕ) (old new : List (Option Reached)) → how.enters < length trace → IsFrom trace firsts how.enters from → length old ≡ length trace → IsWalked firsts from how old new → IsEntered trace how old new
+  entered how from old new l is each w =
       let firsts_each = firsts_are.each in
       let new_each = w.each in
       record {
@@ -165,13 +165,12 @@ module _ (trace : List Numbered) (firsts : List ℕ) (firsts_are : AreFirstsTo t
           | inr h ↦
               let m = reached_within new k r e in
               let v : IsVisit trace (length trace) (visit how.enters k) = record { enters = l; leaves = omega arith; one = same_transaction how.enters k l (omega arith) (sym is.of ∙ sym h.3) } in
-              inr (h.0, h.1, h.2, v, is.on k v h.2)
+              inr (h.0, h.1, v, is.on k v h.2)
         ];
         all = λ k v f. (let m = v.leaves in w.all k (is.until k v f) (omega arith) (same_first k how.enters m l (sym v.one) ∙ sym is.of));
-        grown = λ less. none;
       }
 
 -- where a walk may leave already, nothing is new
-pub not_entered : (trace : List Numbered) (how : Reached) (old : List (Option Reached)) → IsClosed trace old → IsSome (reached_at old how.enters) → (least : ℕ) → least ≡ length trace → IsEntered trace how least old old
-not_entered trace how old closed some least e =
-    record { each = refl; kept = λ k r h. h; only = λ k r h. inl h; all = λ k v f. closed how.enters k v f some; grown = λ less. absurd (omega arith) }
+pub not_entered : (trace : List Numbered) (how : Reached) (old : List (Option Reached)) → IsClosed trace old → IsSome (reached_at old how.enters) → IsEntered trace how old old
+not_entered trace how old closed some =
+    record { each = refl; kept = λ k r h. h; only = λ k r h. inl h; all = λ k v f. closed how.enters k v f some }

@@ -6,6 +6,9 @@ pub mod Parts
 pub mod Telling
 pub mod Following
 pub mod MarkWords
+pub mod Kinds
+pub mod Lanes
+pub mod Left
 pub mod Marks
 pub mod Quest
 pub mod Reached

@@ -1,11 +1,10 @@
 -- Places that are reached, and what is made of them.
-use Rattle.std.specs.Prelude.{◌≡◌, ◌⊎◌, ℕ, ◌+◌, ◌<◌, ◌≤◌, ◌==◌, if◌then◌else◌, Bool, true, false, List, length, Option, Some, None, IsSome, slice_index_or, slice_get}
+use Rattle.std.specs.Prelude.{◌≡◌, ◌⊎◌, ℕ, ◌+◌, ◌<◌, ◌≤◌, ◌==◌, if◌then◌else◌, Bool, true, false, List, length, Option, Some, None, IsSome, Contains, slice_index_or, slice_get}
 use Rattle.aero_model.specs.declared.numbered.Numbered.{Numbered}
 use Rattle.aero_model.specs.Graph as graph
 use Rattle.aero_model.specs.Graph.{Conflict, IsVisit, IsForward}
 use Rattle.aero_witness.specs.declared.reached.Reached.{Reached}
-use Rattle.aero_witness.specs.declared.reached.Round.{Round}
-use Rattle.aero_witness.specs.declared.reached.Round.TheVariants.{Home, Next}
+use Rattle.aero_witness.specs.declared.lanes.Lead.{Lead}
 
 -- how the place is reached, if it is
 abbrev pub reached_at : List (Option Reached) → ℕ → Option Reached
@@ -37,11 +36,12 @@ pub record AreStarts (firsts : List ℕ) (first n : ℕ) (reached : List (Option
 abbrev pub AreHome : List ℕ → ℕ → List (Option Reached) → Type 0
 AreHome firsts first reached = (k : ℕ) → slice_get firsts k ≡ Some first → (r : Reached) × (reached_at reached k ≡ Some r) × (r.level ≡ 0)
 
--- a noted event with which the one at place j conflicts as a later one, if there is one
-abbrev pub IsSource : List Numbered → (ℕ → Bool) → ℕ → Option ℕ → Type 0
-IsSource trace noted j None = (i : ℕ) → noted i ≡ true → Conflict trace i j → ⊥
-IsSource trace noted j (Some i) = (noted i ≡ true) × Conflict trace i j
+-- the places of the front are those of this level
+pub record IsFront (level : ℕ) (reached : List (Option Reached)) (front : List ℕ) : Type 0 where
+  pub noted : (k : ℕ) → Contains front k → is_noted reached level k ≡ true
+  pub all : (k : ℕ) → is_noted reached level k ≡ true → Contains front k
 
+-- with a noted event the one at place j conflicts as a later one
 abbrev pub HasSource : List Numbered → (ℕ → Bool) → ℕ → Type 0
 HasSource trace noted j = (i : ℕ) × (noted i ≡ true) × Conflict trace i j
 
@@ -74,53 +74,58 @@ module _ (trace : List Numbered) where
       (j k : ℕ) → IsVisit trace (length trace) (visit j k) → IsForward trace (length trace) (visit j k)
       → IsSome (reached_at reached j) → IsSome (reached_at reached k)
 
-  -- the places are reached at which a walk may leave that comes in so, of which none before place `least` is new
-  pub record IsEntered (how : Reached) (least : ℕ) (old new : List (Option Reached)) : Type 0 where
+  -- the places are reached at which a walk may leave that comes in so
+  pub record IsEntered (how : Reached) (old new : List (Option Reached)) : Type 0 where
     pub each : length new ≡ length old
     pub kept : (k : ℕ) (r : Reached) → reached_at old k ≡ Some r → reached_at new k ≡ Some r
     pub only :
         (k : ℕ) (r : Reached) → reached_at new k ≡ Some r
         → (reached_at old k ≡ Some r)
-        ⊎ ((reached_at old k ≡ None) × (r ≡ how) × (least ≤ k) × IsVisit trace (length trace) (visit how.enters k) × IsForward trace (length trace) (visit how.enters k))
+        ⊎ ((reached_at old k ≡ None) × (r ≡ how) × IsVisit trace (length trace) (visit how.enters k) × IsForward trace (length trace) (visit how.enters k))
     pub all :
         (k : ℕ) → IsVisit trace (length trace) (visit how.enters k) → IsForward trace (length trace) (visit how.enters k)
         → IsSome (reached_at new k)
-    pub grown : least < length trace → reached_at old how.enters ≡ None
 
-  module _ (firsts : List ℕ) (first level : ℕ) (old : List (Option Reached)) where
-    -- with one visit more place k is reached so, from place `least` on
-    pub record IsNew (least k : ℕ) (r : Reached) : Type 0 where
+  module _ (level : ℕ) (old : List (Option Reached)) where
+    -- with one visit more place k is reached so
+    pub record IsNew (k : ℕ) (r : Reached) : Type 0 where
       pub none : reached_at old k ≡ None
-      pub later : least ≤ k
       pub one_more : r.level ≡ level + 1
       pub noted : is_noted old level r.from ≡ true
       pub conflict : Conflict trace r.from r.enters
       pub is : IsVisit trace (length trace) (visit r.enters k)
       pub forward : IsForward trace (length trace) (visit r.enters k)
 
-    -- what comes of the conflicts of noted events with the first n, of which none is of the transaction with the first place `first`
-    pub record IsSwept (n least : ℕ) (new : List (Option Reached)) : Type 0 where
+    -- it comes in at a place to which a noted event leads
+    abbrev pub IsLead : Lead → Type 0
+    IsLead c = (is_noted old level c.from ≡ true) × Conflict trace c.from c.enters
+
+    -- what comes of these
+    pub record AreEntered (leads : List Lead) (new : List (Option Reached)) : Type 0 where
       pub each : length new ≡ length old
       pub kept : (k : ℕ) (r : Reached) → reached_at old k ≡ Some r → reached_at new k ≡ Some r
-      pub only : (k : ℕ) (r : Reached) → reached_at new k ≡ Some r → (reached_at old k ≡ Some r) ⊎ IsNew least k r
+      pub only : (k : ℕ) (r : Reached) → reached_at new k ≡ Some r → (reached_at old k ≡ Some r) ⊎ IsNew k r
+      pub entered : (c : Lead) → Contains leads c → IsSome (reached_at new c.enters)
+      pub closed : IsClosed new
+
+    -- what comes of the conflicts of noted events with any
+    pub record IsSwept (new : List (Option Reached)) : Type 0 where
+      pub each : length new ≡ length old
+      pub kept : (k : ℕ) (r : Reached) → reached_at old k ≡ Some r → reached_at new k ≡ Some r
+      pub only : (k : ℕ) (r : Reached) → reached_at new k ≡ Some r → (reached_at old k ≡ Some r) ⊎ IsNew k r
       pub covered :
-          (j k : ℕ) → j < n → HasSource trace (is_noted old level) j
+          (j k : ℕ) → HasSource trace (is_noted old level) j
           → IsVisit trace (length trace) (visit j k) → IsForward trace (length trace) (visit j k)
           → IsSome (reached_at new k)
       pub closed : IsClosed new
-      pub grown : least < length trace → (k : ℕ) × (k < length trace) × (reached_at old k ≡ None) × IsSome (reached_at new k)
-      pub homeless : 0 < level → (j : ℕ) → j < n → slice_get firsts j ≡ Some first → HasSource trace (is_noted old level) j → ⊥
 
-    -- so of all events, or up to one of the transaction that conflicts with a noted one
-    abbrev pub IsSweep : List (Option Reached) → Round → Type 0
-    IsSweep new (Home home out) =
-        (0 < level) × (slice_get firsts home ≡ Some first) × (is_noted old level out ≡ true) × Conflict trace out home
-        × ((least : ℕ) × IsSwept home least new)
-    IsSweep new (Next least) = (least ≤ length trace) × IsSwept (length trace) least new
+  -- no noted event leads to the transaction with this first place
+  abbrev pub IsHomeless : List ℕ → ℕ → (ℕ → Bool) → Type 0
+  IsHomeless firsts first noted = (j : ℕ) → slice_get firsts j ≡ Some first → HasSource trace noted j → ⊥
 
--- no place before this one is noted
-abbrev pub IsBefore : ℕ → ℕ → List (Option Reached) → Type 0
-IsBefore level least reached = (i : ℕ) → i < least → is_noted reached level i ≡ false
+-- a noted event leads to one of the transaction with this first place
+abbrev pub IsHomecoming : List Numbered → List ℕ → ℕ → (ℕ → Bool) → Lead → Type 0
+IsHomecoming trace firsts first noted c = (slice_get firsts c.enters ≡ Some first) × (noted c.from ≡ true) × Conflict trace c.from c.enters
 
 -- none is reached with more
 abbrev pub AreAtMost : ℕ → List (Option Reached) → Type 0

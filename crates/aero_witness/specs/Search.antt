@@ -1,21 +1,19 @@
--- What a round of the search tells.
-use Rattle.std.specs.Prelude.{◌≡◌, ℕ, suc, ◌+◌, ◌<◌, ◌≤◌, true, List, [], ◌∷◌, length, Option, Some, None}
+-- Where a search is, and what a round of it tells.
+use Rattle.std.specs.Prelude.{◌≡◌, ℕ, suc, ◌+◌, ◌<◌, ◌≤◌, true, List, [], ◌∷◌, length, Option, Some, None, IsSome}
 use Rattle.aero_model.specs.declared.numbered.Numbered.{Numbered}
 use Rattle.aero_model.specs.Blocks.{transaction}
 use Rattle.aero_model.specs.Graph.{Conflict}
+use Rattle.aero_witness.specs.declared.kinds.Kind.{Kind}
+use Rattle.aero_witness.specs.declared.lanes.Lead.{Lead}
+use Rattle.aero_witness.specs.declared.left.Left.{Left}
+use Rattle.aero_witness.specs.declared.quest.Quest.{Quest}
 use Rattle.aero_witness.specs.declared.reached.Reached.{Reached}
-use Rattle.aero_witness.specs.declared.reached.Round.{Round}
-use Rattle.aero_witness.specs.declared.reached.Round.TheVariants.{Home, Next}
+use Rattle.aero_witness.specs.declared.rounds.Search.{Search}
+use Rattle.aero_witness.specs.Kinds.{targets}
+use Rattle.aero_witness.specs.Lanes.{head_at, IsLane, AreHomes}
+use Rattle.aero_witness.specs.Left.{lane_of}
 use Rattle.aero_witness.specs.Levels.{AreLevels}
-use Rattle.aero_witness.specs.Reached.{is_noted, IsClosed, IsBefore, AreAtMost}
-
--- the search is at this level, of which no place before this one is
-pub record IsAt (trace : List Numbered) (begin : ℕ) (reached : List (Option Reached)) (level least : ℕ) : Type 0 where
-  pub levels : AreLevels trace (transaction trace begin) reached level
-  pub closed : IsClosed trace reached
-  pub within : least ≤ length trace
-  pub before : IsBefore level least reached
-  pub most : AreAtMost level reached
+use Rattle.aero_witness.specs.Reached.{is_noted, reached_at, IsFront, IsClosed, IsSwept, AreAtMost}
 
 -- how many places are not reached
 abbrev pub unreached : List (Option Reached) → ℕ
@@ -23,10 +21,38 @@ unreached [] = 0
 unreached (None ∷ xs) = suc (unreached xs)
 unreached (Some r ∷ xs) = unreached xs
 
--- a walk comes back to the transaction, or further places are reached
-abbrev pub IsRound : List Numbered → ℕ → List (Option Reached) → ℕ → List (Option Reached) → Round → Type 0
-IsRound trace begin old level new (Home home out) =
-    AreLevels trace (transaction trace begin) new level × (0 < level) × (is_noted new level out ≡ true)
-    × (transaction trace home ≡ transaction trace begin) × Conflict trace out home
-IsRound trace begin old level new (Next least) =
-    IsAt trace begin new (level + 1) least × (unreached new < unreached old)
+-- where walks may leave is what isn't left
+pub record IsLeft (trace : List Numbered) (firsts : List ℕ) (first : ℕ) (reached : List (Option Reached)) (left : Left) : Type 0 where
+  pub lanes : (k : Kind) → IsLane trace k (lane_of left k)
+  pub homes : (k : Kind) → AreHomes trace firsts first k (lane_of left k)
+  pub taken : (k : Kind) (m j : ℕ) → head_at (lane_of left k).heads.items m ≤ j → targets trace k j ≡ Some m → IsSome (reached_at reached j)
+
+module _ (trace : List Numbered) (quest : Quest) where
+  -- the search is at its level, whose places are its front
+  pub record IsAt (search : Search) : Type 0 where
+    pub levels : AreLevels trace (transaction trace quest.begin) search.walks.reached.items search.level
+    pub closed : IsClosed trace search.walks.reached.items
+    pub most : AreAtMost search.level search.walks.reached.items
+    pub front : IsFront search.level search.walks.reached.items search.walks.front.items
+    pub left : IsLeft trace quest.transactions.firsts.items quest.first search.walks.reached.items search.left
+    pub room : search.level + unreached search.walks.reached.items < length trace
+
+  -- all to which the level leads is reached, and nothing else
+  pub record IsAdvanced (old new : Search) : Type 0 where
+    pub level : new.level ≡ old.level + 1
+    pub swept : IsSwept trace old.level old.walks.reached.items new.walks.reached.items
+    pub front : IsFront new.level new.walks.reached.items new.walks.front.items
+    pub left : IsLeft trace quest.transactions.firsts.items quest.first new.walks.reached.items new.left
+
+  -- a walk comes back to the transaction
+  pub record IsEnd (search : Search) (home : Lead) : Type 0 where
+    pub levels : AreLevels trace (transaction trace quest.begin) search.walks.reached.items search.level
+    pub some : 0 < search.level
+    pub out : is_noted search.walks.reached.items search.level home.from ≡ true
+    pub back : transaction trace home.enters ≡ transaction trace quest.begin
+    pub closes : Conflict trace home.from home.enters
+
+  -- one does, or further places are reached
+  abbrev pub IsRound : Search → Search → Option Lead → Type 0
+  IsRound old new (Some home) = IsEnd new home
+  IsRound old new None = IsAt new × (unreached new.walks.reached.items < unreached old.walks.reached.items)

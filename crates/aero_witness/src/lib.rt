@@ -31,10 +31,14 @@
 #![tactic(auto)]
 
 mod conflict;
+mod kinds;
+mod lanes;
 pub mod laws;
+mod left;
 mod marks;
 mod quest;
 mod reached;
+mod rounds;
 pub mod search;
 pub mod telling;
 pub mod transactions;

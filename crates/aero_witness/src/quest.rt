@@ -1,5 +1,5 @@
 //! What a search goes by.
-ghost use Rattle.std.specs.Prelude.{◌≡◌, ◌<◌, ◌^◌, ◌==◌, ℕ, if◌then◌else◌, length, slice_index, IfOk, All};
+ghost use Rattle.std.specs.Prelude.{◌≡◌, ◌<◌, ◌^◌, ◌==◌, ℕ, if◌then◌else◌, length, slice_index, slice_get, Some, ◌↔◌, IsTrue, IfOk, All};
 ghost use Rattle.aero_witness.specs.Quest.{AreNext, IsQuest};
 
 use crate::telling::first_at;
@@ -32,6 +32,14 @@ pub(crate) fn quest_of(alloc: Global, events: &[Numbered], begin: u32) -> Result
         begin,
         first,
     })
+}
+
+// Whether the place is in the transaction from which telling cycles are looked for.
+pub(crate) fn is_home(quest: &Quest, place: u32) -> bool
+    requires { place < length quest.now.transactions.firsts.items }
+    ensures { IsTrue result ↔ (slice_get quest.now.transactions.firsts.items place ≡ Some quest.now.first) }
+{
+    first_at(&quest.transactions.firsts, place) == quest.first
 }
 
 // Of each place the next one with the same first place, or the number of places.

@@ -1,11 +1,9 @@
 //! Places that are reached, level by level.
-ghost use Rattle.std.specs.Prelude.{◌≡◌, ◌<◌, ◌≤◌, ◌+◌, ◌^◌, ◌==◌, ℕ, nat_lt, if◌then◌else◌, length, Some, None, IfOk, IsSome, MatchBool, ◌⊎◌, ◌↔◌, IsTrue, slice_get};
-ghost use Rattle.aero_witness.specs.Marks.{mark_of, source_of};
+ghost use Rattle.std.specs.Prelude.{◌≡◌, ◌<◌, ◌≤◌, ◌^◌, ◌==◌, ◌++◌, ◌∷◌, [], ℕ, if◌then◌else◌, length, Some, None, OnOk, IfOk, IsSome, MatchBool, ◌⊎◌};
 ghost use Rattle.aero_witness.specs.Parts.{AreOf};
 ghost use Rattle.aero_witness.specs.Quest.{AreNext, IsQuest};
-ghost use Rattle.aero_witness.specs.Reached.{is_noted, reached_at, level_of, start_at, AreStarts, AreHome, IsClosedFrom, IsClosed, IsWalked, IsFrom, IsEntered, IsBefore, AreAtMost, IsSweep};
+ghost use Rattle.aero_witness.specs.Reached.{is_noted, reached_at, start_at, AreStarts, IsFront, IsClosedFrom, IsClosed, IsWalked, IsFrom, IsEntered};
 
-use crate::marks::Marks;
 use crate::quest::Quest;
 use crate::telling::{first_at, has_ended};
 use crate::transactions::Transactions;
@@ -21,16 +19,15 @@ pub(crate) struct Reached {
     pub from: u32,
 }
 
-// What comes of a level.
-pub(crate) enum Round {
-    // A walk comes back at the first of these places, from an event at the second.
-    Home(u32, u32),
-    // None does, and no place before this one is newly reached.
-    Next(u32),
+// What is reached, and the places of one level, which lead on.
+#[derive(Drop)]
+pub(crate) struct Walks {
+    pub reached: Vec<Option<Reached>>,
+    pub front: Vec<u32>,
 }
 
 // Whether the place is reached, and of this level.
-fn is_noted(reached: &[Option<Reached>], level: u32, place: u32) -> bool
+pub(crate) fn is_noted(reached: &[Option<Reached>], level: u32, place: u32) -> bool
     requires { place < length reached.now }
     ensures { result ≡ is_noted reached.now level place }
 {
@@ -78,12 +75,22 @@ fn start_at(f: u32, first: u32) -> Option<Reached>
     }
 }
 
-fn put(reached: &mut Vec<Option<Reached>>, place: u32, how: Reached)
-    requires { place < length reached.old.items }
-    ensures each { length reached.new.items ≡ length reached.old.items }
-    ensures at { (k : ℕ) → reached_at reached.new.items k ≡ (if place == k then Some how else reached_at reached.old.items k) }
+// The places of this level, in their order.
+pub(crate) fn front_of(
+    alloc: Global,
+    reached: &[Option<Reached>],
+    level: u32,
+) -> Result<Vec<u32>, AllocError>
+    requires { length reached.now < 2 ^ 32 }
+    ensures { IfOk result (λ front. IsFront level reached.now front.items) }
 {
-    reached[place as usize] = Some(how);
+    let mut front = Vec::new(alloc);
+    for place in 0..reached.len() as u32 {
+        if is_noted(reached, level, place) {
+            front.push(place)?;
+        }
+    }
+    Ok(front)
 }
 
 fn is_free(reached: &[Option<Reached>], place: u32) -> bool
@@ -95,42 +102,58 @@ fn is_free(reached: &[Option<Reached>], place: u32) -> bool
     }
 }
 
-// Reaches the places of a transaction from this one on, up to one that is reached.
-fn walk(quest: &Quest, reached: &mut Vec<Option<Reached>>, from: u32, how: Reached)
-    requires next { AreNext quest.now.transactions.firsts.items 0 quest.now.next.items }
-    requires each { length reached.old.items ≡ length quest.now.transactions.firsts.items }
-    requires within { from < length reached.old.items }
-    requires closed { IsClosedFrom quest.now.transactions.firsts.items from reached.old.items }
-    ensures { IsWalked quest.now.transactions.firsts.items from how reached.old.items reached.new.items }
+// Reaches a place of the next front.
+fn reach(walks: &mut Walks, place: u32, how: Reached) -> Result<(), AllocError>
+    requires { place < length walks.old.reached.items }
+    ensures each { length walks.new.reached.items ≡ length walks.old.reached.items }
+    ensures at { OnOk result ((k : ℕ) → reached_at walks.new.reached.items k ≡ (if place == k then Some how else reached_at walks.old.reached.items k)) }
+    ensures front { OnOk result (walks.new.front.items ≡ walks.old.front.items ++ place ∷ []) }
 {
-    let mut place = from;
-    while is_free(reached, place) {
-        put(reached, place, how);
-        place = quest.next[place as usize];
-    }
+    walks.front.push(place)?;
+    walks.reached[place as usize] = Some(how);
+    Ok(())
 }
 
-// Reaches each place at which a walk may leave that comes in so, unless it may leave where it comes in already. The
-// least place at which it may newly leave, or the number of events.
-fn enter(
+// Reaches the places of a transaction from this one on, up to one that is reached.
+fn walk(quest: &Quest, walks: &mut Walks, from: u32, how: Reached) -> Result<(), AllocError>
+    requires next { AreNext quest.now.transactions.firsts.items 0 quest.now.next.items }
+    requires each { length walks.old.reached.items ≡ length quest.now.transactions.firsts.items }
+    requires within { from < length walks.old.reached.items }
+    requires closed { IsClosedFrom quest.now.transactions.firsts.items from walks.old.reached.items }
+    requires front { IsFront how.level walks.old.reached.items walks.old.front.items }
+    ensures walked { OnOk result (IsWalked quest.now.transactions.firsts.items from how walks.old.reached.items walks.new.reached.items) }
+    ensures front { OnOk result (IsFront how.level walks.new.reached.items walks.new.front.items) }
+{
+    let mut place = from;
+    while is_free(&walks.reached, place) {
+        reach(walks, place, how)?;
+        place = quest.next[place as usize];
+    }
+    Ok(())
+}
+
+// Reaches each place at which a walk may leave that comes in so, unless it may leave where it comes in already.
+pub(crate) fn enter(
     events: &[Numbered],
     quest: &Quest,
-    reached: &mut Vec<Option<Reached>>,
+    walks: &mut Walks,
     how: Reached,
-) -> u32
+) -> Result<(), AllocError>
     requires few { length events.now < 2 ^ 32 }
     requires quest { IsQuest events.now quest.now }
-    requires each { length reached.old.items ≡ length events.now }
+    requires each { length walks.old.reached.items ≡ length events.now }
     requires within { how.enters < length events.now }
-    requires closed { IsClosed events.now reached.old.items }
-    ensures { IsEntered events.now how result reached.old.items reached.new.items }
+    requires closed { IsClosed events.now walks.old.reached.items }
+    requires front { IsFront how.level walks.old.reached.items walks.old.front.items }
+    ensures entered { OnOk result (IsEntered events.now how walks.old.reached.items walks.new.reached.items) }
+    ensures front { OnOk result (IsFront how.level walks.new.reached.items walks.new.front.items) }
 {
-    if reached_of(reached, how.enters).is_some() {
-        return events.len() as u32;
+    if reached_of(&walks.reached, how.enters).is_some() {
+        return Ok(());
     }
     let from = leaves_from(events, &quest.transactions, how.enters);
-    walk(quest, reached, from, how);
-    from
+    walk(quest, walks, from, how)?;
+    Ok(())
 }
 
 // The first place at which a walk may leave that comes in at this one.
@@ -144,88 +167,5 @@ fn leaves_from(events: &[Numbered], transactions: &Transactions, enters: u32) ->
         first
     } else {
         enters
-    }
-}
-
-/// A level of a search: how many visits come before, and a place before which none is of this level.
-#[derive(Clone, Copy)]
-pub(crate) struct Level {
-    pub number: u32,
-    pub least: u32,
-}
-
-// Reaches with one visit more what this level leads to, until it leads back to the transaction where the walk begins.
-pub(crate) fn sweep(
-    alloc: Global,
-    events: &[Numbered],
-    quest: &Quest,
-    reached: &mut Vec<Option<Reached>>,
-    level: Level,
-) -> Result<Round, AllocError>
-    requires few { length events.now < 2 ^ 32 }
-    requires quest { IsQuest events.now quest.now }
-    requires each { length reached.old.items ≡ length events.now }
-    requires home { AreHome quest.now.transactions.firsts.items quest.now.first reached.old.items }
-    requires closed { IsClosed events.now reached.old.items }
-    requires least { level.least ≤ length events.now }
-    requires before { IsBefore level.number level.least reached.old.items }
-    requires most { AreAtMost level.number reached.old.items }
-    requires room { level.number + 1 < 2 ^ 32 }
-    ensures { IfOk result (IsSweep events.now quest.now.transactions.firsts.items quest.now.first level.number reached.old.items reached.new.items) }
-{
-    let mut marks = Marks::new(alloc);
-    let mut least = events.len() as u32;
-    for place in level.least..events.len() as u32 {
-        let event = &events[place as usize];
-        if let Some(from) = source_at(&marks, event, reached_of(reached, place)) {
-            if is_home(quest, level.number, place) {
-                return Ok(Round::Home(place, from));
-            }
-            least = least.min(enter(events, quest, reached, with_one_more(level, place, from)));
-        }
-        if is_noted(reached, level.number, place) {
-            marks.note(event, place)?;
-        }
-    }
-    Ok(Round::Next(least))
-}
-
-// The earliest of the noted events that conflict with the one at a place, which comes next and is reached so. None is
-// asked for where visits come before: what that leads to is reached.
-fn source_at(marks: &Marks, event: &Numbered, how: Option<Reached>) -> Option<u32>
-    ensures { result ≡ (if nat_lt 0 (level_of how) then None else source_of (mark_of marks.now) event.now) }
-{
-    if is_settled(how) {
-        None
-    } else {
-        marks.source(event)
-    }
-}
-
-fn is_settled(how: Option<Reached>) -> bool
-    ensures { result ≡ nat_lt 0 (level_of how) }
-{
-    match how {
-        Some(reached) => reached.level > 0,
-        None => false,
-    }
-}
-
-// Whether a walk that comes in at this place, with so many visits before, comes back.
-fn is_home(quest: &Quest, level: u32, place: u32) -> bool
-    requires { place < length quest.now.transactions.firsts.items }
-    ensures { IsTrue result ↔ ((0 < level) × (slice_get quest.now.transactions.firsts.items place ≡ Some quest.now.first)) }
-{
-    level > 0 && first_at(&quest.transactions.firsts, place) == quest.first
-}
-
-fn with_one_more(level: Level, enters: u32, from: u32) -> Reached
-    requires { level.number + 1 < 2 ^ 32 }
-    ensures { result ≡ record { level = level.number + 1; enters = enters; from = from } }
-{
-    Reached {
-        level: level.number + 1,
-        enters,
-        from,
     }
 }

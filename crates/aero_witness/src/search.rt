@@ -5,11 +5,13 @@ ghost use Rattle.aero_model.specs.Graph.{BeginsCycle};
 ghost use Rattle.aero_witness.specs.Homecoming.{ComesHome};
 ghost use Rattle.aero_witness.specs.Parts.{AreOf};
 ghost use Rattle.aero_witness.specs.Quest.{IsQuest};
-ghost use Rattle.aero_witness.specs.Search.{IsAt, IsRound};
+ghost use Rattle.aero_witness.specs.Search.{IsAt, IsEnd};
 ghost use Rattle.aero_witness.specs.Telling.{IsTellingCycle, IsShortest, IsShortestLike};
 
+use crate::lanes::Lead;
 use crate::quest::{Quest, quest_of};
-use crate::reached::{Level, Reached, Round, reached_of, start, sweep};
+use crate::reached::{Reached, reached_of};
+use crate::rounds::{Search, begin, next_round};
 use crate::telling::is_telling_cycle;
 use crate::transactions::Transactions;
 use crate::visit::Visit;
@@ -83,51 +85,34 @@ fn search(alloc: Global, events: &[Numbered], quest: &Quest) -> Result<Vec<Visit
     requires begins { BeginsCycle events.now (length events.now) (transaction events.now quest.now.begin) }
     ensures { IfOk result (λ visits. IsShortest events.now (transaction events.now quest.now.begin) visits.items) }
 {
-    let mut reached = start(alloc, &quest.transactions.firsts, quest.first)?;
-    let mut level = Level {
-        number: 0,
-        least: 0,
+    let mut search = begin(alloc, events, quest)?;
+    let home = last_round(alloc, events, quest, &mut search)?;
+    let homecoming = Homecoming {
+        begin: quest.begin,
+        level: search.level,
+        home: home.enters,
+        out: home.from,
     };
-    loop {
-        match next_round(alloc, events, quest, &mut reached, level)? {
-            Round::Home(home, out) => {
-                let homecoming = Homecoming {
-                    begin: quest.begin,
-                    level: level.number,
-                    home,
-                    out,
-                };
-                return walk_back(alloc, events, &reached, homecoming);
-            }
-            Round::Next(least) => {
-                level = Level {
-                    number: level.number + 1,
-                    least,
-                };
-            }
-        }
-    }
+    walk_back(alloc, events, &search.walks.reached, homecoming)
 }
 
-fn next_round(
+// The last round, in which a walk comes home.
+fn last_round(
     alloc: Global,
     events: &[Numbered],
     quest: &Quest,
-    reached: &mut Vec<Option<Reached>>,
-    level: Level,
-) -> Result<Round, AllocError>
+    search: &mut Search,
+) -> Result<Lead, AllocError>
     requires few { length events.now < 2 ^ 32 }
     requires quest { IsQuest events.now quest.now }
     requires begins { BeginsCycle events.now (length events.now) (transaction events.now quest.now.begin) }
-    requires at { IsAt events.now quest.now.begin reached.old.items level.number level.least }
-    requires room { level.number + 1 < 2 ^ 32 }
-    ensures { IfOk result (IsRound events.now quest.now.begin reached.old.items level.number reached.new.items) }
+    requires at { IsAt events.now quest.now search.old }
+    ensures { IfOk result (IsEnd events.now quest.now search.new) }
 {
-    let round = sweep(alloc, events, quest, reached, level)?;
-    match round {
-        Round::Home(home, out) => Ok(Round::Home(home, out)),
-        Round::Next(least) if (least as usize) < events.len() => Ok(Round::Next(least)),
-        Round::Next(_) => unreachable!(),
+    loop {
+        if let Some(home) = next_round(alloc, events, quest, search)? {
+            return Ok(home);
+        }
     }
 }
 

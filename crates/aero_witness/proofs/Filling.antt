@@ -1,0 +1,126 @@
+-- The last places with each number, with one place more.
+use Rattle.std.proofs.Common.{◌≡◌, ℕ, zero, suc, ◌+◌, ◌<◌, ◌≤◌, ◌&&◌, if◌then◌else◌, Bool, true, false, List, [], ◌∷◌, ◌++◌, length, Option, Some, None, inl, inr, refl, sym, ◌∙◌, ap, subst, arith}
+use Rattle.std.specs.Prelude.{◌↔◌, slice_get}
+use Rattle.std.proofs.lemmas.Bool.{cases_eq, cases_lt, eq-eqb, eqb-true, false≢true, and_parts, and_from}
+use Rattle.std.proofs.lemmas.List.{length_push, get_or_append_left, get_or_push, get_or_past}
+use Rattle.aero_witness.specs.declared.kinds.Kind.{Kind}
+use Rattle.aero_witness.specs.declared.lanes.Lane.{Lane}
+use Rattle.aero_witness.specs.Lanes.{head_at, head_of, is_number, IsLast, IsOf, IsHomeOf, AreLinks, IsAdded, AreFilled, IsFilled, IsLane, AreHomes, IsFull}
+use Rattle.aero_witness.specs.Kinds.{targets}
+use Rattle.aero_witness.proofs.Kinded.{target_within}
+use Rattle.aero_model.specs.declared.numbered.Numbered.{Numbered}
+
+number_is : (o : Option ℕ) (m : ℕ) → is_number o m ≡ true → o ≡ Some m
+number_is None m e = absurd (false≢true e)
+number_is (Some k) m e = ap Some (eqb-true k m e)
+
+is_numbered : (o : Option ℕ) (m : ℕ) → o ≡ Some m → is_number o m ≡ true
+is_numbered o m e = ap (λ p. is_number p m) e ∙ eq-eqb m m refl
+
+pub last_within : (P : ℕ → Type 0) (n h : ℕ) → IsLast P n h → h ≤ n
+last_within P n zero last = omega arith
+last_within P n (suc k) last = let l = (last.is k (omega arith)).0 in omega arith
+
+last_step : (P : ℕ → Type 0) (n h new : ℕ) (b : Bool) → (b ≡ true → P n) → (P n → b ≡ true) → new ≡ (if b then n + 1 else h) → IsLast P n h → IsLast P (n + 1) new
+last_step P n h new true holds from e last =
+    record {
+      is = λ j j_is. (let same : n ≡ j = omega arith in (omega arith, subst P same (holds refl)));
+      none = λ j le less p. omega arith;
+    }
+last_step P n h new false holds from e last =
+    record {
+      is = λ j j_is. (let old = last.is j (sym e ∙ j_is) in let l = old.0 in (omega arith, old.1));
+      none = λ j le less p. elim (cases_eq j n) [
+        | inl same ↦ false≢true (from (subst P same p))
+        | inr other ↦ last.none j (omega arith) (omega arith) p
+      ];
+    }
+
+-- one more place
+module _ (t : ℕ → Option ℕ) (firsts : List ℕ) (first n : ℕ) (number : Option ℕ) (home : Bool) (old new : Lane) (f : AreFilled t firsts first n old.before.items old.homes.items old.heads.items) (added : IsAdded number home n old new) (number_at : t n ≡ number) (home_at : (home ≡ true) ↔ (slice_get firsts n ≡ Some first)) where
+  abbrev before : List ℕ
+  before = old.before.items
+
+  abbrev heads : List ℕ
+  heads = old.heads.items
+
+  here_is : head_at (before ++ head_of heads number ∷ []) n ≡ head_of heads number
+  here_is = get_or_push before (head_of heads number) 0 n f.each
+
+  below_is : (j : ℕ) → j < n → head_at (before ++ head_of heads number ∷ []) j ≡ head_at before j
+  below_is j l = let each = f.each in get_or_append_left before (head_of heads number ∷ []) 0 j (omega arith)
+
+  past_is : (j : ℕ) → n < j → head_at (before ++ head_of heads number ∷ []) j ≡ 0
+  past_is j l = let each = f.each in let more = length_push before (head_of heads number) in get_or_past (before ++ head_of heads number ∷ []) j 0 (omega arith)
+
+  head_within : (o : Option ℕ) → head_of heads o ≤ n
+  head_within None = omega arith
+  head_within (Some m) = last_within (IsOf t m) n (head_at heads m) (f.are_heads m)
+
+  links : AreLinks t (before ++ head_of heads number ∷ [])
+  links =
+      record {
+        at = λ j m l e. elim (cases_eq j n) [
+          | inl same ↦
+              let of : number ≡ Some m = sym number_at ∙ ap t (sym same) ∙ e in
+              let head : head_at (before ++ head_of heads number ∷ []) j ≡ head_at heads m = ap (head_at (before ++ head_of heads number ∷ [])) same ∙ here_is ∙ ap (head_of heads) of in
+              subst (IsLast (IsOf t m) j) (sym head) (subst (λ k. IsLast (IsOf t m) k (head_at heads m)) (sym same) (f.are_heads m))
+          | inr other ↦
+              let each = f.each in
+              let more = length_push before (head_of heads number) in
+              let less : j < n = omega arith in
+              subst (IsLast (IsOf t m) j) (sym (below_is j less)) (f.links.at j m (omega arith) e)
+        ];
+        falls = λ j. elim (cases_lt j n) [
+          | inl less ↦ (let e = below_is j less in let le = f.links.falls j in omega arith)
+          | inr ge ↦ elim (cases_eq j n) [
+            | inl same ↦ (let e = ap (head_at (before ++ head_of heads number ∷ [])) same ∙ here_is in let le = head_within number in omega arith)
+            | inr other ↦ (let e = past_is j (omega arith) in omega arith)
+          ]
+        ];
+      }
+
+  pub one_filled : AreFilled t firsts first (n + 1) new.before.items new.homes.items new.heads.items
+  one_filled =
+      record {
+        each = ap (λ (xs : List ℕ). length xs) added.before ∙ length_push before (head_of heads number) ∙ ap (λ k. k + 1) f.each;
+        links = subst (AreLinks t) (sym {A = List ℕ} added.before) links;
+        are_homes = λ m.
+            last_step (IsHomeOf t firsts first m) n (head_at old.homes.items m) (head_at new.homes.items m) (home && is_number number m)
+            (λ e. let both = and_parts home (is_number number m) e in (home_at.0 both.0, number_at ∙ number_is number m both.1))
+            (λ h. and_from home (is_number number m) (home_at.1 h.0) (is_numbered number m (sym number_at ∙ h.1)))
+            (added.homes m)
+            (f.are_homes m);
+        are_heads = λ m.
+            last_step (IsOf t m) n (head_at heads m) (head_at new.heads.items m) (is_number number m)
+            (λ e. number_at ∙ number_is number m e)
+            (λ h. is_numbered number m (sym number_at ∙ h))
+            (added.heads m)
+            (f.are_heads m);
+      }
+
+module _ (trace : List Numbered) (firsts : List ℕ) (first : ℕ) where
+  pub same_kind : (n : ℕ) (old new : Lane) → new.kind ≡ old.kind → AreFilled (targets trace old.kind) firsts first (n + 1) new.before.items new.homes.items new.heads.items → IsFilled trace firsts first (n + 1) new
+  same_kind n old new e f = subst (λ (k : Kind). AreFilled (targets trace k) firsts first (n + 1) new.before.items new.homes.items new.heads.items) (sym {A = Kind} e) f
+
+  -- all places
+  pub all_filled : (k : Kind) (lane : Lane) → lane.kind ≡ k → IsFilled trace firsts first (length trace) lane → IsLane trace k lane × AreHomes trace firsts first k lane × IsFull trace k lane
+  all_filled k lane e f = (is, g.are_homes, full)
+    where
+      g : AreFilled (targets trace k) firsts first (length trace) lane.before.items lane.homes.items lane.heads.items
+      g = subst (λ (l : Kind). AreFilled (targets trace l) firsts first (length trace) lane.before.items lane.homes.items lane.heads.items) e f
+
+      is : IsLane trace k lane
+      is =
+          record {
+            kind = e;
+            each = g.each;
+            links = g.links;
+            heads = record {
+              within = λ m. last_within (IsOf (targets trace k) m) (length trace) (head_at lane.heads.items m) (g.are_heads m);
+              is = λ m j h. ((g.are_heads m).is j h).1;
+            };
+          }
+
+      full : IsFull trace k lane
+      full m j le at = (g.are_heads m).none j le (target_within trace k j m at) at

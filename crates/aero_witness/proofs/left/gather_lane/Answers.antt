@@ -1,0 +1,38 @@
+use Rattle.std.proofs.Common.{◌≡◌, ℕ, List, ◌∷◌, [], length, take, get_or, sym, ◌∙◌, ap, subst}
+use Rattle.std.proofs.lemmas.List.{take_more}
+use Rattle.std.proofs.lemmas.Option.{slice_get-get_or}
+use Rattle.aero_model.specs.declared.numbered.Numbered.{Numbered}
+use Rattle.aero_model.specs.declared.numbered.What.TheVariants.{Read}
+use Rattle.aero_witness.specs.declared.kinds.Kind.{Kind}
+use Rattle.aero_witness.specs.Kinds.{source_number, of_event, sources, targets}
+use Rattle.aero_witness.specs.Lanes.{AreHeads, AreDrawn}
+use Rattle.aero_witness.proofs.Drawing.{still_but, still_lane, more_drawn}
+use Rattle.aero_witness.proofs.left.gather_lane.Goals as goal
+
+abbrev any : Numbered
+any = record { thread = 0; what = Read 0 }
+
+pub loop-place-preserved : goal.loop-place-preserved
+loop-place-preserved c =
+    let trace = c.args.events.now in
+    let front = c.args.front.now in
+    let old = c.args.lane.now in
+    let cur = c.loop-place.lane in
+    let new = c.take.new.lane in
+    let leads = c.args.leads.now.items in
+    let leads' = c.loop-place.leads.items in
+    let leads'' = c.take.new.leads.items in
+    let at = c.loop-place.place-index in
+    let place = get_or front at 0 in
+    let inv = c.loop-place.invariant in
+    let s = sources trace old.kind in
+    let t = targets trace old.kind in
+    let lane = still_lane trace old.kind old cur c.requires.lane inv.same inv.drawn.are in
+    let source : s place ≡ c.source_number-number.result =
+    ap (of_event (source_number old.kind)) (slice_get-get_or trace place any (c.requires.within at 0 c.loop-place-test.true)) ∙ ap (λ (k : Kind). source_number k (get_or trace place any)) (sym {A = Kind} inv.same.kind) ∙ sym c.source_number-number.ensures in
+    let drawn : AreDrawn s t (place ∷ []) (length trace) cur.heads.items new.heads.items leads' leads'' =
+    subst (λ n. AreDrawn s t (place ∷ []) n cur.heads.items new.heads.items leads' leads'') lane.each (c.in_ok-take.ensures.drawn s t source lane.links (subst (λ n. AreHeads t n cur.heads.items) (sym lane.each) lane.heads)) in
+    record {
+      same = still_but old cur new inv.same c.in_ok-take.ensures.same;
+      drawn = subst (λ (xs : List ℕ). AreDrawn s t xs (length trace) old.heads.items new.heads.items leads leads'') (sym {A = List ℕ} (take_more front at 0 c.loop-place-test.true)) (more_drawn s t (length trace) (take at front) place old.heads.items cur.heads.items new.heads.items leads leads' leads'' inv.drawn drawn);
+    }

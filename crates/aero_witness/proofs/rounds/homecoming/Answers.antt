@@ -1,0 +1,27 @@
+use Rattle.std.proofs.Common.{◌<◌, ◌+◌, ◌≤◌, ℕ, List, length, sym, subst, arith}
+use Rattle.std.specs.List.{All}
+use Rattle.std.specs.Prelude.{Contains}
+use Rattle.aero_witness.specs.declared.kinds.Kind.{Kind}
+use Rattle.aero_witness.specs.Kinds.{sources}
+use Rattle.aero_witness.specs.Lanes.{head_of}
+use Rattle.aero_witness.specs.Left.{lane_of}
+use Rattle.aero_witness.proofs.Advancing.{front_within, homeless_by}
+use Rattle.aero_witness.proofs.rounds.homecoming.Goals as goal
+use Rattle.aero_witness.proofs.rounds.homecoming.Goals.{then-search-eq0-via-then-search-eq0, then-search-eq0-via-else-search-eq0+then-not-leads_home}
+
+pub leads_home-requires-clause-within : goal.leads_home-requires-clause-within
+leads_home-requires-clause-within c =
+    let search = c.args.search.now in
+    let at = c.requires.at in
+    subst (λ (xs : List ℕ). All (λ i. i < length c.args.events.now) xs) (sym {A = List ℕ} c.deref.ensures.value) (front_within c.args.events.now search.level search.walks.reached.items search.walks.front.items at.front at.levels.each)
+
+pub returns-then-search-eq0 : goal.returns-then-search-eq0
+returns-then-search-eq0 c pos =
+    let search = c.args.search.now in
+    let at = c.requires.at in
+    elim c.then-search-eq0.branch [
+      | then-search-eq0-via-then-search-eq0 w ↦ (let z = w.if-search-eq0.true in absurd (omega arith))
+      | then-search-eq0-via-else-search-eq0+then-not-leads_home w ↦
+          homeless_by c.args.events.now search.level search.walks.reached.items search.walks.front.items at.front c.args.quest.now.transactions.firsts.items c.args.quest.now.first search.left at.left.homes
+          (subst (λ (xs : List ℕ). (i : ℕ) (k : Kind) → Contains xs i → head_of (lane_of search.left k).homes.items (sources c.args.events.now k i) ≤ i + 1) w.deref.ensures.value (w.leads_home.ensures w.if-not-leads_home.true))
+    ]

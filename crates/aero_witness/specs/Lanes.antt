@@ -1,0 +1,116 @@
+-- What `Lane` keeps of the targets of a kind, and what is taken of them.
+use Rattle.std.specs.Prelude.{◌≡◌, ◌⊎◌, ℕ, ◌+◌, ◌<◌, ◌≤◌, ◌==◌, ◌&&◌, if◌then◌else◌, Bool, false, List, [], ◌∷◌, ◌++◌, length, Option, Some, None, Contains, slice_get, slice_index_or}
+use Rattle.aero_model.specs.declared.numbered.Numbered.{Numbered}
+use Rattle.aero_witness.specs.declared.kinds.Kind.{Kind}
+use Rattle.aero_witness.specs.declared.lanes.Lane.{Lane}
+use Rattle.aero_witness.specs.declared.lanes.Lead.{Lead}
+use Rattle.aero_witness.specs.Kinds.{targets}
+
+abbrev pub head_at : List ℕ → ℕ → ℕ
+head_at heads m = slice_index_or heads m 0
+
+abbrev pub head_of : List ℕ → Option ℕ → ℕ
+head_of heads None = 0
+head_of heads (Some m) = head_at heads m
+
+abbrev pub is_number : Option ℕ → ℕ → Bool
+is_number None m = false
+is_number (Some k) m = k == m
+
+-- h is one more than the last place before n of which P holds, or 0 where it holds of none
+pub record IsLast (P : ℕ → Type 0) (n h : ℕ) : Type 0 where
+  pub is : (j : ℕ) → h ≡ j + 1 → (j < n) × P j
+  pub none : (j : ℕ) → h ≤ j → j < n → P j → ⊥
+
+-- the places that are numbered m, and those of them that are of the transaction with this first place
+abbrev pub IsOf : (ℕ → Option ℕ) → ℕ → ℕ → Type 0
+IsOf t m j = t j ≡ Some m
+
+abbrev pub IsHomeOf : (ℕ → Option ℕ) → List ℕ → ℕ → ℕ → ℕ → Type 0
+IsHomeOf t firsts first m j = (slice_get firsts j ≡ Some first) × (t j ≡ Some m)
+
+-- of each numbered place the last one before it with its number
+pub record AreLinks (t : ℕ → Option ℕ) (before : List ℕ) : Type 0 where
+  pub at : (j m : ℕ) → j < length before → t j ≡ Some m → IsLast (IsOf t m) j (head_at before j)
+  pub falls : (j : ℕ) → head_at before j ≤ j
+
+-- each head is a place with its number, if it is one
+pub record AreHeads (t : ℕ → Option ℕ) (n : ℕ) (heads : List ℕ) : Type 0 where
+  pub within : (m : ℕ) → head_at heads m ≤ n
+  pub is : (m j : ℕ) → head_at heads m ≡ j + 1 → t j ≡ Some m
+
+-- one more is numbered
+pub record IsAdded (number : Option ℕ) (home : Bool) (place : ℕ) (old new : Lane) : Type 0 where
+  pub kind : new.kind ≡ old.kind
+  pub before : new.before.items ≡ old.before.items ++ head_of old.heads.items number ∷ []
+  pub heads : (m : ℕ) → head_at new.heads.items m ≡ (if is_number number m then place + 1 else head_at old.heads.items m)
+  pub homes : (m : ℕ) → head_at new.homes.items m ≡ (if home && is_number number m then place + 1 else head_at old.homes.items m)
+
+-- the first n places, of which nothing is taken
+pub record AreFilled (t : ℕ → Option ℕ) (firsts : List ℕ) (first n : ℕ) (before homes heads : List ℕ) : Type 0 where
+  pub each : length before ≡ n
+  pub links : AreLinks t before
+  pub are_homes : (m : ℕ) → IsLast (IsHomeOf t firsts first m) n (head_at homes m)
+  pub are_heads : (m : ℕ) → IsLast (IsOf t m) n (head_at heads m)
+
+module _ (trace : List Numbered) where
+  abbrev pub IsFilled : List ℕ → ℕ → ℕ → Lane → Type 0
+  IsFilled firsts first n lane = AreFilled (targets trace lane.kind) firsts first n lane.before.items lane.homes.items lane.heads.items
+
+  -- the lane is of the kind, and in order
+  pub record IsLane (k : Kind) (lane : Lane) : Type 0 where
+    pub kind : lane.kind ≡ k
+    pub each : length lane.before.items ≡ length trace
+    pub links : AreLinks (targets trace k) lane.before.items
+    pub heads : AreHeads (targets trace k) (length trace) lane.heads.items
+
+  -- of each number the last place in the transaction with this first place
+  abbrev pub AreHomes : List ℕ → ℕ → Kind → Lane → Type 0
+  AreHomes firsts first k lane = (m : ℕ) → IsLast (IsHomeOf (targets trace k) firsts first m) (length trace) (head_at lane.homes.items m)
+
+  -- nothing of it is taken
+  abbrev pub IsFull : Kind → Lane → Type 0
+  IsFull k lane = (m j : ℕ) → head_at lane.heads.items m ≤ j → targets trace k j ≡ Some m → ⊥
+
+abbrev pub HasLead : List Lead → ℕ → Type 0
+HasLead leads j = (c : Lead) × Contains leads c × (c.enters ≡ j)
+
+abbrev pub Keeps : List Lead → List Lead → Type 0
+Keeps old new = (c : Lead) → Contains old c → Contains new c
+
+-- from the head on down what is numbered m is taken, and put down with the place i
+pub record AreTaken (t : ℕ → Option ℕ) (m i head rest : ℕ) (old new : List Lead) : Type 0 where
+  pub is : (j : ℕ) → rest ≡ j + 1 → t j ≡ Some m
+  pub only : (c : Lead) → Contains new c → Contains old c ⊎ ((c.from ≡ i) × (i < c.enters) × (t c.enters ≡ Some m))
+  pub all : (j : ℕ) → rest ≤ j → t j ≡ Some m → (head ≤ j) ⊎ HasLead new j
+
+-- so behind place i
+pub record IsTakenTo (before : List ℕ) (i head rest : ℕ) (old new : List Lead) : Type 0 where
+  pub less : rest ≤ head
+  pub low : rest ≤ i + 1
+  pub kept : Keeps old new
+  pub by : (t : ℕ → Option ℕ) (m : ℕ) → AreLinks t before → ((j : ℕ) → head ≡ j + 1 → t j ≡ Some m) → AreTaken t m i head rest old new
+
+-- nothing else of the lane changes
+pub record IsSameBut (old new : Lane) : Type 0 where
+  pub kind : new.kind ≡ old.kind
+  pub before : new.before.items ≡ old.before.items
+  pub homes : new.homes.items ≡ old.homes.items
+
+module _ (s t : ℕ → Option ℕ) (front : List ℕ) where
+  -- a place of the front is numbered as the one behind it where the walk comes in
+  pub record IsBy (c : Lead) : Type 0 where
+    pub in_front : Contains front c.from
+    pub earlier : c.from < c.enters
+    pub number : ℕ
+    pub source : s c.from ≡ Some number
+    pub target : t c.enters ≡ Some number
+
+  -- what is behind a place of the front with its number is taken
+  pub record AreDrawn (n : ℕ) (old new : List ℕ) (leads leads' : List Lead) : Type 0 where
+    pub are : AreHeads t n new
+    pub low : (i m : ℕ) → Contains front i → s i ≡ Some m → head_at new m ≤ i + 1
+    pub less : (m : ℕ) → head_at new m ≤ head_at old m
+    pub kept : Keeps leads leads'
+    pub only : (c : Lead) → Contains leads' c → Contains leads c ⊎ IsBy c
+    pub all : (m j : ℕ) → head_at new m ≤ j → t j ≡ Some m → (head_at old m ≤ j) ⊎ HasLead leads' j

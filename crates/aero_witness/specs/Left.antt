@@ -1,0 +1,27 @@
+-- What is taken of the targets of all kinds.
+use Rattle.std.specs.Prelude.{◌≡◌, ◌⊎◌, ℕ, ◌+◌, ◌≤◌, List, Some, Contains}
+use Rattle.aero_model.specs.declared.numbered.Numbered.{Numbered}
+use Rattle.aero_model.specs.Graph.{Conflict}
+use Rattle.aero_witness.specs.declared.kinds.Kind.{Kind}
+use Rattle.aero_witness.specs.declared.kinds.Kind.TheVariants.{Threads, Forks, Joins, Writes, Reads, Releases}
+use Rattle.aero_witness.specs.declared.lanes.Lane.{Lane}
+use Rattle.aero_witness.specs.declared.lanes.Lead.{Lead}
+use Rattle.aero_witness.specs.declared.left.Left.{Left}
+use Rattle.aero_witness.specs.Kinds.{sources, targets}
+use Rattle.aero_witness.specs.Lanes.{head_at, IsLane, HasLead}
+
+abbrev pub lane_of : Left → Kind → Lane
+lane_of left Threads = left.threads
+lane_of left Forks = left.forks
+lane_of left Joins = left.joins
+lane_of left Writes = left.writes
+lane_of left Reads = left.reads
+lane_of left Releases = left.releases
+
+-- Of each kind that is taken to which an event of the front leads, and put down as what conflicts with one. Nothing else is taken.
+pub record AreGathered (trace : List Numbered) (front : List ℕ) (old new : Left) (leads leads' : List Lead) : Type 0 where
+  pub lanes : (k : Kind) → IsLane trace k (lane_of new k)
+  pub homes : (k : Kind) → (lane_of new k).homes.items ≡ (lane_of old k).homes.items
+  pub low : (k : Kind) (i m : ℕ) → Contains front i → sources trace k i ≡ Some m → head_at (lane_of new k).heads.items m ≤ i + 1
+  pub only : (c : Lead) → Contains leads' c → Contains leads c ⊎ (Contains front c.from × Conflict trace c.from c.enters)
+  pub all : (k : Kind) (m j : ℕ) → head_at (lane_of new k).heads.items m ≤ j → targets trace k j ≡ Some m → (head_at (lane_of old k).heads.items m ≤ j) ⊎ HasLead leads' j
