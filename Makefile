@@ -58,13 +58,11 @@ test:
 	@tests/all
 
 install: bin/aerodrome
-	@rm -rf out/install
-	@$(MAKE) -s -o bin/aerodrome files DESTDIR=$(CURDIR)/out/install/
-	@tools/install $(CURDIR)/out/install/$(PREFIX) $(DESTDIR)$(PREFIX)
-	@rm -rf out/install
+	@room=$$(mktemp -d) && trap 'rm -rf "$$room"' EXIT && $(MAKE) -s -o bin/aerodrome files DESTDIR="$$room/" && \
+	tools/install "$$room/$(PREFIX)" "$(DESTDIR)$(PREFIX)"
 
 uninstall:
-	@tools/install --undo $(DESTDIR)$(PREFIX)
+	@tools/install --undo "$(DESTDIR)$(PREFIX)"
 
 # What make install puts where.
 # (bash looks for a command's completions in a file of the command's name)
