@@ -75,7 +75,7 @@ files:
 	install -D -m 644 completions/aerodrome.bash $(DESTDIR)$(PREFIX)/share/bash-completion/completions/aerodrome-merge
 	install -D -m 644 completions/aerodrome.bash $(DESTDIR)$(PREFIX)/share/bash-completion/completions/aerodrome-refine
 	install -D -m 644 completions/_aerodrome $(DESTDIR)$(PREFIX)/share/zsh/site-functions/_aerodrome
-	@for file in $(wildcard README.md CHANGELOG.md docs/*.md examples/* examples/*/*); do \
+	@for file in $(wildcard README.md CHANGELOG.md docs/*.md docs/*.png examples/* examples/*/*); do \
 	[ ! -f $$file ] || install -D -m 644 $$file $(DESTDIR)$(PREFIX)/share/doc/aerodrome/$$file; done
 	@if [ -f lib/aerodrome/libaerodrome.a ]; then \
 	install -D -m 644 lib/aerodrome/libaerodrome.a $(DESTDIR)$(PREFIX)/lib/aerodrome/libaerodrome.a; \
