@@ -1,8 +1,15 @@
-# `make` proves what the program needs and builds bin/aerodrome; `make test` is the whole gate.
-# Both need the kit's command rt on the path. `make logger` builds what logs C and C++ programs, with gcc or clang alone, and
-# `make java` what logs Java programs, with a JDK, ASM and jarjar (java/build says where Debian has them).
-# `make library` proves the library for C and builds it, which needs ar too.
+#: make                       proves what the program needs, and builds bin/aerodrome; wants the kit's command rt on the path
+#: make try                   judges a lost update, or TRACE=FILE, in a minute and without a proof; wants rt too
+#: make logger                builds what logs C, C++ and Rust programs, with gcc or clang alone
+#: make java                  builds what logs Java programs, with a JDK, ASM and jarjar (java/build says where Debian has them)
+#: make library               proves the library for C, and builds it; wants rt and ar
+#: make install PREFIX=DIR    puts what is built, scripts, manual pages, docs and examples into DIR (/usr/local)
+#: make uninstall PREFIX=DIR  removes what make install put there, and nothing else
+#: make test                  the gate: every proof, every test, every case, every page
+#: make clean                 removes what was built, and what is kept of proofs
 PREFIX ?= /usr/local
+# What `make try` judges.
+TRACE ?= examples/withdraw.std
 # What the program is made of: no edit that must fail, no crate of tests, and not the library for C.
 CRATES := $(filter-out %_tests crates/aero_c,$(wildcard crates/*))
 SOURCES := HANDLES crates.txt $(shell find $(wildcard $(CRATES:=/src) $(CRATES:=/specs) $(CRATES:=/proofs)) -type f)
@@ -11,9 +18,20 @@ LIBRARY := $(shell find $(wildcard crates/aero_c/src crates/aero_c/specs crates/
 LOGGER := $(wildcard logger/*)
 JAVA := java/build $(wildcard java/src/aerodrome/table java/src/aerodrome/*.java java/src/aerodrome/*/*.java)
 
-.PHONY: all library logger java test install clean
+.PHONY: all help try library logger java test install files uninstall clean
 
 all: bin/aerodrome
+
+help:
+	@sed -n 's/^#: //p' $(firstword $(MAKEFILE_LIST))
+
+# The program as it would be built, run on one trace. A run that has ended is a good one, whatever the verdict.
+try:
+	@command -v rt > /dev/null || { tools/build; exit 1; }
+	@echo "nothing is proved here: this runs the program on $(TRACE), with checks in the place of proofs, in about a minute"
+	@mkdir -p out && cd crates/aerodrome && \
+	{ rt try --data $(notdir $(TRACE))=$(abspath $(TRACE)) -- --explain $(notdir $(TRACE)) || :; } | tee ../../out/try.log
+	@grep -q '^run=ended ' out/try.log
 
 bin/aerodrome: $(SOURCES)
 	@tools/build
@@ -39,8 +57,16 @@ lib/aerodrome/libaerodrome.a: $(SOURCES) $(LIBRARY)
 test:
 	@tests/all
 
-# (bash looks for a command's completions in a file of the command's name)
 install: bin/aerodrome
+	@room=$$(mktemp -d) && trap 'rm -rf "$$room"' EXIT && $(MAKE) -s -o bin/aerodrome files DESTDIR="$$room/" && \
+	tools/install "$$room/$(PREFIX)" "$(DESTDIR)$(PREFIX)"
+
+uninstall:
+	@tools/install --undo "$(DESTDIR)$(PREFIX)"
+
+# What make install puts where.
+# (bash looks for a command's completions in a file of the command's name)
+files:
 	install -D -m 755 bin/aerodrome $(DESTDIR)$(PREFIX)/bin/aerodrome
 	install -D -m 755 tools/merge $(DESTDIR)$(PREFIX)/bin/aerodrome-merge
 	install -D -m 755 tools/refine $(DESTDIR)$(PREFIX)/bin/aerodrome-refine
@@ -49,12 +75,13 @@ install: bin/aerodrome
 	install -D -m 644 completions/aerodrome.bash $(DESTDIR)$(PREFIX)/share/bash-completion/completions/aerodrome-merge
 	install -D -m 644 completions/aerodrome.bash $(DESTDIR)$(PREFIX)/share/bash-completion/completions/aerodrome-refine
 	install -D -m 644 completions/_aerodrome $(DESTDIR)$(PREFIX)/share/zsh/site-functions/_aerodrome
+	@for file in $(wildcard README.md CHANGELOG.md docs/*.md docs/*.png examples/* examples/*/*); do \
+	[ ! -f $$file ] || install -D -m 644 $$file $(DESTDIR)$(PREFIX)/share/doc/aerodrome/$$file; done
 	@if [ -f lib/aerodrome/libaerodrome.a ]; then \
 	install -D -m 644 lib/aerodrome/libaerodrome.a $(DESTDIR)$(PREFIX)/lib/aerodrome/libaerodrome.a; \
 	install -D -m 644 include/aerodrome.h $(DESTDIR)$(PREFIX)/include/aerodrome.h; fi
 	@if [ -f lib/aerodrome/aerodrome-agent.jar ]; then \
-	install -D -m 644 lib/aerodrome/aerodrome-agent.jar $(DESTDIR)$(PREFIX)/share/java/aerodrome-agent.jar; \
-	install -D -m 644 docs/aerodrome-java.1 $(DESTDIR)$(PREFIX)/share/man/man1/aerodrome-java.1; fi
+	install -D -m 644 lib/aerodrome/aerodrome-agent.jar $(DESTDIR)$(PREFIX)/share/java/aerodrome-agent.jar; fi
 	@if command -v $${CC:-gcc} > /dev/null; then logger/build $(DESTDIR)$(PREFIX); \
 	else echo "no $${CC:-gcc} here: the logger isn't installed"; fi
 

@@ -1,5 +1,5 @@
-"""What tools/build and tools/watch share: which lines of the kit's commands are routine, how a time is written, and which
-crates the prover is at."""
+"""What tools/build, tools/graph and tools/watch share: which lines of the kit's commands are routine, how a time is written, what
+crates.txt says, and which crates the prover is at."""
 import os
 import re
 
@@ -29,6 +29,14 @@ ROUTINE = re.compile(
 
 def is_routine(line):
     return bool(ROUTINE.match(line))
+
+
+def uses_of(path):
+    """What each crate of crates.txt stands on, of the crates there, in the file's order."""
+    with open(path, encoding="utf-8") as it:
+        lines = [line.partition("#")[0].partition(":") for line in it]
+    said = {head.split()[0]: rest.split() for head, _, rest in lines if head.split()}
+    return {name: [it for it in rest if it in said] for name, rest in said.items()}
 
 
 def time_of(seconds):
