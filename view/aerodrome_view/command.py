@@ -137,7 +137,10 @@ def lines_of(report: str) -> Iterator[bytes]:
 
 def unnamed() -> IO[str]:
     """A file without a name, in which what is made is kept."""
-    return tempfile.TemporaryFile("w+", encoding="utf-8", newline="\n")
+    try:
+        return tempfile.TemporaryFile("w+", encoding="utf-8", newline="\n")
+    except OSError as why:
+        raise Failed(f"no temporary file: {why.strerror}") from None
 
 
 def write(fill: Callable[[IO[str]], object], path: str) -> None:

@@ -2,7 +2,6 @@
 from __future__ import annotations
 
 import shutil
-import tempfile
 from collections import Counter
 from dataclasses import dataclass, field
 from pathlib import Path
@@ -10,7 +9,7 @@ from typing import IO, Iterator
 
 from . import words
 from .article import article
-from .command import Asked, run
+from .command import Asked, run, unnamed
 from .markup import bare, code
 from .report import FAULTS, Finding, Tally, findings
 from .sources import Sources
@@ -177,7 +176,7 @@ def blames(labels: Counter[bytes]) -> str:
 
 
 def make(asked: Asked, lines: Iterator[bytes], whole: IO[str]) -> None:
-    with tempfile.TemporaryFile("w+", encoding="utf-8") as rows, tempfile.TemporaryFile("w+", encoding="utf-8") as articles:
+    with unnamed() as rows, unnamed() as articles:
         page = Page(asked, rows, articles, Sources(asked.root))
         for finding in findings(lines, page.tally):
             page.add(finding)
