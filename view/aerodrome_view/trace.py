@@ -5,6 +5,7 @@ import gzip
 import io
 import os
 import stat
+import zlib
 from dataclasses import dataclass, field
 from typing import Optional
 
@@ -102,7 +103,9 @@ def look(finding: Finding, folder: str, context: int = 0, rules: Rules = Rules()
     try:
         with _opened(os.path.join(folder, os.fsdecode(finding.source))) as file:
             seen = _read(file, wanted, blocks, max(at))
-    except (OSError, EOFError, ValueError) as why:
+    except (EOFError, zlib.error, gzip.BadGzipFile):
+        return Seen(why_not="its zipped form isn't whole")
+    except (OSError, ValueError) as why:
         return Seen(why_not=f"it couldn't be read: {getattr(why, 'strerror', None) or why}")
     for event in finding.cycle:
         if parts_of(seen.lines.get(event.line, b"")) != (event.thread, event.op.encode(), event.target):
