@@ -8,7 +8,7 @@ from . import words
 from .columns import columns
 from .command import Asked
 from .lanes import lanes
-from .markup import MOST_TEXT, bare, code
+from .markup import MOST_NAME, MOST_TEXT, bare, code
 from .names import cut, is_text, readable, shown, word_of_shell
 from .report import Event, Finding
 from .sheet import Sheet
@@ -18,6 +18,7 @@ from .words import Arrow, arrows_of, counted, roles_of
 
 MOST_COLUMNS = 6  # threads that are columns of a picture
 MOST_BESIDE = 740  # the width of a picture that leaves room beside it
+MOST_STILL = 400  # the width of a picture that needn't be scrolled on a phone
 MOST_LINES = 400  # lines of a trace that are shown round one cycle, or so
 MOST_OPEN = 40  # events of a cycle whose tables stand open
 MOST_EXCERPTS = 10  # violations whose excerpts stand open
@@ -46,12 +47,11 @@ def article(finding: Finding, number: int, asked: Asked, sources: Sources) -> st
     picture: Picture = lanes if len(sheet.threads) > MOST_COLUMNS else columns
     drawn, width = picture(sheet)
     is_wide = width > MOST_BESIDE
-    scrolls = f' tabindex="0" role="region" aria-label="Picture {number}"' if is_wide else ""
+    scrolls = f' tabindex="0" role="region" aria-label="Picture {number}"' if width > MOST_STILL else ""
     figure = f'<figure><div class="scroll"{scrolls}>{drawn}</div><figcaption>{legend(sheet.arrows)}</figcaption></figure>\n'
     told, do = why(finding, sheet.of, sheet.arrows, is_wide), advice(finding, sheet.arrows, asked.rules)
     parts = f"{told}{figure}{do}" if is_wide else f'{figure}<div class="why">{told}{do}</div>\n'
-    cycle = f'<div class="cycle">{events(finding, seen, sources)}</div>\n'
-    body = f'<div class="{"wide" if is_wide else "beside"}">\n{parts}{cycle}</div>\n'
+    body = f'<div class="{"wide" if is_wide else "beside"}">\n{parts}{events(finding, seen, sources)}</div>\n'
     return head + body + excerpt(finding, seen, number) + "</article>\n"
 
 
@@ -125,8 +125,9 @@ def events(finding: Finding, seen: Seen, sources: Sources) -> str:
         '<table class="events"><caption>Events of the cycle</caption>'
         f"<thead><tr>{head}</tr></thead>\n<tbody>\n{rows}</tbody></table>\n"
     )
-    is_long = len(finding.cycle) > MOST_OPEN
-    return f"<details><summary>{len(finding.cycle)} events</summary>\n{table}</details>\n" if is_long else table
+    if len(finding.cycle) > MOST_OPEN:
+        table = f"<details><summary>{len(finding.cycle)} events</summary>\n{table}</details>\n"
+    return f'<div class="cycle{" below" if any(places) else ""}">{table}</div>\n'
 
 
 def action(event: Event) -> str:
@@ -141,7 +142,8 @@ def place(event: Event, seen: Seen, sources: Sources) -> str:
     found = place_of(location)
     line = sources.line_of(found).replace(b"\t", b" ") if found else b""
     source = f'<br /><code class="source">{bare(line, MOST_TEXT)}</code>' if line else ""
-    return f"<code>{bare(location, MOST_TEXT)}</code>{source}"
+    kind = ' class="place"' if len(location) <= MOST_NAME else ""
+    return f"<code{kind}>{bare(location, MOST_TEXT)}</code>{source}"
 
 
 def excerpt(finding: Finding, seen: Seen, number: int) -> str:
