@@ -20,6 +20,8 @@ def high(descriptor):
 
 
 class Browser:
+    """Its profile lies in `folder`."""
+
     def __init__(self, folder):
         (theirs_in, ours_out), (ours_in, theirs_out) = (map(high, os.pipe()) for _ in range(2))
         self.process = subprocess.Popen(
@@ -101,7 +103,7 @@ class Browser:
     def close(self):
         try:
             self.call("Browser.close")
-        except (RuntimeError, OSError):
-            pass
-        self.process.kill()
-        self.process.wait()
+            self.process.wait(SECONDS)
+        except (RuntimeError, OSError, subprocess.TimeoutExpired):
+            self.process.kill()
+            self.process.wait()

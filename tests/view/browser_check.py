@@ -2,10 +2,11 @@
 """Says what a browser finds wrong with a page: at 390 and 1,280 pixels, light and dark, in print, and by the keyboard alone.
 
   browser_check.py PAGE
+
+The browser's profile lies in the folder in which this runs.
 """
 import os
 import sys
-import tempfile
 from html.parser import HTMLParser
 from pathlib import Path
 
@@ -81,15 +82,13 @@ def faults(browser, path):
 
 
 def main(page):
-    path = os.path.abspath(page)
-    with tempfile.TemporaryDirectory() as folder:
-        browser = Browser(folder)
-        try:
-            wrong = list(faults(browser, path))
-            print(*wrong[:20] or ["well"], sep="\n")
-            print("rows by choice:", *choices(browser))
-        finally:
-            browser.close()
+    browser = Browser(os.getcwd())
+    try:
+        wrong = list(faults(browser, os.path.abspath(page)))
+        print(*wrong[:20] or ["well"], sep="\n")
+        print("rows by choice:", *choices(browser))
+    finally:
+        browser.close()
     return bool(wrong)
 
 
