@@ -9,7 +9,7 @@ import unicodedata
 from typing import Optional
 
 MANGLED = re.compile(rb"_[ZR][\w.$]+(?:\+[0-9]+)?")
-SECONDS = 5  # for an answer of c++filt
+SECONDS = 2  # for an answer of c++filt
 MOST_MARKS = 2  # marks that may be piled on one character
 
 
@@ -68,28 +68,41 @@ def cut(text: str, most: int) -> str:
     return f"{front}\u2026{back}"
 
 
+class Filter:
+    """c++filt, which answers a line for each line, as long as this process lasts: given up where it doesn't answer."""
+
+    def __init__(self) -> None:
+        self.process: Optional[subprocess.Popen[bytes]] = None
+        try:
+            self.process = subprocess.Popen(["c++filt"], stdin=subprocess.PIPE, stdout=subprocess.PIPE, stderr=subprocess.DEVNULL)
+        except OSError:
+            pass
+
+    def answer(self, name: bytes) -> bytes:
+        """What it answers, or the name itself."""
+        if not self.process or not self.process.stdin or not self.process.stdout:
+            return name
+        try:
+            self.process.stdin.write(name + b"\n")
+            self.process.stdin.flush()
+            if select.select([self.process.stdout], [], [], SECONDS)[0]:
+                line = self.process.stdout.readline()
+                if line.endswith(b"\n"):
+                    return line[:-1]
+        except OSError:
+            pass
+        self.process.kill()
+        self.process = None
+        return name
+
+
+the_filter = functools.lru_cache(maxsize=None)(Filter)
+
+
 @functools.lru_cache(maxsize=4096)
 def readable(name: bytes) -> bytes:
     """A name of C++ or Rust as its program has it, where c++filt is there; any other as it is."""
-    filter_ = _filter() if MANGLED.fullmatch(name) else None
-    if not filter_ or not filter_.stdin or not filter_.stdout:
-        return name
-    try:
-        filter_.stdin.write(name + b"\n")
-        filter_.stdin.flush()
-        answers = select.select([filter_.stdout], [], [], SECONDS)[0]
-        return answers and filter_.stdout.readline().rstrip(b"\n") or name
-    except OSError:
-        return name
-
-
-@functools.lru_cache(maxsize=None)
-def _filter() -> Optional[subprocess.Popen[bytes]]:
-    """c++filt, which answers a line for each line, as long as this process lasts."""
-    try:
-        return subprocess.Popen(["c++filt"], stdin=subprocess.PIPE, stdout=subprocess.PIPE, stderr=subprocess.DEVNULL)
-    except OSError:
-        return None
+    return the_filter().answer(name) if MANGLED.fullmatch(name) else name
 
 
 def plain(name: bytes) -> str:
