@@ -70,10 +70,14 @@ files:
 	install -D -m 755 bin/aerodrome $(DESTDIR)$(PREFIX)/bin/aerodrome
 	install -D -m 755 tools/merge $(DESTDIR)$(PREFIX)/bin/aerodrome-merge
 	install -D -m 755 tools/refine $(DESTDIR)$(PREFIX)/bin/aerodrome-refine
+	install -D -m 755 -t $(DESTDIR)$(PREFIX)/bin view/aerodrome-page view/aerodrome-sarif
+	install -D -m 644 -t $(DESTDIR)$(PREFIX)/lib/aerodrome/aerodrome_view view/aerodrome_view/*.py view/aerodrome_view/page.css
 	install -D -m 644 -t $(DESTDIR)$(PREFIX)/share/man/man1 docs/*.1
 	install -D -m 644 completions/aerodrome.bash $(DESTDIR)$(PREFIX)/share/bash-completion/completions/aerodrome
 	install -D -m 644 completions/aerodrome.bash $(DESTDIR)$(PREFIX)/share/bash-completion/completions/aerodrome-merge
 	install -D -m 644 completions/aerodrome.bash $(DESTDIR)$(PREFIX)/share/bash-completion/completions/aerodrome-refine
+	install -D -m 644 completions/aerodrome.bash $(DESTDIR)$(PREFIX)/share/bash-completion/completions/aerodrome-page
+	install -D -m 644 completions/aerodrome.bash $(DESTDIR)$(PREFIX)/share/bash-completion/completions/aerodrome-sarif
 	install -D -m 644 completions/_aerodrome $(DESTDIR)$(PREFIX)/share/zsh/site-functions/_aerodrome
 	@for file in $(wildcard README.md CHANGELOG.md docs/*.md docs/*.png examples/* examples/*/*); do \
 	[ ! -f $$file ] || install -D -m 644 $$file $(DESTDIR)$(PREFIX)/share/doc/aerodrome/$$file; done

@@ -1,5 +1,5 @@
-# Completes the options of aerodrome, aerodrome-merge and aerodrome-refine for bash. `make install` puts it where
-# bash-completion finds it; `. completions/aerodrome.bash` has it in one shell.
+# Completes the options of aerodrome, aerodrome-merge, aerodrome-refine, aerodrome-page and aerodrome-sarif for bash. `make install`
+# puts it where bash-completion finds it; `. completions/aerodrome.bash` has it in one shell.
 _aerodrome() {
     local word=${COMP_WORDS[COMP_CWORD]} before=${COMP_WORDS[COMP_CWORD - 1]} earlier options
     COMPREPLY=()
@@ -10,13 +10,16 @@ _aerodrome() {
     case ${COMP_WORDS[0]##*/} in
         aerodrome-merge) options='--fail-open --help' ;;
         aerodrome-refine) options='--except --only --long --fail-open --help' ;;
+        aerodrome-page) options='--output --folder --root --no-traces --except --only --context --pictures --rows --help' ;;
+        aerodrome-sarif) options='--output --folder --root --no-traces --except --only --help' ;;
         *) options='--workers --piece --except --only --order --explain --long --format --progress --quiet
             --files0-from --label --fail-open --help --version' ;;
     esac
     case $before in
         --workers) COMPREPLY=($(compgen -W '1 2 4 8 16' -- "$word")) ;;
         --format) COMPREPLY=($(compgen -W 'text json' -- "$word")) ;;
-        --piece | --except | --only | --files0-from | --label) ;;
+        --folder | --root) COMPREPLY=($(compgen -A directory -- "$word")) ;;
+        --piece | --except | --only | --files0-from | --label | --output | --context | --pictures | --rows) ;;
         *)
             case $word in
                 -*) COMPREPLY=($(compgen -W "$options" -- "$word")) ;;
@@ -24,4 +27,4 @@ _aerodrome() {
             ;;
     esac
 }
-complete -o default -F _aerodrome aerodrome aerodrome-merge aerodrome-refine
+complete -o default -F _aerodrome aerodrome aerodrome-merge aerodrome-refine aerodrome-page aerodrome-sarif

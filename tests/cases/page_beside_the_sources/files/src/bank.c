@@ -1,0 +1,9 @@
+	line 1 of <bank>;
+	line 2 of <bank>;
+	line 3 of <bank>;
+	line 4 of <bank>;
+	line 5 of <bank>;
+	line 6 of <bank>;
+	line 7 of <bank>;
+	line 8 of <bank>;
+	line 9 of <bank>;

@@ -1,0 +1,3 @@
+class One {
+  int x;
+}

@@ -1,0 +1,1 @@
+"""What aerodrome-page and aerodrome-sarif are made of."""

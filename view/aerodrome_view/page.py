@@ -1,0 +1,187 @@
+"""The command aerodrome-page: a report as one HTML file that runs and loads nothing."""
+from __future__ import annotations
+
+import shutil
+from collections import Counter
+from dataclasses import dataclass, field
+from pathlib import Path
+from typing import IO, Iterator
+
+from . import words
+from .article import article
+from .command import Asked, run, unnamed
+from .markup import bare, code
+from .report import FAULTS, Finding, Tally, findings
+from .sources import Sources
+from .trace import look
+from .words import counted
+
+USAGE = """Makes a page to look at of a report: one HTML file, with a picture of the cycle of each violation.
+
+  aerodrome-page [OPTION..] [--] [REPORT]
+
+REPORT is what `aerodrome --format json --explain` wrote: a file or a pipe. Without it, or as -, it is standard input. It may be
+several reports, one after the other. The traces are read where they lie, for the places in the code and the lines round a cycle.
+
+  -o, --output FILE   writes to FILE, not to standard output
+  --folder DIR        the names of traces are relative to DIR
+  --root DIR          shows the source lines of the files below DIR
+  --no-traces         reads no trace: for a report of which nobody knows who made it
+  --except LABEL      as it was given to aerodrome; again and again
+  --only LABEL        as it was given to aerodrome; again and again
+  --context N         shows N lines of the trace round each event (2)
+  --pictures N        draws the first N violations (200)
+  --rows N            lists the first N serializable traces (2000)
+  -h, --help          prints this
+
+The exit status:
+  0  the page is written; also after --help
+  3  the command line was refused, or REPORT can't be read or isn't whole
+  4  memory ran out, or the page couldn't be written, or what is made couldn't be kept
+With status 3 no page is begun. Standard error says what is wrong.
+"""
+OPTIONS = ("--context", "--pictures", "--rows")
+KIND_OF = {"serializable": "serializables", "open": "opens", "violation": "violations", **dict.fromkeys(FAULTS, "faults")}
+TILES = (  # the counts at the head: their members of the summary, the rows that each shows, and what stands under it
+    ("traces", "all", "traces"),
+    ("violations", "violations", "with a violation"),
+    ("faults", "faults", "with a fault"),
+    ("open", "opens", "with open blocks"),
+    ("serializable", "serializables", "serializable"),
+)
+FEW = 40  # traces of which all are shown at first
+MOST_BLAMED = 10  # blocks of which is told how often they are blamed
+MOST_FAULTY = 200  # bytes of a faulty line
+POLICY = "default-src 'none'; style-src 'unsafe-inline'; base-uri 'none'; form-action 'none'"
+HEADS = "".join(
+    f'<marker id="head-{kind}" viewBox="0 0 8 8" refX="4" refY="4" markerWidth="9" markerHeight="9" '
+    f'markerUnits="userSpaceOnUse" orient="auto"><path class="head {kind}" d="M0 0L8 4L0 8z" /></marker>'
+    for kind in words.KINDS
+)
+FOOTER = (
+    "The numbers in a picture are those of the sentences. A box is a block, from its first line to its end; one with a "
+    "dashed foot hadn't ended yet, as far as is known. Lines that play no part are folded."
+)
+
+
+@dataclass
+class Page:
+    """The parts of a page while the report comes: they are put together once its counts are known."""
+
+    asked: Asked
+    rows: IO[str]
+    articles: IO[str]
+    sources: Sources
+    tally: Tally = field(default_factory=Tally)
+    pictures: int = 0
+    left_out: int = 0
+    blamed: Counter[bytes] = field(default_factory=Counter)
+
+    def add(self, finding: Finding) -> None:
+        if finding.label is not None:
+            self.blamed[finding.label] += 1
+        if finding.verdict == "serializable" and self.tally.of["serializable"] > self.asked.rows:
+            self.left_out += 1
+            return
+        says = words.sentence(finding, code)
+        if finding.verdict == "violation" and self.pictures < self.asked.pictures:
+            self.pictures += 1
+            says += f' <a href="#v{self.pictures}">Why<span class="hidden"> in {bare(finding.source)}</span></a>'
+            self.articles.write(article(finding, self.pictures, self.asked, self.sources))
+        self.rows.write(row(KIND_OF[finding.verdict], bare(finding.source), finding.verdict, says + self.fault(finding)))
+
+    def fault(self, finding: Finding) -> str:
+        """What more is known of a fault: a note of the program, or else the faulty line."""
+        if finding.note:
+            return f"<br />{bare(finding.note, MOST_FAULTY)}"
+        if not finding.fault or self.asked.no_traces:
+            return ""
+        line = look(finding, self.asked.folder).lines.get(finding.counts["line"])
+        return f"<br /><code>{bare(line[:MOST_FAULTY], MOST_FAULTY)}</code>" if line else ""
+
+    def write(self, out: IO[str]) -> None:
+        title, style = headline(self.tally), (Path(__file__).parent / "page.css").read_text("utf-8")
+        out.write(
+            f'<!DOCTYPE html>\n<html lang="en">\n<head>\n<meta charset="utf-8" />\n'
+            f'<meta http-equiv="Content-Security-Policy" content="{POLICY}" />\n'
+            f'<meta name="viewport" content="width=device-width, initial-scale=1" />\n'
+            f"<title>{title} - aerodrome</title>\n<style>\n{style}</style>\n</head>\n<body>\n"
+            f'<a class="skip" href="#traces">To the traces</a>\n'
+            f'<svg class="heads" aria-hidden="true"><defs>{HEADS}</defs></svg>\n'
+            f'<header>\n<h1>{title}</h1>\n<p class="dim">Does each atomic block behave as if it had run alone? '
+            f"This is what <code>aerodrome</code> found.</p>\n</header>\n<main>\n{tiles(self.tally)}{blames(self.blamed)}"
+            '<table class="traces" id="traces"><caption>Traces</caption><thead><tr><th scope="col">Trace</th>'
+            '<th scope="col">Verdict</th><th scope="col">What it says</th></tr></thead>\n<tbody>\n'
+        )
+        pour(self.rows, out)
+        if self.left_out:
+            further = counted(self.left_out, "further trace")
+            out.write(row("serializables", further, "serializable", "Not listed here (--rows)."))
+        out.write("</tbody></table>\n")
+        pour(self.articles, out)
+        without = self.tally.of["violations"] - self.pictures
+        if without:
+            out.write(f"<p>{counted(without, 'further violation')}: in the table alone (--pictures).</p>\n")
+        out.write(f"</main>\n<footer>{FOOTER}</footer>\n</body>\n</html>\n")
+
+
+def pour(part: IO[str], out: IO[str]) -> None:
+    part.seek(0)
+    shutil.copyfileobj(part, out)
+
+
+def row(kind: str, source: str, verdict: str, says: str) -> str:
+    return f'<tr class="{kind}"><th scope="row">{source}</th><td class="verdict">{verdict}</td><td>{says}</td></tr>\n'
+
+
+def headline(tally: Tally) -> str:
+    of, traces = tally.of, counted(tally.of["traces"], "trace")
+    if of["violations"] == of["traces"] == 1:
+        return "The trace has a violation"
+    if of["violations"]:
+        return f"{of['violations']:,} of {traces} {'has' if of['violations'] == 1 else 'have'} a violation"
+    if of["faults"]:
+        return f"No violation, but {of['faults']:,} of {traces} couldn't be judged"
+    if of["open"]:
+        return f"No violation so far, in {traces}"
+    return f"No violation: {traces}, all serializable" if of["traces"] else "No trace was judged"
+
+
+def tiles(tally: Tally) -> str:
+    """The counts, each to choose which traces the table shows: of many, those with the worst verdict at first."""
+    worst = next((kind for member, kind, _ in TILES[1:] if tally.of[member]), "all")
+    first = worst if tally.of["traces"] > FEW else "all"
+    made = ""
+    for member, kind, what in TILES:
+        checked = ' checked="checked"' if kind == first else ""
+        made += (
+            f'<label class="tile {kind}{"" if tally.of[member] else " none"}">'
+            f'<input type="radio" name="show" id="show-{kind}"{checked} /><b>{tally.of[member]:,}</b>'
+            f" <span>{what[:-1] if what == 'traces' and tally.of[member] == 1 else what}</span></label>"
+        )
+    return f'<fieldset><legend class="hidden">Which traces the table shows</legend>{made}</fieldset>\n'
+
+
+def blames(labels: Counter[bytes]) -> str:
+    """Which blocks are blamed most, where one is more than once."""
+    if max(labels.values(), default=0) < 2:
+        return ""
+    rows = "".join(
+        f'<tr><th scope="row">{code(label)}</th><td class="number">{counted(count, "trace")}</td></tr>'
+        for label, count in labels.most_common(MOST_BLAMED)
+    )
+    left = len(labels) - MOST_BLAMED
+    more = f'<p class="dim">and {counted(left, "further block")}</p>' if left > 0 else ""
+    return f'<table class="blames"><caption>Blocks that violations blame</caption><tbody>{rows}</tbody></table>{more}\n'
+
+
+def make(asked: Asked, lines: Iterator[bytes], whole: IO[str]) -> None:
+    with unnamed() as rows, unnamed() as articles:
+        page = Page(asked, rows, articles, Sources(asked.root))
+        for finding in findings(lines, page.tally):
+            page.add(finding)
+        page.write(whole)
+
+
+def main(given: list[str]) -> int:
+    return run("aerodrome-page", USAGE, given, OPTIONS, make)
