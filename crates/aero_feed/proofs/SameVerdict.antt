@@ -137,7 +137,7 @@ module _ (rules : Rules) (parts others : List Reading) (same : events_within rul
   }
 
   explained : (line : ℕ) (thread : List ℕ) (begun : ℕ) (cycle : Cycle) → IsExplained parts rules line thread begun cycle → IsExplained others rules line thread begun cycle
-  unfolding violation, begins
+  unfolding violation begins
   explained line thread begun cycle is =
       let v = is.violation in
       record {

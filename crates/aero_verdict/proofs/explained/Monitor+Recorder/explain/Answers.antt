@@ -13,13 +13,16 @@ use Rattle.aero_verdict.proofs.explained.Monitor+Recorder.explain.Goals as goal
 pub cycle_in-requires : goal.cycle_in-requires
 cycle_in-requires c =
     let m = c.self.inside in
-    let rules = under m.limits m.fed.labels in
-    (m.fed.parts, rules, record {
-      readings = c.self.invariant.readings;
-      few = m.limits.most_lines;
-      tells = tells_certain (words_of StandsForLeads HasRecorded) rules m.fed.parts m.lines m.checker c.in-Decided.verdict
-          (subst (FedSo (words_of StandsForLeads HasRecorded) rules m.fed.parts m.lines m.checker) c.in-Decided.is c.self.invariant.so);
-    })
+    let rules = under m.limits m.fed.labels in (
+      m.fed.parts,
+      rules,
+      record {
+        readings = c.self.invariant.readings;
+        few = m.limits.most_lines;
+        tells = tells_certain (words_of StandsForLeads HasRecorded) rules m.fed.parts m.lines m.checker c.in-Decided.verdict
+            (subst (FedSo (words_of StandsForLeads HasRecorded) rules m.fed.parts m.lines m.checker) c.in-Decided.is c.self.invariant.so);
+      },
+    )
 
 pub returns-in-Decided : goal.returns-in-Decided
 returns-in-Decided c =
