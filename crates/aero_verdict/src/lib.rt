@@ -40,7 +40,8 @@
 //!   of the block that it names and the events of a telling cycle, though no part was kept. It is one of the events up to
 //!   the closing one, begins in that block, and none from there has fewer visits. Each event comes with its line and that
 //!   of the first event of its transaction:
-//!   `Monitor::finish_explained`, `told`, `own_fault`. `check_trace_explained` gives the same of parts at once.
+//!   `Monitor::finish_explained`, `told`, `own_fault`. `check_trace_explained` gives the same of parts at once, and
+//!   `Monitor::explain` of a violation that is certain, while the monitor goes on.
 //! - The actor of the event on a line is answered, whatever the limits, if there is one: `actor_at`.
 //! - `InOrder`, first places with the transactions, and `Recorder`, with the events, are engines too: of the
 //!   events that each is given it tells what the definitions say. By `Engine::judge`, `told`.
