@@ -3,7 +3,7 @@ use Rattle.std.proofs.Common.{◌≡◌, ℕ, ◌+◌, ◌<◌, Bool, true, fals
 use Rattle.std.specs.Prelude.{◌↔◌, slice_get}
 use Rattle.std.proofs.lemmas.Bool.{cases_eq, false≢true}
 use Rattle.aero_model.specs.declared.numbered.Numbered.{Numbered}
-use Rattle.aero_witness.specs.Marks.{Key, of_key, source_of, IsNoted, AreNoted}
+use Rattle.aero_witness.specs.Marks.{Key, source_of, AreNoted}
 use Rattle.aero_witness.specs.Reached.{HasSource, IsHomecoming}
 use Rattle.aero_witness.proofs.Noted.{none_noted, source_sound, source_complete}
 

@@ -4,6 +4,7 @@ pub mod Filling
 pub mod Taken
 pub mod Drawing
 pub mod Gathering
+pub mod Leading
 pub mod Nests
 pub mod Ended
 pub mod Following

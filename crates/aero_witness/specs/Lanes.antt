@@ -29,7 +29,7 @@ IsOf t m j = t j ≡ Some m
 abbrev pub IsHomeOf : (ℕ → Option ℕ) → List ℕ → ℕ → ℕ → ℕ → Type 0
 IsHomeOf t firsts first m j = (slice_get firsts j ≡ Some first) × (t j ≡ Some m)
 
--- of each numbered place the last one before it with its number
+-- of each numbered place the last one before it with its number, and nowhere a later one
 pub record AreLinks (t : ℕ → Option ℕ) (before : List ℕ) : Type 0 where
   pub at : (j m : ℕ) → j < length before → t j ≡ Some m → IsLast (IsOf t m) j (head_at before j)
   pub falls : (j : ℕ) → head_at before j ≤ j
@@ -72,19 +72,20 @@ module _ (trace : List Numbered) where
   abbrev pub IsFull : Kind → Lane → Type 0
   IsFull k lane = (m j : ℕ) → head_at lane.heads.items m ≤ j → targets trace k j ≡ Some m → ⊥
 
+-- a walk comes in at place j
 abbrev pub HasLead : List Lead → ℕ → Type 0
 HasLead leads j = (c : Lead) × Contains leads c × (c.enters ≡ j)
 
 abbrev pub Keeps : List Lead → List Lead → Type 0
 Keeps old new = (c : Lead) → Contains old c → Contains new c
 
--- from the head on down what is numbered m is taken, and put down with the place i
+-- from the head on down to this rest, what is numbered m is put down with the place i
 pub record AreTaken (t : ℕ → Option ℕ) (m i head rest : ℕ) (old new : List Lead) : Type 0 where
   pub is : (j : ℕ) → rest ≡ j + 1 → t j ≡ Some m
   pub only : (c : Lead) → Contains new c → Contains old c ⊎ ((c.from ≡ i) × (i < c.enters) × (t c.enters ≡ Some m))
   pub all : (j : ℕ) → rest ≤ j → t j ≡ Some m → (head ≤ j) ⊎ HasLead new j
 
--- so behind place i
+-- so down to place i, whatever is numbered
 pub record IsTakenTo (before : List ℕ) (i head rest : ℕ) (old new : List Lead) : Type 0 where
   pub less : rest ≤ head
   pub low : rest ≤ i + 1
@@ -98,7 +99,7 @@ pub record IsSameBut (old new : Lane) : Type 0 where
   pub homes : new.homes.items ≡ old.homes.items
 
 module _ (s t : ℕ → Option ℕ) (front : List ℕ) where
-  -- a place of the front is numbered as the one behind it where the walk comes in
+  -- the walk goes from a place of the front to one behind it that has its number
   pub record IsBy (c : Lead) : Type 0 where
     pub in_front : Contains front c.from
     pub earlier : c.from < c.enters
@@ -106,7 +107,7 @@ module _ (s t : ℕ → Option ℕ) (front : List ℕ) where
     pub source : s c.from ≡ Some number
     pub target : t c.enters ≡ Some number
 
-  -- what is behind a place of the front with its number is taken
+  -- what is behind a place of the front with its number is taken, and all that is taken is put down
   pub record AreDrawn (n : ℕ) (old new : List ℕ) (leads leads' : List Lead) : Type 0 where
     pub are : AreHeads t n new
     pub low : (i m : ℕ) → Contains front i → s i ≡ Some m → head_at new m ≤ i + 1

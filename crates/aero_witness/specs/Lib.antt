@@ -1,6 +1,7 @@
 -- To be believed: Telling (telling cycles, and the shortest), Parts (transactions by their first places) and Trail
 -- (what is recorded of a trace).
--- For proofs alone: Deciding, Following, MarkWords, Marks, Quest, Reached, Levels, Search and Homecoming.
+-- For proofs alone: Deciding, Following, MarkWords, Marks, Kinds, Lanes, Left, Quest, Reached, Levels, Search and
+-- Homecoming.
 pub mod Deciding
 pub mod Parts
 pub mod Telling

@@ -21,7 +21,7 @@ unreached [] = 0
 unreached (None ∷ xs) = suc (unreached xs)
 unreached (Some r ∷ xs) = unreached xs
 
--- where walks may leave is what isn't left
+-- by each kind what isn't left is reached
 pub record IsLeft (trace : List Numbered) (firsts : List ℕ) (first : ℕ) (reached : List (Option Reached)) (left : Left) : Type 0 where
   pub lanes : (k : Kind) → IsLane trace k (lane_of left k)
   pub homes : (k : Kind) → AreHomes trace firsts first k (lane_of left k)

@@ -1,10 +1,11 @@
-//! The kinds of conflicts: an event that a kind numbers as a source conflicts with each later one that it numbers so as a
-//! target.
+//! The kinds of conflicts. An event that a kind numbers as a source conflicts with each later one that it numbers so as
+//! a target.
 ghost use Rattle.std.specs.Prelude.{◌≡◌};
 ghost use Rattle.aero_witness.specs.Kinds.{source_number, target_number};
 
 use aero_model::numbered::{Numbered, What};
 
+// By a thread, by its fork and by its join, by a write of a variable and by a read of it, and by a release of a lock.
 #[derive(Clone, Copy, Debug, PartialEq, Eq)]
 pub(crate) enum Kind {
     Threads,
@@ -15,6 +16,7 @@ pub(crate) enum Kind {
     Releases,
 }
 
+// The number of what the event conflicts by as the earlier one, if it does by this kind.
 pub(crate) fn source_number(kind: Kind, event: &Numbered) -> Option<u32>
     ensures { result ≡ source_number kind event.now }
 {
@@ -28,6 +30,7 @@ pub(crate) fn source_number(kind: Kind, event: &Numbered) -> Option<u32>
     }
 }
 
+// The same as the later one.
 pub(crate) fn target_number(kind: Kind, event: &Numbered) -> Option<u32>
     ensures { result ≡ target_number kind event.now }
 {

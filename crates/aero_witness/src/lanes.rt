@@ -8,8 +8,9 @@ use crate::quest::{Quest, is_home};
 use aero_model::numbered::Numbered;
 use std::alloc::{AllocError, Global};
 
-// Of each number one more than the last place that it has and that isn't taken, and than the last one of the transaction where
-// walks begin. Of each place one more than the one before it with its number. All of them are 0 where there is none.
+// The places that a kind numbers as targets, as lists. Here a place is told as one more, and 0 says that there is none.
+// `heads` has of each number the last place that isn't taken, and `homes` the last one in the transaction where walks
+// begin. `before` has of each place the one before it with its number.
 #[derive(Drop)]
 pub(crate) struct Lane {
     pub kind: Kind,
@@ -116,7 +117,7 @@ pub(crate) fn lane_of(
     Ok(lane)
 }
 
-// Takes those from the head on down that are behind the place. The head of what is left.
+// Takes those from the head on down that are behind the place. What is left begins at the head that is given back.
 fn take_from(
     before: &[u32],
     head: u32,

@@ -1,9 +1,9 @@
 //! The targets of all kinds that aren't taken yet, and what a front takes of them.
-ghost use Rattle.std.specs.Prelude.{◌≡◌, ◌<◌, ◌≤◌, ◌+◌, ◌^◌, ℕ, [], length, nat_lt, false, OnOk, IfOk, All, Contains};
+ghost use Rattle.std.specs.Prelude.{◌≡◌, ◌<◌, ◌≤◌, ◌+◌, ◌^◌, ℕ, [], length, nat_lt, true, false, OnOk, IfOk, All, Contains};
 ghost use Rattle.aero_witness.specs.declared.kinds.Kind.{Kind};
 ghost use Rattle.aero_witness.specs.Kinds.{source_number, sources, targets};
 ghost use Rattle.aero_witness.specs.Lanes.{head_of, IsLane, AreHomes, IsFull, IsSameBut, AreDrawn};
-ghost use Rattle.aero_witness.specs.Left.{lane_of, AreGathered};
+ghost use Rattle.aero_witness.specs.Left.{lane_of, lane_leads_home, event_leads_home, AreGathered};
 
 use crate::kinds::{Kind, source_number};
 use crate::lanes::{Lane, Lead, head_of, lane_of, take};
@@ -101,16 +101,15 @@ pub(crate) fn leads_of(
 // Whether a later event of the transaction where walks begin conflicts by this kind with the event at this place.
 fn lane_leads_home(lane: &Lane, event: &Numbered, place: u32) -> bool
     requires { place + 1 < 2 ^ 32 }
-    ensures { result ≡ nat_lt (place + 1) (head_of lane.now.homes.items (source_number lane.now.kind event.now)) }
+    ensures { result ≡ lane_leads_home lane.now event.now place }
 {
     place + 1 < head_of(&lane.homes, source_number(lane.kind, event))
 }
 
 // The same by any.
 fn event_leads_home(left: &Left, event: &Numbered, place: u32) -> bool
-    requires room { place + 1 < 2 ^ 32 }
-    requires kinds { (k : Kind) → (lane_of left.now k).kind ≡ k }
-    ensures { result ≡ false → (k : Kind) → head_of (lane_of left.now k).homes.items (source_number k event.now) ≤ place + 1 }
+    requires { place + 1 < 2 ^ 32 }
+    ensures { result ≡ event_leads_home left.now event.now place }
 {
     lane_leads_home(&left.threads, event, place)
         || lane_leads_home(&left.forks, event, place)
@@ -120,12 +119,13 @@ fn event_leads_home(left: &Left, event: &Numbered, place: u32) -> bool
         || lane_leads_home(&left.releases, event, place)
 }
 
-// The same of any event of the front.
+// The same of any event of the front: whether some head of the places of home is behind it.
 pub(crate) fn leads_home(events: &[Numbered], front: &[u32], left: &Left) -> bool
     requires few { length events.now < 2 ^ 32 }
     requires kinds { (k : Kind) → (lane_of left.now k).kind ≡ k }
     requires within { All (λ i. i < length events.now) front.now }
-    ensures { result ≡ false → (i : ℕ) (k : Kind) → Contains front.now i → head_of (lane_of left.now k).homes.items (sources events.now k i) ≤ i + 1 }
+    ensures some { result ≡ true → (i : ℕ) × (k : Kind) × Contains front.now i × (i + 1 < head_of (lane_of left.now k).homes.items (sources events.now k i)) }
+    ensures none { result ≡ false → (i : ℕ) (k : Kind) → Contains front.now i → head_of (lane_of left.now k).homes.items (sources events.now k i) ≤ i + 1 }
 {
     for place in front {
         if event_leads_home(left, &events[*place as usize], *place) {

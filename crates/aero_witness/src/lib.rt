@@ -28,6 +28,14 @@
 //!   transactions and the telling cycles of the trace: `laws`.
 //!
 //! Which of several shortest cycles is given, no contract says.
+//!
+//! # What a search costs
+//!
+//! No contract says it. Each place is reached once, and taken once by each kind of conflict in which its event can be
+//! the later one: four of them for a write, and fewer for any other. What a level takes and what it reaches is
+//! sorted. Beside that all events are gone through a fixed number of times, however many visits the cycle has. So the
+//! time is about that of sorting the events. In memory an event takes 48 bytes, beside what a level takes: 24 for the
+//! places before it, 16 for how it is reached, and 8 for its transaction and the next place there.
 #![tactic(auto)]
 
 mod conflict;

@@ -15,8 +15,8 @@ use crate::reached::{Reached, Walks, enter, front_of, is_noted, start};
 use aero_model::numbered::Numbered;
 use std::alloc::{AllocError, Global};
 
-// The level is how many visits come before. What is left are the events that no event of a lower one conflicts with, by each
-// kind.
+// The level is how many visits come before its places, which are the front. By each kind of conflict the events are left
+// that no event of a lower level conflicts with.
 #[derive(Drop)]
 pub(crate) struct Search {
     pub walks: Walks,
@@ -24,7 +24,7 @@ pub(crate) struct Search {
     pub level: u32,
 }
 
-// Of the transaction where walks begin all is reached.
+// The level before the first visit, of the transaction where walks begin.
 pub(crate) fn begin(alloc: Global, events: &[Numbered], quest: &Quest) -> Result<Search, AllocError>
     requires few { length events.now < 2 ^ 32 }
     requires quest { IsQuest events.now quest.now }
@@ -47,23 +47,24 @@ fn find_home(
     quest: &Quest,
     reached: &[Option<Reached>],
     level: u32,
-) -> Result<Option<Lead>, AllocError>
+) -> Result<Lead, AllocError>
     requires few { length events.now < 2 ^ 32 }
     requires firsts { length quest.now.transactions.firsts.items ≡ length events.now }
     requires each { length reached.now ≡ length events.now }
-    ensures { IfOk result (λ home. MatchOption home (IsHomeless events.now quest.now.transactions.firsts.items quest.now.first (is_noted reached.now level)) (IsHomecoming events.now quest.now.transactions.firsts.items quest.now.first (is_noted reached.now level))) }
+    requires some { IsHomeless events.now quest.now.transactions.firsts.items quest.now.first (is_noted reached.now level) → ⊥ }
+    ensures { IfOk result (IsHomecoming events.now quest.now.transactions.firsts.items quest.now.first (is_noted reached.now level)) }
 {
     let mut marks = Marks::new(alloc);
     for enters in 0..events.len() as u32 {
         let event = &events[enters as usize];
         if let Some(from) = home_source(&marks, event, is_home(quest, enters)) {
-            return Ok(Some(Lead { enters, from }));
+            return Ok(Lead { enters, from });
         }
         if is_noted(reached, level, enters) {
             marks.note(event, enters)?;
         }
     }
-    Ok(None)
+    unreachable!()
 }
 
 // The earliest of the noted events that conflict with this one, which comes next, if it is one of home.
@@ -73,7 +74,7 @@ fn home_source(marks: &Marks, event: &Numbered, home: bool) -> Option<u32>
     if home { marks.source(event) } else { None }
 }
 
-// The same, where the front leads there with a visit before. The events are gone through for this once in a search.
+// The same, if visits come before and there is one. All events are gone through for it only where there is.
 fn homecoming(
     alloc: Global,
     events: &[Numbered],
@@ -88,7 +89,8 @@ fn homecoming(
     if search.level == 0 || !leads_home(events, &search.walks.front, &search.left) {
         return Ok(None);
     }
-    find_home(alloc, events, quest, &search.walks.reached, search.level)
+    let home = find_home(alloc, events, quest, &search.walks.reached, search.level)?;
+    Ok(Some(home))
 }
 
 fn with_one_more(level: u32, lead: Lead) -> Reached

@@ -1,13 +1,14 @@
-use Rattle.std.proofs.Common.{◌≡◌, ◌+◌, ◌≤◌, ℕ, List, inl, inr, take, get_or, refl, sym, ap, subst}
+use Rattle.std.proofs.Common.{◌≡◌, ◌+◌, ◌<◌, ◌≤◌, ℕ, List, inl, inr, take, get_or, sym, ap, subst}
 use Rattle.std.specs.Prelude.{Contains}
 use Rattle.std.proofs.lemmas.List.{take_more, take_all}
-use Rattle.std.proofs.lemmas.List.Elements.{Contains-push_cases}
+use Rattle.std.proofs.lemmas.List.Elements.{Contains-push_cases, Contains-get_or}
 use Rattle.std.proofs.lemmas.Option.{slice_get-get_or}
 use Rattle.aero_model.specs.declared.numbered.Numbered.{Numbered}
 use Rattle.aero_model.specs.declared.numbered.What.TheVariants.{Read}
 use Rattle.aero_witness.specs.Kinds.{source_number, of_event, sources}
 use Rattle.aero_witness.specs.Lanes.{head_of}
 use Rattle.aero_witness.specs.Left.{lane_of}
+use Rattle.aero_witness.proofs.Leading.{some_leads, none_leads}
 use Rattle.aero_witness.proofs.left.leads_home.Goals as goal
 
 abbrev any : Numbered
@@ -24,10 +25,22 @@ loop-place-preserved c i k h =
       | inl was ↦ c.loop-place.invariant i k was
       | inr same ↦
           let source : sources trace k place ≡ source_number k (get_or trace place any) = ap (of_event (source_number k)) (slice_get-get_or trace place any (c.requires.within at 0 l)) in
-          subst (λ j. head_of (lane_of c.args.left.now k).homes.items (sources trace k j) ≤ j + 1) same (subst (λ o. head_of (lane_of c.args.left.now k).homes.items o ≤ place + 1) (sym source) (c.if-event_leads_home.ensures refl k))
+          subst (λ j. head_of (lane_of c.args.left.now k).homes.items (sources trace k j) ≤ j + 1) same (subst (λ o. head_of (lane_of c.args.left.now k).homes.items o ≤ place + 1) (sym source) (none_leads c.args.left.now c.requires.kinds (get_or trace place any) place (sym c.if-event_leads_home.ensures) k))
     ]
 
-pub returns : goal.returns
-returns c e i k h =
+pub returns-then-event_leads_home-clause-some : goal.returns-then-event_leads_home-clause-some
+returns-then-event_leads_home-clause-some c e =
+    let trace = c.args.events.now in
+    let front = c.args.front.now in
+    let at = c.loop-place.place-index in
+    let place = get_or front at 0 in
+    let l = c.loop-place-test.true in
+    let some = some_leads c.args.left.now c.requires.kinds (get_or trace place any) place (sym c.if-event_leads_home.ensures) in
+    let k = some.0 in
+    let source : sources trace k place ≡ source_number k (get_or trace place any) = ap (of_event (source_number k)) (slice_get-get_or trace place any (c.requires.within at 0 l)) in
+    (place, k, Contains-get_or front at 0 l, subst (λ o. place + 1 < head_of (lane_of c.args.left.now k).homes.items o) (sym source) some.1)
+
+pub returns-clause-none : goal.returns-clause-none
+returns-clause-none c e i k h =
     let front = c.args.front.now in
     c.loop-place.invariant i k (subst (λ (xs : List ℕ). Contains xs i) (sym {A = List ℕ} (take_all c.loop-place.place-index front c.loop-place-test.false)) h)

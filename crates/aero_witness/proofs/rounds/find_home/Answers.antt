@@ -38,9 +38,7 @@ loop-enters-preserved c =
       homeless = none_home trace c.args.quest.now.transactions.firsts.items c.args.quest.now.first noted place e at marks all c.is_home.result c.is_home.ensures c.in_default.ensures;
     }
 
-pub returns : goal.returns
-returns c j at has =
+pub unreachable-requires : goal.unreachable-requires
+unreachable-requires c =
     let ge = c.loop-enters-test.false in
-    let h = has.2 in
-    let l = slice_get_within c.args.events.now j h.second h.second_at in
-    c.loop-enters.invariant.homeless j (omega arith) at has
+    c.requires.some (λ j at has. (let h = has.2 in let l = slice_get_within c.args.events.now j h.second h.second_at in c.loop-enters.invariant.homeless j (omega arith) at has))

@@ -1,10 +1,13 @@
-use Rattle.std.proofs.Common.{◌<◌, ◌+◌, ◌≤◌, ℕ, List, length, sym, subst, arith}
+use Rattle.std.proofs.Common.{◌≡◌, ◌<◌, ◌+◌, ◌≤◌, ℕ, List, length, true, Option, sym, subst, arith}
 use Rattle.std.specs.List.{All}
 use Rattle.std.specs.Prelude.{Contains}
 use Rattle.aero_witness.specs.declared.kinds.Kind.{Kind}
 use Rattle.aero_witness.specs.Kinds.{sources}
 use Rattle.aero_witness.specs.Lanes.{head_of}
 use Rattle.aero_witness.specs.Left.{lane_of}
+use Rattle.aero_witness.specs.declared.reached.Reached.{Reached}
+use Rattle.aero_witness.specs.Reached.{is_noted}
+use Rattle.aero_witness.proofs.Leading.{home_behind}
 use Rattle.aero_witness.proofs.Advancing.{front_within, homeless_by}
 use Rattle.aero_witness.proofs.rounds.homecoming.Goals as goal
 use Rattle.aero_witness.proofs.rounds.homecoming.Goals.{then-search-eq0-via-then-search-eq0, then-search-eq0-via-else-search-eq0+then-not-leads_home}
@@ -23,5 +26,18 @@ returns-then-search-eq0 c pos =
       | then-search-eq0-via-then-search-eq0 w ↦ (let z = w.if-search-eq0.true in absurd (omega arith))
       | then-search-eq0-via-else-search-eq0+then-not-leads_home w ↦
           homeless_by c.args.events.now search.level search.walks.reached.items search.walks.front.items at.front c.args.quest.now.transactions.firsts.items c.args.quest.now.first search.left at.left.homes
-          (subst (λ (xs : List ℕ). (i : ℕ) (k : Kind) → Contains xs i → head_of (lane_of search.left k).homes.items (sources c.args.events.now k i) ≤ i + 1) w.deref.ensures.value (w.leads_home.ensures w.if-not-leads_home.true))
+          (subst (λ (xs : List ℕ). (i : ℕ) (k : Kind) → Contains xs i → head_of (lane_of search.left k).homes.items (sources c.args.events.now k i) ≤ i + 1) w.deref.ensures.value (w.leads_home.ensures.none w.if-not-leads_home.true))
     ]
+
+pub find_home-requires-clause-some : goal.find_home-requires-clause-some
+find_home-requires-clause-some c homeless =
+    let trace = c.args.events.now in
+    let search = c.args.search.now in
+    let at = c.requires.at in
+    let level = search.level in
+    let some = c.leads_home.ensures.some c.if-not-leads_home.false in
+    let i = some.0 in
+    let in_front = subst (λ (xs : List ℕ). Contains xs i) c.deref.ensures.value some.2 in
+    let noted = subst (λ (xs : List (Option Reached)). is_noted xs level i ≡ true) (sym {A = List (Option Reached)} c.deref-2.ensures.value) (at.front.noted i in_front) in
+    let home = home_behind trace c.args.quest.now.transactions.firsts.items c.args.quest.now.first (is_noted c.deref-2.result.now level) i noted search.left at.left.homes some.1 some.3 in
+    homeless home.0 home.1 home.2
