@@ -83,7 +83,7 @@ def result_of(finding: Finding, asked: Asked, sources: Sources) -> Json:
     seen, line = Seen(), finding.counts.get("line", 0)
     if line and not asked.no_traces:
         seen = look(finding, asked.folder, rules=asked.rules)
-    places = Places(finding, seen, sources)
+    places = Places(finding, seen, sources, asked.folder)
     flow = Flow(finding, places, transactions_of(finding, seen, asked.rules)) if finding.cycle else None
     result: Json = {
         "ruleId": finding.verdict.replace(" ", "-"),
