@@ -23,7 +23,8 @@ HERE = """(() => {
     return `${all.indexOf(one)} ${style.outlineStyle === 'none' ? 'unseen' : 'seen'}`;
 })()"""
 ROWS = "[...document.querySelectorAll('.traces tbody tr')].filter((one) => one.getBoundingClientRect().height).length"
-CLOSED = "[...document.querySelectorAll('details')].filter((one) => one.lastElementChild.getBoundingClientRect().height < 10).length"
+CLOSED = """[...document.querySelectorAll('details')]
+    .filter((one) => one.lastElementChild.getBoundingClientRect().height < 10).length"""
 
 
 def text_of(path):
