@@ -132,6 +132,7 @@ class Picture:
             yield f"{len(lines)} arrows of {len(pairs)} conflicts"
         left = list(pairs)
         rooms = [room_of(one) for one in self.texts if one.get("class") != "numeral"]
+        yield from self.faults_of_channels(lines)
         for line in lines:
             points = list(points_of(line.get("d")))
             fits = [pair for pair in left if self.is_between(points, pair, firsts)]
@@ -145,6 +146,16 @@ class Picture:
                 for left_end, top, right_end, bottom in rooms:
                     if max(x1, x2) > left_end and min(x1, x2) < right_end and max(y1, y2) > top and min(y1, y2) < bottom:
                         yield f"an arrow runs over the text at {left_end:.0f}, {top:.0f}"
+
+    def faults_of_channels(self, lines):
+        """No two arrows run downwards over one another."""
+        runs = []
+        for line in lines if not self.is_wide else ():
+            points = list(points_of(line.get("d")))
+            runs += [(x1, min(y1, y2), max(y1, y2)) for (x1, y1), (x2, y2) in zip(points, points[1:]) if x1 == x2]
+        for number, (x, top, bottom) in enumerate(runs):
+            if any(abs(x - other) < 4 and top < low and high < bottom for other, high, low in runs[:number]):
+                yield f"two arrows run down at {x}"
 
     def is_between(self, points, pair, firsts):
         """Whether an arrow runs from the box and the height of one event to those of the other."""
