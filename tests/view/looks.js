@@ -1,15 +1,15 @@
-// What is wrong with how a page looks, a line each.
+// What is wrong with how a page looks in a window of the width WIDTH, a line each.
 (() => {
   const wrong = [];
   const say = (what, one) => wrong.push(`${what}: ${one.tagName} ${(one.textContent || "").trim().slice(0, 40)}`);
   const within = (inner, outer, room) => inner.left >= outer.left - room && inner.right <= outer.right + room &&
     inner.top >= outer.top - room && inner.bottom <= outer.bottom + room;
   // The window scrolls downwards alone, and what is wider scrolls by itself.
-  if (document.documentElement.scrollWidth > innerWidth) wrong.push(`${document.documentElement.scrollWidth} wide`);
+  if (document.documentElement.scrollWidth > WIDTH) wrong.push(`${document.documentElement.scrollWidth} wide`);
   for (const one of document.querySelectorAll("h1, h2, h3, p, li, td, th, pre, code, bdi, label, table, figure")) {
     const box = one.getBoundingClientRect();
-    const isCut = box.left < -1 || box.right > innerWidth + 1;
-    if (box.width && isCut && !one.closest(".scroll, .hidden, .skip")) say("cut off", one);
+    const isCut = box.left < -1 || box.right > WIDTH + 1;
+    if (one.checkVisibility() && box.width && isCut && !one.closest(".scroll, .hidden, .skip")) say("cut off", one);
   }
   // A text lies in its picture, none over another, and that of an event or a block in a box.
   for (const svg of document.querySelectorAll("svg[role=img]")) {
@@ -49,7 +49,7 @@
   };
   for (const one of document.querySelectorAll("body *")) {
     const own = [...one.childNodes].some((node) => node.nodeType === 3 && node.data.trim());
-    if (!own || !one.getBoundingClientRect().width || one.closest("title, .hidden, .skip")) continue;
+    if (!own || !one.checkVisibility() || !one.getBoundingClientRect().width || one.closest("title, .hidden, .skip")) continue;
     const isText = one.tagName === "text";
     const style = getComputedStyle(one);
     const colours = [parts(isText ? style.fill : style.color), isText ? under(one) : ground(one)];
