@@ -23,7 +23,8 @@ HERE = """(() => {
     return `${all.indexOf(one)} ${style.outlineStyle === 'none' ? 'unseen' : 'seen'}`;
 })()"""
 ROWS = "[...document.querySelectorAll('.traces tbody tr')].filter((one) => one.getBoundingClientRect().height).length"
-CLOSED = "[...document.querySelectorAll('details')].filter((one) => one.lastElementChild.getBoundingClientRect().height < 10).length"
+CLOSED = """[...document.querySelectorAll('details')]
+    .filter((one) => !one.lastElementChild.checkVisibility()).length"""
 
 
 def text_of(path):
@@ -34,6 +35,11 @@ def text_of(path):
     with open(path, encoding="utf-8") as page:
         parser.feed(page.read())
     return "".join("".join(texts).split())
+
+
+def looks(browser, width):
+    """What is wrong with how the page looks in a window of this width. (A phone's window grows with what doesn't fit into it.)"""
+    return browser.tell(LOOKS.replace("WIDTH", str(width)))
 
 
 def keyboard(browser):
@@ -66,14 +72,14 @@ def faults(browser, path):
         for scheme in ("light", "dark"):
             browser.media(scheme)
             browser.open(path, width)
-            yield from (f"{width}, {scheme}: {fault}" for fault in [*browser.complaints(), *browser.tell(LOOKS)])
+            yield from (f"{width}, {scheme}: {fault}" for fault in [*browser.complaints(), *looks(browser, width)])
             if len(browser.picture()) < 30_000:
                 yield f"{width}, {scheme}: an empty picture"
         if browser.tell(TEXT) != text_of(path):
             yield f"{width}: another text than was meant"
         yield from (f"{width}: {fault}" for fault in keyboard(browser))
     browser.media(kind="print")
-    yield from (f"print: {fault}" for fault in browser.tell(LOOKS))
+    yield from (f"print: {fault}" for fault in looks(browser, width))
     if browser.tell(CLOSED):
         yield "print: something is closed"
     if not browser.pdf().startswith(b"%PDF"):

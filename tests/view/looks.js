@@ -1,14 +1,15 @@
-// What is wrong with how a page looks, a line each.
+// What is wrong with how a page looks in a window of the width WIDTH, a line each.
 (() => {
   const wrong = [];
   const say = (what, one) => wrong.push(`${what}: ${one.tagName} ${(one.textContent || "").trim().slice(0, 40)}`);
   const within = (inner, outer, room) => inner.left >= outer.left - room && inner.right <= outer.right + room &&
     inner.top >= outer.top - room && inner.bottom <= outer.bottom + room;
   // The window scrolls downwards alone, and what is wider scrolls by itself.
-  if (document.documentElement.scrollWidth > innerWidth) wrong.push(`${document.documentElement.scrollWidth} wide`);
+  if (document.documentElement.scrollWidth > WIDTH) wrong.push(`${document.documentElement.scrollWidth} wide`);
   for (const one of document.querySelectorAll("h1, h2, h3, p, li, td, th, pre, code, bdi, label, table, figure")) {
     const box = one.getBoundingClientRect();
-    if (box.width && !one.closest(".scroll, .hidden, .skip") && (box.left < -1 || box.right > innerWidth + 1)) say("cut off", one);
+    const isCut = box.left < -1 || box.right > WIDTH + 1;
+    if (one.checkVisibility() && box.width && isCut && !one.closest(".scroll, .hidden, .skip")) say("cut off", one);
   }
   // A text lies in its picture, none over another, and that of an event or a block in a box.
   for (const svg of document.querySelectorAll("svg[role=img]")) {
@@ -19,10 +20,12 @@
     const areColumns = svg.querySelector(".column") !== null;
     texts.forEach((one, n) => {
       if (!within(boxes[n], frame, 1)) say("out of its picture", one);
-      if (areColumns && one.matches(".event, .label") && !blocks.some((block) => within(boxes[n], block, 3))) say("out of its box", one);
+      const isBoxed = blocks.some((block) => within(boxes[n], block, 3));
+      if (areColumns && one.matches(".event, .label") && !isBoxed) say("out of its box", one);
       for (let m = 0; m < n; m += 1) {
         const a = boxes[m], b = boxes[n];
-        if (Math.min(a.right, b.right) - Math.max(a.left, b.left) > 1 && Math.min(a.bottom, b.bottom) - Math.max(a.top, b.top) > 4) say("over another", one);
+        const across = Math.min(a.right, b.right) - Math.max(a.left, b.left);
+        if (across > 1 && Math.min(a.bottom, b.bottom) - Math.max(a.top, b.top) > 4) say("over another", one);
       }
     });
   }
@@ -46,10 +49,11 @@
   };
   for (const one of document.querySelectorAll("body *")) {
     const own = [...one.childNodes].some((node) => node.nodeType === 3 && node.data.trim());
-    if (!own || !one.getBoundingClientRect().width || one.closest("title, .hidden, .skip")) continue;
+    if (!own || !one.checkVisibility() || !one.getBoundingClientRect().width || one.closest("title, .hidden, .skip")) continue;
     const isText = one.tagName === "text";
     const style = getComputedStyle(one);
-    const [high, low] = [light(parts(isText ? style.fill : style.color)), light(isText ? under(one) : ground(one))].sort((a, b) => b - a);
+    const colours = [parts(isText ? style.fill : style.color), isText ? under(one) : ground(one)];
+    const [high, low] = colours.map(light).sort((a, b) => b - a);
     if ((high + 0.05) / (low + 0.05) < 4.5) say(`a contrast of ${((high + 0.05) / (low + 0.05)).toFixed(2)}`, one);
   }
   return wrong;

@@ -3,10 +3,10 @@
 
   picture_check.py PAGE REPORT
 
-For each violation it reads the trace by the definitions (blocks, their labels and ends up to the violation) and then the picture:
-columns or lanes in the order in which the transactions begin, rows for lines downwards, how many lines are folded, the red number,
-a box for each transaction from its first line to its end, the blamed one, dashed feet, and arrows that leave and enter the boxes
-at the heights of their events. No arrow passes over a text. The last line counts pictures and arrows.
+For each violation it reads the trace by the definitions (blocks, their labels and ends up to the violation), and then the
+picture: columns or lanes in the order in which the transactions begin, rows for lines downwards, how many lines are folded, the
+red number, a box for each transaction from its first line to its end, the blamed one, dashed feet, and arrows that leave and
+enter the boxes at the heights of their events. No arrow passes over a text. The last line counts pictures and arrows.
 """
 import json
 import re
@@ -18,7 +18,7 @@ WIDE = 7.3  # a character
 
 
 def blocks_of(path, last):
-    """By the line of its first event, each transaction up to line `last`: its thread, whether it is a block, its label, its end."""
+    """By its first line, each transaction up to line `last`: its thread, whether it is a block, its label, its end."""
     found, inside = {}, {}
     with open(path, encoding="utf-8") as trace:
         for line, text in enumerate(trace, 1):
@@ -118,7 +118,8 @@ class Picture:
                 yield f"the box from line {first}: blamed {is_blamed}, open {is_open}"
             if lefts.setdefault(thread, left) != left:
                 yield f"{thread} has two columns"
-            names = [text_of(one) for one in self.texts if left <= float(one.get("x")) <= right and top <= float(one.get("y")) <= bottom]
+            places = [(text_of(one), float(one.get("x")), float(one.get("y"))) for one in self.texts]
+            names = [text for text, x, y in places if left <= x <= right and top <= y <= bottom]
             if not self.is_wide and is_block and (label or "block") not in names:
                 yield f"the box from line {first} has no {label or 'block'}"
         if [thread for _, thread in sorted((left, thread) for thread, left in lefts.items())] != threads:
@@ -131,6 +132,7 @@ class Picture:
             yield f"{len(lines)} arrows of {len(pairs)} conflicts"
         left = list(pairs)
         rooms = [room_of(one) for one in self.texts if one.get("class") != "numeral"]
+        yield from self.faults_of_channels(lines)
         for line in lines:
             points = list(points_of(line.get("d")))
             fits = [pair for pair in left if self.is_between(points, pair, firsts)]
@@ -141,10 +143,19 @@ class Picture:
             if line.get("class").split()[1] != kind_of(*fits[0]):
                 yield f"an arrow is {line.get('class')}"
             for (x1, y1), (x2, y2) in zip(points, points[1:]) if not self.is_wide else ():
-                for room in rooms:
-                    if max(min(x1, x2), room[0]) < min(max(x1, x2), room[2]) or min(x1, x2) == max(x1, x2) and room[0] < x1 < room[2]:
-                        if max(min(y1, y2), room[1]) < min(max(y1, y2), room[3]) or y1 == y2 and room[1] < y1 < room[3]:
-                            yield f"an arrow runs over the text at {room}"
+                for left_end, top, right_end, bottom in rooms:
+                    if max(x1, x2) > left_end and min(x1, x2) < right_end and max(y1, y2) > top and min(y1, y2) < bottom:
+                        yield f"an arrow runs over the text at {left_end:.0f}, {top:.0f}"
+
+    def faults_of_channels(self, lines):
+        """No two arrows run downwards over one another."""
+        runs = []
+        for line in lines if not self.is_wide else ():
+            points = list(points_of(line.get("d")))
+            runs += [(x1, min(y1, y2), max(y1, y2)) for (x1, y1), (x2, y2) in zip(points, points[1:]) if x1 == x2]
+        for number, (x, top, bottom) in enumerate(runs):
+            if any(abs(x - other) < 4 and top < low and high < bottom for other, high, low in runs[:number]):
+                yield f"two arrows run down at {x}"
 
     def is_between(self, points, pair, firsts):
         """Whether an arrow runs from the box and the height of one event to those of the other."""

@@ -3,8 +3,8 @@
 
   sarif_check.py LOG [--brief]
 
-A log is held to the schema beside this, which has the main members of SARIF 2.1.0, to what ties members together, and to what code
-scanning wants of each result: a line in a file, by a relative path or a file: address.
+A log is held to the schema beside this, which has the main members of SARIF 2.1.0 and what code scanning wants of a result, and to
+what ties members together.
 """
 import json
 import re

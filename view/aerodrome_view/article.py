@@ -34,7 +34,7 @@ def article(finding: Finding, number: int, asked: Asked, sources: Sources) -> st
         block = f"{code(finding.label)} of {thread}"
     head = (
         f'<article id="v{number}" aria-labelledby="h{number}">\n<h2 id="h{number}">{block} <em>isn\'t atomic</em></h2>\n'
-        f'<p class="dim">{bare(finding.source)}: violation at line {line}: block of {thread} from line {begun}. '
+        f'<p class="dim">{bare(finding.source, MOST_TEXT)}: violation at line {line}: block of {thread} from line {begun}. '
         '<a href="#traces">To the traces</a></p>\n'
     )
     if not finding.cycle:

@@ -1,6 +1,7 @@
 """A cycle as SARIF has it: places in files, and for each thread those that it passes, in one order over all threads."""
 from __future__ import annotations
 
+import os
 from typing import Any, Optional
 from urllib.parse import quote
 
@@ -31,37 +32,40 @@ def message(told: str) -> Json:
     return {"text": told.translate(ESCAPES)}
 
 
+def artifact(path: bytes, inside: Optional[bytes]) -> Json:
+    """A file: by its path below the root where it lies there, and else by the path that is told."""
+    if inside is not None:
+        return {"uri": quote(inside), "uriBaseId": "%SRCROOT%"}
+    if path.startswith(b"/"):
+        return {"uri": "file://" + quote(path)}
+    return {"uri": quote(path.removeprefix(b"./")) or "."}
+
+
+def at_line(file: Json, line: int, column: int = 0) -> Json:
+    region = {"startLine": line, **({"startColumn": column} if column else {})}
+    return {"physicalLocation": {"artifactLocation": file, "region": region}}
+
+
 class Places:
     """The lines of the trace of a finding, and what these tell of the code, as locations."""
 
-    def __init__(self, finding: Finding, seen: Seen, sources: Sources) -> None:
-        self.finding, self.seen, self.sources = finding, seen, sources
+    def __init__(self, finding: Finding, seen: Seen, sources: Sources, folder: str) -> None:
+        self.seen, self.sources = seen, sources
         self.told = {event.line: event.location for event in finding.cycle if event.location}
+        trace = finding.source if finding.source == b"-" else os.path.join(os.fsencode(folder), finding.source)
+        self.trace = artifact(trace, sources.name_of(os.path.abspath(trace)))
 
     def in_trace(self, line: int) -> Json:
         """A line of the trace; its first where the finding has none, since code scanning wants one."""
-        return self._at(self.finding.source, line or 1)
+        return at_line(self.trace, line or 1)
 
     def in_source(self, line: int) -> Optional[Json]:
         """The place in the code that a line of the trace tells, if it tells one."""
         found = place_of(self.told.get(line) or location_of(self.seen.lines.get(line, b"")))
-        return self._at(found.path, found.line, found.column) if found else None
+        return at_line(artifact(found.path, self.sources.name_of(found.path)), found.line, found.column) if found else None
 
     def of(self, line: int, told: str) -> Json:
         return {**(self.in_source(line) or self.in_trace(line)), "message": message(told)}
-
-    def _at(self, path: bytes, line: int, column: int = 0) -> Json:
-        region = {"startLine": line, **({"startColumn": column} if column else {})}
-        return {"physicalLocation": {"artifactLocation": self._artifact(path), "region": region}}
-
-    def _artifact(self, path: bytes) -> Json:
-        """A file: by its path below the root where it lies there, and else by the path that is told."""
-        inside = self.sources.name_of(path)
-        if inside is not None:
-            return {"uri": quote(inside), "uriBaseId": "%SRCROOT%"}
-        if path.startswith(b"/"):
-            return {"uri": "file://" + quote(path)}
-        return {"uri": quote(path.removeprefix(b"./")) or "."}
 
 
 class Flow:

@@ -26,11 +26,12 @@ def lanes(sheet: Sheet) -> tuple[str, float]:
     parts = [sheet.box(one, middles[one.thread] - half, middles[one.thread] + half) for one in sheet.of.values()]
     for row in sheet.rows.values():
         thread, kind = _thread(row), "event" if row.event else "dim"
+        title = sheet.title(row.event) if row.event else row.action
         parts += [
             f'<path class="guide" d="M{x_role + 6:.0f} {row.y:.0f}H{middles[thread] - half:.0f}"/>',
             sheet.number(row, x_thread - 14),
             text_at(x_thread, row.y + 4, kind, cut(plain(thread), most), title=plain(thread)),
-            text_at(x_action, row.y + 4, kind, cut(row.action, WIDEST), title=sheet.title(row.event) if row.event else row.action),
+            text_at(x_action, row.y + 4, kind, cut(row.action, WIDEST), title=title),
             text_at(x_role, row.y + 4, "roles", roles.get(row.line, ""), "end"),
         ]
     parts += _arrows(sheet, middles, min(4.0, step * 0.3))

@@ -10,7 +10,7 @@ from typing import IO, Iterator
 from . import words
 from .article import article
 from .command import Asked, run, unnamed
-from .markup import bare, code
+from .markup import MOST_TEXT, bare, code
 from .report import FAULTS, Finding, Tally, findings
 from .sources import Sources
 from .trace import look
@@ -88,7 +88,8 @@ class Page:
             self.pictures += 1
             says += f' <a href="#v{self.pictures}">Why<span class="hidden"> in {bare(finding.source)}</span></a>'
             self.articles.write(article(finding, self.pictures, self.asked, self.sources))
-        self.rows.write(row(KIND_OF[finding.verdict], bare(finding.source), finding.verdict, says + self.fault(finding)))
+        source = bare(finding.source, MOST_TEXT)
+        self.rows.write(row(KIND_OF[finding.verdict], source, finding.verdict, says + self.fault(finding)))
 
     def fault(self, finding: Finding) -> str:
         """What more is known of a fault: a note of the program, or else the faulty line."""

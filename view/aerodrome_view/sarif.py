@@ -11,7 +11,7 @@ from .command import Asked, run
 from .flow import Flow, Places, message
 from .names import plain
 from .report import Finding, Tally, findings
-from .sources import Sources, place_of
+from .sources import Sources
 from .trace import Seen, Transaction, look, transactions_of
 
 USAGE = """Makes a SARIF 2.1.0 log of a report, for code scanning and for the viewers of editors.
@@ -83,7 +83,7 @@ def result_of(finding: Finding, asked: Asked, sources: Sources) -> Json:
     seen, line = Seen(), finding.counts.get("line", 0)
     if line and not asked.no_traces:
         seen = look(finding, asked.folder, rules=asked.rules)
-    places = Places(finding, seen, sources)
+    places = Places(finding, seen, sources, asked.folder)
     flow = Flow(finding, places, transactions_of(finding, seen, asked.rules)) if finding.cycle else None
     result: Json = {
         "ruleId": finding.verdict.replace(" ", "-"),
@@ -119,8 +119,7 @@ def fingerprint(finding: Finding, seen: Seen) -> str:
     """What stays the same from run to run: the label, and the operations with their places in the code, or what they act on."""
     of = hashlib.sha256(repr((finding.verdict, finding.fault, finding.label)).encode())
     for event in finding.cycle:
-        location = seen.location_of(event)
-        of.update(repr((event.op, location if place_of(location) else event.target)).encode())
+        of.update(repr((event.op, seen.location_of(event) or event.target)).encode())
     return of.hexdigest()
 
 
