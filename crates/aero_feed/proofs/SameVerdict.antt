@@ -124,8 +124,8 @@ module _ (rules : Rules) (parts others : List Reading) (same : events_within rul
   same_verdict (Malformed line fault) is = malformed line fault is
   same_verdict (IllFormed line fault) is = ill_formed line fault is
 
-  step : (place : ℕ) (step : CycleStep) → IsCycleStep parts rules place step → IsCycleStep others rules place step
-  step place step is = record {
+  step_same : (place : ℕ) (step : CycleStep) → IsCycleStep parts rules place step → IsCycleStep others rules place step
+  step_same place step is = record {
     line = on_line place step.line is.line;
     event = subst (λ es. option_map (λ e. e.1) (slice_get es place) ≡ Some step.event) same is.event;
     first = is.first;
@@ -149,7 +149,7 @@ module _ (rules : Rules) (parts others : List Reading) (same : events_within rul
         begins = subst (λ es. transaction (trace es) is.first.enters ≡ Block v.t v.number) same is.begins;
         fewest = λ other more telling from. is.fewest other more (subst (λ es. IsTelling (trace es) (suc v.place) other more) (sym same) telling)
             (subst (λ es. transaction (trace es) other.enters ≡ Block v.t v.number) (sym same) from);
-        steps_are = zip_as (IsCycleStep parts rules) (IsCycleStep others rules) step (round_places is.first is.rest) cycle.steps.items is.steps_are;
+        steps_are = zip_as (IsCycleStep parts rules) (IsCycleStep others rules) step_same (round_places is.first is.rest) cycle.steps.items is.steps_are;
       }
 
   pub same_cycle : (verdict : Verdict) (cycle : Cycle) → IsCycleOf parts rules verdict cycle → IsCycleOf others rules verdict cycle

@@ -20,7 +20,7 @@ use Rattle.aero_verdict.specs.Ordered.{is_faultless}
 use Rattle.aero_verdict.specs.Verdict.{Rules, IsVerdict}
 use Rattle.aero_verdict.proofs.OneVerdict.{one_verdict}
 use Rattle.aero_feed.specs.Feeding.{Feeding, nothing_fed, IsTextVerdict, IsCertainOf, IsOpenText, ShowsText}
-use Rattle.aero_feed.specs.Reads.{EndsIn, HasRead, GoesOn, IsSure, StandsAt, ShowsFed}
+use Rattle.aero_feed.specs.Reads.{EndsIn, HasRead, GoesOn, IsSure, StandsAt, ShowsFed, IsJudgedOut}
 use Rattle.aero_feed.proofs.Ends.{ends_more, nothing_left}
 use Rattle.aero_feed.proofs.SameVerdict.{blocks_read, cycle_of_text, verdict_of_text, verdict_of_parts}
 
@@ -192,6 +192,12 @@ pub last_open : (text : List ℕ) (cutting : Cutting) (fed : Fed) (verdict : Ver
 last_open text cutting fed verdict none stood is =
     let at : GoesOn text cutting fed = subst (StandsAt text cutting fed) none stood in
     verdict_of_text fed.rules (fed.parts ++ map reading_of (option_to_list (last_block cutting))) text verdict (read_all text cutting fed.parts at.reads) is
+
+-- and however it was judged out
+pub judged_out : (text : List ℕ) (cutting : Cutting) (was now : Fed) (verdict : Verdict) → StandsAt text cutting was was.certain → IsJudgedOut was cutting now → IsVerdict now.parts now.rules verdict → IsTextVerdict text was.rules verdict
+judged_out text cutting was now verdict stood (inl (sure, certain, same)) is = last_sure text cutting was verdict sure stood certain (subst (λ (f : Fed). IsVerdict f.parts f.rules verdict) same is)
+judged_out text cutting was now verdict stood (inr (none, parts, rules)) is =
+    last_open text cutting was verdict none stood (subst (λ ps. IsVerdict ps was.rules verdict) parts (subst (λ r. IsVerdict now.parts r verdict) rules is))
 
 -- what calls answer
 is_some_map : {A B : Type 0} (f : A → B) (o : Option A) → is_some (option_map f o) ≡ is_some o

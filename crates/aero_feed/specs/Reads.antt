@@ -1,12 +1,12 @@
 -- What is kept of a text that is judged as it comes.
-use Rattle.std.specs.Prelude.{◌≡◌, ℕ, Bool, true, false, List, [], ◌∷◌, ◌++◌, map, Option, None, Some}
+use Rattle.std.specs.Prelude.{◌≡◌, ◌⊎◌, ℕ, Bool, true, false, List, [], ◌∷◌, ◌++◌, map, Option, None, Some, is_some, IfSome, option_to_list}
 use Rattle.std.specs.List.{concat}
 use Rattle.aero_model.specs.declared.verdict.Cycle.{Cycle}
 use Rattle.aero_model.specs.declared.verdict.Verdict.{Verdict}
 use Rattle.aero_grammar.specs.Reading.{Reading, reading_of, whole_reading}
-use Rattle.aero_lines.specs.Cutting.{Cutting, IsOpenLine, blocks_from}
+use Rattle.aero_lines.specs.Cutting.{Cutting, IsOpenLine, blocks_from, last_block}
 use Rattle.aero_verdict.specs.Explained.{IsCycleOf, ShowsCertain}
-use Rattle.aero_verdict.specs.Fed.{Fed, IsOpen}
+use Rattle.aero_verdict.specs.Fed.{Fed, IsCertain, IsOpen}
 use Rattle.aero_feed.specs.Feeding.{IsCertainOf}
 use Rattle.aero_feed.specs.declared.judge.Judge.{Judge}
 use Rattle.aero_feed.specs.declared.judge.Judge.TheVariants.{Plain, Explaining}
@@ -36,6 +36,12 @@ pub record IsSure (text : List ℕ) (fed : Fed) (verdict : Verdict) : Type 0 whe
 abbrev pub StandsAt : List ℕ → Cutting → Fed → Option Verdict → Type 0
 StandsAt text cutting fed None = GoesOn text cutting fed
 StandsAt text cutting fed (Some verdict) = IsSure text fed verdict
+
+-- What is judged in the end: nothing more where the verdict is certain, and else the last block.
+abbrev pub IsJudgedOut : Fed → Cutting → Fed → Type 0
+IsJudgedOut was cutting now =
+    ((is_some was.certain ≡ true) × IfSome was.certain (IsCertain was.parts was.rules) × (now ≡ was))
+    ⊎ ((was.certain ≡ None) × (now.parts ≡ was.parts ++ map reading_of (option_to_list (last_block cutting))) × (now.rules ≡ was.rules))
 
 -- what a judge was fed, and whether it shows violations
 abbrev pub fed_by : Judge → Fed

@@ -128,7 +128,9 @@ impl Feed {
         ensures was_unspent { OnOk result (self.old.is_spent ≡ false) }
         ensures stays_spent { self.old.is_spent ≡ true → self.new.is_spent ≡ true }
     {
-        self.is_certain()?;
+        judge_held(&mut self.monitor, &mut self.held)?;
+        // (tells the proof what is certain)
+        let _is_certain = self.monitor.is_certain();
         let shown = self.monitor.explain();
         if shown.is_err() {
             self.monitor.spend();

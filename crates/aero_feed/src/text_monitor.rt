@@ -5,9 +5,9 @@ ghost use Rattle.aero_model.specs.Verdicts.{HasOwnFault};
 ghost use Rattle.aero_grammar.specs.Reading.{reading_of};
 ghost use Rattle.aero_lines.specs.Cutting.{fed, block_of, last_block};
 ghost use Rattle.aero_verdict.specs.Fed.{IsCertain, IsOpen};
-ghost use Rattle.aero_verdict.specs.Verdict.{under, IsVerdict};
+ghost use Rattle.aero_verdict.specs.Verdict.{under};
 ghost use Rattle.aero_feed.specs.Feeding.{nothing_fed, IsTextVerdict, IsCertainOf, IsOpenText, ShowsText};
-ghost use Rattle.aero_feed.specs.Reads.{fed_by, explains_in};
+ghost use Rattle.aero_feed.specs.Reads.{fed_by, explains_in, IsJudgedOut};
 
 use crate::ghost_text::GhostText;
 use crate::judge::Judge;
@@ -145,14 +145,34 @@ impl TextMonitor {
             is_spent,
             text: _,
         } = self;
-        if is_spent {
-            return Err(AllocError);
-        }
-        if judge.is_certain() {
-            return judge.finish();
-        }
-        judge_last(alloc, cutter, judge, &except)
+        let mut judge = judge;
+        let judged = judge_rest(alloc, cutter, &mut judge, &except, is_spent);
+        let verdict = judge.finish();
+        judged?;
+        verdict
     }
+}
+
+// Judges the line that no byte 10 ended, where there is one and it isn't certain what the verdict is. An `AllocError` says
+// that memory is or was refused.
+fn judge_rest(
+    alloc: Global,
+    cutter: Cutter,
+    judge: &mut Judge,
+    except: &Except,
+    is_spent: bool,
+) -> Result<(), AllocError>
+    requires labels { except.now ≡ (fed_by judge.old).rules.labels }
+    ensures judged { OnOk result (IsJudgedOut (fed_by judge.old) cutter (fed_by judge.new)) }
+    ensures was_unspent { OnOk result (is_spent ≡ false) }
+{
+    if is_spent {
+        return Err(AllocError);
+    }
+    if judge.is_certain() {
+        return Ok(());
+    }
+    judge_last(alloc, cutter, judge, except)
 }
 
 // Judges what is cut of the next piece.
@@ -200,21 +220,20 @@ fn judge_block(
     Ok(())
 }
 
-// Judges the line that no byte 10 ended, where there is one, and gives the verdict.
+// Judges the line that no byte 10 ended, where there is one.
 fn judge_last(
     alloc: Global,
     cutter: Cutter,
-    judge: Judge,
+    judge: &mut Judge,
     except: &Except,
-) -> Result<Verdict, AllocError>
-    requires labels { except.now ≡ (fed_by judge).rules.labels }
-    requires open { (fed_by judge).certain ≡ None }
-    ensures verdict { IfOk result (IsVerdict ((fed_by judge).parts ++ map reading_of (option_to_list (last_block cutter))) (fed_by judge).rules) }
-    ensures own_fault { IfOk result HasOwnFault }
+) -> Result<(), AllocError>
+    requires labels { except.now ≡ (fed_by judge.old).rules.labels }
+    requires open { (fed_by judge.old).certain ≡ None }
+    ensures rules { (fed_by judge.new).rules ≡ (fed_by judge.old).rules }
+    ensures parts { OnOk result ((fed_by judge.new).parts ≡ (fed_by judge.old).parts ++ map reading_of (option_to_list (last_block cutter))) }
 {
-    let mut judge = judge;
-    if let Some(block) = cutter.finish()? {
-        judge_block(alloc, &mut judge, except, block.bytes())?;
+    match cutter.finish()? {
+        None => Ok(()),
+        Some(block) => judge_block(alloc, judge, except, block.bytes()),
     }
-    judge.finish()
 }
