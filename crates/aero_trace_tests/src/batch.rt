@@ -213,3 +213,38 @@ static ROWS: [Row; 4] = [
 fn a_batch_reads_as_its_text_and_is_judged_as_it_comes(rt: HostRuntime) {
     assert_eq!(rt; first_misread(rt.alloc(), &ROWS), None);
 }
+
+// One part of so many reads.
+fn long_part(alloc: Global, count: u32) -> Option<Parsed> {
+    let event = match parse_line(alloc, b"T1|r(x)") {
+        Ok(Some(event)) => event,
+        _ => return None,
+    };
+    let mut batch = Batch::new(alloc);
+    for _ in 0..count {
+        batch.push(&event).ok()?;
+    }
+    batch.into_parsed().ok()
+}
+
+// The verdict on it.
+fn long_verdict(alloc: Global, count: u32) -> Option<String> {
+    let except = except_of(alloc, "")?;
+    let part = long_part(alloc, count)?;
+    let mut monitor = Monitor::<Leads>::new(alloc, &Limits::greatest(), &except);
+    let is_fed = monitor.feed(&part, &except).is_ok();
+    match monitor.finish() {
+        Ok(verdict) if is_fed => words_of(alloc, &verdict),
+        _ => None,
+    }
+}
+
+#[test]
+fn a_part_of_over_a_million_events_is_judged(rt: HostRuntime) {
+    assert!(rt;
+        is(
+            long_verdict(rt.alloc(), 1_048_577),
+            "serializable 1048577 0"
+        )
+    );
+}
