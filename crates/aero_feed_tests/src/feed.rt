@@ -224,7 +224,8 @@ fn long_verdict(alloc: Global, count: u32, size: usize) -> Option<String>
     verdict_in_pieces(alloc, feed, &reads(alloc, count)?, size)
 }
 
-// What is held is judged after some 65,536 bytes: 320,008 bytes as one piece, and in some that are a little longer.
+// What is held is judged after some 65,536 bytes: 320,008 bytes as one piece, and in some that are a little longer; and
+// 1,120,008 bytes as one.
 #[test]
 fn a_long_piece_is_taken(rt: HostRuntime) {
     let alloc = rt.alloc();
@@ -235,6 +236,12 @@ fn a_long_piece_is_taken(rt: HostRuntime) {
         )
     );
     assert!(rt; is(long_verdict(alloc, 40_001, 65_537), "serializable 40001 0"));
+    assert!(rt;
+        is(
+            long_verdict(alloc, 140_001, 2_000_000),
+            "serializable 140001 0"
+        )
+    );
 }
 
 // A line of more than 4,096 bytes, and what comes after it.
