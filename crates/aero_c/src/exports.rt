@@ -1,5 +1,5 @@
 //! The calls of a program in C. Each pointer is to be none but NULL, as the header tests.
-ghost use Rattle.std.specs.Prelude.{◌≡◌, ◌≢◌, ◌++◌, [], None};
+ghost use Rattle.std.specs.Prelude.{◌≡◌, ◌≢◌, ◌++◌, [], true, false, None};
 ghost use Rattle.aero_model.specs.Exempt.{these};
 ghost use Rattle.aero_c.specs.Statuses.{done, unheld};
 ghost use Rattle.aero_c.specs.Answers.{Answers, BeginsLabelled, IsAsked, Begins, Judges, ShowsHeld};
