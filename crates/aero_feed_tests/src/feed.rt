@@ -136,8 +136,13 @@ fn is_judged_so(alloc: Global, row: Row) -> Option<bool> {
 fn is_certain_so(alloc: Global, row: Row) -> Option<bool> {
     let (label, text, from, _) = row;
     let bytes = bytes_of(alloc, text)?;
-    let mut feed = feed_of(alloc, label)?;
-    Some(certain_from(&mut feed, &bytes) == Some(from))
+    let feed = feed_of(alloc, label)?;
+    Some(is_certain_at(feed, &bytes, from))
+}
+
+fn is_certain_at(feed: Feed, text: &[u8], from: usize) -> bool {
+    let mut feed = feed;
+    certain_from(&mut feed, text) == Some(from)
 }
 
 // The first row whose text is judged otherwise.
@@ -220,8 +225,15 @@ fn long_verdict(alloc: Global, count: u32, size: usize) -> Option<String>
     requires { 0 < size }
 {
     let none = Except::new(Vec::new(alloc))?;
+    let text = reads(alloc, count)?;
+    greatest_verdict(alloc, none, &text, size)
+}
+
+fn greatest_verdict(alloc: Global, none: Except, text: &[u8], size: usize) -> Option<String>
+    requires { 0 < size }
+{
     let feed = Feed::new(alloc, &Limits::greatest(), none);
-    verdict_in_pieces(alloc, feed, &reads(alloc, count)?, size)
+    verdict_in_pieces(alloc, feed, text, size)
 }
 
 // What is held is judged after some 65,536 bytes: 320,008 bytes as one piece, and in some that are a little longer; and
