@@ -9,20 +9,14 @@ use aero_model::except::Except;
 use aero_model::limits::Limits;
 use std::alloc::Global;
 
-// Begins a trace with these labels, if the monitor has none. With `explains` its violation is to be shown.
-pub(crate) fn begin(
-    alloc: Global,
-    monitor: &mut Monitor,
-    is_long: bool,
-    explains: bool,
-    except: Except,
-) -> u32
-    ensures { Begins monitor.old.pointer.held monitor.new.pointer.held result is_long explains except }
+// Begins a trace with these labels, if the monitor has none.
+pub(crate) fn begin(alloc: Global, monitor: &mut Monitor, is_long: bool, except: Except) -> u32
+    ensures { Begins monitor.old.pointer.held monitor.new.pointer.held result is_long except }
 {
     if monitor.is_held {
         return IN_USE;
     }
-    match begun(alloc, is_long, explains, except) {
+    match begun(alloc, is_long, except) {
         Some(feed) => {
             put(monitor, feed);
             DONE
@@ -32,16 +26,10 @@ pub(crate) fn begin(
 }
 
 // A trace of which nothing was fed, where memory isn't refused.
-fn begun(alloc: Global, is_long: bool, explains: bool, except: Except) -> Option<Box<Feed>>
-    ensures { IfSome result (λ feed. IsBegun feed.value is_long explains except) }
+fn begun(alloc: Global, is_long: bool, except: Except) -> Option<Box<Feed>>
+    ensures { IfSome result (λ feed. IsBegun feed.value is_long except) }
 {
-    let limits = limits(is_long);
-    let feed = if explains {
-        Feed::explaining(alloc, &limits, except)
-    } else {
-        Feed::new(alloc, &limits, except)
-    };
-    Box::new(alloc, feed).ok()
+    Box::new(alloc, Feed::new(alloc, &limits(is_long), except)).ok()
 }
 
 // The limits of a source, or those of a long one.

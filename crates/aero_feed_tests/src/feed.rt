@@ -5,7 +5,7 @@ use aero_feed::feed::Feed;
 use aero_model::except::Except;
 use aero_model::limits::Limits;
 use aero_model::name::Name;
-use aero_model::verdict::{Cycle, Verdict};
+use aero_model::verdict::Verdict;
 use std::alloc::Global;
 
 // The helpers below say that a row doesn't hold where memory is refused.
@@ -136,13 +136,8 @@ fn is_judged_so(alloc: Global, row: Row) -> Option<bool> {
 fn is_certain_so(alloc: Global, row: Row) -> Option<bool> {
     let (label, text, from, _) = row;
     let bytes = bytes_of(alloc, text)?;
-    let feed = feed_of(alloc, label)?;
-    Some(is_certain_at(feed, &bytes, from))
-}
-
-fn is_certain_at(feed: Feed, text: &[u8], from: usize) -> bool {
-    let mut feed = feed;
-    certain_from(&mut feed, text) == Some(from)
+    let mut feed = feed_of(alloc, label)?;
+    Some(certain_from(&mut feed, &bytes) == Some(from))
 }
 
 // The first row whose text is judged otherwise.
@@ -225,15 +220,8 @@ fn long_verdict(alloc: Global, count: u32, size: usize) -> Option<String>
     requires { 0 < size }
 {
     let none = Except::new(Vec::new(alloc))?;
-    let text = reads(alloc, count)?;
-    greatest_verdict(alloc, none, &text, size)
-}
-
-fn greatest_verdict(alloc: Global, none: Except, text: &[u8], size: usize) -> Option<String>
-    requires { 0 < size }
-{
     let feed = Feed::new(alloc, &Limits::greatest(), none);
-    verdict_in_pieces(alloc, feed, text, size)
+    verdict_in_pieces(alloc, feed, &reads(alloc, count)?, size)
 }
 
 // What is held is judged after some 65,536 bytes: 320,008 bytes as one piece, and in some that are a little longer; and
@@ -279,93 +267,4 @@ fn is_certain_from(feed: &mut Feed, count: u32) -> bool {
         }
     }
     is_certain_with(feed, b"T") == Some(true)
-}
-
-// The label of blocks that are no transactions, if there is one, a text in which a `/` ends each line, and what shows its
-// violation: the label of the block, if it has one, and of each event of the cycle its line and the first one of its
-// transaction.
-type ShownRow = (&'static str, &'static str, &'static str);
-
-// The second's label is left out. The third's last line may go on, so that nothing is certain.
-static SHOWN_ROWS: [ShownRow; 4] = [
-    (
-        "",
-        "T1|begin(a)/T1|r(x)/T2|w(x)/T1|w(x)/T2|r(y)/",
-        "a 2/1 3/3 4/1",
-    ),
-    ("a", "T1|begin(a)/T1|r(x)/T2|w(x)/T1|w(x)/", ""),
-    ("", "T1|begin/T1|r(x)/T2|w(x)/T1|w(x)", ""),
-    ("", "T1|begin/T1|r(x)/T2|w(x)/T1|w(x)/", " 2/1 3/3 4/1"),
-];
-
-fn shown_words(alloc: Global, shown: &Option<Cycle>) -> Option<String> {
-    match shown {
-        Some(cycle) => cycle_words(alloc, cycle),
-        None => Some(String::new(alloc)),
-    }
-}
-
-fn cycle_words(alloc: Global, cycle: &Cycle) -> Option<String> {
-    let mut words = label_words(alloc, &cycle.label)?;
-    for step in cycle.steps.as_slice() {
-        let line = step.line;
-        let first = step.first;
-        words = format!(in alloc; "{words} {line}/{first}").ok()?;
-    }
-    Some(words)
-}
-
-fn label_words(alloc: Global, label: &Option<Name>) -> Option<String> {
-    match label {
-        Some(label) => String::from_str(alloc, str::from_utf8(label.bytes()).ok()?).ok(),
-        None => Some(String::new(alloc)),
-    }
-}
-
-// What is shown of a text that comes in pieces of so many bytes, where that is to be shown.
-fn shown_in_pieces(alloc: Global, row: ShownRow, size: usize) -> Option<String>
-    requires { 0 < size }
-{
-    let limits = Limits::new(1000, 5, 10, 10)?;
-    let mut feed = Feed::explaining(alloc, &limits, except_of(alloc, row.0)?);
-    let bytes = bytes_of(alloc, row.1)?;
-    if !is_fed(&mut feed, &bytes, size) {
-        return None;
-    }
-    let first = shown_words(alloc, &feed.explain().ok()?)?;
-    let again = shown_words(alloc, &feed.explain().ok()?)?;
-    if first.as_str() == again.as_str() {
-        Some(first)
-    } else {
-        None
-    }
-}
-
-// The first row of which something else is shown.
-fn first_misshown(alloc: Global, rows: &[ShownRow]) -> Option<usize> {
-    for i in 0..rows.len() {
-        if !is(shown_in_pieces(alloc, rows[i], 3), rows[i].2)
-            || !is(shown_in_pieces(alloc, rows[i], 1000), rows[i].2)
-        {
-            return Some(i);
-        }
-    }
-    None
-}
-
-#[test]
-fn a_violation_is_shown_however_its_text_is_cut(rt: HostRuntime) {
-    assert_eq!(rt; first_misshown(rt.alloc(), &SHOWN_ROWS), None);
-}
-
-// A feed that isn't to show anything shows nothing.
-#[test]
-fn a_violation_is_shown_where_that_is_asked_for(rt: HostRuntime) {
-    assert!(rt; is(plainly_shown(rt.alloc()), ""));
-}
-
-fn plainly_shown(alloc: Global) -> Option<String> {
-    let mut feed = feed_of(alloc, "")?;
-    feed.feed(b"T1|begin\nT1|r(x)\nT2|w(x)\nT1|w(x)\n").ok()?;
-    shown_words(alloc, &feed.explain().ok()?)
 }
