@@ -15,6 +15,7 @@ pub mod Fronts
 pub mod Starting
 pub mod Walking
 pub mod Trail
+pub mod Led
 pub mod Swept
 pub mod Round
 pub mod Advancing

@@ -17,3 +17,4 @@ pub mod Levels
 pub mod Search
 pub mod Homecoming
 pub mod Trail
+pub mod Led

@@ -1,7 +1,24 @@
 ghost use Rattle.aero_witness.specs.Trail.{TrailHasTellingCycles};
+ghost use Rattle.aero_witness.specs.Led.{NoneIsLedLater, LaterCyclesAreLed, LedAsAWhole};
 
 /// Where each begin or end that isn't outermost is recorded as `What::Exempt`, and all else as it is but
 /// for labels, what is recorded has the transactions and the telling cycles of the trace.
 pub fn a_trail_has_the_telling_cycles_of_its_trace()
     ensures { TrailHasTellingCycles }
+{}
+
+/// What a block leads to after more events, a block that is open already leads to, unless it is one of these events.
+pub fn open_blocks_lead_to_no_earlier_event_later()
+    ensures { NoneIsLedLater }
+{}
+
+/// A telling cycle that there is after more events, and that begins in a block that is open or begins later, has of the
+/// events before only those to which an open block leads.
+pub fn later_cycles_have_what_open_blocks_lead_to()
+    ensures { LaterCyclesAreLed }
+{}
+
+/// Open blocks lead to all events of a transaction, or to none.
+pub fn open_blocks_lead_to_whole_transactions()
+    ensures { LedAsAWhole }
 {}
