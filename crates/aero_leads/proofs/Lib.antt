@@ -26,3 +26,4 @@ pub mod Compacting
 pub mod Backs
 pub mod Passing
 pub mod Singles
+pub mod Unled

@@ -3,6 +3,7 @@
 -- For proofs alone: Marks and Steps (what an event takes and changes), Indexed, Listed, Seen, Lows, Passed, Single, and what Standing
 -- and States don't name of Kept.
 pub mod Leads
+pub mod Laws
 pub mod Marks
 pub mod Steps
 pub mod Kept

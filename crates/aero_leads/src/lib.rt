@@ -47,6 +47,7 @@ mod engine;
 mod index;
 mod kept;
 mod last;
+pub mod laws;
 pub mod leads;
 mod led;
 mod lows;

@@ -16,6 +16,10 @@ pub mod Starting
 pub mod Walking
 pub mod Trail
 pub mod Led
+pub mod Thinning
+pub mod Thinned
+pub mod ThinnedCycles
+pub mod ThinnedShortest
 pub mod Swept
 pub mod Round
 pub mod Advancing

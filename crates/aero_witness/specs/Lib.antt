@@ -18,3 +18,4 @@ pub mod Search
 pub mod Homecoming
 pub mod Trail
 pub mod Led
+pub mod Thinned

@@ -1,5 +1,6 @@
 ghost use Rattle.aero_witness.specs.Trail.{TrailHasTellingCycles};
 ghost use Rattle.aero_witness.specs.Led.{NoneIsLedLater, LaterCyclesAreLed, LedAsAWhole};
+ghost use Rattle.aero_witness.specs.Thinned.{ThinnedHasTransactions, ThinnedHasTellingCycles, ThinnedHasShortest};
 
 /// Where each begin or end that isn't outermost is recorded as `What::Exempt`, and all else as it is but
 /// for labels, what is recorded has the transactions and the telling cycles of the trace.
@@ -21,4 +22,22 @@ pub fn later_cycles_have_what_open_blocks_lead_to()
 /// Open blocks lead to all events of a transaction, or to none.
 pub fn open_blocks_lead_to_whole_transactions()
     ensures { LedAsAWhole }
+{}
+
+/// Where whole transactions are left out, what is kept has the transactions of the trace, and they have ended where
+/// they had.
+pub fn what_is_kept_has_the_transactions_of_its_trace()
+    ensures { ThinnedHasTransactions }
+{}
+
+/// Where whole transactions are left out, visits are a telling cycle of what is kept exactly where they are one of the
+/// trace.
+pub fn what_is_kept_has_telling_cycles_of_its_trace()
+    ensures { ThinnedHasTellingCycles }
+{}
+
+/// Where whole transactions are left out, and none to which an open block leads, a shortest telling cycle of what is
+/// kept that begins in an open block is a shortest one of the trace, and there is one where the trace has one.
+pub fn what_is_kept_has_shortest_telling_cycles_of_its_trace()
+    ensures { ThinnedHasShortest }
 {}
