@@ -14,7 +14,7 @@ use Rattle.aero_witness.specs.Led.{IsLed, GoesOnAt}
 
 module _ (trace : List Numbered) (n : ℕ) where
   -- each event of an open block
-  led_inside : (j : ℕ) → j < n → IsOpen trace n (transaction trace j) → IsLed trace n j
+  pub led_inside : (j : ℕ) → j < n → IsOpen trace n (transaction trace j) → IsLed trace n j
   led_inside j l is_open = (transaction trace j, is_open, leads_from_reaches trace n (transaction trace j) j record { from = j; inside = refl; reach = stay l })
 
   led_next : (j k : ℕ) → IsLed trace n j → Conflict trace j k → k < n → IsLed trace n k
@@ -35,7 +35,7 @@ module _ (trace : List Numbered) (n : ℕ) where
   ]
 
   -- no event of a transaction that has ended comes later
-  none_later : (j k : ℕ) → transaction trace j ≡ transaction trace k → HasEnded trace n (transaction trace k) → k < n → n ≤ j → ⊥
+  pub none_later : (j k : ℕ) → transaction trace j ≡ transaction trace k → HasEnded trace n (transaction trace k) → k < n → n ≤ j → ⊥
   none_later j k e ended l past = go (transaction trace k) e refl ended
     where
       go : (x : Transaction) → transaction trace j ≡ x → transaction trace k ≡ x → HasEnded trace n x → ⊥

@@ -20,6 +20,8 @@ pub mod Thinning
 pub mod Thinned
 pub mod ThinnedCycles
 pub mod ThinnedShortest
+pub mod Pushed
+pub mod Enough
 pub mod Swept
 pub mod Round
 pub mod Advancing

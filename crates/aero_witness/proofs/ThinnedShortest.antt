@@ -9,7 +9,8 @@ use Rattle.aero_model.specs.Graph.{IsVisit, GoesOn, IsTelling, BeginsCycle}
 use Rattle.aero_model.proofs.Elements.{none_in, here, there, first_or_rest}
 use Rattle.aero_witness.specs.declared.visit.Visit.{Visit}
 use Rattle.aero_witness.specs.Telling.{IsShortest, visit_of, visits_of}
-use Rattle.aero_witness.specs.Thinned.{IsAmong, IsThinned, IsPlaced, KeepsLed}
+use Rattle.aero_witness.specs.Led.{IsLed}
+use Rattle.aero_witness.specs.Thinned.{IsAmong, IsThinned, IsPlaced}
 use Rattle.aero_witness.proofs.Led.{later_cycles_are_led}
 use Rattle.aero_witness.proofs.Thinning.{place_at}
 use Rattle.aero_witness.proofs.Thinned.{one_kept, one_back, all_cut}
@@ -47,7 +48,7 @@ module _ (trace kept : List Numbered) (places : List ℕ) (thin : IsThinned trac
       let rest = put_all (visit_of u) us g.3 in
       (one.0 ∷ rest.0, (one.1, rest.1))
 
-  module _ (led : KeepsLed trace places) (i p : ℕ) (at : slice_get places i ≡ Some p) (is_open : IsOpen trace (length trace) (transaction trace p)) where
+  module _ (led : (p : ℕ) → p < length trace → IsLed trace (length trace) p → IsAmong places p) (i p : ℕ) (at : slice_get places i ≡ Some p) (is_open : IsOpen trace (length trace) (transaction trace p)) where
     -- a telling cycle that begins in the block has kept places alone
     cycle_kept : (w : graph.Visit) (ws : List graph.Visit) → IsTelling trace (length trace) w ws → transaction trace w.enters ≡ transaction trace p → (x : graph.Visit) → Contains (w ∷ ws) x → IsAmong places x.enters × IsAmong places x.leaves
     cycle_kept w ws h e x among =

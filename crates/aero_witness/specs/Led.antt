@@ -1,8 +1,9 @@
 -- To which events open blocks lead, after further events too.
-use Rattle.std.specs.Prelude.{◌≡◌, ℕ, ◌<◌, ◌≤◌, List, ◌∷◌, Contains}
+use Rattle.std.specs.Prelude.{◌≡◌, ◌↔◌, ℕ, ◌<◌, List, ◌∷◌, Contains}
 use Rattle.aero_model.specs.declared.numbered.Numbered.{Numbered}
 use Rattle.aero_model.specs.Blocks.{Transaction, transaction, Occurs, IsOpen}
 use Rattle.aero_model.specs.Graph.{Visit, IsTelling, LeadsTo}
+use Rattle.aero_witness.specs.Trail.{IsTrail}
 
 -- among the first n events, a block that is open leads to the one at place p, or has it
 abbrev pub IsLed : List Numbered → ℕ → ℕ → Type 0
@@ -30,3 +31,7 @@ LaterCyclesAreLed =
 abbrev pub LedAsAWhole : Type 0
 LedAsAWhole =
     (trace : List Numbered) (n p q : ℕ) → IsLed trace n p → transaction trace p ≡ transaction trace q → q < n → IsLed trace n q
+
+-- To what open blocks lead in what is recorded of a trace, they lead in the trace.
+abbrev pub TrailIsLed : Type 0
+TrailIsLed = (trace recorded : List Numbered) (n p : ℕ) → IsTrail trace recorded → IsLed recorded n p ↔ IsLed trace n p

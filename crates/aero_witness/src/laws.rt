@@ -1,6 +1,6 @@
 ghost use Rattle.aero_witness.specs.Trail.{TrailHasTellingCycles};
-ghost use Rattle.aero_witness.specs.Led.{NoneIsLedLater, LaterCyclesAreLed, LedAsAWhole};
-ghost use Rattle.aero_witness.specs.Thinned.{ThinnedHasTransactions, ThinnedHasTellingCycles, ThinnedHasShortest};
+ghost use Rattle.aero_witness.specs.Led.{NoneIsLedLater, LaterCyclesAreLed, LedAsAWhole, TrailIsLed};
+ghost use Rattle.aero_witness.specs.Thinned.{ThinnedHasTransactions, ThinnedHasTellingCycles, EnoughStays, LedIsEnough, EnoughHasShortest};
 
 /// Where each begin or end that isn't outermost is recorded as `What::Exempt`, and all else as it is but
 /// for labels, what is recorded has the transactions and the telling cycles of the trace.
@@ -24,6 +24,11 @@ pub fn open_blocks_lead_to_whole_transactions()
     ensures { LedAsAWhole }
 {}
 
+/// Where each begin or end that isn't outermost is recorded as `What::Exempt`, open blocks lead to the same events.
+pub fn open_blocks_lead_to_the_same_events_in_a_trail()
+    ensures { TrailIsLed }
+{}
+
 /// Where whole transactions are left out, what is kept has the transactions of the trace, and they have ended where
 /// they had.
 pub fn what_is_kept_has_the_transactions_of_its_trace()
@@ -36,8 +41,19 @@ pub fn what_is_kept_has_telling_cycles_of_its_trace()
     ensures { ThinnedHasTellingCycles }
 {}
 
-/// Where whole transactions are left out, and none to which an open block leads, a shortest telling cycle of what is
-/// kept that begins in an open block is a shortest one of the trace, and there is one where the trace has one.
-pub fn what_is_kept_has_shortest_telling_cycles_of_its_trace()
-    ensures { ThinnedHasShortest }
+/// What is kept of a trace is enough where whole transactions are left out, and none to which an open block leads. With
+/// the next event it is still enough.
+pub fn what_is_enough_is_enough_with_the_next_event()
+    ensures { EnoughStays }
+{}
+
+/// Of what is enough, just what open blocks lead to is enough.
+pub fn what_open_blocks_lead_to_is_enough()
+    ensures { LedIsEnough }
+{}
+
+/// A shortest telling cycle of what is enough, of those that begin in an open block, is a shortest one of the trace, and
+/// there is one where the trace has one.
+pub fn what_is_enough_has_the_shortest_telling_cycles()
+    ensures { EnoughHasShortest }
 {}
