@@ -1,7 +1,7 @@
 -- What is enough is so with the next event, and what open blocks lead to is enough.
-use Rattle.std.proofs.Common.{◌≡◌, ◌⊎◌, ◌↔◌, ℕ, suc, ◌<◌, ◌≤◌, Bool, true, List, [], ◌∷◌, ◌++◌, length, Some, inl, inr, refl, sym, ◌∙◌, ap, subst, le_refl, arith}
+use Rattle.std.proofs.Common.{◌≡◌, ◌⊎◌, ◌↔◌, ℕ, ◌<◌, Bool, true, List, [], ◌∷◌, ◌++◌, length, Some, inl, inr, refl, sym, ◌∙◌, ap, subst, le_refl, arith}
 use Rattle.std.specs.Prelude.{slice_get}
-use Rattle.std.proofs.lemmas.Bool.{cases_eq, cases_lt}
+use Rattle.std.proofs.lemmas.Bool.{cases_eq}
 use Rattle.std.proofs.lemmas.List.{length_push}
 use Rattle.std.proofs.lemmas.Option.{slice_get_within}
 use Rattle.aero_model.specs.declared.numbered.Numbered.{Numbered}
@@ -11,7 +11,7 @@ use Rattle.aero_model.proofs.Stability.{Agree, agree_front, agree_back, transact
 use Rattle.aero_model.proofs.Ends.{ended_or_is_open}
 use Rattle.aero_model.proofs.Walks.{leads_same}
 use Rattle.aero_witness.specs.Led.{IsLed}
-use Rattle.aero_witness.specs.Thinned.{IsAmong, IsThinned, IsEnough, marked}
+use Rattle.aero_witness.specs.Thinned.{IsAmong, IsEnough, marked}
 use Rattle.aero_witness.proofs.Led.{led_inside, led_whole, none_later, none_is_led_later}
 use Rattle.aero_witness.proofs.Pushed.{push_front, push_last, push_cases, nth_mark, marked_at, mark_at, marked_same, marked_long, marks_rise, marked_among}
 

@@ -1,15 +1,15 @@
 -- What is led to after more events was led to before.
-use Rattle.std.proofs.Common.{◌≡◌, ◌⊎◌, ℕ, ◌<◌, ◌≤◌, List, [], ◌∷◌, inl, inr, refl, sym, ◌∙◌, subst, arith}
+use Rattle.std.proofs.Common.{◌≡◌, ℕ, ◌<◌, ◌≤◌, List, [], ◌∷◌, inl, inr, refl, sym, ◌∙◌, subst, arith}
 use Rattle.std.specs.Prelude.{Contains}
 use Rattle.std.proofs.lemmas.Bool.{cases_lt}
 use Rattle.aero_model.specs.declared.numbered.Numbered.{Numbered}
 use Rattle.aero_model.specs.Blocks.{Transaction, Block, Unary, transaction, HasEnded, IsOpen}
-use Rattle.aero_model.specs.Graph.{Conflict, Visit, IsVisit, GoesOn, last_visit, IsTelling, LeadsTo}
-use Rattle.aero_model.proofs.Elements.{none_in, here, first_or_rest}
+use Rattle.aero_model.specs.Graph.{Conflict, Visit, GoesOn, last_visit, IsTelling, LeadsTo}
+use Rattle.aero_model.proofs.Elements.{none_in, first_or_rest}
 use Rattle.aero_model.proofs.Reach.{stay, on, back}
 use Rattle.aero_model.proofs.Places.{in_block, in_unary}
 use Rattle.aero_model.proofs.Ends.{in_before_end, ended_or_is_open}
-use Rattle.aero_model.proofs.Walks.{Reaches, reaches_from_leads, leads_from_reaches}
+use Rattle.aero_model.proofs.Walks.{reaches_from_leads, leads_from_reaches}
 use Rattle.aero_witness.specs.Led.{IsLed, GoesOnAt}
 
 module _ (trace : List Numbered) (n : ℕ) where

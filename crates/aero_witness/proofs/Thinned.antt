@@ -1,18 +1,16 @@
 -- What is kept where whole transactions are left out has their transactions, ends, conflicts and telling cycles.
-use Rattle.std.proofs.Common.{◌≡◌, ◌≢◌, ◌⊎◌, ◌↔◌, ℕ, zero, suc, ◌+◌, ◌<◌, ◌≤◌, ◌||◌, ◌==◌, nat_lt, true, List, [], ◌∷◌, length, Some, inl, inr, refl, sym, ◌∙◌, ap, subst, le_refl, arith}
+use Rattle.std.proofs.Common.{◌≡◌, ℕ, suc, ◌<◌, ◌≤◌, ◌||◌, ◌==◌, nat_lt, true, List, length, Some, inl, inr, refl, sym, ◌∙◌, ap, subst, le_refl, arith}
 use Rattle.std.specs.Prelude.{slice_get}
-use Rattle.std.specs.List.{AllZip}
-use Rattle.std.proofs.lemmas.Bool.{cases_eq, cases_lt, cases_order, and_parts}
+use Rattle.std.proofs.lemmas.Bool.{cases_eq, cases_lt, and_parts}
 use Rattle.std.proofs.lemmas.Option.{slice_get_within}
 use Rattle.aero_model.specs.declared.numbered.Numbered.{Numbered}
 use Rattle.aero_model.specs.Blocks.{is_begin, is_end, by_thread, depth, closes, blocks, Transaction, Block, Unary, transaction, HasEnded}
-use Rattle.aero_model.specs.Graph.{Conflict, Visit, IsVisit, IsForward, GoesOn, AreApart, IsTelling, last_visit}
 use Rattle.aero_model.proofs.Places.{IsIn, in_block, in_unary, block_from}
-use Rattle.aero_model.proofs.Depths.{AtClosing, closing_at, opening_at}
+use Rattle.aero_model.proofs.Depths.{closing_at, opening_at}
 use Rattle.aero_model.proofs.Ends.{IsBy, is_by, deep_in}
-use Rattle.aero_model.proofs.Begins.{BeginOf, begin_of, begin_inside, blocks_rise, in_number}
-use Rattle.aero_witness.specs.Thinned.{IsAmong, IsThinned, IsPlaced}
-use Rattle.aero_witness.proofs.Thinning.{IsCut, place_at, one_index, one_place, earlier_index, later_place, inside_open, depth_kept, opens_kept, closes_kept}
+use Rattle.aero_model.proofs.Begins.{BeginOf, begin_of, begin_inside, blocks_rise}
+use Rattle.aero_witness.specs.Thinned.{IsThinned}
+use Rattle.aero_witness.proofs.Thinning.{IsCut, place_at, one_index, one_place, earlier_index, later_place, depth_kept, opens_kept, closes_kept}
 
 -- the end of a block is an event in it
 module _ (trace : List Numbered) (t n : ℕ) (closing : closes trace t n ≡ true) where

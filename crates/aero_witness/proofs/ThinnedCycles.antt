@@ -1,14 +1,11 @@
 -- The telling cycles of what is kept are those of the trace that have kept places alone.
-use Rattle.std.proofs.Common.{◌≡◌, ◌⊎◌, ◌↔◌, ℕ, ◌<◌, ◌≤◌, List, [], ◌∷◌, length, Some, inl, inr, refl, sym, ◌∙◌, ap, subst, arith}
+use Rattle.std.proofs.Common.{◌≡◌, ℕ, ◌<◌, List, [], ◌∷◌, Some, inl, inr, sym, ◌∙◌, arith}
 use Rattle.std.specs.Prelude.{slice_get, Contains}
 use Rattle.std.specs.List.{AllZip}
-use Rattle.std.proofs.lemmas.Bool.{cases_eq, cases_lt}
-use Rattle.std.proofs.lemmas.Option.{slice_get_within}
+use Rattle.std.proofs.lemmas.Bool.{cases_lt}
 use Rattle.aero_model.specs.declared.numbered.Numbered.{Numbered}
-use Rattle.aero_model.specs.Blocks.{transaction}
 use Rattle.aero_model.specs.Graph.{Conflict, Visit, IsVisit, IsForward, GoesOn, AreApart, IsTelling, last_visit}
 use Rattle.aero_model.proofs.Elements.{here, there}
-use Rattle.aero_model.proofs.Walks.{last_is}
 use Rattle.aero_witness.specs.Thinned.{IsAmong, IsThinned, IsPlaced}
 use Rattle.aero_witness.proofs.Thinning.{IsCut, place_at, earlier_index, later_place}
 use Rattle.aero_witness.proofs.Thinned.{one_kept, one_back, ended_kept, ended_back}

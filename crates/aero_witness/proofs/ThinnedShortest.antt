@@ -1,5 +1,5 @@
 -- Where all is kept to which open blocks lead, so are the telling cycles that begin in one, and the shortest of them.
-use Rattle.std.proofs.Common.{◌≡◌, ◌⊎◌, ℕ, suc, ◌<◌, ◌≤◌, List, [], ◌∷◌, length, Some, inl, inr, refl, sym, ◌∙◌, ap, subst, arith}
+use Rattle.std.proofs.Common.{◌≡◌, ℕ, suc, ◌<◌, List, [], ◌∷◌, length, Some, inl, inr, refl, sym, ap, subst, arith}
 use Rattle.std.specs.Prelude.{slice_get, Contains}
 use Rattle.std.specs.List.{AllZip}
 use Rattle.aero_model.specs.declared.numbered.Numbered.{Numbered}
@@ -86,9 +86,12 @@ module _ (trace kept : List Numbered) (places : List ℕ) (thin : IsThinned trac
         let is = h.visit in
         let one = put_one v is.enters is.leaves in
         let rest = put_all (visit_of v) vs h.walk in
-        let same = as_many places (visits_of vs) (visits_of rest.0) rest.1 in
-        (one.0 ∷ rest.0, (one.1, rest.1), record {
-          telling = telling_trace trace kept places thin (length trace) (length kept) (all_cut trace kept places thin) (visit_of v) (visit_of one.0) (visits_of vs) (visits_of rest.0) one.1 rest.1 h;
-          begins = one_back trace kept places thin v.enters i (one.0).enters p (one.1).enters at s.begins;
-          fewest = λ w ws g e. (let f = cycle_found w ws g e in omega (arith, s.fewest f.first f.rest f.telling f.begins, f.each, same, visits_as_many vs, visits_as_many rest.0));
-        })
+        let same = as_many places (visits_of vs) (visits_of rest.0) rest.1 in (
+          one.0 ∷ rest.0,
+          (one.1, rest.1),
+          record {
+            telling = telling_trace trace kept places thin (length trace) (length kept) (all_cut trace kept places thin) (visit_of v) (visit_of one.0) (visits_of vs) (visits_of rest.0) one.1 rest.1 h;
+            begins = one_back trace kept places thin v.enters i (one.0).enters p (one.1).enters at s.begins;
+            fewest = λ w ws g e. (let f = cycle_found w ws g e in omega (arith, s.fewest f.first f.rest f.telling f.begins, f.each, same, visits_as_many vs, visits_as_many rest.0));
+          },
+        )

@@ -1,12 +1,12 @@
 -- Where transactions are left out, each kept event's thread is as deep as it was, and opens and closes its blocks as it did.
-use Rattle.std.proofs.Common.{◌≡◌, ◌≢◌, ◌⊎◌, ℕ, zero, suc, ◌+◌, ◌-◌, ◌<◌, ◌≤◌, ◌==◌, ◌&&◌, Bool, true, false, if◌then◌else◌, List, length, Option, Some, None, inl, inr, refl, sym, ◌∙◌, ap, ap₂, subst, arith}
+use Rattle.std.proofs.Common.{◌≡◌, ◌≢◌, ◌⊎◌, ℕ, zero, suc, ◌+◌, ◌-◌, ◌<◌, ◌≤◌, ◌==◌, ◌&&◌, Bool, true, false, if◌then◌else◌, List, length, Some, inl, inr, refl, sym, ◌∙◌, ap, ap₂, subst, arith}
 use Rattle.std.specs.Prelude.{slice_get, get_or}
 use Rattle.std.proofs.lemmas.Bool.{cases_Bool, cases_eq, cases_lt, cases_order, and_parts, and_left}
 use Rattle.std.proofs.lemmas.Option.{same_Some, slice_get-get_or, slice_get_within}
 use Rattle.aero_model.specs.declared.numbered.Numbered.{Numbered}
 use Rattle.aero_model.specs.declared.numbered.What.{What}
-use Rattle.aero_model.specs.Blocks.{is_begin, is_end, by_thread, depth, opens, closes, blocks, Transaction, Block, transaction}
-use Rattle.aero_model.proofs.Places.{IsIn, block_from}
+use Rattle.aero_model.specs.Blocks.{is_begin, is_end, by_thread, depth, opens, closes, blocks, Block, transaction}
+use Rattle.aero_model.proofs.Places.{block_from}
 use Rattle.aero_model.proofs.Depths.{AtOpening, AtClosing, AtOther, step, depth_neither, blocks_stay}
 use Rattle.aero_model.proofs.Ends.{is_by, in_cases, begin_in, deep_in}
 use Rattle.aero_witness.specs.Thinned.{IsAmong, IsThinned}
