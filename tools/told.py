@@ -1,7 +1,10 @@
-"""What tools/build, tools/graph and tools/watch share: which lines of the kit's commands are routine, how a time is written, what
-crates.txt says, and which crates the prover is at."""
+"""What scripts of tools/ share: the kit's own command as a module, which lines of the kit's commands are routine, how a time is
+written, what crates.txt says, and which crates the prover is at."""
+import importlib.machinery
+import importlib.util
 import os
 import re
+import shutil
 
 NO_RT = (
     "no command rt on the path: it is of the Rattle kit, whose version here is rattle-kit-13f (`rt version` says it). "
@@ -25,6 +28,15 @@ ROUTINE = re.compile(
     r"|test result: ok\."
     r"|$"
 )
+
+
+def kit():
+    """The kit's own command as a module, so that a script does with a crate what the gate does."""
+    path = os.path.realpath(shutil.which("rt"))
+    loader = importlib.machinery.SourceFileLoader("rt_command", path)
+    made = importlib.util.module_from_spec(importlib.util.spec_from_loader("rt_command", loader))
+    loader.exec_module(made)
+    return made
 
 
 def is_routine(line):

@@ -1,5 +1,5 @@
 -- What is held of a source whose blocks are being read.
-use Rattle.std.specs.Prelude.{◌≡◌, ◌↔◌, ℕ, ◌-◌, ◌^◌, min, nat_lt, Bool, true, false, not, ◌&&◌, ◌||◌, is_some, List, [], ◌∷◌, ◌++◌, map, length, ⊤}
+use Rattle.std.specs.Prelude.{◌≡◌, ◌↔◌, ℕ, ◌-◌, ◌^◌, min, nat_lt, Bool, true, false, ◌||◌, is_some, List, [], ◌∷◌, ◌++◌, map, length, ⊤}
 use Rattle.std.specs.List.{sum_by}
 use Rattle.aero_grammar.specs.Reading.{Reading, reading_of}
 use Rattle.aero_intake.specs.declared.keeping.Held.{Held}
@@ -25,20 +25,16 @@ nothing_read terms = record { terms = terms; parts = []; live = false; certain =
 abbrev pub event_count : List Reading → ℕ
 event_count parts = min (sum_by (λ r. length r.events) parts) (2 ^ 64 - 1)
 
--- whether both the order and a cycle are asked for, which no judge gives at once
-abbrev pub asks_both : Terms → Bool
-asks_both terms = terms.order && terms.explain
-
--- whether blocks that were kept are to be judged: they have more than so many events, and not both the order and a cycle are asked for
-abbrev pub turns_live : ℕ → Terms → List Reading → Bool
-turns_live most terms parts = not (asks_both terms) && nat_lt most (event_count parts)
+-- whether blocks that were kept are to be judged: they have more than so many events
+abbrev pub turns_live : ℕ → List Reading → Bool
+turns_live most parts = nat_lt most (event_count parts)
 
 -- with what the next block says, where so many events are kept at most, and it is then certain or not what the verdict is
 abbrev pub with_next : ℕ → Bool → Known → Reading → Known
 with_next most certain known part = record {
   terms = known.terms;
   parts = known.parts ++ part ∷ [];
-  live = known.live || turns_live most known.terms (known.parts ++ part ∷ []);
+  live = known.live || turns_live most (known.parts ++ part ∷ []);
   certain = certain;
 }
 

@@ -1,15 +1,16 @@
-//! What judges the blocks of a source: alone, with the serial order, or with what shows a violation.
-ghost use Rattle.std.specs.Prelude.{◌≡◌, ◌++◌, ◌∷◌, [], true, false, ◌&&◌, is_some, IfOk, IfSome};
-ghost use Rattle.aero_verdict.specs.Fed.{IsCertain};
-ghost use Rattle.aero_verdict.specs.Finding.{IsTraceFinding};
-ghost use Rattle.aero_verdict.specs.Finding.{asking};
-ghost use Rattle.aero_intake.specs.Lives.{watched_by, on};
+//! What judges the blocks of a source: alone, with the serial order, with what shows a violation, or with both.
+ghost use Rattle.std.specs.Prelude.{◌≡◌, ◌++◌, ◌∷◌, [], true, false, None, is_some, IfOk, IfSome, OnOk};
+ghost use Rattle.aero_verdict.specs.Fed.{IsCertain, IsOpen};
+ghost use Rattle.aero_verdict.specs.Finding.{IsTraceFinding, asking, on};
+ghost use Rattle.aero_intake.specs.Lives.{watched_by};
 
 use aero_grammar::parsed::Parsed;
 use aero_leads::leads::Leads;
 use aero_model::except::Except;
 use aero_model::limits::Limits;
 use aero_model::verdict::Finding;
+use aero_verdict::engine::Engine;
+use aero_verdict::full::Full;
 use aero_verdict::in_order::InOrder;
 use aero_verdict::monitor::{Monitor, feed_all};
 use aero_verdict::recorder::Recorder;
@@ -24,12 +25,14 @@ pub enum Judge {
     InOrder(Box<Monitor<InOrder>, Global>),
     /// It also tells what shows a violation.
     Explaining(Box<Monitor<Recorder>, Global>),
+    /// It also tells both, each with the verdict that it goes with.
+    InFull(Box<Monitor<Full>, Global>),
 }
 
 impl Judge {
     /// It has judged no block, and judges under these limits. A block that begins with one of the labels of `except`
     /// is no transaction. `order` says whether the serial order is asked for, and `explain` whether a violation is to be
-    /// explained, but not both. An `AllocError` says that memory was refused.
+    /// explained. An `AllocError` says that memory was refused.
     pub fn new(
         alloc: Global,
         limits: &Limits,
@@ -37,20 +40,19 @@ impl Judge {
         order: bool,
         explain: bool,
     ) -> Result<Judge, AllocError>
-        requires { (order && explain) ≡ false }
         ensures parts { IfOk result (λ judge. (watched_by judge).parts ≡ []) }
         ensures terms { IfOk result (λ judge. (watched_by judge).terms ≡ asking limits.now except.now order explain) }
     {
-        if explain {
-            explaining(alloc, limits, except)
-        } else if order {
-            in_order(alloc, limits, except)
-        } else {
-            plain(alloc, limits, except)
+        match (order, explain) {
+            (false, false) => plain(alloc, limits, except),
+            (true, false) => in_order(alloc, limits, except),
+            (false, true) => explaining(alloc, limits, except),
+            (true, true) => in_full(alloc, limits, except),
         }
     }
 
-    /// Judges the next block, by what it says, with the same labels as at first.
+    /// Judges the next block, by what it says, with the same labels as at first. Where no verdict is certain then,
+    /// nothing is wrong with what was judged, but for one line too many at most.
     ///
     /// # Errors
     ///
@@ -59,11 +61,13 @@ impl Judge {
         requires { except.now ≡ (watched_by self.old).terms.rules.labels }
         ensures parts { (watched_by self.new).parts ≡ (watched_by self.old).parts ++ part.now ∷ [] }
         ensures terms { (watched_by self.new).terms ≡ (watched_by self.old).terms }
+        ensures going_on { OnOk result ((watched_by self.new).certain ≡ None → IsOpen (watched_by self.new).parts (watched_by self.new).terms.rules) }
     {
         match self {
-            Judge::Plain(monitor) => monitor.feed(part, except).map(|_| ()),
-            Judge::InOrder(monitor) => monitor.feed(part, except).map(|_| ()),
-            Judge::Explaining(monitor) => monitor.feed(part, except).map(|_| ()),
+            Judge::Plain(monitor) => feed(monitor, part, except),
+            Judge::InOrder(monitor) => feed(monitor, part, except),
+            Judge::Explaining(monitor) => feed(monitor, part, except),
+            Judge::InFull(monitor) => feed(monitor, part, except),
         }
     }
 
@@ -77,6 +81,7 @@ impl Judge {
             Judge::Plain(monitor) => feed_all(monitor, parts, except),
             Judge::InOrder(monitor) => feed_all(monitor, parts, except),
             Judge::Explaining(monitor) => feed_all(monitor, parts, except),
+            Judge::InFull(monitor) => feed_all(monitor, parts, except),
         }
     }
 
@@ -89,6 +94,7 @@ impl Judge {
             Judge::Plain(monitor) => monitor.certain().is_some(),
             Judge::InOrder(monitor) => monitor.certain().is_some(),
             Judge::Explaining(monitor) => monitor.certain().is_some(),
+            Judge::InFull(monitor) => monitor.certain().is_some(),
         }
     }
 
@@ -100,8 +106,24 @@ impl Judge {
             Judge::Plain(monitor) => judged(Box::into_inner(monitor)),
             Judge::InOrder(monitor) => ordered(Box::into_inner(monitor)),
             Judge::Explaining(monitor) => explained(Box::into_inner(monitor)),
+            Judge::InFull(monitor) => Box::into_inner(monitor).finish_in_full(),
         }
     }
+}
+
+// Judges the next block by a monitor.
+fn feed<E: Engine>(
+    monitor: &mut Monitor<E>,
+    part: &Parsed,
+    except: &Except,
+) -> Result<(), AllocError>
+    requires { except.now ≡ monitor.old.rules.labels }
+    ensures rules { monitor.new.rules ≡ monitor.old.rules }
+    ensures fed { monitor.new.parts ≡ monitor.old.parts ++ part.now ∷ [] }
+    ensures going_on { OnOk result (monitor.new.certain ≡ None → IsOpen monitor.new.parts monitor.new.rules) }
+{
+    monitor.feed(part, except)?;
+    Ok(())
 }
 
 fn plain(alloc: Global, limits: &Limits, except: &Except) -> Result<Judge, AllocError>
@@ -126,6 +148,14 @@ fn explaining(alloc: Global, limits: &Limits, except: &Except) -> Result<Judge, 
 {
     let monitor = Monitor::<Recorder>::new(alloc, limits, except);
     Ok(Judge::Explaining(Box::new(alloc, monitor)?))
+}
+
+fn in_full(alloc: Global, limits: &Limits, except: &Except) -> Result<Judge, AllocError>
+    ensures parts { IfOk result (λ judge. (watched_by judge).parts ≡ []) }
+    ensures terms { IfOk result (λ judge. (watched_by judge).terms ≡ asking limits.now except.now true true) }
+{
+    let monitor = Monitor::<Full>::new(alloc, limits, except);
+    Ok(Judge::InFull(Box::new(alloc, monitor)?))
 }
 
 // The verdict on what a monitor was fed.

@@ -1,6 +1,6 @@
 //! What is held of a source whose blocks are being read.
-ghost use Rattle.std.specs.Prelude.{◌≡◌, ◌++◌, ◌∷◌, [], length, true, false, not, ◌&&◌, ◌||◌, nat_lt, IfOk, OnOk, IsTrue};
-ghost use Rattle.aero_intake.specs.Held.{parts_in, live_in, certain_in, event_count, asks_both, turns_live, CountsEvents, FitsTerms, IsDecisive, IsBasis};
+ghost use Rattle.std.specs.Prelude.{◌≡◌, ◌++◌, ◌∷◌, [], length, false, not, ◌&&◌, ◌||◌, nat_lt, IfOk, OnOk, IsTrue};
+ghost use Rattle.aero_intake.specs.Held.{parts_in, live_in, certain_in, event_count, turns_live, CountsEvents, FitsTerms, IsDecisive, IsBasis};
 ghost use Rattle.aero_verdict.specs.Finding.{Terms as Asked, IsTraceFinding};
 
 use crate::live::Live;
@@ -62,13 +62,6 @@ pub fn is_certain(held: &Held) -> bool
     }
 }
 
-// Whether both the order is asked for and a violation is to be explained.
-fn asks_both(terms: &Terms) -> bool
-    ensures { result ≡ asks_both terms.now }
-{
-    terms.order() && terms.explain()
-}
-
 /// Adds what the next block says of a source that is judged on these terms, and of which so many events are kept at
 /// most. An `AllocError` says that memory was refused.
 pub fn add_to(
@@ -81,7 +74,7 @@ pub fn add_to(
     requires fits { FitsTerms terms.now held.old }
     requires counted { CountsEvents held.old }
     ensures parts { OnOk result (parts_in held.new ≡ parts_in held.old ++ part ∷ []) }
-    ensures live { OnOk result (live_in held.new ≡ live_in held.old || turns_live most terms.now (parts_in held.new)) }
+    ensures live { OnOk result (live_in held.new ≡ live_in held.old || turns_live most (parts_in held.new)) }
     ensures fits { OnOk result (FitsTerms terms.now held.new) }
     ensures counted { OnOk result (CountsEvents held.new) }
 {
@@ -107,17 +100,16 @@ fn keep_or_feed(held: &mut Held, part: Parsed, terms: &Terms) -> Result<(), Allo
     }
 }
 
-// Where more events are kept than may be, they are to be judged from here on, unless both the order is asked for and a
-// violation is to be explained: then the parts are gone over again.
+// Where more events are kept than may be, they are to be judged from here on.
 fn go_live(held: &mut Held, alloc: Global, terms: &Terms, most: u64) -> Result<(), AllocError>
     requires fits { FitsTerms terms.now held.old }
     requires counted { CountsEvents held.old }
     ensures parts { OnOk result (parts_in held.new ≡ parts_in held.old) }
-    ensures live { OnOk result (live_in held.new ≡ live_in held.old || turns_live most terms.now (parts_in held.old)) }
+    ensures live { OnOk result (live_in held.new ≡ live_in held.old || turns_live most (parts_in held.old)) }
     ensures fits { OnOk result (FitsTerms terms.now held.new) }
     ensures counted { OnOk result (CountsEvents held.new) }
 {
-    if asks_both(terms) || !has_more(held, most) {
+    if !has_more(held, most) {
         return Ok(());
     }
     let kept = mem::replace(held, nothing_held(alloc));
@@ -138,7 +130,6 @@ fn has_more(held: &Held, most: u64) -> bool
 
 fn live_from(held: Held, alloc: Global, terms: &Terms) -> Result<Live, AllocError>
     requires fits { FitsTerms terms.now held }
-    requires one { asks_both terms.now ≡ false }
     ensures parts { IfOk result (λ live. live.parts ≡ parts_in held) }
     ensures terms { IfOk result (λ live. live.terms ≡ terms.now) }
 {

@@ -27,12 +27,12 @@
 //!   `Plan::terms`; `Terms::new`, `limits`, `except`, `order`, `explain`.
 //! - A `Live` has exactly the parts that came, in order, on the terms that it began with: `Live::new`, `feed`, `parts`,
 //!   `terms`; `len`. `finish` gives what is found of exactly them, on these terms. So does its `Judge`: `new`, `feed`,
-//!   `feed_rest`, `finish`. None is made where both the order is asked for and a violation is to be explained.
+//!   `feed_rest`, `finish`. After a `feed` that is done either a verdict is certain, or nothing is wrong yet, but for one
+//!   line too many at most: `Judge::feed`, `going_on`; `is_certain`, `told`, `certain`.
 //! - With each block that comes a `Live` judges two: one waits less than before, if one did: `Live::new`, `feed`, `waiting`.
 //! - Kept or judged as they came, the parts of a source are those that its blocks gave, on the terms that it began
 //!   with: `Knowledge::new`, `add`, `len`. With the block that makes them more than so many events the source turns
-//!   live, unless both the order is asked for and a violation is to be explained, and it stays so: `Knowledge::add`,
-//!   `take_value`.
+//!   live, and it stays so: `Knowledge::add`, `take_value`.
 //! - A whole source is judged by its parts themselves, or has the finding on them, on its own terms:
 //!   `Knowledge::into_basis`.
 //! - Where it is told that the first blocks of a source decide, what is found of it is the same whatever blocks come

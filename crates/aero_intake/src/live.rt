@@ -1,8 +1,7 @@
 //! A source that is judged as it comes.
-ghost use Rattle.std.specs.Prelude.{◌≡◌, ◌++◌, ◌∷◌, [], ◌-◌, false, length, is_some, IfOk, IfSome, OnOk};
+ghost use Rattle.std.specs.Prelude.{◌≡◌, ◌++◌, ◌∷◌, [], ◌-◌, length, is_some, IfOk, IfSome, OnOk};
 ghost use Rattle.aero_verdict.specs.Fed.{IsCertain};
 ghost use Rattle.aero_verdict.specs.Finding.{IsTraceFinding};
-ghost use Rattle.aero_intake.specs.Held.{asks_both};
 ghost use Rattle.aero_intake.specs.Lives.{watched_by};
 
 use crate::judge::Judge;
@@ -44,7 +43,6 @@ impl Model for Live {
 impl Live {
     /// What was kept of a source is to be judged on these terms. An `AllocError` says that memory was refused.
     pub fn new(alloc: Global, terms: &Terms, kept: Vec<Parsed>) -> Result<Live, AllocError>
-        requires { asks_both terms.now ≡ false }
         ensures parts { IfOk result (λ live. live.parts ≡ kept.items) }
         ensures waiting { IfOk result (λ live. live.waiting ≡ length kept.items) }
         ensures terms { IfOk result (λ live. live.terms ≡ terms.now) }

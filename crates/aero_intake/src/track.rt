@@ -57,8 +57,8 @@ impl Knowledge {
         }
     }
 
-    /// Adds what the next block says. At most so many events are kept: once more have come the source is live, unless
-    /// both the order is asked for and a violation is to be explained. An `AllocError` says that memory was refused.
+    /// Adds what the next block says. At most so many events are kept: once more have come the source is live.
+    /// An `AllocError` says that memory was refused.
     pub fn add(&mut self, alloc: Global, part: Parsed, most: u64) -> Result<(), AllocError>
         ensures { OnOk result (self.new ≡ with_next most self.new.certain self.old part) }
     {

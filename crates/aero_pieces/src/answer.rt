@@ -1,7 +1,6 @@
 //! Answers, each with its question.
-ghost use Rattle.std.specs.Prelude.{◌≡◌, ℕ, Bool, false, IfOk};
+ghost use Rattle.std.specs.Prelude.{◌≡◌, ℕ, Bool, true, false, IfOk};
 ghost use Rattle.std.specs.Arc.{arc_value};
-ghost use Rattle.aero_verdict.specs.Explained.{has_cycle};
 ghost use Rattle.aero_verdict.specs.Ordered.{has_order};
 ghost use Rattle.aero_verdict.specs.Verdict.{under, IsVerdict};
 ghost use Rattle.aero_pieces.specs.Values.{IsValueOf};
@@ -11,8 +10,8 @@ use aero_grammar::block::parse_block;
 use aero_grammar::parsed::Parsed;
 use aero_model::except::Except;
 use aero_model::limits::Limits;
-use aero_model::verdict::{Cycle, Step, Verdict};
-use aero_verdict::{check_trace, check_trace_explained, check_trace_in_order};
+use aero_model::verdict::{Cycle, Finding, Step, Verdict};
+use aero_verdict::{check_trace, check_trace_explained, check_trace_in_full, check_trace_in_order};
 use std::alloc::{AllocError, Global};
 use std::marker::Model;
 use std::sync::Arc;
@@ -107,21 +106,30 @@ fn check(
     if !asked.order {
         return judge(alloc, parts, limits, except, asked.explain);
     }
+    if asked.explain {
+        return find(alloc, parts, limits, except);
+    }
     let (verdict, steps) = check_trace_in_order(alloc, parts, limits, except)?;
     match steps {
         Some(steps) => Ok(Value::Ordered(verdict, steps)),
-        None if has_cycle(&verdict, asked.explain) => judge(alloc, parts, limits, except, true),
         None => Ok(Value::Judged(verdict)),
     }
 }
 
-// Whether the events of a cycle go with the verdict.
-fn has_cycle(verdict: &Verdict, explain: bool) -> bool
-    ensures { result ≡ has_cycle explain verdict.now }
+// The verdict on the trace that the parts hold, with its order or with what shows it, each where it goes with that.
+fn find(
+    alloc: Global,
+    parts: &[Parsed],
+    limits: &Limits,
+    except: &Except,
+) -> Result<Value, AllocError>
+    ensures { IfOk result (λ value. (trace : ℕ) → IsValueOf (Question.Check trace parts.now limits.now except.now true true) value) }
 {
-    match verdict {
-        Verdict::Violation { .. } => explain,
-        _ => false,
+    match check_trace_in_full(alloc, parts, limits, except)? {
+        Finding::Judged(verdict) => Ok(Value::Judged(verdict)),
+        Finding::Ordered(verdict, steps) => Ok(Value::Ordered(verdict, steps)),
+        Finding::Explained(verdict, cycle) => Ok(Value::Explained(verdict, cycle)),
+        Finding::Broken(_) | Finding::TooLarge => unreachable!(),
     }
 }
 

@@ -1,7 +1,4 @@
 // What is found of a source that is judged as it comes. In texts and lines `/` stands for the byte 10.
-ghost use Rattle.std.specs.Prelude.{◌≡◌, false};
-ghost use Rattle.aero_intake.specs.Held.{asks_both};
-
 use crate::except::listed;
 use crate::intake::lines_of;
 use aero_grammar::block::parse_block;
@@ -25,9 +22,10 @@ enum Asks {
     Nothing,
     Order,
     Cycle,
+    Both,
 }
 
-static ROWS: [Row; 8] = [
+static ROWS: [Row; 11] = [
     (
         "-",
         Asks::Order,
@@ -77,6 +75,27 @@ static ROWS: [Row; 8] = [
         "T1|r()/",
         "n:3: malformed: MissingTarget/",
     ),
+    (
+        "-",
+        Asks::Both,
+        "T1|begin(f)/T2|begin/T1|w(x)/T2|r(x)/T2|w(y)/",
+        "T1|r(y)/T1|end/T2|end/",
+        "n: violation at line 6: block of T1 from line 1/  label f/  3 1 T1|w(x)/  4 2 T2|r(x)/  5 2 T2|w(y)/  6 1 T1|r(y)/",
+    ),
+    (
+        "-",
+        Asks::Both,
+        "audit|begin/pay|begin/pay|w(balance)/",
+        "pay|end/audit|r(balance)/audit|end/",
+        "n: serializable (6 events, 2 blocks)/  2 pay/  1 audit/",
+    ),
+    (
+        "-",
+        Asks::Both,
+        "T1|begin/T1|w(x)/",
+        "T2|r(x)/",
+        "n: no violation, 1 blocks open (3 events, 1 blocks)/",
+    ),
     // T1's events are transactions of their own: that on line 3 comes before T2's block, and that on line 6 after it.
     (
         "a",
@@ -97,14 +116,13 @@ fn part_of(alloc: Global, text: &str) -> Result<Parsed, Fail> {
 }
 
 // The terms of a source of which that is asked for.
-fn terms_of(except: SharedExcept, asks: Asks) -> Terms
-    ensures { asks_both result ≡ false }
-{
+fn terms_of(except: SharedExcept, asks: Asks) -> Terms {
     let limits = Limits::greatest();
     match asks {
         Asks::Nothing => Terms::new(limits, except, false, false),
         Asks::Order => Terms::new(limits, except, true, false),
         Asks::Cycle => Terms::new(limits, except, false, true),
+        Asks::Both => Terms::new(limits, except, true, true),
     }
 }
 
@@ -114,9 +132,7 @@ fn finding_of(
     terms: &Terms,
     kept: Parsed,
     part: Parsed,
-) -> Result<Finding, AllocError>
-    requires { asks_both terms.now ≡ false }
-{
+) -> Result<Finding, AllocError> {
     let mut parts = Vec::new(alloc);
     parts.push(kept)?;
     let mut live = Live::new(alloc, terms, parts)?;

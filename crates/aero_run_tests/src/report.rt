@@ -7,7 +7,7 @@ use aero_model::name::Name;
 use aero_model::verdict::{
     Counts, Cycle, CycleStep, Finding, LineFault as Line, ShapeFault as Shape, Step, Verdict,
 };
-use aero_report::{Cut, put, summary_text, trace_text};
+use aero_report::{Cut, cycle_text, put, summary_text, trace_text};
 use std::alloc::Global;
 use std::io;
 use std::io::Write;
@@ -121,6 +121,14 @@ fn put_stops_where_a_write_first_fails_or_takes_nothing(rt: HostRuntime) {
 fn has_line(alloc: Global, finding: &Finding, line: &str) -> bool {
     match trace_text(alloc, b"n", finding) {
         Ok(text) => text.as_slice() == line.as_bytes(),
+        Err(_) => false,
+    }
+}
+
+// Whether a cycle has these lines by itself.
+fn has_lines(alloc: Global, cycle: &Cycle, lines: &str) -> bool {
+    match cycle_text(alloc, cycle) {
+        Ok(text) => text.as_slice() == lines.as_bytes(),
         Err(_) => false,
     }
 }
@@ -252,6 +260,8 @@ fn is_explained_so(alloc: Global) -> bool {
     };
     let lines =
         "n: violation at line 4: block of T1 from line 1\n  label f g\n  2 1 T1|w(x)\n  3 3 T2|w(x)\n  4 1 T1|w(x)\n";
+    let alone = "  label f g\n  2 1 T1|w(x)\n  3 3 T2|w(x)\n  4 1 T1|w(x)\n";
+    fits &= has_lines(alloc, &cycle, alone);
     fits && has_line(alloc, &Finding::Explained(verdict, cycle), lines)
 }
 

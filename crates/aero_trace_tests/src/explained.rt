@@ -5,8 +5,10 @@ use aero_model::event::Event;
 use aero_model::except::Except;
 use aero_model::limits::Limits;
 use aero_model::name::Name;
-use aero_model::verdict::{Cycle, CycleStep, Verdict};
-use aero_verdict::check_trace_explained;
+use aero_model::verdict::{Cycle, CycleStep, Finding, Verdict};
+use aero_verdict::monitor::{Monitor, feed_all};
+use aero_verdict::recorder::Recorder;
+use aero_verdict::{check_trace_explained, check_trace_in_full};
 use std::alloc::Global;
 
 // The helpers below say that a row doesn't hold where memory is refused.
@@ -80,6 +82,43 @@ fn is_told(
     }
 }
 
+// What shows the verdict that is certain by now, while the monitor goes on.
+fn shows(alloc: Global, monitor: &Monitor<Recorder>, wanted: &str) -> bool {
+    match (monitor.certain(), monitor.explain()) {
+        (Some(verdict), Ok(cycle)) => says(alloc, verdict, &cycle, wanted),
+        (None, Ok(None)) => wanted.starts_with("serializable"),
+        _ => false,
+    }
+}
+
+fn is_shown(
+    alloc: Global,
+    parts: &[Parsed],
+    limits: &Limits,
+    except: &Except,
+    wanted: &str,
+) -> bool {
+    let mut monitor = Monitor::<Recorder>::new(alloc, limits, except);
+    feed_all(&mut monitor, parts, except);
+    shows(alloc, &monitor, wanted)
+}
+
+// What is found where the order is asked for too.
+fn is_found(
+    alloc: Global,
+    parts: &[Parsed],
+    limits: &Limits,
+    except: &Except,
+    wanted: &str,
+) -> bool {
+    match check_trace_in_full(alloc, parts, limits, except) {
+        Ok(Finding::Explained(verdict, cycle)) => says(alloc, &verdict, &Some(cycle), wanted),
+        Ok(Finding::Ordered(verdict, _)) => says(alloc, &verdict, &None, wanted),
+        Ok(Finding::Judged(verdict)) => says(alloc, &verdict, &None, wanted),
+        _ => false,
+    }
+}
+
 // Labels whose blocks are no transactions, a trace, and its verdict with the label of the block and the events of a cycle.
 type Row = (&'static str, &'static str, &'static str);
 
@@ -87,7 +126,11 @@ fn is_explained(alloc: Global, limits: &Limits, row: &Row) -> Option<bool> {
     let (labels, text, wanted) = *row;
     let parts = parts_of(alloc, text)?;
     let except = except_of(alloc, labels)?;
-    Some(is_told(alloc, &parts, limits, &except, wanted))
+    Some(
+        is_told(alloc, &parts, limits, &except, wanted)
+            && is_shown(alloc, &parts, limits, &except, wanted)
+            && is_found(alloc, &parts, limits, &except, wanted),
+    )
 }
 
 // The first row that doesn't hold.

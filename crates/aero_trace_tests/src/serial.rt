@@ -3,10 +3,10 @@ use crate::verdict::{parts_of, push_words};
 use aero_grammar::parsed::Parsed;
 use aero_model::except::Except;
 use aero_model::limits::Limits;
-use aero_model::verdict::{Step, Verdict};
+use aero_model::verdict::{Finding, Step, Verdict};
 use aero_verdict::in_order::InOrder;
 use aero_verdict::monitor::{Monitor, feed_all};
-use aero_verdict::{actor_at, check_trace_in_order, serial_order};
+use aero_verdict::{actor_at, check_trace_in_full, check_trace_in_order, serial_order};
 use std::alloc::Global;
 
 // The helpers below say that a row doesn't hold where memory is refused.
@@ -116,6 +116,22 @@ fn is_told_at_end(
     }
 }
 
+// Whether the same is found where violations are to be explained too, but for a cycle.
+fn is_found(
+    alloc: Global,
+    parts: &[Parsed],
+    limits: &Limits,
+    except: &Except,
+    wanted: &str,
+) -> bool {
+    match check_trace_in_full(alloc, parts, limits, except) {
+        Ok(Finding::Ordered(verdict, steps)) => says(alloc, &verdict, &Some(steps), wanted),
+        Ok(Finding::Explained(verdict, _)) => says(alloc, &verdict, &None, wanted),
+        Ok(Finding::Judged(verdict)) => says(alloc, &verdict, &None, wanted),
+        _ => false,
+    }
+}
+
 // Labels whose blocks are no transactions, a trace, its order, and what is told of it with that.
 type Row = (&'static str, &'static str, &'static str, &'static str);
 
@@ -126,7 +142,8 @@ fn is_in_order(alloc: Global, limits: &Limits, row: &Row) -> Option<bool> {
     Some(
         has_order(alloc, &parts, limits, &except, order)
             && is_told(alloc, &parts, limits, &except, told)
-            && is_told_at_end(alloc, &parts, limits, &except, told),
+            && is_told_at_end(alloc, &parts, limits, &except, told)
+            && is_found(alloc, &parts, limits, &except, told),
     )
 }
 

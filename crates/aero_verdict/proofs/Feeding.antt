@@ -3,7 +3,7 @@ use Rattle.std.proofs.Common.{◌≡◌, inl, inr, ℕ, zero, suc, Bool, Result,
 use Rattle.std.specs.Prelude.{slice_get, All, IfSome, IfOk}
 use Rattle.std.specs.declared.alloc.AllocError.{AllocError}
 use Rattle.std.proofs.lemmas.Bool.{cases_lt, cond-true, cond-false, lt-ltb, lt-leb}
-use Rattle.std.proofs.lemmas.List.{append_assoc, append-nil}
+use Rattle.std.proofs.lemmas.List.{append_assoc, append-nil, drop_all}
 use Rattle.std.proofs.lemmas.List.Elements.{All-append, filter-append}
 use Rattle.aero_model.specs.declared.limits.Limits.{Limits}
 use Rattle.aero_model.specs.declared.verdict.LineFault.{LineFault}
@@ -253,6 +253,21 @@ pub open_told : {E : Type 0} (words : Words E) (rules : Rules) (fed : List Readi
     FedSo words rules fed lines checker state → IfOk result (λ b. b ≡ false → IsOpen fed rules)
 open_told words rules fed lines checker state (Ok b) undecided so = λ no. open_so words rules fed lines checker (subst (FedSo words rules fed lines checker) (undecided no) so)
 open_told words rules fed lines checker state (Err e) undecided so = tt
+
+-- and there is one line too many at most
+lines_so : {E : Type 0} (words : Words E) (rules : Rules) (fed : List Reading) (lines : ℕ) (checker : Checker E) → FedSo words rules fed lines checker Undecided → lines ≤ rules.limits.lines + 1 → rules.limits.lines ≤ 4000000000 →
+    (whole_reading fed).lines ≤ rules.limits.lines + 1
+lines_so words rules fed lines checker so few most =
+    let all = all_fed words rules fed lines checker so in
+    let lines_are = all.lines_are in
+    let total : (whole_reading fed).lines ≡ all.total + 0 = all.before.lines_are ∙ ap (λ ps. all.total + (whole_reading ps).lines) (drop_all (length fed) fed (omega arith)) in
+    omega (arith, total, lines_are, few, most)
+
+pub lines_told : {E : Type 0} (words : Words E) (rules : Rules) (fed : List Reading) (lines : ℕ) (checker : Checker E) (state : State) (result : Result Bool AllocError) → IfOk result (λ b. b ≡ false → state ≡ Undecided) →
+    FedSo words rules fed lines checker state → (state ≡ Undecided → lines ≤ rules.limits.lines + 1) → rules.limits.lines ≤ 4000000000 → IfOk result (λ b. b ≡ false → (whole_reading fed).lines ≤ rules.limits.lines + 1)
+lines_told words rules fed lines checker state (Ok b) undecided so few most = λ no.
+    lines_so words rules fed lines checker (subst (FedSo words rules fed lines checker) (undecided no) so) (few (undecided no)) most
+lines_told words rules fed lines checker state (Err e) undecided so few most = tt
 
 -- the parts that were fed are readings
 one_only : {X : Type 0} (P : X → Type 0) (x : X) → P x → All P (x ∷ [])

@@ -27,4 +27,5 @@ pub mod OnLines
 pub mod BlockEvents
 pub mod FirstEvents
 pub mod Gathered
+pub mod PartOf
 pub mod Vectors

@@ -30,10 +30,13 @@ pub record IsRecordOf (parts : List Reading) (rules : Rules) (numbering : Number
   pub kept : HasRecorded recorder given
   pub names_are : names_in numbering ≡ tables_of (take (suc violation.place) (events_of parts rules))
 
--- the verdict on these parts, and the checker has recorded them, up to an event with which a cycle closes
-pub record IsJudged (parts : List Reading) (rules : Rules) (checker : Checker Recorder) (verdict : Verdict) : Type 0 where
+-- the verdict on these parts, and a checker with these names and this engine has recorded them, up to an event with which a cycle closes
+pub record IsJudged (parts : List Reading) (rules : Rules) (numbering : Numbering) (recorder : Recorder) (verdict : Verdict) : Type 0 where
   pub readings : All IsReading parts
   pub few : rules.limits.lines ≤ 4000000000
+  pub checker : Checker Recorder
+  pub names : numbering ≡ checker.numbering
+  pub engine : recorder ≡ checker.engine
   pub tells : TellsFed (words_of StandsForLeads HasRecorded) rules parts checker verdict
 
 -- so it is for some violation whose block begins on this line

@@ -8,7 +8,6 @@ ghost use Rattle.aero_verdict.specs.Explained.{TellsExplained, ShowsVerdict, vis
 ghost use Rattle.aero_verdict.specs.Records.{IsJudged, IsRecord, IsRecordOf, AreShown, CanBeShown, IsEventAt, IsStepAt, round_of};
 ghost use Rattle.aero_verdict.specs.Verdict.{Rules, under};
 
-use crate::checker::Checker;
 use crate::monitor::{Monitor, State, feed_all};
 use crate::numbering::Numbering;
 use crate::recorder::Recorder;
@@ -59,7 +58,7 @@ impl Monitor<Recorder> {
         let alloc = self.alloc;
         let (verdict, checker) = self.into_verdict();
         let verdict = verdict?;
-        let cycle = cycle_in(alloc, &checker, &verdict)?;
+        let cycle = cycle_in(alloc, checker.names(), checker.engine(), &verdict)?;
         Ok((verdict, cycle))
     }
 
@@ -71,25 +70,31 @@ impl Monitor<Recorder> {
         ensures { IfOk result (ShowsCertain self.now.certain self.now.parts self.now.rules) }
     {
         match &self.state {
-            State::Decided(verdict) => cycle_in(self.alloc, &self.checker, verdict),
+            State::Decided(verdict) => cycle_in(
+                self.alloc,
+                self.checker.names(),
+                self.checker.engine(),
+                verdict,
+            ),
             State::Undecided | State::Spent => Ok(None),
         }
     }
 }
 
 // What shows the verdict, where it is a violation.
-fn cycle_in(
+pub(crate) fn cycle_in(
     alloc: Global,
-    checker: &Checker<Recorder>,
+    names: &Numbering,
+    recorder: &Recorder,
     verdict: &Verdict,
 ) -> Result<Option<Cycle>, AllocError>
-    requires { (parts : List Reading) × (rules : Rules) × IsJudged parts rules checker.now verdict.now }
-    ensures { (parts : List Reading) (rules : Rules) → IsJudged parts rules checker.now verdict.now → IfOk result (ShowsVerdict parts rules verdict.now) }
+    requires { (parts : List Reading) × (rules : Rules) × IsJudged parts rules names.now recorder.now verdict.now }
+    ensures { (parts : List Reading) (rules : Rules) → IsJudged parts rules names.now recorder.now verdict.now → IfOk result (ShowsVerdict parts rules verdict.now) }
 {
     let Verdict::Violation { begun, .. } = verdict else {
         return Ok(None);
     };
-    let cycle = cycle_of(alloc, checker.names(), checker.engine(), *begun)?;
+    let cycle = cycle_of(alloc, names, recorder, *begun)?;
     Ok(Some(cycle))
 }
 

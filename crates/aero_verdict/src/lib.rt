@@ -42,12 +42,14 @@
 //!   of the first event of its transaction:
 //!   `Monitor::finish_explained`, `told`, `own_fault`. `check_trace_explained` gives the same of parts at once, and
 //!   `Monitor::explain` of a violation that is certain, while the monitor goes on.
+//! - A monitor of `Full` gives at its end both, each with the verdict that it goes with: `Monitor::finish_in_full`.
+//!   `check_trace_in_full` gives the same of parts at once.
 //! - The actor of the event on a line is answered, whatever the limits, if there is one: `actor_at`.
-//! - `InOrder`, first places with the transactions, and `Recorder`, with the events, are engines too: of the
-//!   events that each is given it tells what the definitions say. By `Engine::judge`, `told`.
+//! - `InOrder`, first places with the transactions, `Recorder`, with the events, and `Full`, with both, are engines too: of
+//!   the events that each is given it tells what the definitions say. By `Engine::judge`, `told`.
 //! - They keep something of each event that they are given, also of the one that closes a cycle: `InOrder` the line and
-//!   the thread of each transaction's first event, `Recorder` each event with its line and its label. By `Engine::judge`,
-//!   `kept`.
+//!   the thread of each transaction's first event, `Recorder` each event with its line and its label, `Full` both. By
+//!   `Engine::judge`, `kept`.
 //! - All parts have exactly one verdict. `Serializable` means that there is no cycle at all, a violation that there is
 //!   one, and with open blocks each cycle passes two of them: `laws`.
 #![tactic(auto)]
@@ -59,6 +61,7 @@ mod checker;
 mod event_words;
 mod explained;
 mod first_steps;
+pub mod full;
 mod ghost_parts;
 pub mod in_order;
 mod known;
@@ -75,4 +78,5 @@ pub use actor::actor_at;
 pub use aero_engine::engine;
 pub use check::{check_trace, check_trace_by};
 pub use explained::check_trace_explained;
+pub use full::check_trace_in_full;
 pub use serial::{check_trace_in_order, serial_order};

@@ -50,7 +50,7 @@
 //! ```
 ghost use Rattle.std.specs.Prelude.{◌≡◌, ◌+◌, ◌++◌, ◌∷◌, [], ◌<◌, ◌≤◌, ◌↔◌, ℕ, List, All, true, false, is_some, Some, Ok, IsTrue, IfOk, IfSome, OnErr, option_map};
 ghost use Rattle.aero_model.specs.Exempt.{Listed};
-ghost use Rattle.aero_grammar.specs.Reading.{Reading, IsReading};
+ghost use Rattle.aero_grammar.specs.Reading.{Reading, IsReading, whole_reading};
 ghost use Rattle.aero_model.specs.Verdicts.{HasOwnFault};
 ghost use Rattle.aero_engine.specs.Given.{words_of};
 ghost use Rattle.aero_verdict.specs.declared.monitor.State.TheVariants.{Undecided};
@@ -114,10 +114,11 @@ impl<E: Engine> Model for Monitor<E> {
       is_spent = is_spent m.state;
     } };
 
-    ghost use Rattle.std.specs.Prelude.{All};
+    ghost use Rattle.std.specs.Prelude.{◌≡◌, ◌≤◌, ◌+◌, All};
     ghost use Rattle.aero_grammar.specs.Reading.{IsReading};
+    ghost use Rattle.aero_verdict.specs.declared.monitor.State.TheVariants.{Undecided};
 
-    ghost invariant = { λ m. record { so : FedSo (words_of E.stands_for E.keeps) (under m.limits m.fed.labels) m.fed.parts m.lines m.checker m.state; readings : All IsReading m.fed.parts } };
+    ghost invariant = { λ m. record { so : FedSo (words_of E.stands_for E.keeps) (under m.limits m.fed.labels) m.fed.parts m.lines m.checker m.state; few : m.state ≡ Undecided → m.lines ≤ m.limits.lines + 1; readings : All IsReading m.fed.parts } };
 }
 
 impl<E: Engine> Monitor<E> {
@@ -140,7 +141,7 @@ impl<E: Engine> Monitor<E> {
 
     /// Judges the next part, with the same labels as at first. The answer says whether the verdict is certain,
     /// whatever parts come after it: there is an event that is ill-formed or closes a cycle, a malformed line, or
-    /// two lines more than may be. What is fed from then on is passed over.
+    /// two lines more than may be. Otherwise none of these is there. What is fed from then on is passed over.
     ///
     /// # Errors
     ///
@@ -152,6 +153,7 @@ impl<E: Engine> Monitor<E> {
         ensures told { IfOk result (λ is_certain. is_certain ≡ is_some self.new.certain) }
         ensures certain { IfSome self.new.certain (IsCertain self.new.parts self.new.rules) }
         ensures going_on { IfOk result (λ is_certain. is_certain ≡ false → IsOpen self.new.parts self.new.rules) }
+        ensures within { IfOk result (λ is_certain. is_certain ≡ false → (whole_reading self.new.parts).lines ≤ self.new.rules.limits.lines + 1) }
         ensures stays { IfSome self.old.certain (λ verdict. self.new.certain ≡ Some verdict) }
         ensures spent { OnErr result (self.new.is_spent ≡ true) }
         ensures stays_spent { self.old.is_spent ≡ true → self.new.is_spent ≡ true }
@@ -255,8 +257,9 @@ fn judge_part<E: Engine>(
     except: &Except,
 ) -> (u32, State)
     requires { IsPartExpected (words_of E.stands_for E.keeps) (under limits.now except.now) lines checker.old part.now }
-    ensures { (fed : List Reading) → FedSo (words_of E.stands_for E.keeps) (under limits.now except.now) fed lines checker.old Undecided →
+    ensures so { (fed : List Reading) → FedSo (words_of E.stands_for E.keeps) (under limits.now except.now) fed lines checker.old Undecided →
         FedSo (words_of E.stands_for E.keeps) (under limits.now except.now) (fed ++ part.now ∷ []) result.0 checker.new result.1 }
+    ensures few { result.1 ≡ Undecided → result.0 ≤ limits.now.lines + 1 }
 {
     match check_part(alloc, checker, part, lines, limits, except) {
         Ok(None) => {}

@@ -27,6 +27,18 @@ pub struct Recorder {
     pub(crate) labels: Names,
 }
 
+impl Recorder {
+    ghost use Rattle.std.specs.Prelude.{◌≡◌};
+    ghost use Rattle.aero_leads.specs.Standing.{in_block_at};
+
+    // Whether the thread is in a block.
+    pub(crate) fn in_block(&self, t: u32) -> bool
+        ensures { result ≡ in_block_at self.now.leads t }
+    {
+        self.leads.in_block(t)
+    }
+}
+
 impl Engine for Recorder {
     ghost use Rattle.std.specs.Prelude.{true};
 

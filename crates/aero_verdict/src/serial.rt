@@ -106,7 +106,7 @@ impl Monitor<InOrder> {
 }
 
 // The first events of the transactions in the serial order, where it is wanted and there is one.
-fn firsts_where(
+pub(crate) fn firsts_where(
     alloc: Global,
     transactions: Transactions,
     wanted: bool,
@@ -121,7 +121,7 @@ fn firsts_where(
 }
 
 // The verdict, with the lines and the threads' names of the first events.
-fn steps_told(
+pub(crate) fn steps_told(
     alloc: Global,
     numbering: &Numbering,
     verdict: Result<Verdict, AllocError>,
@@ -166,7 +166,7 @@ fn is_right(verdict: &Result<Verdict, AllocError>) -> bool
 }
 
 // Whether there is a verdict with which the order goes.
-fn is_ordered(verdict: &Result<Verdict, AllocError>) -> bool
+pub(crate) fn is_ordered(verdict: &Result<Verdict, AllocError>) -> bool
     ensures ok { IfOk verdict.now (λ told. result ≡ has_order true told) }
     ensures err { OnErr verdict.now (result ≡ false) }
 {

@@ -8,7 +8,7 @@ ghost use Rattle.aero_witness.specs.Left.{lane_of, lane_leads_home, event_leads_
 use crate::kinds::{Kind, source_number};
 use crate::lanes::{Lane, Lead, head_of, lane_of, take};
 use crate::quest::Quest;
-use aero_model::numbered::Numbered;
+use aero_model::numbered::{Numbered, What};
 use std::alloc::{AllocError, Global};
 
 #[derive(Drop)]
@@ -80,7 +80,24 @@ fn gather(
     Ok(())
 }
 
-// What is taken so, in the order of the places at which a walk comes in, and of these from the same event on.
+// Whether both events are accesses of one variable, one of which writes it.
+fn is_by_variable(events: &[Numbered], lead: &Lead) -> bool {
+    match (what_at(events, lead.from), what_at(events, lead.enters)) {
+        (Some(What::Write(x)), Some(What::Read(y) | What::Write(y))) => x == y,
+        (Some(What::Read(x)), Some(What::Write(y))) => x == y,
+        _ => false,
+    }
+}
+
+fn what_at(events: &[Numbered], place: u32) -> Option<What> {
+    match events.get(place as usize) {
+        Some(event) => Some(event.what),
+        None => None,
+    }
+}
+
+// What is taken so. Conflicts of variables come first, since a reader is told more by them. Then they are in the order of
+// the places at which a walk comes in, and of these from the same event on.
 pub(crate) fn leads_of(
     alloc: Global,
     events: &[Numbered],
@@ -94,7 +111,7 @@ pub(crate) fn leads_of(
 {
     let mut leads = Vec::new(alloc);
     gather(events, front, left, &mut leads)?;
-    leads.sort_unstable_by_key(|lead| (lead.enters, lead.from));
+    leads.sort_unstable_by_key(|lead| (!is_by_variable(events, lead), lead.enters, lead.from));
     Ok(leads)
 }
 

@@ -10,14 +10,14 @@ cycle_of-requires c =
       rules,
       c.in-Violation.line,
       c.in-Violation.thread,
-      told_record parts rules c.args.checker.now c.names.result.now c.engine.result.now c.args.verdict.now c.in-Violation.line c.in-Violation.thread c.in-Violation.begun
-          c.names.ensures c.engine.ensures judged.readings judged.few judged.tells c.in-Violation.is,
+      told_record parts rules judged.checker c.args.names.now c.args.recorder.now c.args.verdict.now c.in-Violation.line c.in-Violation.thread c.in-Violation.begun
+          judged.names judged.engine judged.readings judged.few judged.tells c.in-Violation.is,
     )
 
 pub returns : goal.returns
 returns c = λ parts rules judged.
-    let recorded = told_record parts rules c.args.checker.now c.names.result.now c.engine.result.now c.args.verdict.now c.in-Violation.line c.in-Violation.thread c.in-Violation.begun
-    c.names.ensures c.engine.ensures judged.readings judged.few judged.tells c.in-Violation.is in (
+    let recorded = told_record parts rules judged.checker c.args.names.now c.args.recorder.now c.args.verdict.now c.in-Violation.line c.in-Violation.thread c.in-Violation.begun
+    judged.names judged.engine judged.readings judged.few judged.tells c.in-Violation.is in (
       sym (ap (has_cycle true) c.in-Violation.is),
       subst (λ v. IsCycleOf parts rules v c.in_ok-cycle.cycle) (sym c.in-Violation.is) (c.in_ok-cycle.ensures parts rules c.in-Violation.line c.in-Violation.thread recorded),
     )

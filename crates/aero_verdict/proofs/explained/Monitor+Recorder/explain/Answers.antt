@@ -19,6 +19,9 @@ cycle_in-requires c =
       record {
         readings = c.self.invariant.readings;
         few = m.limits.most_lines;
+        checker = m.checker;
+        names = c.names-in-Decided.ensures;
+        engine = c.engine-in-Decided.ensures;
         tells = tells_certain (words_of StandsForLeads HasRecorded) rules m.fed.parts m.lines m.checker c.in-Decided.verdict
             (subst (FedSo (words_of StandsForLeads HasRecorded) rules m.fed.parts m.lines m.checker) c.in-Decided.is c.self.invariant.so);
       },
@@ -32,6 +35,9 @@ returns-in-Decided c =
     let shows = c.cycle_in.ensures m.fed.parts rules (record {
       readings = c.self.invariant.readings;
       few = m.limits.most_lines;
+      checker = m.checker;
+      names = c.names-in-Decided.ensures;
+      engine = c.engine-in-Decided.ensures;
       tells = tells_certain (words_of StandsForLeads HasRecorded) rules m.fed.parts m.lines m.checker c.in-Decided.verdict
           (subst (FedSo (words_of StandsForLeads HasRecorded) rules m.fed.parts m.lines m.checker) c.in-Decided.is c.self.invariant.so);
     }) in

@@ -1,4 +1,4 @@
-use Rattle.std.proofs.Common.{List, ◌++◌, length, sym, subst}
+use Rattle.std.proofs.Common.{List, ◌++◌, length, sym, subst, arith}
 use Rattle.std.specs.Prelude.{All}
 use Rattle.std.proofs.lemmas.List.Elements.{All-nil}
 use Rattle.aero_grammar.specs.Reading.{Reading, IsReading}
@@ -15,5 +15,6 @@ invariant_of-result g c =
       so =
           subst (λ (ps : List Reading). (rest : List Reading) → Stands (words_of g.E.Engine.stands_for g.E.Engine.keeps) rules (ps ++ rest) (length ps) 0 c.new.result) (sym c.none.ensures.1)
           (λ rest. nothing_yet (words_of g.E.Engine.stands_for g.E.Engine.keeps) rules rest c.new.result c.new.ensures.none (c.new.ensures.kept c.none.result.labels));
+      few = λ undecided. omega arith;
       readings = subst (All IsReading) (sym c.none.ensures.1) (All-nil IsReading);
     }

@@ -1,0 +1,105 @@
+use Rattle.std.proofs.Common.{List, Vec, Global, ◌∙◌, ap, subst}
+use Rattle.std.specs.Prelude.{Result, Ok, Err, IfOk, option_map}
+use Rattle.std.specs.declared.alloc.AllocError.{AllocError}
+use Rattle.aero_engine.specs.Given.{words_of}
+use Rattle.aero_model.specs.declared.verdict.Step.{Step}
+use Rattle.aero_model.specs.declared.verdict.Verdict.{Verdict}
+use Rattle.aero_grammar.specs.Reading.{Reading}
+use Rattle.aero_verdict.specs.declared.checker.Checker.{Checker}
+use Rattle.aero_verdict.specs.declared.full.Full.{Full}
+use Rattle.aero_verdict.specs.declared.in_order.InOrder.{InOrder}
+use Rattle.aero_verdict.specs.declared.recorder.Recorder.{Recorder}
+use Rattle.aero_verdict.specs.Full.{StandsForFull, KeepsInFull}
+use Rattle.aero_verdict.specs.InOrder.{StandsForBoth, KeepsInOrder}
+use Rattle.aero_verdict.specs.Monitored.{TellsFed}
+use Rattle.aero_verdict.specs.Ordered.{TellsInOrder}
+use Rattle.aero_verdict.specs.Recorded.{HasRecorded, StandsForLeads}
+use Rattle.aero_verdict.specs.Verdict.{Rules}
+use Rattle.aero_verdict.proofs.Gathered.{right_with_order, stands_where_wanted, named_told, steps_finished}
+use Rattle.aero_verdict.proofs.PartOf.{with_engine, told_of_part}
+use Rattle.aero_verdict.proofs.full.Monitor+Full.finish_in_full.Goals as goal
+
+-- the engine without its record
+abbrev in_order : Full → InOrder
+in_order full = record { leads = full.recorder.leads; transactions = full.transactions }
+
+abbrev as_in_order : Checker Full → Checker InOrder
+as_in_order checker = with_engine checker (in_order checker.engine)
+
+abbrev as_recorder : Checker Full → Checker Recorder
+as_recorder checker = with_engine checker checker.engine.recorder
+
+module _ (rules : Rules) (parts : List Reading) (checker : Checker Full) (verdict : Verdict) (tells : TellsFed (words_of StandsForFull KeepsInFull) rules parts checker verdict) where
+  of_order : TellsFed (words_of StandsForBoth KeepsInOrder) rules parts (as_in_order checker) verdict
+  of_order = told_of_part (words_of StandsForFull KeepsInFull) (words_of StandsForBoth KeepsInOrder) in_order (λ e trace stands. stands) (λ e given kept. kept.1) rules parts checker verdict tells
+
+  of_record : TellsFed (words_of StandsForLeads HasRecorded) rules parts (as_recorder checker) verdict
+  of_record = told_of_part (words_of StandsForFull KeepsInFull) (words_of StandsForLeads HasRecorded) (λ (e : Full). e.recorder) (λ e trace stands. stands.0) (λ e given kept. kept.0) rules parts checker verdict tells
+
+all_of_order : (rules : Rules) (parts : List Reading) (checker : Checker Full) (verdict : Result Verdict AllocError) → IfOk verdict (TellsFed (words_of StandsForFull KeepsInFull) rules parts checker) → IfOk verdict (TellsFed (words_of StandsForBoth KeepsInOrder) rules parts (as_in_order checker))
+all_of_order rules parts checker (Ok v) tells = of_order rules parts checker v tells
+all_of_order rules parts checker (Err e) tells = tt
+
+pub firsts_where-firsts-requires : goal.firsts_where-firsts-requires
+firsts_where-firsts-requires c =
+    let verdict = c.into_verdict-verdict.result.0 in
+    let checker = c.into_verdict-verdict.result.1 in
+    let tells = all_of_order c.args.self.rules c.args.self.parts checker verdict c.into_verdict-verdict.ensures.tells in
+    let transactions = c.into_parts-recorder.ensures.transactions ∙ ap (λ (e : Full). e.transactions) c.into_parts-numbering.ensures.engine in
+    let wanted = c.is_ordered-wanted.result in
+    stands_where_wanted c.args.self.parts c.args.self.rules (as_in_order checker) c.into_parts-recorder.result.1 c.into_parts-numbering.result.0 transactions c.into_parts-numbering.ensures.names verdict tells wanted
+    (right_with_order c.args.self.parts c.args.self.rules (as_in_order checker) c.into_parts-recorder.result.1 c.into_parts-numbering.result.0 transactions c.into_parts-numbering.ensures.names wanted verdict c.is_ordered-wanted.ensures.ok) c.is_ordered-wanted.ensures.err
+
+pub steps_told-requires : goal.steps_told-requires
+steps_told-requires c =
+    let verdict = c.into_verdict-verdict.result.0 in
+    let checker = c.into_verdict-verdict.result.1 in
+    let tells = all_of_order c.args.self.rules c.args.self.parts checker verdict c.into_verdict-verdict.ensures.tells in
+    let transactions = c.into_parts-recorder.ensures.transactions ∙ ap (λ (e : Full). e.transactions) c.into_parts-numbering.ensures.engine in
+    let wanted = c.is_ordered-wanted.result in
+    named_told c.args.self.parts c.args.self.rules (as_in_order checker) c.into_parts-recorder.result.1 c.into_parts-numbering.result.0 transactions c.into_parts-numbering.ensures.names verdict tells wanted
+    (right_with_order c.args.self.parts c.args.self.rules (as_in_order checker) c.into_parts-recorder.result.1 c.into_parts-numbering.result.0 transactions c.into_parts-numbering.ensures.names wanted verdict c.is_ordered-wanted.ensures.ok) c.is_ordered-wanted.ensures.err
+    c.firsts_where-firsts.result c.firsts_where-firsts.ensures
+
+-- the record shows the verdict
+pub cycle_in-requires : goal.cycle_in-requires
+cycle_in-requires c =
+    let checker = c.into_verdict-verdict.result.1 in
+    let rules = c.args.self.rules in
+    let parts = c.args.self.parts in
+    let tells = subst (λ r. IfOk r (TellsFed (words_of StandsForFull KeepsInFull) rules parts checker)) c.in_ok-verdict.ensures.verdict c.into_verdict-verdict.ensures.tells in (
+      parts,
+      rules,
+      record {
+        readings = c.into_verdict-verdict.ensures.readings;
+        few = c.into_verdict-verdict.ensures.few;
+        checker = as_recorder checker;
+        names = c.into_parts-numbering.ensures.names;
+        engine = c.into_parts-recorder.ensures.recorder ∙ ap (λ (e : Full). e.recorder) c.into_parts-numbering.ensures.engine;
+        tells = of_record rules parts checker c.in_ok-verdict.verdict tells;
+      },
+    )
+
+pub returns : goal.returns
+returns c =
+    let checker = c.into_verdict-verdict.result.1 in
+    let rules = c.args.self.rules in
+    let parts = c.args.self.parts in
+    let verdict = c.into_verdict-verdict.result.0 in
+    let all = all_of_order rules parts checker verdict c.into_verdict-verdict.ensures.tells in
+    let transactions = c.into_parts-recorder.ensures.transactions ∙ ap (λ (e : Full). e.transactions) c.into_parts-numbering.ensures.engine in
+    let wanted = c.is_ordered-wanted.result in
+    let ordered = steps_finished parts rules (as_in_order checker) c.into_parts-recorder.result.1 c.into_parts-numbering.result.0 transactions c.into_parts-numbering.ensures.names verdict all wanted
+    (right_with_order parts rules (as_in_order checker) c.into_parts-recorder.result.1 c.into_parts-numbering.result.0 transactions c.into_parts-numbering.ensures.names wanted verdict c.is_ordered-wanted.ensures.ok) c.is_ordered-wanted.ensures.err
+    c.firsts_where-firsts.result c.firsts_where-firsts.ensures c.is_ordered-wanted.ensures.ok c.steps_told.result c.steps_told.ensures.verdict c.steps_told.ensures.steps in
+    let tells = subst (λ r. IfOk r (TellsFed (words_of StandsForFull KeepsInFull) rules parts checker)) c.in_ok-verdict.ensures.verdict c.into_verdict-verdict.ensures.tells in
+    let in_steps = subst (λ r. IfOk r (λ t. TellsInOrder parts rules t.0 (option_map (λ (ss : Vec Step Global). ss.items) t.1))) c.in_ok-verdict.was ordered in
+    let shows = c.in_ok-cycle.ensures parts rules (record {
+      readings = c.into_verdict-verdict.ensures.readings;
+      few = c.into_verdict-verdict.ensures.few;
+      checker = as_recorder checker;
+      names = c.into_parts-numbering.ensures.names;
+      engine = c.into_parts-recorder.ensures.recorder ∙ ap (λ (e : Full). e.recorder) c.into_parts-numbering.ensures.engine;
+      tells = of_record rules parts checker c.in_ok-verdict.verdict tells;
+    }) in
+    c.finding_of.ensures parts rules in_steps shows
