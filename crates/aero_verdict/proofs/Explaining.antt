@@ -1,5 +1,5 @@
 -- What a record of a violating trace tells of its cycles.
-use Rattle.std.proofs.Common.{◌≡◌, ℕ, zero, suc, ◌<◌, ◌≤◌, ◌^◌, ◌==◌, true, false, List, [], ◌∷◌, ◌++◌, length, take, Option, Some, None, option_map, inl, inr, refl, sym, ◌∙◌, ap, subst, arith}
+use Rattle.std.proofs.Common.{◌≡◌, ℕ, zero, suc, ◌<◌, ◌≤◌, ◌^◌, ◌==◌, true, false, List, [], ◌∷◌, ◌++◌, length, map, take, Option, Some, None, option_map, inl, inr, refl, sym, ◌∙◌, ap, subst, arith}
 use Rattle.std.specs.Prelude.{slice_get, flat_map, All, Vec}
 use Rattle.std.specs.Global.{Global}
 use Rattle.std.specs.List.{AllZip}
@@ -9,14 +9,19 @@ use Rattle.std.proofs.lemmas.List.Elements.{All-append, All-nil}
 use Rattle.std.proofs.lemmas.Option.{slice_get-map, slice_get_within, same_Some}
 use Rattle.aero_model.specs.declared.numbered.Numbered.{Numbered}
 use Rattle.aero_model.specs.declared.verdict.CycleStep.{CycleStep}
-use Rattle.aero_model.specs.Blocks.{Block, transaction, blocks}
+use Rattle.aero_model.specs.Blocks.{Transaction, Block, transaction, blocks, IsOpen}
 use Rattle.aero_model.specs.Graph as graph
 use Rattle.aero_model.specs.Graph.{IsVisit, GoesOn, IsTelling, BeginsCycle}
-use Rattle.aero_model.specs.Cycle.{IsClosing}
+use Rattle.aero_model.specs.Cycle.{HasTellingCycle, IsClosing}
+use Rattle.aero_model.specs.Shape.{IsWellFormed}
 use Rattle.aero_model.specs.declared.verdict.Verdict.{Verdict}
 use Rattle.aero_model.specs.declared.verdict.Verdict.TheVariants.{Serializable, Pending, Violation, Malformed, IllFormed}
 use Rattle.aero_model.specs.Named.{Named}
+use Rattle.aero_model.proofs.Cycles.{begins_open}
 use Rattle.aero_model.proofs.Depths.{opening_at}
+use Rattle.aero_model.proofs.Lawful.{lawful_well_formed}
+use Rattle.aero_model.proofs.Telling.{telling_from_begins, begins_from_telling}
+use Rattle.aero_model.proofs.Walks.{begins_same}
 use Rattle.aero_model.proofs.Stability.{Agree, agree_back, transaction_same}
 use Rattle.aero_model.proofs.TellingCycles.{telling_same}
 use Rattle.aero_grammar.specs.Reading.{Reading, IsReading, whole_reading}
@@ -24,10 +29,15 @@ use Rattle.aero_model.specs.Numbering.{tables_of}
 use Rattle.aero_witness.specs.declared.visit.Visit.{Visit}
 use Rattle.aero_witness.specs.Parts.{AreFirstsTo}
 use Rattle.aero_witness.specs.Telling.{visit_of, visits_of, IsTellingCycle, IsShortest}
+use Rattle.aero_witness.specs.Thinned.{IsAmong, IsThinned, IsEnough, IsPlaced}
 use Rattle.aero_witness.specs.Trail.{IsTrail}
+use Rattle.aero_witness.proofs.Led.{led_inside}
 use Rattle.aero_witness.proofs.Nests.{opening_first}
 use Rattle.aero_witness.proofs.Starting.{first_within}
-use Rattle.aero_witness.proofs.Trail.{transaction_recorded, telling_back, telling_on}
+use Rattle.aero_witness.proofs.Thinned.{one_kept, one_back}
+use Rattle.aero_witness.proofs.Thinning.{place_at, one_index, one_place, earlier_index}
+use Rattle.aero_witness.proofs.ThinnedShortest.{begins_kept, shortest_trace}
+use Rattle.aero_witness.proofs.Trail.{transaction_recorded, telling_back, telling_on, ended_back}
 use Rattle.aero_engine.specs.Given.{Given, words_of}
 use Rattle.aero_verdict.specs.declared.checker.Checker.{Checker}
 use Rattle.aero_verdict.specs.declared.numbering.Numbering.{Numbering}
@@ -35,17 +45,17 @@ use Rattle.aero_verdict.specs.declared.recorder.Recorder.{Recorder}
 use Rattle.aero_verdict.specs.Explained.{has_cycle, visit_places, round_places, IsCycleStep, IsExplained}
 use Rattle.aero_verdict.specs.Standing.{AreGiven}
 use Rattle.aero_verdict.specs.Parts.{KeepsAt}
-use Rattle.aero_verdict.specs.Recorded.{recorded, IsSaidOf, HasRecorded, StandsForLeads}
+use Rattle.aero_verdict.specs.Recorded.{recorded, IsSaidOf, AreJudgedAs, AreNoted, HasRecordedAs, HasRecorded, StandsForLeads}
 use Rattle.aero_verdict.specs.Limited.{names_in}
 use Rattle.aero_verdict.specs.Shown.{shown, CanShow}
 use Rattle.aero_verdict.specs.Monitored.{TellsFed}
 use Rattle.aero_verdict.specs.Records.{IsRecordOf, round_of, AreShown, CanBeShown, IsEventAt, IsStepAt}
-use Rattle.aero_verdict.specs.Verdict.{Rules, counted_events, events_of, checked_trace, IsOnLine, IsViolation}
+use Rattle.aero_verdict.specs.Verdict.{Rules, counted_events, events_of, read_trace, checked_trace, IsOnLine, IsViolation}
 use Rattle.aero_verdict.proofs.Readings.{rising_within}
+use Rattle.aero_verdict.proofs.Judged.{judged_well}
 use Rattle.aero_verdict.proofs.Recording as recording
 use Rattle.aero_verdict.proofs.Rising.{whole_rises, one_within}
 use Rattle.aero_verdict.proofs.Showing.{given_shown}
-use Rattle.aero_verdict.proofs.Zipped.{zip_as, zip_at, zip_long}
 
 -- what stands on a line
 record At (o : Option (ℕ × Named)) (line : ℕ) : Type 0 where
@@ -88,6 +98,66 @@ round_within trace n first rest telling =
     All-append (λ p. p < n) (first.leaves ∷ []) (flat_map visit_places rest ++ first.enters ∷ []) (single n first.leaves telling.visit.leaves)
     (All-append (λ p. p < n) (flat_map visit_places rest) (first.enters ∷ []) (walk_within trace n first rest telling.walk) (single n first.enters telling.visit.enters))
 
+-- what holds of three lists, place by place
+zip_through : {X Y Z : Type 0} (A : X → Y → Type 0) (R : X → Z → Type 0) (S : Y → Z → Type 0) → ((x : X) (y : Y) (z : Z) → A x y → R x z → S y z) → (xs : List X) (ys : List Y) (zs : List Z) → AllZip A xs ys → AllZip R xs zs → AllZip S ys zs
+zip_through A R S thus [] [] zs a r = empty zs r
+  where
+    empty : (zs : List _) → AllZip R [] zs → AllZip S [] zs
+    empty [] r = tt
+    empty (z ∷ zs) r = absurd r
+zip_through A R S thus [] (y ∷ ys) zs a r = absurd a
+zip_through A R S thus (x ∷ xs) [] zs a r = absurd a
+zip_through A R S thus (x ∷ xs) (y ∷ ys) [] a r = absurd r
+zip_through A R S thus (x ∷ xs) (y ∷ ys) (z ∷ zs) a r = (thus x y z a.0 r.0, zip_through A R S thus xs ys zs a.1 r.1)
+
+zip_joined : {X Y : Type 0} (A : X → Y → Type 0) (xs vs : List X) (ys ws : List Y) → AllZip A xs ys → AllZip A vs ws → AllZip A (xs ++ vs) (ys ++ ws)
+zip_joined A [] vs [] ws a b = b
+zip_joined A [] vs (y ∷ ys) ws a b = absurd a
+zip_joined A (x ∷ xs) vs [] ws a b = absurd a
+zip_joined A (x ∷ xs) vs (y ∷ ys) ws a b = (a.0, zip_joined A xs vs ys ws a.1 b)
+
+-- the places of a cycle of what is kept, and those in the trace
+module _ (trace kept : List Numbered) (places : List ℕ) (thin : IsThinned trace kept places) where
+  abbrev Stands : ℕ → ℕ → Type 0
+  Stands i p = slice_get places i ≡ Some p
+
+  visit_stands : (v w : graph.Visit) → IsPlaced places v w → AllZip Stands (visit_places v) (visit_places w)
+  visit_stands v w at = elim (cases_eq v.enters v.leaves) [
+    | inl same ↦
+        let same' = one_place trace kept places thin v.enters v.leaves w.enters w.leaves at.enters at.leaves same in
+        subst (λ xs. AllZip Stands xs (visit_places w)) (sym (cond-true (v.enters == v.leaves) _ _ (eq-eqb v.enters v.leaves same)))
+        (subst (AllZip Stands (v.enters ∷ [])) (sym (cond-true (w.enters == w.leaves) _ _ (eq-eqb w.enters w.leaves same'))) (at.enters, tt))
+    | inr other ↦
+        let other' : w.enters ≡ w.leaves → ⊥ = λ e. other (one_index trace kept places thin v.enters v.leaves w.enters w.leaves at.enters at.leaves e) in
+        subst (λ xs. AllZip Stands xs (visit_places w)) (sym (cond-false (v.enters == v.leaves) _ _ (ne_eqb v.enters v.leaves other)))
+        (subst (AllZip Stands (v.enters ∷ v.leaves ∷ [])) (sym (cond-false (w.enters == w.leaves) _ _ (ne_eqb w.enters w.leaves other'))) (at.enters, (at.leaves, tt)))
+  ]
+
+  walk_stands : (vs ws : List graph.Visit) → AllZip (IsPlaced places) vs ws → AllZip Stands (flat_map visit_places vs) (flat_map visit_places ws)
+  walk_stands [] [] ats = tt
+  walk_stands [] (w ∷ ws) ats = absurd ats
+  walk_stands (v ∷ vs) [] ats = absurd ats
+  walk_stands (v ∷ vs) (w ∷ ws) ats = zip_joined Stands (visit_places v) (flat_map visit_places vs) (visit_places w) (flat_map visit_places ws) (visit_stands v w ats.0) (walk_stands vs ws ats.1)
+
+  round_stands : (v w : graph.Visit) (vs ws : List graph.Visit) → IsPlaced places v w → AllZip (IsPlaced places) vs ws → AllZip Stands (round_places v vs) (round_places w ws)
+  round_stands v w vs ws at ats =
+      (at.leaves, zip_joined Stands (flat_map visit_places vs) (v.enters ∷ []) (flat_map visit_places ws) (w.enters ∷ []) (walk_stands vs ws ats) (at.enters, tt))
+
+  -- there are no more places than events
+  no_earlier : (i p : ℕ) → slice_get places i ≡ Some p → i ≤ p
+  no_earlier zero p at = omega arith
+  no_earlier (suc i) p at =
+      let l = slice_get_within places (suc i) p at in
+      let before = place_at places i (omega arith) in
+      omega (arith, no_earlier i before.0 before.1, thin.rise i (suc i) before.0 p (omega arith) before.1 at)
+
+  few_places : length places ≤ length trace
+  few_places = go (length places) refl
+    where
+      go : (k : ℕ) → length places ≡ k → k ≤ length trace
+      go zero e = omega arith
+      go (suc k) e = let last = place_at places k (omega arith) in omega (arith, no_earlier k last.0 last.1, thin.within k last.0 last.1)
+
 module _ (parts : List Reading) (rules : Rules) (numbering : Numbering) (recorder : Recorder) (line : ℕ) (thread : List ℕ) (begun : ℕ) (r : IsRecordOf parts rules numbering recorder line thread begun) where
   abbrev counted : List (ℕ × Named)
   counted = counted_events parts rules
@@ -101,8 +171,15 @@ module _ (parts : List Reading) (rules : Rules) (numbering : Numbering) (recorde
   abbrev front : List Numbered
   front = take n checked
 
+  -- what was given, as it would be recorded, and what is recorded of it
+  abbrev told : List Numbered
+  told = map recorded r.given
+
   abbrev taken : List Numbered
   taken = recorder.events.items
+
+  abbrev places : List ℕ
+  places = recorder.places.items
 
   abbrev lines : List ℕ
   lines = recorder.lines.items
@@ -113,155 +190,214 @@ module _ (parts : List Reading) (rules : Rules) (numbering : Numbering) (recorde
       let less = slice_get_within counted r.violation.place (line, at.event) at.here in
       omega (arith, less)
 
-  pub long : length taken ≡ n
-  long = ap length r.kept.events ∙ length-map r.given _ ∙ r.are_given.count
-
-  pub lines_long : length lines ≡ n
-  lines_long = ap length r.kept.lines ∙ length-map r.given _ ∙ r.are_given.count
-
-  pub few_events : length taken < 2 ^ 32
-  few_events = let l = long in let f = r.few in omega (arith, l, f)
-
-  pub few_lines : length lines < 2 ^ 32
-  few_lines = let l = lines_long in let f = r.few in omega (arith, l, f)
-
-  trail : IsTrail front taken
-  trail = subst (IsTrail front) (sym r.kept.events) (recording.trail rules counted n within r.given r.are_given)
-
   agrees : Agree n front checked
   agrees = recording.front_agrees rules counted n within r.given r.are_given
 
-  same_transaction : (i : ℕ) → i < n → transaction taken i ≡ transaction checked i
-  same_transaction i less = transaction_recorded front taken trail i ∙ transaction_same n front checked agrees i less
+  well : IsWellFormed front
+  well = judged_well rules.labels (events_of parts rules) n (lawful_well_formed rules.limits (read_trace parts rules) n r.violation.lawful)
 
-  there : (first : graph.Visit) (rest : List graph.Visit) → IsTelling checked n first rest → IsTelling taken (length taken) first rest
+  untold : (m : ℕ) → m < n → HasTellingCycle front m → ⊥
+  untold m l c =
+      let x = transaction front (c.0).enters in
+      r.violation.closing.before m (omega (arith, l)) (telling_from_begins checked m x (begins_same n front checked agrees m (omega (arith, l)) x (begins_from_telling front m c)))
+
+  judged : AreJudgedAs r.given front
+  judged = recording.are_judged rules counted n within r.given r.are_given well untold
+
+  has : HasRecordedAs recorder r.given front
+  has = r.kept front judged
+
+  enough : IsEnough told taken places
+  enough = has.enough
+
+  thin : IsThinned told taken places
+  thin = enough.thinned
+
+  noted : AreNoted recorder r.given
+  noted = has.noted
+
+  told_long : length told ≡ n
+  told_long = length-map r.given _ ∙ r.are_given.count
+
+  lines_long : length lines ≡ length taken
+  lines_long = noted.lines ∙ thin.each
+
+  pub few_events : length taken < 2 ^ 32
+  few_events = let l = told_long in let f = r.few in let each = thin.each in omega (arith, l, f, each, few_places told taken places thin)
+
+  pub few_lines : length lines < 2 ^ 32
+  few_lines = let l = lines_long in let f = few_events in omega (arith, l, f)
+
+  trail : IsTrail front told
+  trail = recording.trail rules counted n within r.given r.are_given
+
+  same_transaction : (i : ℕ) → i < n → transaction told i ≡ transaction checked i
+  same_transaction i less = transaction_recorded front told trail i ∙ transaction_same n front checked agrees i less
+
+  there : (first : graph.Visit) (rest : List graph.Visit) → IsTelling checked n first rest → IsTelling told (length told) first rest
   there first rest telling =
-      subst (λ m. IsTelling taken m first rest) (sym long) (telling_on front taken trail n first rest (telling_same n checked front (agree_back n front checked agrees) n (omega arith) first rest telling))
+      subst (λ m. IsTelling told m first rest) (sym told_long) (telling_on front told trail n first rest (telling_same n checked front (agree_back n front checked agrees) n (omega arith) first rest telling))
 
-  here : (first : graph.Visit) (rest : List graph.Visit) → IsTelling taken (length taken) first rest → IsTelling checked n first rest
+  here : (first : graph.Visit) (rest : List graph.Visit) → IsTelling told (length told) first rest → IsTelling checked n first rest
   here first rest telling =
-      telling_same n front checked agrees n (omega arith) first rest (telling_back front taken trail n first rest (subst (λ m. IsTelling taken m first rest) long telling))
+      telling_same n front checked agrees n (omega arith) first rest (telling_back front told trail n first rest (subst (λ m. IsTelling told m first rest) told_long telling))
+
+  abbrev HasPlace : ℕ → ℕ → Type 0
+  HasPlace i p = slice_get places i ≡ Some p
+
+  at_within : (i p : ℕ) → HasPlace i p → p < n
+  at_within i p at = let l = told_long in omega (arith, l, thin.within i p at)
+
+  -- each recorded event has its place
+  stood : (i : ℕ) → i < length taken → (p : ℕ) × HasPlace i p
+  stood i less = place_at places i (let each = thin.each in omega arith)
+
+  -- what was given of the event at a place, and its event
+  record GivenAt (p : ℕ) : Type 0 where
+    g : Given
+    at : slice_get r.given p ≡ Some g
+    event : ℕ × Named
+    here : slice_get counted p ≡ Some event
+
+  given_at : (p : ℕ) → p < n → GivenAt p
+  given_at p less = go (slice_get r.given p) refl
+    where
+      with_event : (g : Given) → slice_get r.given p ≡ Some g → (o : Option (ℕ × Named)) → slice_get counted p ≡ o → GivenAt p
+      with_event g some None none = absurd (let past = none_past counted p none in let w = within in omega (arith, less, past, w))
+      with_event g some (Some e) here = record { g = g; at = some; event = e; here = here }
+
+      go : (o : Option Given) → slice_get r.given p ≡ o → GivenAt p
+      go None none = absurd (let long = r.are_given.count in let past = none_past r.given p none in omega (arith, less, long, past))
+      go (Some g) some = with_event g some (slice_get counted p) refl
 
   -- the lines that were recorded
-  line_at : (i l : ℕ) → slice_get lines i ≡ Some l → IsOnLine parts rules i l
-  line_at i l at = go (slice_get r.given i) refl
-    where
-      go : (o : Option Given) → slice_get r.given i ≡ o → IsOnLine parts rules i l
-      go None none = absurd (let a = sym at ∙ ap (λ ls. slice_get ls i) r.kept.lines ∙ slice_get-map (λ (g : Given). g.line) r.given i ∙ ap (option_map (λ (g : Given). g.line)) none in cc)
-      go (Some g) some =
-          let same : g.line ≡ l = same_Some g.line l (sym (ap (option_map (λ (g : Given). g.line)) some) ∙ sym (slice_get-map (λ (g : Given). g.line) r.given i) ∙ sym (ap (λ ls. slice_get ls i) r.kept.lines) ∙ at) in
-          (r.are_given.each i g some).line_is ∙ ap Some same
+  line_at : (i p l : ℕ) → HasPlace i p → slice_get lines i ≡ Some l → IsOnLine parts rules p l
+  line_at i p l at line_here =
+      let given = given_at p (at_within i p at) in
+      let note = noted.each i p given.g at given.at in
+      (r.are_given.each p given.g given.at).line_is ∙ sym note.line ∙ line_here
 
-  line_there : (i l : ℕ) → i < n → IsOnLine parts rules i l → slice_get lines i ≡ Some l
-  line_there i l less on = go (slice_get r.given i) refl
-    where
-      go : (o : Option Given) → slice_get r.given i ≡ o → slice_get lines i ≡ Some l
-      go None none = absurd (let long = r.are_given.count in let past = none_past r.given i none in omega (arith, less, long, past))
-      go (Some g) some = ap (λ ls. slice_get ls i) r.kept.lines ∙ slice_get-map (λ (g : Given). g.line) r.given i ∙ ap (option_map (λ (g : Given). g.line)) some ∙ sym (r.are_given.each i g some).line_is ∙ on
+  line_there : (i p l : ℕ) → HasPlace i p → IsOnLine parts rules p l → slice_get lines i ≡ Some l
+  line_there i p l at on =
+      let given = given_at p (at_within i p at) in
+      let note = noted.each i p given.g at given.at in
+      note.line ∙ sym (r.are_given.each p given.g given.at).line_is ∙ on
 
   -- the place at which the opener's block begins
   abbrev q : ℕ
   q = r.violation.begins.place
 
+  abbrev block : Transaction
+  block = Block r.violation.t r.violation.number
+
   q_within : q < n
   q_within =
       let c = r.violation.opener.begins in
       let first = opening_first checked r.violation.t q (opening_at checked r.violation.t q r.violation.begins.outermost) in
-      let same : Block r.violation.t (blocks checked r.violation.t (suc q)) ≡ Block r.violation.t r.violation.number = sym first.at ∙ r.violation.begins.block in
+      let same : Block r.violation.t (blocks checked r.violation.t (suc q)) ≡ block = sym first.at ∙ r.violation.begins.block in
       let less = c.2.visit.enters in
       elim (cases_lt (c.0).enters q) [
         | inl before ↦ absurd (first.none (c.0).enters before (c.3 ∙ sym same))
         | inr from ↦ omega (arith, less, from)
       ]
 
+  -- it is open still
+  open_front : IsOpen front n block
+  open_front =
+      begins_open front r.violation.place well (λ x w. untold r.violation.place (omega arith) (telling_from_begins front r.violation.place x w)) block
+      (begins_same n checked front (agree_back n front checked agrees) n (omega arith) block r.violation.opener.begins)
+
+  q_block : transaction told q ≡ block
+  q_block = same_transaction q q_within ∙ r.violation.begins.block
+
+  open_here : IsOpen told n block
+  open_here =
+      let o = open_front in
+      ((o.0.0, o.0.1, transaction_recorded front told trail o.0.0 ∙ o.0.2), λ ended. o.1 (ended_back front told trail n block ended))
+
+  open_told : IsOpen told (length told) (transaction told q)
+  open_told = subst (IsOpen told (length told)) (sym q_block) (subst (λ m. IsOpen told m block) (sym told_long) open_here)
+
+  q_among : IsAmong places q
+  q_among =
+      let less : q < length told = (let l = told_long in let w = q_within in omega arith) in
+      enough.led q less (led_inside told (length told) q less open_told)
+
   pub begun_there : (place : ℕ) × (slice_get lines place ≡ Some begun)
-  begun_there = (q, line_there q begun q_within r.violation.begins.line_of)
+  begun_there = (q_among.0, line_there q_among.0 q begun q_among.1 r.violation.begins.line_of)
 
   abbrev all : All IsReading parts
   all = r.readings
 
-  -- what was given of the event at a place, and its event
-  record GivenAt (i : ℕ) : Type 0 where
-    g : Given
-    at : slice_get r.given i ≡ Some g
-    event : ℕ × Named
-    here : slice_get counted i ≡ Some event
-
-  given_at : (i : ℕ) → i < n → GivenAt i
-  given_at i less = go (slice_get r.given i) refl
-    where
-      with_event : (g : Given) → slice_get r.given i ≡ Some g → (o : Option (ℕ × Named)) → slice_get counted i ≡ o → GivenAt i
-      with_event g some None none = absurd (let past = none_past counted i none in let w = within in omega (arith, less, past, w))
-      with_event g some (Some e) here = record { g = g; at = some; event = e; here = here }
-
-      go : (o : Option Given) → slice_get r.given i ≡ o → GivenAt i
-      go None none = absurd (let long = r.are_given.count in let past = none_past r.given i none in omega (arith, less, long, past))
-      go (Some g) some = with_event g some (slice_get counted i) refl
-
-  said_long : length recorder.said.items ≡ n
-  said_long = zip_long (IsSaidOf recorder.labels.names) r.given recorder.said.items r.kept.said ∙ r.are_given.count
-
   -- it is shown as it was read
-  shown_at : (i : ℕ) (x : Numbered) (code : ℕ) → slice_get taken i ≡ Some x → slice_get recorder.said.items i ≡ Some code →
-      (option_map (λ (e : ℕ × Named). e.1) (slice_get counted i) ≡ Some (shown (names_in numbering) recorder.labels.names x code)) × CanShow (names_in numbering) recorder.labels.names x code
-  shown_at i x code at said =
-      let l = long in
-      let less : i < n = (let w = slice_get_within taken i x at in omega (arith, l, w)) in
-      let given = given_at i less in
+  shown_at : (i p : ℕ) (x : Numbered) (code : ℕ) → HasPlace i p → slice_get taken i ≡ Some x → slice_get recorder.said.items i ≡ Some code →
+      (option_map (λ (e : ℕ × Named). e.1) (slice_get counted p) ≡ Some (shown (names_in numbering) recorder.labels.names x code)) × CanShow (names_in numbering) recorder.labels.names x code
+  shown_at i p x code at taken_here said =
+      let less = at_within i p at in
+      let given = given_at p less in
+      let note = noted.each i p given.g at given.at in
       let same : recorded given.g ≡ x =
-      same_Some (recorded given.g) x (sym (ap (option_map recorded) given.at) ∙ sym (slice_get-map recorded r.given i) ∙ sym (ap (λ es. slice_get es i) r.kept.events) ∙ at) in
-      let is_said = zip_at (IsSaidOf recorder.labels.names) r.given recorder.said.items i given.g code r.kept.said given.at said in
-      let both = given_shown rules counted n within r.given r.are_given recorder.labels.names i given.g given.event code less given.at given.here is_said in
+      same_Some (recorded given.g) x (sym (ap (option_map recorded) given.at) ∙ sym (slice_get-map recorded r.given p) ∙ sym (thin.event i p at) ∙ taken_here) in
+      let is_said = subst (IsSaidOf recorder.labels.names given.g) (same_Some note.code code (sym note.code_at ∙ said)) note.said in
+      let both = given_shown rules counted n within r.given r.are_given recorder.labels.names p given.g given.event code less given.at given.here is_said in
       let shows = subst (λ t. (shown t recorder.labels.names (recorded given.g) code ≡ given.event.1) × CanShow t recorder.labels.names (recorded given.g) code) (sym r.names_are) both in
-      let here = subst (λ y. (shown (names_in numbering) recorder.labels.names y code ≡ given.event.1) × CanShow (names_in numbering) recorder.labels.names y code) same shows in
-      (ap (option_map (λ (e : ℕ × Named). e.1)) given.here ∙ ap Some (sym here.0), here.1)
+      let now = subst (λ y. (shown (names_in numbering) recorder.labels.names y code ≡ given.event.1) × CanShow (names_in numbering) recorder.labels.names y code) same shows in
+      (ap (option_map (λ (e : ℕ × Named). e.1)) given.here ∙ ap Some (sym now.0), now.1)
 
   pub are_shown : AreShown numbering recorder
   are_shown =
-      let l = long in
-      let m = lines_long in
-      let s = said_long in
-      record { lines_each = m ∙ sym l; said_each = s ∙ sym l; can = λ i x code at said. (shown_at i x code at said).1 }
+      record {
+        lines_each = lines_long;
+        said_each = noted.said ∙ thin.each;
+        can = λ i x code at said. (let p = stood i (slice_get_within taken i x at) in (shown_at i p.0 x code p.1 at said).1);
+      }
 
-  event_is : (i : ℕ) (event : Named) → IsEventAt numbering recorder i event → option_map (λ (e : ℕ × Named). e.1) (slice_get counted i) ≡ Some event
-  event_is i event is = (shown_at i is.e is.code is.at is.said).0 ∙ ap Some (sym is.is)
+  event_is : (i p : ℕ) (event : Named) → HasPlace i p → IsEventAt numbering recorder i event → option_map (λ (e : ℕ × Named). e.1) (slice_get counted p) ≡ Some event
+  event_is i p event at is = (shown_at i p is.e is.code at is.at is.said).0 ∙ ap Some (sym is.is)
 
   module _ (begin : ℕ) (begin_at : slice_get lines begin ≡ Some begun) where
-    begin_is : begin ≡ q
-    begin_is =
-        let a = at_line (slice_get counted begin) begun (line_at begin begun begin_at) in
-        let b = at_line (slice_get counted q) begun r.violation.begins.line_of in
-        one_within parts all rules.limits.lines begin q (begun, a.event) (begun, b.event) a.here b.here refl
-
-    begin_block : transaction taken begin ≡ Block r.violation.t r.violation.number
-    begin_block = ap (transaction taken) begin_is ∙ same_transaction q q_within ∙ r.violation.begins.block
-
     pub begin_within : begin < length taken
-    begin_within = let l = long in let w = q_within in let is = begin_is in omega (arith, l, w, is)
+    begin_within = let l = lines_long in let w = slice_get_within lines begin begun begin_at in omega (arith, l, w)
+
+    begin_stands : HasPlace begin q
+    begin_stands =
+        let p = stood begin begin_within in
+        let a = at_line (slice_get counted p.0) begun (line_at begin p.0 begun p.1 begin_at) in
+        let b = at_line (slice_get counted q) begun r.violation.begins.line_of in
+        p.1 ∙ ap Some (one_within parts all rules.limits.lines p.0 q (begun, a.event) (begun, b.event) a.here b.here refl)
 
     pub begins : BeginsCycle taken (length taken) (transaction taken begin)
     begins =
         let c = r.violation.opener.begins in
-        (c.0, c.1, there c.0 c.1 c.2, same_transaction (c.0).enters c.2.visit.enters ∙ c.3 ∙ sym begin_block)
+        begins_kept told taken places thin enough.led begin q begin_stands open_told (c.0, c.1, there c.0 c.1 c.2, same_transaction (c.0).enters c.2.visit.enters ∙ c.3 ∙ sym q_block)
 
     module _ (firsts : List ℕ) (are : AreFirstsTo taken (length taken) firsts) where
       pub can_be : CanBeShown numbering recorder firsts
       can_be = record { shown = are_shown; each = are.each; within = λ i f at. (let less = first_within taken firsts are i f at in let each = are.each in omega (arith, less, each)) }
 
-      step_is : (place : ℕ) (step : CycleStep) → IsStepAt numbering recorder firsts place step → IsCycleStep parts rules place step
-      step_is place step is =
-          let place_less : place < n = (let l = slice_get_within lines place step.line is.line in let m = lines_long in omega (arith, l, m)) in
-          let first_less : is.first < n = (let l = slice_get_within lines is.first step.first is.first_line in let m = lines_long in omega (arith, l, m)) in
-          let first = are.at place is.first is.first_at in
+      step_is : (i p : ℕ) (step : CycleStep) → HasPlace i p → IsStepAt numbering recorder firsts i step → IsCycleStep parts rules p step
+      step_is i p step at is =
+          let f = is.first in
+          let f_less : f < length taken = (let l = lines_long in let w = slice_get_within lines f step.first is.first_line in omega (arith, l, w)) in
+          let first = stood f f_less in
+          let pf = first.0 in
+          let here_first = are.at i f is.first_at in
+          let p_less = at_within i p at in
+          let pf_less = at_within f pf first.1 in
           record {
-            line = line_at place step.line is.line;
-            event = event_is place step.event is.event;
-            first = is.first;
+            line = line_at i p step.line at is.line;
+            event = event_is i p step.event at is.event;
+            first = pf;
             is_first = record {
-              one = sym (same_transaction is.first first_less) ∙ first.at ∙ same_transaction place place_less;
-              none = λ m less same. first.none m less (same_transaction m (omega (arith, less, first_less)) ∙ same ∙ sym (same_transaction place place_less));
+              one = sym (same_transaction pf pf_less) ∙ one_back told taken places thin f i pf p first.1 at here_first.at ∙ same_transaction p p_less;
+              none = λ m less same.
+                  (let m_less : m < n = omega (arith, less, pf_less) in
+                  let inside : transaction told p ≡ transaction told m = same_transaction p p_less ∙ sym same ∙ sym (same_transaction m m_less) in
+                  let long = told_long in
+                  let among = thin.whole p m (i, at) (omega arith) inside in
+                  here_first.none among.0 (earlier_index told taken places thin among.0 f m pf among.1 first.1 less) (one_kept told taken places thin among.0 i m p among.1 at (sym inside)));
             };
-            first_line = line_at is.first step.first is.first_line;
+            first_line = line_at f pf step.first first.1 is.first_line;
           }
 
       module _ (visits : List Visit) (shortest : IsShortest taken (transaction taken begin) visits) where
@@ -272,26 +408,30 @@ module _ (parts : List Reading) (rules : Rules) (numbering : Numbering) (recorde
             go [] telling = absurd telling
             go (v ∷ vs) telling = round_within taken (length taken) (visit_of v) (visits_of vs) telling
 
-        pub explained : (places : List ℕ) (steps : Vec CycleStep Global) (opener : Named) → places ≡ round_of visits → AllZip (IsStepAt numbering recorder firsts) places steps.items
+        pub explained : (round : List ℕ) (steps : Vec CycleStep Global) (opener : Named) → round ≡ round_of visits → AllZip (IsStepAt numbering recorder firsts) round steps.items
             → IsEventAt numbering recorder begin opener → IsExplained parts rules line thread begun (record { label = opener.target; steps = steps })
-        explained places steps opener are_places zip opens_it = go visits shortest (zip_as (IsStepAt numbering recorder firsts) (IsCycleStep parts rules) step_is (round_of visits) steps.items (subst (λ ps. AllZip (IsStepAt numbering recorder firsts) ps steps.items) are_places zip))
+        explained round steps opener are_places zip opens_it =
+            let moved = shortest_trace told taken places thin enough.led begin q begin_stands open_told visits shortest in
+            go visits moved.0 moved.1 moved.2 (subst (λ ps. AllZip (IsStepAt numbering recorder firsts) ps steps.items) are_places zip)
           where
-            go : (vs : List Visit) → IsShortest taken (transaction taken begin) vs → AllZip (IsCycleStep parts rules) (round_of vs) steps.items → IsExplained parts rules line thread begun (record { label = opener.target; steps = steps })
-            go [] short zipped = absurd short.telling
-            go (v ∷ vs) short zipped =
-                let telling = here (visit_of v) (visits_of vs) short.telling in
+            go : (vs ws : List Visit) → AllZip (IsPlaced places) (visits_of vs) (visits_of ws) → IsShortest told (transaction told q) ws → AllZip (IsStepAt numbering recorder firsts) (round_of vs) steps.items → IsExplained parts rules line thread begun (record { label = opener.target; steps = steps })
+            go vs [] ats short zipped = absurd short.telling
+            go [] (w ∷ ws) ats short zipped = absurd ats
+            go (v ∷ vs) (w ∷ ws) ats short zipped =
+                let telling = here (visit_of w) (visits_of ws) short.telling in
                 record {
                   violation = r.violation;
-                  label = label_is (slice_get counted q) opener (ap (λ k. option_map (λ (e : ℕ × Named). e.1) (slice_get counted k)) (sym begin_is) ∙ event_is begin opener opens_it);
-                  first = visit_of v;
-                  rest = visits_of vs;
+                  label = label_is (slice_get counted q) opener (event_is begin q opener begin_stands opens_it);
+                  first = visit_of w;
+                  rest = visits_of ws;
                   telling = telling;
-                  begins = sym (same_transaction v.enters telling.visit.enters) ∙ short.begins ∙ begin_block;
+                  begins = sym (same_transaction w.enters telling.visit.enters) ∙ short.begins ∙ q_block;
                   fewest = λ other more tells from.
-                      (let few = short.fewest other more (there other more tells) (same_transaction other.enters tells.visit.enters ∙ from ∙ sym begin_block) in
-                      let l = length-map vs visit_of in
+                      (let few = short.fewest other more (there other more tells) (same_transaction other.enters tells.visit.enters ∙ from ∙ sym q_block) in
+                      let l = length-map ws visit_of in
                       omega (arith, few, l));
-                  steps_are = zipped;
+                  steps_are = zip_through HasPlace (IsStepAt numbering recorder firsts) (IsCycleStep parts rules) (λ i p step at is. step_is i p step at is) (round_of (v ∷ vs)) (round_of (w ∷ ws)) steps.items
+                      (round_stands told taken places thin (visit_of v) (visit_of w) (visits_of vs) (visits_of ws) ats.0 ats.1) zipped;
                 }
 
 -- two events with which a cycle closes first are one

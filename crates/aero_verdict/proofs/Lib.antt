@@ -29,3 +29,5 @@ pub mod FirstEvents
 pub mod Gathered
 pub mod PartOf
 pub mod Vectors
+pub mod Sweeping
+pub mod Forgetting

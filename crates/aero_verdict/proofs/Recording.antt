@@ -1,5 +1,5 @@
 -- What is recorded of events as they are given is a trail of the trace that is judged.
-use Rattle.std.proofs.Common.{◌≡◌, ℕ, ◌<◌, ◌≤◌, ◌==◌, ◌&&◌, nat_lt, Bool, true, false, if◌then◌else◌, List, length, map, take, Option, Some, None, option_map, refl, sym, ◌∙◌, ap, subst, arith}
+use Rattle.std.proofs.Common.{◌≡◌, ℕ, zero, suc, ◌<◌, ◌≤◌, ◌==◌, ◌&&◌, nat_lt, Bool, true, false, if◌then◌else◌, List, [], ◌∷◌, length, map, take, Option, Some, None, option_map, refl, sym, ◌∙◌, ap, subst, arith}
 use Rattle.std.specs.Prelude.{slice_get}
 use Rattle.std.proofs.lemmas.Bool.{eq-eqb}
 use Rattle.std.proofs.lemmas.List.{length-map}
@@ -8,7 +8,8 @@ use Rattle.aero_model.specs.declared.numbered.Numbered.{Numbered}
 use Rattle.aero_model.specs.declared.numbered.What.{What}
 use Rattle.aero_model.specs.declared.numbered.What.TheVariants.{Read, Write, Acquire, Release, Fork, Join, Begin, End, Exempt}
 use Rattle.aero_model.specs.Blocks.{is_begin, is_end, by_thread, depth}
-use Rattle.aero_model.specs.Exempt.{Marked, judged, IsBare, IsJudgedWhat}
+use Rattle.aero_model.specs.Cycle.{HasTellingCycle}
+use Rattle.aero_model.specs.Exempt.{Marked, judged, IsBare, IsJudgedWhat, IsJudgedAs}
 use Rattle.aero_model.specs.Named.{Named}
 use Rattle.aero_model.proofs.Exempt.{judged_at, judged_length, read_at, read_marked}
 use Rattle.aero_model.proofs.Stability.{Agree, depth_same}
@@ -18,7 +19,8 @@ use Rattle.aero_shape.specs.Admission.{admitted_as, deed_as}
 use Rattle.aero_witness.specs.Trail.{is_deed, IsRecorded, IsTrail}
 use Rattle.aero_engine.specs.Given.{Given}
 use Rattle.aero_verdict.specs.Standing.{names_of, marked_in, judged_in, AreGiven, IsGiven}
-use Rattle.aero_verdict.specs.Recorded.{inner_what, recorded_what, recorded}
+use Rattle.aero_model.specs.Shape.{IsWellFormed}
+use Rattle.aero_verdict.specs.Recorded.{inner_what, recorded_what, recorded, AreJudgedAs}
 use Rattle.aero_verdict.specs.Verdict.{Rules}
 use Rattle.aero_verdict.proofs.Steps.{judged_as}
 
@@ -174,6 +176,41 @@ read_as_judged before deep w judged r is rec = record {
   none = λ d. rec.none (bare_deed judged (judged_bare before deep w judged (bound_of before deep w d) is));
 }
 
+-- what is recorded of events that are judged so is a trail
+module _ (given : List Given) (h : List Numbered) (are : AreJudgedAs given h) where
+  recorded_as : (i : ℕ) (e : Numbered) (g : Given) → slice_get given i ≡ Some g → slice_get h i ≡ Some e → IsRecorded h i e (recorded g)
+  recorded_as i e g given_at at =
+      let less = slice_get_within h i e at in
+      let judges = are.judged i g e given_at at in
+      let deep = depth (take i h) e.thread (length (take i h)) in
+      let w = g.event.what in
+      let what : IsRecordedWhat e.what (recorded g).what deep =
+      subst (λ a. IsRecordedWhat e.what (recorded_what a w) deep) (sym (are.admitted i g e given_at at)) (by_deed (take i h) deep (is_deed w) w e.what refl judges.what) in
+      let short : length (take i h) ≡ i = length-take_at h i (omega (arith, less)) in
+      let deep_is : deep ≡ depth h e.thread i =
+      ap (depth (take i h) e.thread) short ∙ depth_same (take i h) h e.thread i (record { same = λ j l. slice_get-take h i j l }) in
+      let own = eq-eqb e.thread e.thread refl in
+      record {
+        thread = sym judges.thread;
+        deed = what.deed;
+        none = what.none;
+        begins = what.begins ∙ ap (λ d. is_begin e.what && (d == 0)) deep_is ∙ sym (ap (λ o. by_thread e.thread is_begin o && (depth h e.thread i == 0)) at ∙ ap (λ b. (b && is_begin e.what) && (depth h e.thread i == 0)) own);
+        ends = what.ends ∙ ap (λ d. is_end e.what && (d == 1)) deep_is ∙ sym (ap (λ o. by_thread e.thread is_end o && (depth h e.thread i == 1)) at ∙ ap (λ b. (b && is_end e.what) && (depth h e.thread i == 1)) own);
+      }
+
+  pub given_at : (i : ℕ) (r : Numbered) → slice_get (map recorded given) i ≡ Some r → (g : Given) × (slice_get given i ≡ Some g) × (recorded g ≡ r)
+  given_at i r at = go (slice_get given i) refl
+    where
+      go : (o : Option Given) → slice_get given i ≡ o → (g : Given) × (slice_get given i ≡ Some g) × (recorded g ≡ r)
+      go None here = absurd (let a = sym at ∙ slice_get-map recorded given i ∙ ap (option_map recorded) here in cc)
+      go (Some g) here = (g, here, same_Some (recorded g) r (sym (ap (option_map recorded) here) ∙ sym (slice_get-map recorded given i) ∙ at))
+
+  pub trail_of : IsTrail h (map recorded given)
+  trail_of = record {
+    each = length-map given recorded ∙ sym are.count;
+    at = λ i e r here there. (let g = given_at i r there in subst (IsRecorded h i e) g.2 (recorded_as i e g.0 g.1 here));
+  }
+
 -- the first n events
 module _ (rules : Rules) (events : List (ℕ × Named)) (n : ℕ) (within : n ≤ length events) (given : List Given) (are : AreGiven rules events n given) where
   abbrev marked : List Marked
@@ -203,6 +240,15 @@ module _ (rules : Rules) (events : List (ℕ × Named)) (n : ℕ) (within : n �
       judged_is = same_Some (judged (take i marked) m) e (sym (ap (option_map (judged (take i marked))) here) ∙ sym (judged_at marked i) ∙ at);
       event_is = same_Some m.event g.event (sym (ap (option_map (λ (x : Marked). x.event)) here) ∙ sym (read_at marked i) ∙ ap (λ t. slice_get t i) (read_marked rules.labels (names_of events)) ∙ is.event_is);
     }
+
+    judged_here : IsJudgedAs g.event e
+    judged_here =
+        let read = read_of (slice_get marked i) refl in
+        let w = g.event.what in
+        record {
+          thread = sym (ap (λ (x : Numbered). x.thread) read.judged_is) ∙ ap (λ (x : Numbered). x.thread) read.event_is;
+          what = subst (λ (x : Numbered). IsJudgedWhat w x.what) read.judged_is (subst (λ (x : Numbered). IsJudgedWhat x.what (judged (take i marked) read.m).what) read.event_is (judged_as (take i marked) read.m.event.thread read.m.exempt read.m.event.what));
+        }
 
     admitted_here : g.admitted ≡ admitted_as (take i trace) e
     admitted_here = sym (same_Some (admitted_as (take i trace) e) g.admitted (sym (ap (option_map (admitted_as (take i trace))) at) ∙ is.admitted_is))
@@ -264,3 +310,24 @@ module _ (rules : Rules) (events : List (ℕ × Named)) (n : ℕ) (within : n �
       go : (o : Option Numbered) → slice_get trace i ≡ o → IsReadAs g.event.what (recorded g).what
       go None none = absurd (let is = (are.each i g at).admitted_is in let none_here = ap (option_map (admitted_as (take i trace))) none in cc)
       go (Some e) here = read_here i e (recorded g) g less here (are.each i g at) refl
+
+  take_take : {X : Type 0} (xs : List X) (i m : ℕ) → i ≤ m → take i (take m xs) ≡ take i xs
+  take_take xs zero m le = refl
+  take_take [] (suc i) zero le = refl
+  take_take [] (suc i) (suc m) le = refl
+  take_take (x ∷ xs) (suc i) zero le = absurd (omega arith)
+  take_take (x ∷ xs) (suc i) (suc m) le = ap (λ ys. x ∷ ys) (take_take xs i m (omega arith))
+
+  -- they are judged as the front of the trace
+  pub are_judged : IsWellFormed (take n trace) → ((m : ℕ) → m < n → ¬ HasTellingCycle (take n trace) m) → AreJudgedAs given (take n trace)
+  are_judged well untold = record {
+    count = length-take_at trace n (omega (arith, within, long)) ∙ sym are.count;
+    judged = λ i g e here there.
+        (let less : i < n = (let l = slice_get_within given i g here in omega (arith, l, are.count)) in
+        judged_here i e (recorded g) g less (sym (slice_get-take trace n i less) ∙ there) (are.each i g here) refl);
+    admitted = λ i g e here there.
+        (let less : i < n = (let l = slice_get_within given i g here in omega (arith, l, are.count)) in
+        admitted_here i e (recorded g) g less (sym (slice_get-take trace n i less) ∙ there) (are.each i g here) refl ∙ ap (λ before. admitted_as before e) (sym (take_take trace i n (omega arith))));
+    well_formed = well;
+    untold = λ m l. untold m (omega (arith, l, length-take_at trace n (omega (arith, within, long))));
+  }

@@ -18,7 +18,7 @@ label_still : (before after : List (List ℕ)) → HasStill before after → (la
 label_still before after still None code said = said
 label_still before after still (Some label) code said = (said.0, said.1, still said.0 label said.2)
 
-said_still : (before after : List (List ℕ)) → HasStill before after → (what : What) (label : Option (List ℕ)) (code : ℕ) → IsSaid before what label code → IsSaid after what label code
+pub said_still : (before after : List (List ℕ)) → HasStill before after → (what : What) (label : Option (List ℕ)) (code : ℕ) → IsSaid before what label code → IsSaid after what label code
 said_still before after still (Begin unlabelled) label code said = label_still before after still label code said
 said_still before after still End label code said = said
 said_still before after still Exempt label code said = said

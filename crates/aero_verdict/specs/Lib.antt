@@ -13,6 +13,7 @@ pub mod Ordered
 pub mod Explained
 pub mod InOrder
 pub mod Recorded
+pub mod Swept
 pub mod Full
 pub mod Actors
 pub mod Spots

@@ -73,6 +73,7 @@ mod on_line;
 pub mod recorder;
 mod serial;
 mod shown;
+mod sweep;
 
 pub use actor::actor_at;
 pub use aero_engine::engine;

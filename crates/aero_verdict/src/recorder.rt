@@ -1,11 +1,12 @@
 //! First places as an engine that also records the events that it is given, for the cycle that closes with one.
-ghost use Rattle.std.specs.Prelude.{◌≡◌, ◌++◌, ◌∷◌, [], ℕ, List, length, Option, option_copied, IfOk, OnOk};
+ghost use Rattle.std.specs.Prelude.{◌≡◌, ◌⊎◌, ◌≤◌, ◌++◌, ◌∷◌, [], ℕ, List, length, Option, option_copied, IfOk, OnOk};
 ghost use Rattle.aero_model.specs.declared.numbered.Numbered.{Numbered};
 ghost use Rattle.aero_model.specs.Exempt.{IsJudgedAs};
 ghost use Rattle.aero_engine.specs.Given.{Given};
 ghost use Rattle.aero_engine.specs.Judging.{IsAdmitted, ComesAfter, Tells};
-ghost use Rattle.aero_verdict.specs.Recorded.{inner_what, recorded_what, IsLabelSaid, IsSaid, HasStill, HasRecorded, StandsForLeads};
+ghost use Rattle.aero_verdict.specs.Recorded.{inner_what, recorded_what, IsLabelSaid, IsSaid, HasStill, HasRecorded, StandsForLeads, IsNotedNext, IsSwept, IsAsBefore};
 
+use crate::sweep::{keep_marked, marks_of};
 use aero_engine::by_kind;
 use aero_engine::engine::Engine;
 use aero_engine::spent::Spent;
@@ -24,8 +25,17 @@ pub struct Recorder {
     pub(crate) events: Vec<Numbered>,
     pub(crate) lines: Vec<u32>,
     pub(crate) said: Vec<u32>,
+    places: Vec<u32>,
     pub(crate) labels: Names,
+    // How many events were given.
+    count: u32,
+    // At how many recorded events those are forgotten that no open block leads to.
+    due: usize,
+    alloc: Global,
 }
+
+// As long as so few events are recorded none is forgotten.
+const FEW: usize = 1 << 16;
 
 impl Recorder {
     ghost use Rattle.std.specs.Prelude.{◌≡◌};
@@ -56,7 +66,11 @@ impl Engine for Recorder {
             events: Vec::new(alloc),
             lines: Vec::new(alloc),
             said: Vec::new(alloc),
+            places: Vec::new(alloc),
             labels: Names::new(alloc, u32::MAX),
+            count: 0,
+            due: FEW,
+            alloc,
         }
     }
 
@@ -84,6 +98,52 @@ fn judge(
         IfOk result (Tells (StandsForLeads recorder.new) (h ++ judged ∷ []) (length h)) }
     ensures kept { OnOk result ((given : List Given) (named : Option (List ℕ)) → option_copied label.entry ≡ named → HasRecorded recorder.old given → HasRecorded recorder.new (given ++ record { line = line; event = event.now; admitted = admitted; label = named } ∷ [])) }
 {
+    sweep_if_due(recorder)?;
+    note(recorder, line, event, admitted, label)?;
+    by_kind::judge(&mut recorder.leads, event, admitted)
+}
+
+// Forgets the events to which no open block leads, where twice as many events are recorded as were left by the last time.
+fn sweep_if_due(recorder: &mut Recorder) -> Result<(), AllocError>
+    ensures { OnOk result (IsSwept recorder.old recorder.new ⊎ IsAsBefore recorder.old recorder.new) }
+{
+    if recorder.events.len() < recorder.due {
+        return Ok(());
+    }
+    sweep(recorder)?;
+    recorder.due = due_after(recorder.events.len());
+    Ok(())
+}
+
+fn due_after(left: usize) -> usize
+    ensures { left ≤ result }
+{
+    left.saturating_mul(2).max(FEW)
+}
+
+fn sweep(recorder: &mut Recorder) -> Result<(), AllocError>
+    ensures { OnOk result (IsSwept recorder.old recorder.new) }
+{
+    let alloc = recorder.alloc;
+    let marks = marks_of(alloc, &recorder.leads, &recorder.events, &recorder.places)?;
+    keep_marked(alloc, &mut recorder.events, &marks)?;
+    keep_marked(alloc, &mut recorder.lines, &marks)?;
+    keep_marked(alloc, &mut recorder.said, &marks)?;
+    keep_marked(alloc, &mut recorder.places, &marks)?;
+    Ok(())
+}
+
+// Records the event, its line, its place, and the code of its begin.
+fn note(
+    recorder: &mut Recorder,
+    line: u32,
+    event: &Numbered,
+    admitted: Admitted,
+    label: Option<&[u8]>,
+) -> Result<(), AllocError>
+    ensures firsts { OnOk result (recorder.new.leads ≡ recorder.old.leads) }
+    ensures noted { OnOk result (IsNotedNext recorder.old recorder.new (record { line = line; event = event.now; admitted = admitted; label = option_copied label.entry })) }
+{
     let what = recorded_what(admitted, event.what);
     push(
         &mut recorder.events,
@@ -92,8 +152,10 @@ fn judge(
         Numbered { what, ..*event },
     )?;
     let code = code_of(&mut recorder.labels, event.what, label)?;
-    push_code(&mut recorder.said, code)?;
-    by_kind::judge(&mut recorder.leads, event, admitted)
+    push_number(&mut recorder.said, code)?;
+    push_number(&mut recorder.places, recorder.count)?;
+    recorder.count = recorder.count.checked_add(1).ok_or(AllocError)?;
+    Ok(())
 }
 
 // Puts the event, and its line, behind the others.
@@ -111,10 +173,10 @@ fn push(
     Ok(())
 }
 
-fn push_code(said: &mut Vec<u32>, code: u32) -> Result<(), AllocError>
-    ensures { OnOk result (said.new.items ≡ said.old.items ++ code ∷ []) }
+fn push_number(numbers: &mut Vec<u32>, number: u32) -> Result<(), AllocError>
+    ensures { OnOk result (numbers.new.items ≡ numbers.old.items ++ number ∷ []) }
 {
-    said.push(code)?;
+    numbers.push(number)?;
     Ok(())
 }
 

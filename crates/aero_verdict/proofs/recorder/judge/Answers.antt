@@ -1,18 +1,26 @@
-use Rattle.std.proofs.Common.{[], ◌∷◌, ◌++◌, sym, ◌∙◌, ap, subst}
-use Rattle.std.proofs.lemmas.List.{map-append}
-use Rattle.std.specs.List.{AllZip}
+use Rattle.std.proofs.Common.{sym, ◌∙◌, subst}
 use Rattle.aero_engine.specs.Given.{Given}
-use Rattle.aero_verdict.specs.Recorded.{recorded, IsSaid, IsSaidOf}
-use Rattle.aero_verdict.proofs.Said.{said_more, on_ok}
+use Rattle.aero_engine.specs.Judging.{IsAdmitted, ComesAfter}
+use Rattle.aero_leads.specs.Standing as standing
+use Rattle.aero_verdict.specs.Recorded.{IsNotedNext}
+use Rattle.aero_verdict.proofs.Forgetting.{same_firsts, on_some_ok, recorded_next}
 use Rattle.aero_verdict.proofs.recorder.judge.Goals as goal
 
+pub judge-requires : goal.judge-requires
+judge-requires c =
+    let same = c.in_ok-note.ensures.firsts ∙ same_firsts c.args.recorder.now c.sweep_if_due.new.recorder c.in_ok-sweep_if_due.ensures in
+    subst (λ l. IsAdmitted (standing.StandsFor l) c.args.event.now c.args.admitted) (sym same) c.requires
+
+pub returns-clause-told : goal.returns-clause-told
+returns-clause-told c =
+    let same = c.in_ok-note.ensures.firsts ∙ same_firsts c.args.recorder.now c.sweep_if_due.new.recorder c.in_ok-sweep_if_due.ensures in
+    λ h judged judges after. c.judge.ensures h judged judges (subst (λ l. ComesAfter (standing.StandsFor l) h judged c.args.admitted) (sym same) after)
+
 pub returns-clause-kept : goal.returns-clause-kept
-returns-clause-kept c = on_ok c.judge.result _ (λ given named is keeps.
+returns-clause-kept c =
+    let same = c.in_ok-note.ensures.firsts ∙ same_firsts c.args.recorder.now c.sweep_if_due.new.recorder c.in_ok-sweep_if_due.ensures in
+    on_some_ok c.judge.result _ (λ o ok given named is.
     let g : Given = record { line = c.args.line; event = c.args.event.now; admitted = c.args.admitted; label = named } in
-    let said = said_more c.args.recorder.now.labels.names c.code_of.new.labels.names given c.args.recorder.now.said.items g c.in_ok-code.code c.in_ok-code.ensures.still keeps.said
-    (subst (λ l. IsSaid c.code_of.new.labels.names c.args.event.now.what l c.in_ok-code.code) is c.in_ok-code.ensures.said) in
-    record {
-      events = c.in_ok-push.ensures.events ∙ ap (λ w. c.args.recorder.now.events.items ++ (record { thread = c.args.event.now.thread; what = w }) ∷ []) c.recorded_what-what.ensures ∙ ap (λ es. es ++ recorded g ∷ []) keeps.events ∙ sym (map-append recorded given (g ∷ []));
-      lines = c.in_ok-push.ensures.lines ∙ ap (λ ls. ls ++ c.args.line ∷ []) keeps.lines ∙ sym (map-append (λ (x : Given). x.line) given (g ∷ []));
-      said = subst (AllZip (IsSaidOf c.code_of.new.labels.names) (given ++ g ∷ [])) (sym c.in_ok-push_code.ensures) said;
-    })
+    recorded_next c.args.recorder.now c.sweep_if_due.new.recorder c.note.new.recorder c.judge.new.engine given g c.judge.result o ok
+    c.in_ok-sweep_if_due.ensures (subst (λ l. IsNotedNext c.sweep_if_due.new.recorder c.note.new.recorder (record { line = c.args.line; event = c.args.event.now; admitted = c.args.admitted; label = l })) is c.in_ok-note.ensures.noted)
+    (λ h judged judges after. c.judge.ensures h judged judges (subst (λ l. ComesAfter (standing.StandsFor l) h judged c.args.admitted) (sym same) after)))

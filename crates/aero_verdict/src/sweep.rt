@@ -1,0 +1,131 @@
+//! Which events open blocks lead to, and what is kept with them.
+ghost use Rattle.std.specs.Prelude.{◌≡◌, ◌++◌, ◌∷◌, [], ℕ, Option, Some, slice_get, if◌then◌else◌, IfOk, OnOk};
+ghost use Rattle.aero_leads.specs.Leads.{is_led};
+ghost use Rattle.aero_leads.specs.Leasts.{IsLeastOf};
+ghost use Rattle.aero_leads.specs.Standing.{state_of};
+ghost use Rattle.aero_witness.specs.Thinned.{marked};
+ghost use Rattle.aero_verdict.specs.Recorded.{AreMarks};
+ghost use Rattle.aero_verdict.specs.Swept.{AreLeasts, IsMarkedAt, mark_or_not};
+
+use aero_leads::leads::Leads;
+use aero_model::numbered::Numbered;
+use std::alloc::{AllocError, Global};
+
+/// Of each event whether an open block leads to it, where the events have these places.
+pub(crate) fn marks_of(
+    alloc: Global,
+    leads: &Leads,
+    events: &[Numbered],
+    places: &[u32],
+) -> Result<Vec<bool>, AllocError>
+    ensures { IfOk result (λ marks. AreMarks (state_of leads.now).rows events.now places.now marks.items) }
+{
+    let mut leasts = Vec::new(alloc);
+    let mut marks = Vec::new(alloc);
+    for (i, event) in events.iter().enumerate() {
+        let place = place_at(places, i);
+        let mark = mark_of(leads, &mut leasts, event.thread, place)?;
+        marks.push(mark)?;
+    }
+    Ok(marks)
+}
+
+fn place_at(places: &[u32], i: usize) -> Option<u32>
+    ensures { result ≡ slice_get places.now i }
+{
+    places.get(i).copied()
+}
+
+// Whether an open block leads to the event of the thread at this place. The least places of threads are looked up once.
+fn mark_of(
+    leads: &Leads,
+    leasts: &mut Vec<Option<u32>>,
+    thread: u32,
+    place: Option<u32>,
+) -> Result<bool, AllocError>
+    requires { AreLeasts (state_of leads.now).rows leasts.old.items }
+    ensures leasts { OnOk result (AreLeasts (state_of leads.now).rows leasts.new.items) }
+    ensures mark { IfOk result (IsMarkedAt ((state_of leads.now).rows thread) place) }
+{
+    reach(leads, leasts, thread)?;
+    let least = least_of(leads, leasts, thread);
+    Ok(is_led(least, place))
+}
+
+// Looks up the least places of all threads up to this one.
+fn reach(leads: &Leads, leasts: &mut Vec<Option<u32>>, thread: u32) -> Result<(), AllocError>
+    requires { AreLeasts (state_of leads.now).rows leasts.old.items }
+    ensures { OnOk result (AreLeasts (state_of leads.now).rows leasts.new.items) }
+{
+    while leasts.len() <= thread as usize {
+        let least = leads.least_place(leasts.len() as u32);
+        leasts.push(least)?;
+    }
+    Ok(())
+}
+
+// The least place of the thread, which may be looked up already.
+fn least_of(leads: &Leads, leasts: &[Option<u32>], thread: u32) -> Option<u32>
+    requires { AreLeasts (state_of leads.now).rows leasts.now }
+    ensures { IsLeastOf ((state_of leads.now).rows thread) result }
+{
+    match leasts.get(thread as usize) {
+        Some(least) => *least,
+        None => leads.least_place(thread),
+    }
+}
+
+// Whether both places are there, and the second isn't below the least.
+fn is_led(least: Option<u32>, place: Option<u32>) -> bool
+    ensures { (p : ℕ) → place ≡ Some p → result ≡ is_led least p }
+{
+    match (least, place) {
+        (Some(least), Some(place)) => least <= place,
+        _ => false,
+    }
+}
+
+/// Keeps the marked items.
+pub(crate) fn keep_marked<T: Copy>(
+    alloc: Global,
+    items: &mut Vec<T>,
+    marks: &[bool],
+) -> Result<(), AllocError>
+    ensures { OnOk result (items.new.items ≡ marked marks.now items.old.items) }
+{
+    let kept = marked_items(alloc, items, marks)?;
+    *items = kept;
+    Ok(())
+}
+
+fn marked_items<T: Copy>(
+    alloc: Global,
+    items: &[T],
+    marks: &[bool],
+) -> Result<Vec<T>, AllocError>
+    ensures { IfOk result (λ kept. kept.items ≡ marked marks.now items.now) }
+{
+    let mut kept = Vec::new(alloc);
+    for (i, item) in items.iter().enumerate() {
+        push_if(&mut kept, is_marked(marks, i), *item)?;
+    }
+    Ok(kept)
+}
+
+fn is_marked(marks: &[bool], i: usize) -> bool
+    ensures { result ≡ mark_or_not (slice_get marks.now i) }
+{
+    match marks.get(i) {
+        Some(mark) => *mark,
+        None => false,
+    }
+}
+
+fn push_if<T: Copy>(kept: &mut Vec<T>, mark: bool, item: T) -> Result<(), AllocError>
+    ensures { OnOk result (kept.new.items ≡ kept.old.items ++ (if mark then item ∷ [] else [])) }
+{
+    if mark {
+        kept.push(item)?;
+    }
+    Ok(())
+}
