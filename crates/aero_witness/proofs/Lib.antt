@@ -15,6 +15,13 @@ pub mod Fronts
 pub mod Starting
 pub mod Walking
 pub mod Trail
+pub mod Led
+pub mod Thinning
+pub mod Thinned
+pub mod ThinnedCycles
+pub mod ThinnedShortest
+pub mod Pushed
+pub mod Enough
 pub mod Swept
 pub mod Round
 pub mod Advancing

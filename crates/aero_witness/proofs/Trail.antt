@@ -6,11 +6,12 @@ use Rattle.std.proofs.lemmas.Option.{same_Some, slice_get_past}
 use Rattle.aero_model.specs.declared.numbered.Numbered.{Numbered}
 use Rattle.aero_model.specs.declared.numbered.What.{What}
 use Rattle.aero_model.specs.declared.numbered.What.TheVariants.{Fork, Join}
-use Rattle.aero_model.specs.Blocks.{is_begin, is_end, by_thread, depth, opens, closes, blocks, Transaction, Block, Unary, of_event, transaction, HasEnded}
+use Rattle.aero_model.specs.Blocks.{is_begin, is_end, by_thread, depth, opens, closes, blocks, Transaction, Block, Unary, of_event, transaction, HasEnded, IsOpen}
 use Rattle.aero_model.specs.Graph as graph
-use Rattle.aero_model.specs.Graph.{Conflict, Conflicts, same_thread, write_read, read_write, write_write, release_acquire, forks, joined, IsVisit, IsForward, GoesOn, AreApart, IsTelling, last_visit}
+use Rattle.aero_model.specs.Graph.{Conflict, Conflicts, same_thread, write_read, read_write, write_write, release_acquire, forks, joined, IsVisit, IsForward, GoesOn, AreApart, IsTelling, last_visit, LeadsTo}
 use Rattle.aero_model.proofs.Depths.{AtOpening, AtClosing, AtOther, step}
 use Rattle.aero_model.proofs.Telling.{event_at}
+use Rattle.aero_witness.specs.Led.{IsLed}
 use Rattle.aero_witness.specs.Trail.{is_deed, IsRecorded, IsTrail}
 
 module _ (trace recorded : List Numbered) (trail : IsTrail trace recorded) where
@@ -262,3 +263,22 @@ module _ (trace recorded : List Numbered) (trail : IsTrail trace recorded) where
           apart = apart_on v ws h.apart;
           ends_apart = λ e. h.ends_apart (sym (transaction_recorded last.enters) ∙ e ∙ transaction_recorded v.enters);
         }
+
+    -- open blocks lead to the same events
+    pub leads_back : (x : Transaction) (j : ℕ) → LeadsTo recorded n x j → LeadsTo trace n x j
+    leads_back x j (v, ws, is, goes, of, at) = (v, ws, visit_back v is, goes_back v ws goes, sym (transaction_recorded v.enters) ∙ of, at)
+
+    pub leads_on : (x : Transaction) (j : ℕ) → LeadsTo trace n x j → LeadsTo recorded n x j
+    leads_on x j (v, ws, is, goes, of, at) = (v, ws, visit_on v is, goes_on v ws goes, transaction_recorded v.enters ∙ of, at)
+
+    open_back : (x : Transaction) → IsOpen recorded n x → IsOpen trace n x
+    open_back x ((i, l, e), going) = ((i, l, sym (transaction_recorded i) ∙ e), λ ended. going (ended_recorded n x ended))
+
+    open_on : (x : Transaction) → IsOpen trace n x → IsOpen recorded n x
+    open_on x ((i, l, e), going) = ((i, l, transaction_recorded i ∙ e), λ ended. going (ended_back n x ended))
+
+    pub led_back : (j : ℕ) → IsLed recorded n j → IsLed trace n j
+    led_back j (x, is_open, leads) = (x, open_back x is_open, leads_back x j leads)
+
+    pub led_on : (j : ℕ) → IsLed trace n j → IsLed recorded n j
+    led_on j (x, is_open, leads) = (x, open_on x is_open, leads_on x j leads)

@@ -17,3 +17,5 @@ pub mod Levels
 pub mod Search
 pub mod Homecoming
 pub mod Trail
+pub mod Led
+pub mod Thinned
