@@ -26,3 +26,5 @@ pub mod Compacting
 pub mod Backs
 pub mod Passing
 pub mod Singles
+pub mod LedEvents
+pub mod LeastOf

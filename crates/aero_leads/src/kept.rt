@@ -4,10 +4,13 @@ ghost use Rattle.std.specs.Prelude.{◌≡◌, ◌≢◌, ◌<◌, ◌-◌, ◌^
 ghost use Rattle.aero_model.specs.declared.numbered.What.TheVariants.{Read, Write, Acquire, Release, Fork, Join, Begin};
 ghost use Rattle.aero_engine.specs.Events.{event};
 ghost use Rattle.aero_leads.specs.Kept.{last, IsLeastBack};
+ghost use Rattle.aero_leads.specs.Leasts.{IsLeastOf};
 
 use crate::last::Last;
+use crate::least::least;
 use crate::table;
 use crate::table::{Table, gain, may_be_led, no_thread, take, take_reads};
+use crate::thread::row_of;
 use crate::variable::{
     Variable, last_release, last_write, latest_read, note_read, note_release, note_write,
     other_reads,
@@ -67,6 +70,13 @@ impl Kept {
             Some(thread) => thread.acted,
             None => false,
         }
+    }
+
+    /// The place of the first event of thread `t` to which an open block leads.
+    pub(crate) fn least_place(&self, t: u32) -> Option<u32>
+        ensures { IsLeastOf ((state_in self.now).rows t) result }
+    {
+        least(row_of(&self.table.threads, t))
     }
 
     /// Makes room for thread `t` and an event. An event whose number doesn't fit 32 bits is refused

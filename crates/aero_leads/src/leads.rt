@@ -27,6 +27,7 @@ pub struct Leads {
 impl Leads {
     ghost use Rattle.aero_engine.specs.Protocol.{quiet};
     ghost use Rattle.aero_leads.specs.Kept.{IsLeastBack};
+    ghost use Rattle.aero_leads.specs.Leasts.{IsLeastOf};
     ghost use Rattle.aero_leads.specs.Standing.{state_of, in_block_at, begins_at, acted_at, closed_by, is_spent, StandsFor, Answers, Follows, Tells, IsStarted, IsRefused, IsFinished, IsClosed, IsToldOf, HasRoom};
 
     /// No event.
@@ -66,6 +67,14 @@ impl Leads {
         ensures { result ≡ closed_by self.now }
     {
         self.closed
+    }
+
+    /// The place of the first event of thread `t`, or of its fork, to which an open block leads. `None` where none leads
+    /// to one.
+    pub fn least_place(&self, t: u32) -> Option<u32>
+        ensures { IsLeastOf ((state_of self.now).rows t) result }
+    {
+        self.kept.least_place(t)
     }
 
     /// Thread `t` reads variable `x`.

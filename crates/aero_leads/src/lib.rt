@@ -41,13 +41,17 @@
 //!   end among them: `follows` of `read`, `write`, `acquire`, `release`, `fork`, `join`, `begin`, `plain` and `end`.
 //! - After a thread was answered, and after a refused call, the tests `in_block`, `begins` and `acted` answer as
 //!   before. After a refusal each later call refuses: `answers` of the same calls.
+//! - The place of the first event of a thread to which an open block leads: `Leads::least_place`. That tells to which of the
+//!   thread's events one does: `laws`.
 #![tactic(auto)]
 
 mod engine;
 mod index;
 mod kept;
 mod last;
+pub mod laws;
 pub mod leads;
+mod least;
 mod led;
 mod lows;
 mod passed;
