@@ -3,6 +3,12 @@
 _aerodrome() {
     local word=${COMP_WORDS[COMP_CWORD]} before=${COMP_WORDS[COMP_CWORD - 1]} earlier options
     COMPREPLY=()
+    # (bash takes the = between an option and its value as a word)
+    if [ "$word" = = ]; then
+        word=
+    elif [ "$before" = = ]; then
+        before=${COMP_WORDS[COMP_CWORD - 2]}
+    fi
     # (bash completes files where nothing is answered)
     for earlier in "${COMP_WORDS[@]:1:COMP_CWORD-1}"; do
         [ "$earlier" != -- ] || return 0

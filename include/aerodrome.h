@@ -81,8 +81,10 @@ struct aerodrome_verdict {
 
 uint32_t aerodrome_held_begin(struct aerodrome *, bool);
 uint32_t aerodrome_held_begin_labelled(struct aerodrome *, bool, const void *, size_t, bool);
+uint32_t aerodrome_held_begin_explained(struct aerodrome *, bool, const void *, size_t, bool);
 uint32_t aerodrome_held_feed(struct aerodrome *, const void *, size_t);
 uint32_t aerodrome_held_certain(struct aerodrome *, uint32_t *);
+uint32_t aerodrome_held_cycle(struct aerodrome *, char *, size_t, size_t *);
 uint32_t aerodrome_held_verdict(struct aerodrome *, struct aerodrome_verdict *, char *, size_t, size_t *);
 uint32_t aerodrome_held_free(struct aerodrome *);
 
@@ -110,6 +112,16 @@ static inline uint32_t aerodrome_begin_labelled(struct aerodrome *monitor, bool 
         return AERODROME_NULL;
     }
     return aerodrome_held_begin_labelled(monitor, is_long, labels == NULL ? "" : labels, length, is_only);
+}
+
+/* The same, with labels or none, of a trace whose violation aerodrome_cycle shows. It keeps 24 bytes of each event, and the labels of
+ * begins, until an event closes a cycle. */
+static inline uint32_t aerodrome_begin_explained(struct aerodrome *monitor, bool is_long, const char *labels, size_t length, bool is_only)
+{
+    if (monitor == NULL || !aerodrome_may_be(labels, length)) {
+        return AERODROME_NULL;
+    }
+    return aerodrome_held_begin_explained(monitor, is_long, labels == NULL ? "" : labels, length, is_only);
 }
 
 /* Takes the next piece of the trace, of any length: lines may be cut anywhere. */
@@ -187,6 +199,20 @@ static inline uint32_t aerodrome_certain(struct aerodrome *monitor, uint32_t *is
         return AERODROME_NULL;
     }
     return aerodrome_held_certain(monitor, is_certain);
+}
+
+/* Judges the lines that came since the last such call, and shows the violation that is certain by then, in the lines that the report has
+ * behind the source's line with `--explain`: "  label LABEL", if the block that begins the cycle has a label, and for each event
+ * of the cycle "  LINE FIRST EVENT". `size` is how many bytes these lines have, or 0 where no violation is certain or the trace wasn't
+ * begun by aerodrome_begin_explained. They are written to `buffer`, with no byte 0 behind them, if it has room, and else the
+ * status is AERODROME_SHORT. The trace stays: call again with more room, and then aerodrome_verdict. */
+static inline uint32_t aerodrome_cycle(struct aerodrome *monitor, char *buffer, size_t length, size_t *size)
+{
+    char none;
+    if (monitor == NULL || size == NULL || !aerodrome_may_be(buffer, length)) {
+        return AERODROME_NULL;
+    }
+    return aerodrome_held_cycle(monitor, buffer == NULL ? &none : buffer, length, size);
 }
 
 /* Judges the trace as it was fed, and lets it go. `size` is how many bytes the report says of it behind the source's name: as

@@ -60,5 +60,17 @@ int main(void)
     show("begin for a last time", aerodrome_begin(&monitor, false));
     show("free", aerodrome_free(&monitor));
     show("free of a freed one", aerodrome_free(&monitor));
+    show("cycle of none", aerodrome_cycle(&monitor, line, sizeof line, &length));
+    show("begin what is to be shown, with a label without its end", aerodrome_begin_explained(&monitor, false, "withdraw", 8, false));
+    show("begin what is to be shown, with labels at NULL", aerodrome_begin_explained(&monitor, false, NULL, 3, false));
+    show("begin what is to be shown of NULL", aerodrome_begin_explained(NULL, false, NULL, 0, false));
+    show("begin what is to be shown", aerodrome_begin_explained(&monitor, false, NULL, 0, false));
+    show("begin it again", aerodrome_begin_explained(&monitor, false, NULL, 0, false));
+    show("cycle of NULL", aerodrome_cycle(NULL, line, sizeof line, &length));
+    show("cycle to NULL", aerodrome_cycle(&monitor, NULL, sizeof line, &length));
+    show("its size to NULL", aerodrome_cycle(&monitor, line, sizeof line, NULL));
+    show("cycle where there is none", aerodrome_cycle(&monitor, line, sizeof line, &length));
+    printf("%zu bytes\n", length);
+    show("free what was to be shown", aerodrome_free(&monitor));
     return 0;
 }

@@ -1,5 +1,5 @@
 //! How a trace begins.
-ghost use Rattle.std.specs.Prelude.{IfSome};
+ghost use Rattle.std.specs.Prelude.{IfOk, IfSome};
 ghost use Rattle.aero_c.specs.Answers.{AreLimitsOf, Begins, IsBegun};
 
 use crate::monitor::{Monitor, put};
@@ -7,16 +7,22 @@ use crate::status::{DONE, IN_USE, NO_MEMORY};
 use aero_feed::feed::Feed;
 use aero_model::except::Except;
 use aero_model::limits::Limits;
-use std::alloc::Global;
+use std::alloc::{AllocError, Global};
 
-// Begins a trace with these labels, if the monitor has none.
-pub(crate) fn begin(alloc: Global, monitor: &mut Monitor, is_long: bool, except: Except) -> u32
-    ensures { Begins monitor.old.pointer.held monitor.new.pointer.held result is_long except }
+// Begins a trace with these labels, if the monitor has none. With `explains` its violation is to be shown.
+pub(crate) fn begin(
+    alloc: Global,
+    monitor: &mut Monitor,
+    is_long: bool,
+    explains: bool,
+    except: Except,
+) -> u32
+    ensures { Begins monitor.old.pointer.held monitor.new.pointer.held result is_long explains except }
 {
     if monitor.is_held {
         return IN_USE;
     }
-    match begun(alloc, is_long, except) {
+    match begun(alloc, is_long, explains, except) {
         Some(feed) => {
             put(monitor, feed);
             DONE
@@ -26,10 +32,23 @@ pub(crate) fn begin(alloc: Global, monitor: &mut Monitor, is_long: bool, except:
 }
 
 // A trace of which nothing was fed, where memory isn't refused.
-fn begun(alloc: Global, is_long: bool, except: Except) -> Option<Box<Feed>>
-    ensures { IfSome result (λ feed. IsBegun feed.value is_long except) }
+fn begun(alloc: Global, is_long: bool, explains: bool, except: Except) -> Option<Box<Feed>>
+    ensures { IfSome result (λ feed. IsBegun feed.value is_long explains except) }
 {
-    Box::new(alloc, Feed::new(alloc, &limits(is_long), except)).ok()
+    let feed = feed_of(alloc, is_long, explains, except).ok()?;
+    Box::new(alloc, feed).ok()
+}
+
+// The same, not boxed yet. An `AllocError` says that memory was refused.
+fn feed_of(alloc: Global, is_long: bool, explains: bool, except: Except) -> Result<Feed, AllocError>
+    ensures { IfOk result (λ feed. IsBegun feed is_long explains except) }
+{
+    let limits = limits(is_long);
+    if explains {
+        Feed::explaining(alloc, &limits, except)
+    } else {
+        Ok(Feed::new(alloc, &limits, except))
+    }
 }
 
 // The limits of a source, or those of a long one.

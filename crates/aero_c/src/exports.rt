@@ -1,11 +1,11 @@
 //! The calls of a program in C. Each pointer is to be none but NULL, as the header tests.
-ghost use Rattle.std.specs.Prelude.{◌≡◌, ◌≢◌, ◌++◌, [], None};
+ghost use Rattle.std.specs.Prelude.{◌≡◌, ◌≢◌, ◌++◌, [], true, false, None};
 ghost use Rattle.aero_model.specs.Exempt.{these};
 ghost use Rattle.aero_c.specs.Statuses.{done, unheld};
-ghost use Rattle.aero_c.specs.Answers.{Answers, BeginsLabelled, IsAsked, Begins, Judges};
+ghost use Rattle.aero_c.specs.Answers.{Answers, BeginsLabelled, IsAsked, Begins, Judges, ShowsHeld};
 
 use crate::beginning::begin;
-use crate::judging::{ask, conclude, feed_piece};
+use crate::judging::{ask, conclude, feed_piece, show};
 use crate::labels::list;
 use crate::monitor::{Monitor, put, take};
 use crate::numbers::Numbers;
@@ -17,10 +17,10 @@ use std::alloc::Global;
 /// `NO_MEMORY`: it has what it had then.
 #[unsafe(no_mangle)]
 pub extern "C" fn aerodrome_held_begin(alloc: Global, monitor: &mut Monitor, is_long: bool) -> u32
-    ensures { Begins monitor.old.pointer.held monitor.new.pointer.held result is_long (these []) }
+    ensures { Begins monitor.old.pointer.held monitor.new.pointer.held result is_long false (these []) }
 {
     match Except::new(Vec::new(alloc)) {
-        Some(except) => begin(alloc, monitor, is_long, except),
+        Some(except) => begin(alloc, monitor, is_long, false, except),
         None => MANY_LABELS,
     }
 }
@@ -38,10 +38,28 @@ pub extern "C" fn aerodrome_held_begin_labelled(
     labels: &[u8],
     is_only: bool,
 ) -> u32
-    ensures { BeginsLabelled monitor.old.pointer.held monitor.new.pointer.held result is_long is_only labels.now }
+    ensures { BeginsLabelled monitor.old.pointer.held monitor.new.pointer.held result is_long is_only false labels.now }
 {
     match list(alloc, labels, is_only) {
-        Ok(listed) => begin(alloc, monitor, is_long, listed),
+        Ok(listed) => begin(alloc, monitor, is_long, false, listed),
+        Err(status) => status,
+    }
+}
+
+/// Begins a trace as `aerodrome_held_begin_labelled` does, whose violation is to be shown, by `aerodrome_held_cycle`. It
+/// keeps 24 bytes of each event, and the labels of begins, until an event closes a cycle.
+#[unsafe(no_mangle)]
+pub extern "C" fn aerodrome_held_begin_explained(
+    alloc: Global,
+    monitor: &mut Monitor,
+    is_long: bool,
+    labels: &[u8],
+    is_only: bool,
+) -> u32
+    ensures { BeginsLabelled monitor.old.pointer.held monitor.new.pointer.held result is_long is_only true labels.now }
+{
+    match list(alloc, labels, is_only) {
+        Ok(listed) => begin(alloc, monitor, is_long, true, listed),
         Err(status) => status,
     }
 }
@@ -74,6 +92,26 @@ pub extern "C" fn aerodrome_held_certain(
         return UNHELD;
     };
     let status = ask(&mut feed, is_certain);
+    put(monitor, feed);
+    status
+}
+
+/// Judges the lines that came so far, and writes how many bytes the lines have that show the violation, if one is certain by
+/// then and is to be shown, and else 0; and these lines if the buffer has room, or else answers `SHORT`. Answers `UNHELD` and
+/// `NO_MEMORY` as `aerodrome_held_feed` does.
+#[unsafe(no_mangle)]
+pub extern "C" fn aerodrome_held_cycle(
+    alloc: Global,
+    monitor: &mut Monitor,
+    buffer: &mut [u8],
+    size: &mut usize,
+) -> u32
+    ensures { ShowsHeld monitor.old.pointer.held monitor.new.pointer.held result buffer.new size.new }
+{
+    let Some(mut feed) = take(alloc, monitor) else {
+        return UNHELD;
+    };
+    let status = show(alloc, &mut feed, buffer, size);
     put(monitor, feed);
     status
 }

@@ -1,14 +1,14 @@
 //! What is done to a trace, whoever holds it.
-ghost use Rattle.std.specs.Prelude.{◌≡◌, ◌⊎◌, ◌<◌, ◌++◌, take, length};
+ghost use Rattle.std.specs.Prelude.{◌≡◌, ◌⊎◌, ◌<◌, ◌++◌, take, length, IfOk};
 ghost use Rattle.aero_c.specs.Statuses.{done, short};
-ghost use Rattle.aero_c.specs.Answers.{Answered, IsAsked, Concludes, Tells};
+ghost use Rattle.aero_c.specs.Answers.{Answered, IsAsked, Concludes, Shows, Tells, lines_shown};
 
 use crate::numbers::{Numbers, in_numbers};
 use crate::status::{DONE, NO_MEMORY, SHORT};
 use aero_feed::feed::Feed;
-use aero_model::verdict::{Finding, Verdict};
-use aero_report::trace_text;
-use std::alloc::Global;
+use aero_model::verdict::{Cycle, Finding, Verdict};
+use aero_report::{cycle_text, trace_text};
+use std::alloc::{AllocError, Global};
 
 // Takes the next piece.
 pub(crate) fn feed_piece(feed: &mut Feed, piece: &[u8]) -> u32
@@ -34,6 +34,32 @@ pub(crate) fn ask(feed: &mut Feed, is_certain: &mut u32) -> u32
             DONE
         }
         Err(_) => NO_MEMORY,
+    }
+}
+
+// Judges what came so far, and writes how many bytes the lines have that show the violation, if one is certain by then and is
+// to be shown, and these lines if the buffer has room.
+pub(crate) fn show(alloc: Global, feed: &mut Feed, buffer: &mut [u8], size: &mut usize) -> u32
+    ensures { Shows feed.old feed.new result buffer.new size.new }
+{
+    let Ok(cycle) = feed.explain() else {
+        return NO_MEMORY;
+    };
+    let Ok(lines) = shown_lines(alloc, &cycle) else {
+        feed.spend();
+        return NO_MEMORY;
+    };
+    *size = lines.len();
+    copy(&lines, buffer)
+}
+
+// The lines that show a violation, if one is shown.
+fn shown_lines(alloc: Global, cycle: &Option<Cycle>) -> Result<Vec<u8>, AllocError>
+    ensures { IfOk result (λ lines. lines.items ≡ lines_shown cycle.now) }
+{
+    match cycle {
+        Some(cycle) => cycle_text(alloc, cycle),
+        None => Ok(Vec::new(alloc)),
     }
 }
 

@@ -14,6 +14,7 @@ use Rattle.aero_faults.specs.Searches.{HasSeen, hindrance_in}
 use Rattle.aero_faults.specs.declared.look.Look.{Look}
 use Rattle.aero_faults.specs.declared.look.Look.TheVariants.{Nothing, Line, Event}
 use Rattle.aero_faults.specs.declared.search.Search.{Search}
+use Rattle.aero_faults.specs.declared.short.Short.{Short}
 
 -- a line with the byte 10 that ends it
 abbrev pub ended : List ℕ → List ℕ
@@ -82,6 +83,10 @@ pub record AreSeen (given left : Option (List ℕ)) (number : ℕ) (search : Sea
   pub lines : (reading_of_lines before).lines ≡ number
   pub sound : (reading_of_lines before).fault ≡ None
   pub seen : HasSeen search (reading_of_lines before).events
+
+-- the reader within one of short lines
+abbrev pub within : {B : Type 0} → Short B → B
+within lines = lines.inner
 
 -- the next line of a source, or the front of one that is too long
 pub record IsNext (given : Option (List ℕ)) (line : List ℕ) : Type 0 where

@@ -41,5 +41,6 @@ pub mod look;
 pub mod opened;
 pub mod reading;
 pub mod search;
+mod short;
 pub mod texts;
 pub mod words;

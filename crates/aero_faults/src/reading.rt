@@ -5,11 +5,12 @@ ghost use Rattle.std.specs.Io.BufRead.{ends_with_byte};
 ghost use Rattle.std.specs.Io.KnownBytes.{Consumes};
 ghost use Rattle.aero_model.specs.Named.{Named};
 ghost use Rattle.aero_grammar.specs.Meaning.{Faulty, meaning};
-ghost use Rattle.aero_faults.specs.Looks.{ended, has_end, AreSeen, AreWhole, IsEventLook, IsLine, IsLineLook, IsNext, IsSameSearch, IsSearchLook, SeesLine};
+ghost use Rattle.aero_faults.specs.Looks.{ended, has_end, AreSeen, AreWhole, IsEventLook, IsLine, IsLineLook, IsNext, IsSameSearch, IsSearchLook, SeesLine, within};
 ghost use Rattle.aero_faults.specs.Searches.{HasSeen};
 
 use crate::look::Look;
 use crate::search::Search;
+use crate::short::Short;
 use aero_grammar::line::parse_line;
 use aero_model::bytes::MOST_LINE_BYTES;
 use aero_model::verdict::{LineFault, ShapeFault};
@@ -21,25 +22,26 @@ use std::io::{BufRead, BufReader, Read};
 const PIECE: usize = 65_536;
 
 /// The line of this number, from 1, without its byte 10, or the first 4,097 bytes of one that is too
-/// long; `None` where the source has fewer lines.
+/// long; `None` where the source has fewer lines. It keeps one line at a time, and no more than 4,097 bytes of any.
 ///
 /// # Errors
 ///
-/// Those of the reader, and one where memory is refused.
+/// Those of the reader, one where memory is refused, and `InvalidData` where a line before it is too long.
 pub fn line_at<R: Read + Drop>(alloc: Global, reader: R, number: u32) -> io::Result<Option<Vec<u8>>>
     requires { 0 < number }
     ensures { IfOk result (λ found. IfSome found (λ line. IsLine (R.remaining reader) number line.items)) }
 {
-    let mut lines = BufReader::with_capacity(alloc, PIECE, reader)?;
+    let buffered = BufReader::with_capacity(alloc, PIECE, reader)?;
+    let mut lines = Short::new(buffered);
     if !pass_lines(alloc, &mut lines, number - 1)? {
         return Ok(None);
     }
-    last_line(alloc, lines)
+    last_line(alloc, lines.into_inner())
 }
 
 // Reads so many lines, each up to its byte 10; whether there are so many.
-fn pass_lines<B: BufRead>(alloc: Global, lines: &mut B, count: u32) -> io::Result<bool>
-    ensures { IfOk result (λ whole. whole ≡ true → AreWhole (B.remaining lines.old) (B.remaining lines.new) count) }
+fn pass_lines<B: BufRead>(alloc: Global, lines: &mut Short<B>, count: u32) -> io::Result<bool>
+    ensures { IfOk result (λ whole. whole ≡ true → AreWhole (B.remaining (within lines.old)) (B.remaining (within lines.new)) count) }
 {
     let mut line = Vec::new(alloc);
     for _ in 0..count {
@@ -50,12 +52,13 @@ fn pass_lines<B: BufRead>(alloc: Global, lines: &mut B, count: u32) -> io::Resul
     Ok(true)
 }
 
-// Reads a line up to its byte 10, without which it is kept; whether it has one.
-fn next_line<B: BufRead>(lines: &mut B, line: &mut Vec<u8>) -> io::Result<bool>
+// Reads a line up to its byte 10, without which it is kept; whether it has one. It fails at one that is too long.
+fn next_line<B: BufRead>(lines: &mut Short<B>, line: &mut Vec<u8>) -> io::Result<bool>
     ensures endless { IfOk result (λ whole. whole ≡ true → has_end line.new.items ≡ false) }
-    ensures came { IfOk result (λ whole. whole ≡ true → Consumes (B.remaining lines.old) (B.remaining lines.new) (ended line.new.items)) }
+    ensures came { IfOk result (λ whole. whole ≡ true → Consumes (B.remaining (within lines.old)) (B.remaining (within lines.new)) (ended line.new.items)) }
 {
     line.clear();
+    lines.start_line();
     lines.read_until(b'\n', line)?;
     Ok(cut_end(line))
 }
@@ -118,11 +121,11 @@ fn has_fault(alloc: Global, line: &[u8], fault: LineFault) -> bool
 
 /// What is told of the line of this number, from 1, where an ill-formed event was: the event and what
 /// stands in its way, if the line is still this one and that explains the fault. The reader has the
-/// source from its start.
+/// source from its start. It keeps one line at a time, and no more than 4,097 bytes of any.
 ///
 /// # Errors
 ///
-/// Those of the reader, and one where memory is refused.
+/// Those of the reader, one where memory is refused, and `InvalidData` where a line before it is too long.
 pub fn ill_formed_look<R: Read + Drop>(
     alloc: Global,
     reader: R,
@@ -139,12 +142,13 @@ pub fn ill_formed_look<R: Read + Drop>(
     let Some(event) = said else {
         return Ok(Look::Nothing);
     };
-    let mut lines = BufReader::with_capacity(alloc, PIECE, reader)?;
+    let buffered = BufReader::with_capacity(alloc, PIECE, reader)?;
+    let mut lines = Short::new(buffered);
     let search = Search::new(fault, event);
     let Some(search) = see_lines(alloc, &mut lines, number - 1, search)? else {
         return Ok(Look::Nothing);
     };
-    if !is_next(alloc, lines, line)? {
+    if !is_next(alloc, lines.into_inner(), line)? {
         return Ok(Look::Nothing);
     }
     Ok(look_of(search))
@@ -174,13 +178,13 @@ fn look_of(search: Search) -> Look
 // many, or one is malformed.
 fn see_lines<B: BufRead>(
     alloc: Global,
-    lines: &mut B,
+    lines: &mut Short<B>,
     count: u32,
     first: Search,
 ) -> io::Result<Option<Search>>
     requires { HasSeen first [] }
     ensures same { IfOk result (λ found. IfSome found (λ seen. IsSameSearch first seen)) }
-    ensures seen { IfOk result (λ found. IfSome found (AreSeen (B.remaining lines.old) (B.remaining lines.new) count)) }
+    ensures seen { IfOk result (λ found. IfSome found (AreSeen (B.remaining (within lines.old)) (B.remaining (within lines.new)) count)) }
 {
     let mut line = Vec::new(alloc);
     let mut search = first;

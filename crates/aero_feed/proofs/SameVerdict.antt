@@ -1,9 +1,11 @@
 -- What says the same has the same verdicts.
-use Rattle.std.proofs.Common.{◌≡◌, ℕ, suc, ◌+◌, true, List, [], ◌∷◌, Option, Some, None, refl, sym, ◌∙◌, ap, subst, arith}
+use Rattle.std.proofs.Common.{◌≡◌, ◌≢◌, ℕ, suc, ◌+◌, true, List, [], ◌∷◌, Option, Some, None, refl, sym, ◌∙◌, ap, subst, arith}
 use Rattle.std.proofs.lemmas.List.{append-nil}
 use Rattle.std.specs.Prelude.{map, option_map, slice_get, length}
 use Rattle.std.specs.List.{concat}
 use Rattle.aero_model.specs.declared.numbered.Numbered.{Numbered}
+use Rattle.aero_model.specs.declared.verdict.Cycle.{Cycle}
+use Rattle.aero_model.specs.declared.verdict.CycleStep.{CycleStep}
 use Rattle.aero_model.specs.declared.verdict.LineFault.{LineFault}
 use Rattle.aero_model.specs.declared.verdict.ShapeFault.{ShapeFault}
 use Rattle.aero_model.specs.declared.verdict.Verdict.{Verdict}
@@ -11,6 +13,7 @@ use Rattle.aero_model.specs.declared.verdict.Verdict.TheVariants.{Serializable, 
 use Rattle.aero_model.specs.Blocks.{Block, opens, transaction}
 use Rattle.aero_model.specs.Cycle.{HasTellingCycle, IsClosing, IsOpener}
 use Rattle.aero_model.specs.Exempt.{judged_trace, marked_trace}
+use Rattle.aero_model.specs.Graph.{IsTelling}
 use Rattle.aero_model.specs.Named.{Named}
 use Rattle.aero_model.specs.Numbering.{tables_of, trace_of}
 use Rattle.aero_model.specs.Shape.{IsLawful, fault_at}
@@ -19,6 +22,8 @@ use Rattle.aero_grammar.specs.Reading.{Reading, reading_of, whole_reading, event
 use Rattle.aero_grammar.proofs.Joined.{reading_of-cap, reading_of-concat}
 use Rattle.aero_lines.specs.Cutting.{nothing_yet, blocks_from}
 use Rattle.aero_lines.proofs.Runs.{blocks_are_the_text}
+use Rattle.aero_verdict.specs.Explained.{round_places, IsCycleStep, IsExplained, IsCycleOf}
+use Rattle.aero_verdict.proofs.Zipped.{zip_as}
 use Rattle.aero_verdict.specs.Verdict.{Rules, IsVerdict, IsViolation, IsIllFormed, IsMalformed, IsFaultless, IsClean, BeginsOnLine}
 
 -- what the blocks say, one after the other, is what the text says
@@ -118,6 +123,47 @@ module _ (rules : Rules) (parts others : List Reading) (same : events_within rul
   same_verdict (Violation line thread begun) is = violation line thread begun is
   same_verdict (Malformed line fault) is = malformed line fault is
   same_verdict (IllFormed line fault) is = ill_formed line fault is
+
+  step_same : (place : ℕ) (step : CycleStep) → IsCycleStep parts rules place step → IsCycleStep others rules place step
+  step_same place step is = record {
+    line = on_line place step.line is.line;
+    event = subst (λ es. option_map (λ e. e.1) (slice_get es place) ≡ Some step.event) same is.event;
+    first = is.first;
+    is_first = record {
+      one = subst (λ es. transaction (trace es) is.first ≡ transaction (trace es) place) same is.is_first.one;
+      none = λ m less. subst (λ es. transaction (trace es) m ≢ transaction (trace es) place) same (is.is_first.none m less);
+    };
+    first_line = on_line is.first step.first is.first_line;
+  }
+
+  explained : (line : ℕ) (thread : List ℕ) (begun : ℕ) (cycle : Cycle) → IsExplained parts rules line thread begun cycle → IsExplained others rules line thread begun cycle
+  unfolding violation begins
+  explained line thread begun cycle is =
+      let v = is.violation in
+      record {
+        violation = violation line thread begun v;
+        label = subst (λ es. option_map (λ e. e.1.target) (slice_get es v.begins.place) ≡ Some cycle.label) same is.label;
+        first = is.first;
+        rest = is.rest;
+        telling = subst (λ es. IsTelling (trace es) (suc v.place) is.first is.rest) same is.telling;
+        begins = subst (λ es. transaction (trace es) is.first.enters ≡ Block v.t v.number) same is.begins;
+        fewest = λ other more telling from. is.fewest other more (subst (λ es. IsTelling (trace es) (suc v.place) other more) (sym same) telling)
+            (subst (λ es. transaction (trace es) other.enters ≡ Block v.t v.number) (sym same) from);
+        steps_are = zip_as (IsCycleStep parts rules) (IsCycleStep others rules) step_same (round_places is.first is.rest) cycle.steps.items is.steps_are;
+      }
+
+  pub same_cycle : (verdict : Verdict) (cycle : Cycle) → IsCycleOf parts rules verdict cycle → IsCycleOf others rules verdict cycle
+  same_cycle (Violation line thread begun) cycle is = explained line thread begun cycle is
+  same_cycle (Serializable events blocks) cycle is = is
+  same_cycle (Pending events blocks pending) cycle is = is
+  same_cycle (Malformed line fault) cycle is = is
+  same_cycle (IllFormed line fault) cycle is = is
+
+-- and what shows them
+pub cycle_of_text : (rules : Rules) (parts : List Reading) (text : List ℕ) (verdict : Verdict) (cycle : Cycle) → whole_reading parts ≡ reading_of text → IsCycleOf parts rules verdict cycle → IsCycleOf (reading_of text ∷ []) rules verdict cycle
+cycle_of_text rules parts text verdict cycle says is =
+    let same : whole_reading parts ≡ whole_reading (reading_of text ∷ []) = says ∙ sym (one_read (reading_of text)) in
+    same_cycle rules parts (reading_of text ∷ []) (ap (events_within rules.limits.lines) same) (ap (malformed_line rules.limits.lines) same) verdict cycle is
 
 -- what a text says has the verdicts of parts that say the same
 pub verdict_of_text : (rules : Rules) (parts : List Reading) (text : List ℕ) (verdict : Verdict) → whole_reading parts ≡ reading_of text → IsVerdict parts rules verdict → IsVerdict (reading_of text ∷ []) rules verdict

@@ -5,6 +5,7 @@ use Rattle.std.proofs.lemmas.List.{append-nil, map-append}
 use Rattle.std.specs.Prelude.{option_to_list, option_map, is_some, nat_lt, Result, Ok, Err, IfSome, IfOk, OnOk}
 use Rattle.std.specs.Result.{is_err}
 use Rattle.std.specs.List.{concat}
+use Rattle.aero_model.specs.declared.verdict.Cycle.{Cycle}
 use Rattle.aero_model.specs.declared.verdict.Verdict.{Verdict}
 use Rattle.aero_model.specs.declared.verdict.Verdict.TheVariants.{Serializable, Pending, Violation, Malformed, IllFormed}
 use Rattle.aero_model.specs.declared.verdict.LineFault.TheVariants.{TooManyLines}
@@ -13,14 +14,15 @@ use Rattle.aero_model.specs.Verdicts.{HasOwnFault}
 use Rattle.aero_grammar.specs.Reading.{Reading, reading_of, whole_reading}
 use Rattle.aero_lines.specs.Cutting.{Cutting, nothing_yet, unless_empty, fed, block_of, last_block, blocks_from}
 use Rattle.aero_lines.proofs.Steps.{last_block-shut, last_block-at}
+use Rattle.aero_verdict.specs.Explained.{IsCycleOf, ShowsCertain}
 use Rattle.aero_verdict.specs.Fed.{Fed, IsCertain, IsOpen}
 use Rattle.aero_verdict.specs.Ordered.{is_faultless}
 use Rattle.aero_verdict.specs.Verdict.{Rules, IsVerdict}
 use Rattle.aero_verdict.proofs.OneVerdict.{one_verdict}
-use Rattle.aero_feed.specs.Feeding.{Feeding, nothing_fed, IsTextVerdict, IsCertainOf, IsOpenText}
-use Rattle.aero_feed.specs.Reads.{EndsIn, HasRead, GoesOn, StandsAt}
+use Rattle.aero_feed.specs.Feeding.{Feeding, nothing_fed, IsTextVerdict, IsCertainOf, IsOpenText, ShowsText}
+use Rattle.aero_feed.specs.Reads.{EndsIn, HasRead, GoesOn, IsSure, StandsAt, ShowsFed, IsJudgedOut}
 use Rattle.aero_feed.proofs.Ends.{ends_more, nothing_left}
-use Rattle.aero_feed.proofs.SameVerdict.{blocks_read, verdict_of_text, verdict_of_parts}
+use Rattle.aero_feed.proofs.SameVerdict.{blocks_read, cycle_of_text, verdict_of_text, verdict_of_parts}
 
 -- nothing was read
 pub read_nothing : HasRead [] nothing_yet []
@@ -66,12 +68,27 @@ certain_text text c parts rules verdict is certain = record {
   wrong = certain.wrong;
 }
 
+-- and what shows it of the parts shows it of the text
+pub sure_text : (text : List ℕ) (c : Cutting) (fed : Fed) (verdict : Verdict) → HasRead text c fed.parts → IsCertain fed.parts fed.rules verdict → IsSure text fed verdict
+sure_text text c fed verdict is certain = record {
+  certain = certain_text text c fed.parts fed.rules verdict is certain;
+  shown = λ rest cycle shows.
+      let more = map reading_of (blocks_from c (rest ∷ [])) in
+      cycle_of_text fed.rules (fed.parts ++ more) (text ++ rest) verdict cycle (is.says (rest ∷ []) ∙ ap (λ t. reading_of (text ++ t)) (append-nil rest)) ((certain.explained more cycle).1 shows);
+}
+
 -- and it stays so
 pub certain_on : (text piece : List ℕ) (rules : Rules) (verdict : Verdict) → IsCertainOf text rules verdict → IsCertainOf (text ++ piece) rules verdict
 certain_on text piece rules verdict is = record {
   is_verdict = λ rest. subst (λ t. IsTextVerdict t rules verdict) (sym (append_assoc text piece rest)) (is.is_verdict (piece ++ rest));
   own_fault = is.own_fault;
   wrong = is.wrong;
+}
+
+sure_on : (text piece : List ℕ) (fed : Fed) (verdict : Verdict) → IsSure text fed verdict → IsSure (text ++ piece) fed verdict
+sure_on text piece fed verdict is = record {
+  certain = certain_on text piece fed.rules verdict is.certain;
+  shown = λ rest cycle shows. subst (λ t. IsCycleOf (reading_of t ∷ []) fed.rules verdict cycle) (sym (append_assoc text piece rest)) (is.shown (piece ++ rest) cycle shows);
 }
 
 -- where the text ends a line, and nothing is wrong with its parts, nothing is wrong with it
@@ -101,16 +118,14 @@ pub none_certain : (rules : Rules) (certain : Option Verdict) → IfSome certain
 none_certain rules None is = refl
 none_certain rules (Some verdict) is = absurd (true≢false (sym (faultless_nothing rules verdict (is.is_verdict [])) ∙ is.wrong))
 
-abbrev at : Rules → List ℕ → Option Verdict → Feeding
-at rules text certain = record { rules = rules; text = text; certain = certain; is_spent = false }
+abbrev at : Rules → Bool → List ℕ → Option Verdict → Feeding
+at rules explains text certain = record { rules = rules; explains = explains; text = text; certain = certain; is_spent = false }
 
 pub certain_first : (fed : Fed) → fed.parts ≡ [] → IfSome fed.certain (IsCertain fed.parts fed.rules) → fed.certain ≡ None
 certain_first fed none certain = none_certain fed.rules fed.certain (subst (λ ps. IfSome fed.certain (IsCertain ps fed.rules)) none certain)
 
-pub seen_first : (fed : Fed) (rules : Rules) (text : List ℕ) → fed.rules ≡ rules → text ≡ [] → fed.certain ≡ None →
-    at fed.rules text fed.certain ≡ nothing_fed rules
-seen_first fed rules text same none off =
-    ap (λ r. at r text fed.certain) same ∙ (ap (λ t. at rules t fed.certain) none ∙ ap (λ c. at rules [] c) off)
+pub seen_first : (fed : Fed) (explains : Bool) (text : List ℕ) → text ≡ [] → fed.certain ≡ None → at fed.rules explains text fed.certain ≡ nothing_fed fed.rules explains
+seen_first fed explains text none off = ap (λ t. at fed.rules explains t fed.certain) none ∙ ap (λ c. at fed.rules explains [] c) off
 
 -- before the first piece
 pub stands_first : (fed : Fed) → fed.parts ≡ [] → IfSome fed.certain (IsCertain fed.parts fed.rules) → StandsAt [] nothing_yet fed fed.certain
@@ -123,7 +138,7 @@ stands_first fed none certain =
 -- with one piece more, where it was certain before
 pub stands_sure : (text piece : List ℕ) (cutting : Cutting) (fed : Fed) (certain : Option Verdict) → is_some certain ≡ true → StandsAt text cutting fed certain → StandsAt (text ++ piece) cutting fed certain
 stands_sure text piece cutting fed None sure is = absurd (true≢false (sym sure))
-stands_sure text piece cutting fed (Some verdict) sure is = certain_on text piece fed.rules verdict is
+stands_sure text piece cutting fed (Some verdict) sure is = sure_on text piece fed verdict is
 
 -- and where it wasn't
 pub stands_more : (text piece : List ℕ) (cutting : Cutting) (was is : Fed) (certain : Option Verdict) → was.certain ≡ None → StandsAt text cutting was was.certain →
@@ -137,12 +152,22 @@ stands_more text piece cutting was is certain none stood rules parts sure right 
   where
     go : (c : Option Verdict) → IfSome c (IsCertain is.parts is.rules) → (c ≡ None → IsOpen is.parts is.rules) → HasRead (text ++ piece) (fed cutting piece) is.parts → StandsAt (text ++ piece) (fed cutting piece) is c
     go None sure right reads = record { reads = reads; right = right refl }
-    go (Some verdict) sure right reads = certain_text (text ++ piece) (fed cutting piece) is.parts is.rules verdict reads sure
+    go (Some verdict) sure right reads = sure_text (text ++ piece) (fed cutting piece) is verdict reads sure
 
 -- what is told of the text as it stands
 pub told_sure : (text : List ℕ) (cutting : Cutting) (fed : Fed) (certain : Option Verdict) → StandsAt text cutting fed certain → IfSome certain (IsCertainOf text fed.rules)
 told_sure text cutting fed None is = tt
-told_sure text cutting fed (Some verdict) is = is
+told_sure text cutting fed (Some verdict) is = is.certain
+
+-- and what shows it
+pub told_shown : (text : List ℕ) (cutting : Cutting) (fed : Fed) (explains : Bool) (cycle : Option Cycle) → StandsAt text cutting fed fed.certain → ShowsFed explains fed cycle → ShowsText explains fed.certain text fed.rules cycle
+told_shown text cutting fed false cycle stood shows = shows
+told_shown text cutting fed true cycle stood shows = go fed.certain cycle stood shows
+  where
+    go : (c : Option Verdict) (cycle : Option Cycle) → StandsAt text cutting fed c → ShowsCertain c fed.parts fed.rules cycle → ShowsText true c text fed.rules cycle
+    go None cycle stood shows = shows
+    go (Some verdict) None stood shows = (shows.0, tt)
+    go (Some verdict) (Some cycle) stood shows = (shows.0, subst (λ t. IsCycleOf (reading_of t ∷ []) fed.rules verdict cycle) (append-nil text) (stood.shown [] cycle shows.1))
 
 pub told_right : (text : List ℕ) (cutting : Cutting) (fed : Fed) (certain : Option Verdict) → StandsAt text cutting fed certain → is_some certain ≡ false → EndsLine text → IsOpenText text fed.rules
 told_right text cutting fed None is off ends = open_text text cutting fed.parts fed.rules is.reads is.right ends
@@ -158,13 +183,19 @@ last_sure text cutting fed verdict sure stood certain is = go fed.certain sure s
     go (Some v) sure stood certain =
         let all : IsVerdict fed.parts fed.rules v = subst (λ ps. IsVerdict ps fed.rules v) (append-nil fed.parts) (certain.is_verdict []) in
         let same : v ≡ verdict = one_verdict fed.parts fed.rules v verdict all is in
-        subst (IsTextVerdict text fed.rules) same (subst (λ t. IsTextVerdict t fed.rules v) (append-nil text) (stood.is_verdict []))
+        subst (IsTextVerdict text fed.rules) same (subst (λ t. IsTextVerdict t fed.rules v) (append-nil text) (stood.certain.is_verdict []))
 
 pub last_open : (text : List ℕ) (cutting : Cutting) (fed : Fed) (verdict : Verdict) → fed.certain ≡ None → StandsAt text cutting fed fed.certain →
     IsVerdict (fed.parts ++ map reading_of (option_to_list (last_block cutting))) fed.rules verdict → IsTextVerdict text fed.rules verdict
 last_open text cutting fed verdict none stood is =
     let at : GoesOn text cutting fed = subst (StandsAt text cutting fed) none stood in
     verdict_of_text fed.rules (fed.parts ++ map reading_of (option_to_list (last_block cutting))) text verdict (read_all text cutting fed.parts at.reads) is
+
+-- and however it was judged out
+pub judged_out : (text : List ℕ) (cutting : Cutting) (was now : Fed) (verdict : Verdict) → StandsAt text cutting was was.certain → IsJudgedOut was cutting now → IsVerdict now.parts now.rules verdict → IsTextVerdict text was.rules verdict
+judged_out text cutting was now verdict stood (inl (sure, certain, same)) is = last_sure text cutting was verdict sure stood certain (subst (λ (f : Fed). IsVerdict f.parts f.rules verdict) same is)
+judged_out text cutting was now verdict stood (inr (none, parts, rules)) is =
+    last_open text cutting was verdict none stood (subst (λ ps. IsVerdict ps was.rules verdict) parts (subst (λ r. IsVerdict now.parts r verdict) rules is))
 
 -- what calls answer
 is_some_map : {A B : Type 0} (f : A → B) (o : Option A) → is_some (option_map f o) ≡ is_some o

@@ -1,23 +1,27 @@
 -- What a caller sees of a text that is fed piece by piece.
-use Rattle.std.specs.Prelude.{◌≡◌, ◌⊎◌, ◌+◌, ℕ, Bool, true, false, List, [], ◌∷◌, ◌++◌, Option, None}
+use Rattle.std.specs.Prelude.{◌≡◌, ◌⊎◌, ◌+◌, ℕ, Bool, true, false, List, [], ◌∷◌, ◌++◌, Option, None, Some}
+use Rattle.aero_model.specs.declared.verdict.Cycle.{Cycle}
 use Rattle.aero_model.specs.declared.verdict.LineFault.TheVariants.{TooManyLines}
 use Rattle.aero_model.specs.declared.verdict.Verdict.{Verdict}
 use Rattle.aero_model.specs.declared.verdict.Verdict.TheVariants.{Malformed}
 use Rattle.aero_model.specs.Verdicts.{HasOwnFault}
 use Rattle.aero_grammar.specs.Reading.{reading_of}
+use Rattle.aero_verdict.specs.Explained.{ShowsVerdict}
 use Rattle.aero_verdict.specs.Ordered.{is_faultless}
 use Rattle.aero_verdict.specs.Verdict.{Rules, IsVerdict}
 
--- The rules, the bytes that were fed, the verdict that is known to be certain, if one is, and whether memory was refused
+-- The rules, whether a violation is to be shown, the bytes that were fed, the verdict that is known to be certain, if one is, and whether memory was
+-- refused
 pub record Feeding : Type 0 where
   pub rules : Rules
+  pub explains : Bool
   pub text : List ℕ
   pub certain : Option Verdict
   pub is_spent : Bool
 
 -- nothing was fed
-abbrev pub nothing_fed : Rules → Feeding
-nothing_fed rules = record { rules = rules; text = []; certain = None; is_spent = false }
+abbrev pub nothing_fed : Rules → (explains : Bool) → Feeding
+nothing_fed rules explains = record { rules = rules; explains = explains; text = []; certain = None; is_spent = false }
 
 -- the verdict on a text
 abbrev pub IsTextVerdict : List ℕ → Rules → Verdict → Type 0
@@ -32,3 +36,9 @@ pub record IsCertainOf (text : List ℕ) (rules : Rules) (verdict : Verdict) : T
 -- nothing is wrong with this text, but maybe that there is one line too many
 abbrev pub IsOpenText : List ℕ → Rules → Type 0
 IsOpenText text rules = (verdict : Verdict) → IsTextVerdict text rules verdict → (is_faultless verdict ≡ true) ⊎ (verdict ≡ Malformed (rules.limits.lines + 1) TooManyLines)
+
+-- what shows the verdict that is certain, where it is a violation and that is to be shown, and else nothing
+abbrev pub ShowsText : (explains : Bool) → Option Verdict → List ℕ → Rules → Option Cycle → Type 0
+ShowsText true (Some verdict) text rules cycle = ShowsVerdict (reading_of text ∷ []) rules verdict cycle
+ShowsText true None text rules cycle = cycle ≡ None
+ShowsText false certain text rules cycle = cycle ≡ None

@@ -1,14 +1,16 @@
 //! A text that comes in pieces.
-ghost use Rattle.std.specs.Prelude.{◌≡◌, ◌≤◌, ◌^◌, ◌++◌, [], true, false, length, is_some, IfOk, IfSome, OnOk, OnErr};
+ghost use Rattle.std.specs.Prelude.{◌≡◌, ◌≤◌, ◌^◌, ◌++◌, [], true, false, None, length, is_some, IfOk, IfSome, OnOk, OnErr};
 ghost use Rattle.aero_model.specs.Lines.{EndsLine};
 ghost use Rattle.aero_model.specs.Verdicts.{HasOwnFault};
 ghost use Rattle.aero_verdict.specs.Verdict.{under};
-ghost use Rattle.aero_feed.specs.Feeding.{nothing_fed, IsTextVerdict, IsCertainOf, IsOpenText};
+ghost use Rattle.aero_feed.specs.Feeding.{nothing_fed, IsTextVerdict, IsCertainOf, IsOpenText, ShowsText};
+ghost use Rattle.aero_feed.specs.Reads.{fed_by, explains_in};
 
+use crate::judge::Judge;
 use crate::text_monitor::TextMonitor;
 use aero_model::except::Except;
 use aero_model::limits::Limits;
-use aero_model::verdict::Verdict;
+use aero_model::verdict::{Cycle, Verdict};
 use std::alloc::{AllocError, Global};
 use std::marker::Model;
 
@@ -18,7 +20,8 @@ const HELD_BYTES: usize = 1 << 16;
 /// The text of a trace, of which pieces come. It is judged as it comes and let go: what is kept are 131,072 bytes at
 /// most, names, and what is known of threads, variables, locks and open blocks.
 ///
-/// Contracts see the rules, the bytes that were fed, and the verdict that is known to be certain, if one is.
+/// Contracts see the rules, whether a violation is to be shown, the bytes that were fed, and the verdict that is known to be
+/// certain, if one is.
 #[derive(Drop)]
 pub struct Feed {
     monitor: TextMonitor,
@@ -33,7 +36,7 @@ impl Model for Feed {
 
     ghost use Rattle.std.specs.Prelude.{◌≤◌, ◌^◌, ◌++◌, length};
 
-    ghost view = { λ f. record { rules = f.monitor.rules; text = f.monitor.text ++ f.held.items; certain = f.monitor.certain; is_spent = f.monitor.is_spent } };
+    ghost view = { λ f. record { rules = f.monitor.rules; explains = f.monitor.explains; text = f.monitor.text ++ f.held.items; certain = f.monitor.certain; is_spent = f.monitor.is_spent } };
 
     ghost invariant = { λ f. length f.held.items ≤ 2 ^ 17 };
 }
@@ -42,12 +45,23 @@ impl Feed {
     /// A text of which no byte has come, under these limits. A block that begins with one of the labels of `except`
     /// is no transaction.
     pub fn new(alloc: Global, limits: &Limits, except: Except) -> Feed
-        ensures { result ≡ nothing_fed (under limits.now except) }
+        ensures { result ≡ nothing_fed (under limits.now except) false }
     {
-        Feed {
-            monitor: TextMonitor::new(alloc, limits, except),
-            held: Vec::new(alloc),
-        }
+        let judge = Judge::plain(alloc, limits, &except);
+        judged_by(alloc, judge, except)
+    }
+
+    /// The same of a text whose violation is to be shown, by `explain`. Also kept are 24 bytes of each event, and the labels
+    /// of begins, until an event closes a cycle.
+    ///
+    /// # Errors
+    ///
+    /// `AllocError` where memory was refused: there is no feed.
+    pub fn explaining(alloc: Global, limits: &Limits, except: Except) -> Result<Feed, AllocError>
+        ensures { IfOk result (λ feed. feed ≡ nothing_fed (under limits.now except) true) }
+    {
+        let judge = Judge::explaining(alloc, limits, &except)?;
+        Ok(judged_by(alloc, judge, except))
     }
 
     /// Takes the next piece, of any length: lines may be cut anywhere.
@@ -58,6 +72,7 @@ impl Feed {
     pub fn feed(&mut self, piece: &[u8]) -> Result<(), AllocError>
         ensures text { OnOk result (self.new.text ≡ self.old.text ++ piece.now) }
         ensures rules { self.new.rules ≡ self.old.rules }
+        ensures explains { self.new.explains ≡ self.old.explains }
         ensures stays { IfSome self.old.certain (λ verdict. self.new.certain ≡ self.old.certain) }
         ensures spent { OnErr result (self.new.is_spent ≡ true) }
         ensures was_unspent { OnOk result (self.old.is_spent ≡ false) }
@@ -82,6 +97,7 @@ impl Feed {
     pub fn is_certain(&mut self) -> Result<bool, AllocError>
         ensures text { OnOk result (self.new.text ≡ self.old.text) }
         ensures rules { self.new.rules ≡ self.old.rules }
+        ensures explains { self.new.explains ≡ self.old.explains }
         ensures told { IfOk result (λ is_certain. is_certain ≡ is_some self.new.certain) }
         ensures certain { OnOk result (IfSome self.new.certain (IsCertainOf self.new.text self.new.rules)) }
         ensures going_on { IfOk result (λ is_certain. is_certain ≡ false → EndsLine self.new.text → IsOpenText self.new.text self.new.rules) }
@@ -92,6 +108,36 @@ impl Feed {
     {
         judge_held(&mut self.monitor, &mut self.held)?;
         Ok(self.monitor.is_certain())
+    }
+
+    /// Judges what came so far, as `is_certain` does, and gives what shows the verdict if it is a violation and certain: the
+    /// label of the block that it names, and the events of a telling cycle, as `check_trace_explained` of aero_verdict
+    /// tells them. `None` where no violation is certain, or the feed isn't `explaining`. Once one is certain, each call takes as
+    /// long as there are events up to it.
+    ///
+    /// # Errors
+    ///
+    /// `AllocError` where memory was refused, and at each call from then on.
+    pub fn explain(&mut self) -> Result<Option<Cycle>, AllocError>
+        ensures text { OnOk result (self.new.text ≡ self.old.text) }
+        ensures rules { self.new.rules ≡ self.old.rules }
+        ensures explains { self.new.explains ≡ self.old.explains }
+        ensures shown { IfOk result (ShowsText self.new.explains self.new.certain self.new.text self.new.rules) }
+        ensures certain { OnOk result (IfSome self.new.certain (IsCertainOf self.new.text self.new.rules)) }
+        ensures going_on { OnOk result (self.new.certain ≡ None → EndsLine self.new.text → IsOpenText self.new.text self.new.rules) }
+        ensures stays { IfSome self.old.certain (λ verdict. self.new.certain ≡ self.old.certain) }
+        ensures spent { OnErr result (self.new.is_spent ≡ true) }
+        ensures was_unspent { OnOk result (self.old.is_spent ≡ false) }
+        ensures stays_spent { self.old.is_spent ≡ true → self.new.is_spent ≡ true }
+    {
+        judge_held(&mut self.monitor, &mut self.held)?;
+        // (tells the proof what is certain)
+        let _is_certain = self.monitor.is_certain();
+        let shown = self.monitor.explain();
+        if shown.is_err() {
+            self.monitor.spend();
+        }
+        shown
     }
 
     /// The verdict on exactly the bytes that were fed, as one text.
@@ -123,6 +169,7 @@ impl Feed {
         requires { length piece.now ≤ 2 ^ 16 }
         ensures text { OnOk result (self.new.text ≡ self.old.text ++ piece.now) }
         ensures rules { self.new.rules ≡ self.old.rules }
+        ensures explains { self.new.explains ≡ self.old.explains }
         ensures stays { IfSome self.old.certain (λ verdict. self.new.certain ≡ self.old.certain) }
         ensures spent { OnErr result (self.new.is_spent ≡ true) }
         ensures was_unspent { OnOk result (self.old.is_spent ≡ false) }
@@ -142,6 +189,18 @@ impl Feed {
     }
 }
 
+// A text of which no byte has come, and a judge of it, which goes by these labels and was fed nothing.
+fn judged_by(alloc: Global, judge: Judge, except: Except) -> Feed
+    requires labels { except ≡ (fed_by judge).rules.labels }
+    requires none { (fed_by judge).parts ≡ [] }
+    ensures { result ≡ nothing_fed (fed_by judge).rules (explains_in judge) }
+{
+    Feed {
+        monitor: TextMonitor::new(alloc, judge, except),
+        held: Vec::new(alloc),
+    }
+}
+
 // Judges what is held, and lets it go.
 fn judge_held(monitor: &mut TextMonitor, held: &mut Vec<u8>) -> Result<(), AllocError>
     requires { length held.old.items ≤ 2 ^ 17 }
@@ -149,6 +208,7 @@ fn judge_held(monitor: &mut TextMonitor, held: &mut Vec<u8>) -> Result<(), Alloc
     ensures none { OnOk result (held.new.items ≡ []) }
     ensures short { length held.new.items ≤ length held.old.items }
     ensures rules { monitor.new.rules ≡ monitor.old.rules }
+    ensures explains { monitor.new.explains ≡ monitor.old.explains }
     ensures stays { IfSome monitor.old.certain (λ verdict. monitor.new.certain ≡ monitor.old.certain) }
     ensures spent { OnErr result (monitor.new.is_spent ≡ true) }
     ensures unspent { OnOk result (monitor.new.is_spent ≡ false) }

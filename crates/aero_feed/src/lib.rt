@@ -13,6 +13,14 @@
 //! feed.finish()?;          // Violation { line: 6, thread: T1, begun: 1 }
 //! ```
 //!
+//! A feed that is `explaining` also shows a violation, as soon as that is certain:
+//!
+//! ```text
+//! let mut feed = Feed::explaining(alloc, &Limits::greatest(), Except::new(Vec::new(alloc)).ok_or("labels")?)?;
+//! feed.feed(b"T1|begin(a)\nT1|r(x)\nT2|w(x)\nT1|w(x)\n")?;
+//! feed.explain()?;         // the label a, and the events on the lines 2, 3 and 4
+//! ```
+//!
 //! # What is proved
 //!
 //! - A feed has exactly the bytes that it was fed, under the rules that it began with: `Feed::new`; `feed`, `text`,
@@ -21,9 +29,12 @@
 //!   `certain`, `stays`. Where the bytes end a line and it isn't told, nothing is wrong with them, but maybe that there
 //!   is one line too many: `going_on`.
 //! - Once memory was refused no call answers anything else: `spent`, `stays_spent`, `was_unspent` of each.
+//! - What shows a violation that is certain is a shortest telling cycle of the text, as `check_trace_explained` tells it; of a
+//!   feed that isn't `explaining` nothing is shown: `Feed::explain`, `shown`.
 //! - The verdict is that of the text, as one part: `Feed::finish`. So it is what `check_trace` answers of it.
 #![tactic(auto)]
 
 pub mod feed;
 mod ghost_text;
+mod judge;
 mod text_monitor;

@@ -5,17 +5,15 @@ ghost use Rattle.aero_model.specs.Verdicts.{HasOwnFault};
 ghost use Rattle.aero_grammar.specs.Reading.{reading_of};
 ghost use Rattle.aero_lines.specs.Cutting.{fed, block_of, last_block};
 ghost use Rattle.aero_verdict.specs.Fed.{IsCertain, IsOpen};
-ghost use Rattle.aero_verdict.specs.Verdict.{under, IsVerdict};
-ghost use Rattle.aero_feed.specs.Feeding.{nothing_fed, IsTextVerdict, IsCertainOf, IsOpenText};
+ghost use Rattle.aero_feed.specs.Feeding.{nothing_fed, IsTextVerdict, IsCertainOf, IsOpenText, ShowsText};
+ghost use Rattle.aero_feed.specs.Reads.{fed_by, explains_in, IsJudgedOut};
 
 use crate::ghost_text::GhostText;
+use crate::judge::Judge;
 use aero_grammar::block::parse_block;
-use aero_leads::leads::Leads;
 use aero_lines::cutter::Cutter;
 use aero_model::except::Except;
-use aero_model::limits::Limits;
-use aero_model::verdict::Verdict;
-use aero_verdict::monitor::Monitor;
+use aero_model::verdict::{Cycle, Verdict};
 use std::alloc::{AllocError, Global};
 use std::marker::Model;
 
@@ -25,7 +23,7 @@ pub(crate) struct TextMonitor {
     alloc: Global,
     except: Except,
     cutter: Cutter,
-    monitor: Monitor<Leads>,
+    judge: Judge,
     is_spent: bool,
     text: GhostText,
 }
@@ -36,28 +34,35 @@ impl Model for TextMonitor {
     ghost Value = { Feeding };
 
     ghost use Rattle.std.specs.Prelude.{◌≡◌, false};
-    ghost use Rattle.aero_feed.specs.Reads.{StandsAt};
+    ghost use Rattle.aero_feed.specs.Reads.{StandsAt, fed_by, explains_in};
 
-    ghost view = { λ t. record { rules = t.monitor.rules; text = t.text.bytes; certain = t.monitor.certain; is_spent = t.is_spent } };
+    ghost view = { λ t. record {
+      rules = (fed_by t.judge).rules;
+      explains = explains_in t.judge;
+      text = t.text.bytes;
+      certain = (fed_by t.judge).certain;
+      is_spent = t.is_spent;
+    } };
 
     ghost invariant = { λ t. record {
-      labels : t.except ≡ t.monitor.rules.labels;
-      stands : t.is_spent ≡ false → StandsAt t.text.bytes t.cutter t.monitor t.monitor.certain;
+      labels : t.except ≡ (fed_by t.judge).rules.labels;
+      stands : t.is_spent ≡ false → StandsAt t.text.bytes t.cutter (fed_by t.judge) (fed_by t.judge).certain;
     } };
 }
 
 impl TextMonitor {
-    // No byte has come.
-    pub(crate) fn new(alloc: Global, limits: &Limits, except: Except) -> TextMonitor
-        ensures { result ≡ nothing_fed (under limits.now except) }
+    // No byte has come, and the judge, which goes by these labels, was fed nothing.
+    pub(crate) fn new(alloc: Global, judge: Judge, except: Except) -> TextMonitor
+        requires labels { except ≡ (fed_by judge).rules.labels }
+        requires none { (fed_by judge).parts ≡ [] }
+        ensures { result ≡ nothing_fed (fed_by judge).rules (explains_in judge) }
     {
-        let monitor = Monitor::new(alloc, limits, &except);
         // (tells the proof that nothing is certain yet)
-        let _is_certain = monitor.certain().is_some();
+        let _is_certain = judge.is_certain();
         TextMonitor {
             alloc,
             cutter: Cutter::new(alloc),
-            monitor,
+            judge,
             except,
             is_spent: false,
             text: GhostText::none(),
@@ -70,6 +75,7 @@ impl TextMonitor {
         requires { length piece.now ≤ 2 ^ 20 }
         ensures text { self.new.text ≡ self.old.text ++ piece.now }
         ensures rules { self.new.rules ≡ self.old.rules }
+        ensures explains { self.new.explains ≡ self.old.explains }
         ensures stays { IfSome self.old.certain (λ verdict. self.new.certain ≡ self.old.certain) }
         ensures spent { OnErr result (self.new.is_spent ≡ true) }
         ensures unspent { OnOk result (self.new.is_spent ≡ false) }
@@ -80,13 +86,13 @@ impl TextMonitor {
         if self.is_spent {
             return Err(AllocError);
         }
-        if self.monitor.certain().is_some() {
+        if self.judge.is_certain() {
             return Ok(());
         }
         let judged = judge_piece(
             self.alloc,
             &mut self.cutter,
-            &mut self.monitor,
+            &mut self.judge,
             &self.except,
             piece,
         );
@@ -100,7 +106,14 @@ impl TextMonitor {
         ensures certain { self.now.is_spent ≡ false → IfSome self.now.certain (IsCertainOf self.now.text self.now.rules) }
         ensures going_on { self.now.is_spent ≡ false → result ≡ false → EndsLine self.now.text → IsOpenText self.now.text self.now.rules }
     {
-        self.monitor.certain().is_some()
+        self.judge.is_certain()
+    }
+
+    // What shows the violation that is certain, where one is and is to be shown. An `AllocError` says that memory was refused.
+    pub(crate) fn explain(&self) -> Result<Option<Cycle>, AllocError>
+        ensures { self.now.is_spent ≡ false → IfOk result (ShowsText self.now.explains self.now.certain self.now.text self.now.rules) }
+    {
+        self.judge.explain()
     }
 
     // Whether memory was refused.
@@ -127,78 +140,99 @@ impl TextMonitor {
             alloc,
             except,
             cutter,
-            monitor,
+            judge,
             is_spent,
             text: _,
         } = self;
-        if is_spent {
-            return Err(AllocError);
-        }
-        if monitor.certain().is_some() {
-            return monitor.finish();
-        }
-        judge_last(alloc, cutter, monitor, &except)
+        let mut judge = judge;
+        let judged = judge_rest(alloc, cutter, &mut judge, &except, is_spent);
+        let verdict = judge.finish();
+        judged?;
+        verdict
     }
+}
+
+// Judges the line that no byte 10 ended, where there is one and it isn't certain what the verdict is. An `AllocError` says
+// that memory is or was refused.
+fn judge_rest(
+    alloc: Global,
+    cutter: Cutter,
+    judge: &mut Judge,
+    except: &Except,
+    is_spent: bool,
+) -> Result<(), AllocError>
+    requires labels { except.now ≡ (fed_by judge.old).rules.labels }
+    ensures judged { OnOk result (IsJudgedOut (fed_by judge.old) cutter (fed_by judge.new)) }
+    ensures was_unspent { OnOk result (is_spent ≡ false) }
+{
+    if is_spent {
+        return Err(AllocError);
+    }
+    if judge.is_certain() {
+        return Ok(());
+    }
+    judge_last(alloc, cutter, judge, except)
 }
 
 // Judges what is cut of the next piece.
 fn judge_piece(
     alloc: Global,
     cutter: &mut Cutter,
-    monitor: &mut Monitor<Leads>,
+    judge: &mut Judge,
     except: &Except,
     piece: &[u8],
 ) -> Result<(), AllocError>
-    requires labels { except.now ≡ monitor.old.rules.labels }
+    requires labels { except.now ≡ (fed_by judge.old).rules.labels }
     requires short { length piece.now ≤ 2 ^ 20 }
-    requires open { monitor.old.certain ≡ None }
+    requires open { (fed_by judge.old).certain ≡ None }
     ensures cut { OnOk result (cutter.new ≡ fed cutter.old piece.now) }
-    ensures rules { monitor.new.rules ≡ monitor.old.rules }
-    ensures parts { OnOk result (monitor.new.parts ≡ monitor.old.parts ++ map reading_of (option_to_list (block_of cutter.old piece.now))) }
-    ensures certain { IfSome monitor.new.certain (IsCertain monitor.new.parts monitor.new.rules) }
-    ensures going_on { OnOk result (IsOpen monitor.old.parts monitor.old.rules → monitor.new.certain ≡ None → IsOpen monitor.new.parts monitor.new.rules) }
+    ensures rules { (fed_by judge.new).rules ≡ (fed_by judge.old).rules }
+    ensures explains { explains_in judge.new ≡ explains_in judge.old }
+    ensures parts { OnOk result ((fed_by judge.new).parts ≡ (fed_by judge.old).parts ++ map reading_of (option_to_list (block_of cutter.old piece.now))) }
+    ensures certain { IfSome (fed_by judge.new).certain (IsCertain (fed_by judge.new).parts (fed_by judge.new).rules) }
+    ensures going_on { OnOk result (IsOpen (fed_by judge.old).parts (fed_by judge.old).rules → (fed_by judge.new).certain ≡ None → IsOpen (fed_by judge.new).parts (fed_by judge.new).rules) }
 {
     match cutter.feed(piece)? {
         None => Ok(()),
-        Some(block) => judge_block(alloc, monitor, except, block.bytes()),
+        Some(block) => judge_block(alloc, judge, except, block.bytes()),
     }
 }
 
 // Judges a block of whole lines.
 fn judge_block(
     alloc: Global,
-    monitor: &mut Monitor<Leads>,
+    judge: &mut Judge,
     except: &Except,
     block: &[u8],
 ) -> Result<(), AllocError>
-    requires labels { except.now ≡ monitor.old.rules.labels }
+    requires labels { except.now ≡ (fed_by judge.old).rules.labels }
     requires short { length block.now ≤ 2 ^ 30 }
-    requires open { monitor.old.certain ≡ None }
-    ensures rules { monitor.new.rules ≡ monitor.old.rules }
-    ensures parts { OnOk result (monitor.new.parts ≡ monitor.old.parts ++ reading_of block.now ∷ []) }
-    ensures certain { IfSome monitor.new.certain (IsCertain monitor.new.parts monitor.new.rules) }
-    ensures going_on { OnOk result (monitor.new.certain ≡ None → IsOpen monitor.new.parts monitor.new.rules) }
+    requires open { (fed_by judge.old).certain ≡ None }
+    ensures rules { (fed_by judge.new).rules ≡ (fed_by judge.old).rules }
+    ensures explains { explains_in judge.new ≡ explains_in judge.old }
+    ensures parts { OnOk result ((fed_by judge.new).parts ≡ (fed_by judge.old).parts ++ reading_of block.now ∷ []) }
+    ensures certain { IfSome (fed_by judge.new).certain (IsCertain (fed_by judge.new).parts (fed_by judge.new).rules) }
+    ensures going_on { OnOk result ((fed_by judge.new).certain ≡ None → IsOpen (fed_by judge.new).parts (fed_by judge.new).rules) }
 {
     let part = parse_block(alloc, block)?;
-    monitor.feed(&part, except)?;
+    judge.feed(&part, except)?;
     Ok(())
 }
 
-// Judges the line that no byte 10 ended, where there is one, and gives the verdict.
+// Judges the line that no byte 10 ended, where there is one.
 fn judge_last(
     alloc: Global,
     cutter: Cutter,
-    monitor: Monitor<Leads>,
+    judge: &mut Judge,
     except: &Except,
-) -> Result<Verdict, AllocError>
-    requires labels { except.now ≡ monitor.rules.labels }
-    requires open { monitor.certain ≡ None }
-    ensures verdict { IfOk result (IsVerdict (monitor.parts ++ map reading_of (option_to_list (last_block cutter))) monitor.rules) }
-    ensures own_fault { IfOk result HasOwnFault }
+) -> Result<(), AllocError>
+    requires labels { except.now ≡ (fed_by judge.old).rules.labels }
+    requires open { (fed_by judge.old).certain ≡ None }
+    ensures rules { (fed_by judge.new).rules ≡ (fed_by judge.old).rules }
+    ensures parts { OnOk result ((fed_by judge.new).parts ≡ (fed_by judge.old).parts ++ map reading_of (option_to_list (last_block cutter))) }
 {
-    let mut monitor = monitor;
-    if let Some(block) = cutter.finish()? {
-        judge_block(alloc, &mut monitor, except, block.bytes())?;
+    match cutter.finish()? {
+        None => Ok(()),
+        Some(block) => judge_block(alloc, judge, except, block.bytes()),
     }
-    monitor.finish()
 }

@@ -5,7 +5,7 @@ use aero_feed::feed::Feed;
 use aero_model::except::Except;
 use aero_model::limits::Limits;
 use aero_model::name::Name;
-use aero_model::verdict::Verdict;
+use aero_model::verdict::{Cycle, Verdict};
 use std::alloc::Global;
 
 // The helpers below say that a row doesn't hold where memory is refused.
@@ -136,8 +136,13 @@ fn is_judged_so(alloc: Global, row: Row) -> Option<bool> {
 fn is_certain_so(alloc: Global, row: Row) -> Option<bool> {
     let (label, text, from, _) = row;
     let bytes = bytes_of(alloc, text)?;
-    let mut feed = feed_of(alloc, label)?;
-    Some(certain_from(&mut feed, &bytes) == Some(from))
+    let feed = feed_of(alloc, label)?;
+    Some(is_certain_at(feed, &bytes, from))
+}
+
+fn is_certain_at(feed: Feed, text: &[u8], from: usize) -> bool {
+    let mut feed = feed;
+    certain_from(&mut feed, text) == Some(from)
 }
 
 // The first row whose text is judged otherwise.
@@ -220,8 +225,15 @@ fn long_verdict(alloc: Global, count: u32, size: usize) -> Option<String>
     requires { 0 < size }
 {
     let none = Except::new(Vec::new(alloc))?;
+    let text = reads(alloc, count)?;
+    greatest_verdict(alloc, none, &text, size)
+}
+
+fn greatest_verdict(alloc: Global, none: Except, text: &[u8], size: usize) -> Option<String>
+    requires { 0 < size }
+{
     let feed = Feed::new(alloc, &Limits::greatest(), none);
-    verdict_in_pieces(alloc, feed, &reads(alloc, count)?, size)
+    verdict_in_pieces(alloc, feed, text, size)
 }
 
 // What is held is judged after some 65,536 bytes: 320,008 bytes as one piece, and in some that are a little longer; and
@@ -267,4 +279,121 @@ fn is_certain_from(feed: &mut Feed, count: u32) -> bool {
         }
     }
     is_certain_with(feed, b"T") == Some(true)
+}
+
+// The label of blocks that are no transactions, if there is one, a text in which a `/` ends each line, and what shows its
+// violation: the label of the block, if it has one, and of each event of the cycle its line and the first one of its
+// transaction.
+type ShownRow = (&'static str, &'static str, &'static str);
+
+// The second's label is left out. The third's last line may go on, so that nothing is certain.
+static SHOWN_ROWS: [ShownRow; 4] = [
+    (
+        "",
+        "T1|begin(a)/T1|r(x)/T2|w(x)/T1|w(x)/T2|r(y)/",
+        "a 2/1 3/3 4/1",
+    ),
+    ("a", "T1|begin(a)/T1|r(x)/T2|w(x)/T1|w(x)/", ""),
+    ("", "T1|begin/T1|r(x)/T2|w(x)/T1|w(x)", ""),
+    ("", "T1|begin/T1|r(x)/T2|w(x)/T1|w(x)/", " 2/1 3/3 4/1"),
+];
+
+fn shown_words(alloc: Global, shown: &Option<Cycle>) -> Option<String> {
+    match shown {
+        Some(cycle) => cycle_words(alloc, cycle),
+        None => Some(String::new(alloc)),
+    }
+}
+
+fn cycle_words(alloc: Global, cycle: &Cycle) -> Option<String> {
+    let mut words = label_words(alloc, &cycle.label)?;
+    for step in cycle.steps.as_slice() {
+        let line = step.line;
+        let first = step.first;
+        words = format!(in alloc; "{words} {line}/{first}").ok()?;
+    }
+    Some(words)
+}
+
+fn label_words(alloc: Global, label: &Option<Name>) -> Option<String> {
+    match label {
+        Some(label) => String::from_str(alloc, str::from_utf8(label.bytes()).ok()?).ok(),
+        None => Some(String::new(alloc)),
+    }
+}
+
+fn explaining_feed_of(alloc: Global, label: &str) -> Option<Feed> {
+    let limits = Limits::new(1000, 5, 10, 10)?;
+    Feed::explaining(alloc, &limits, except_of(alloc, label)?).ok()
+}
+
+// What is shown of the text that was fed.
+fn shown(alloc: Global, feed: &mut Feed) -> Option<String> {
+    shown_words(alloc, &feed.explain().ok()?)
+}
+
+// What is shown of the text that was fed, where the same is shown once more.
+fn shown_twice(alloc: Global, feed: &mut Feed) -> Option<String> {
+    let first = shown(alloc, feed)?;
+    let again = shown(alloc, feed)?;
+    if first.as_str() == again.as_str() {
+        Some(first)
+    } else {
+        None
+    }
+}
+
+// What is shown of a text that comes in pieces of so many bytes.
+fn shown_in_pieces(alloc: Global, feed: Feed, text: &[u8], size: usize) -> Option<String>
+    requires { 0 < size }
+{
+    let mut feed = feed;
+    if is_fed(&mut feed, text, size) {
+        shown_twice(alloc, &mut feed)
+    } else {
+        None
+    }
+}
+
+// Whether what is to be shown of the row's text is shown of these bytes, in pieces of so many.
+fn shows(alloc: Global, row: ShownRow, bytes: &[u8], size: usize) -> bool
+    requires { 0 < size }
+{
+    match explaining_feed_of(alloc, row.0) {
+        Some(feed) => is(shown_in_pieces(alloc, feed, bytes, size), row.2),
+        None => false,
+    }
+}
+
+// Whether it is in pieces of 3 bytes, and as one.
+fn is_shown_so(alloc: Global, row: ShownRow) -> Option<bool> {
+    let bytes = bytes_of(alloc, row.1)?;
+    Some(shows(alloc, row, &bytes, 3) && shows(alloc, row, &bytes, 1000))
+}
+
+// The first row of which something else is shown.
+fn first_misshown(alloc: Global, rows: &[ShownRow]) -> Option<usize> {
+    for i in 0..rows.len() {
+        if is_shown_so(alloc, rows[i]) != Some(true) {
+            return Some(i);
+        }
+    }
+    None
+}
+
+#[test]
+fn a_violation_is_shown_however_its_text_is_cut(rt: HostRuntime) {
+    assert_eq!(rt; first_misshown(rt.alloc(), &SHOWN_ROWS), None);
+}
+
+// A feed that isn't to show anything shows nothing.
+#[test]
+fn a_violation_is_shown_where_that_is_asked_for(rt: HostRuntime) {
+    let alloc = rt.alloc();
+    assert!(rt; is(plainly_shown(alloc), ""));
+}
+
+fn plainly_shown(alloc: Global) -> Option<String> {
+    let feed = feed_of(alloc, "")?;
+    shown_in_pieces(alloc, feed, b"T1|begin\nT1|r(x)\nT2|w(x)\nT1|w(x)\n", 1000)
 }

@@ -15,6 +15,7 @@ use Rattle.aero_program.specs.declared.command.Config.{Config}
 use Rattle.aero_program.specs.declared.failure.Failure.{Failure}
 use Rattle.aero_program.specs.declared.input.Input.{Input}
 use Rattle.aero_program.specs.declared.notes.Naming.{Naming}
+use Rattle.aero_program.specs.declared.stamp.Stamp.{Stamp}
 use Rattle.aero_program.specs.Answers.{Ends, WasJudged}
 use Rattle.aero_program.specs.Command.{AreLimitsFor, are_words, form_on, listed_by}
 use Rattle.aero_program.specs.Notes.{AreShown, Remark, noted_of_all}
@@ -35,16 +36,16 @@ names_noted words known (source ∷ more) [] (fault ∷ faults) = ap (λ l. sour
 names_noted words known (source ∷ more) (ending ∷ rest) [] = ap (λ l. source.name.items ∷ l) (names_noted words known more rest [])
 names_noted words known (source ∷ more) (ending ∷ rest) (fault ∷ faults) = ap (λ l. source.name.items ∷ l) (names_noted words known more rest faults)
 
-pub judged : {S O F : Type 0} (known : Input S O F → Option (List ℕ)) (config : Config) (given : Option (List ℕ)) (limits : Limits) (names : List (List ℕ))
+pub judged : {S O F : Type 0} (holds : List ℕ → Stamp → Option (List ℕ) → Type 0) (known : Input S O F → Option (List ℕ)) (config : Config) (given : Option (List ℕ)) (limits : Limits) (names : List (List ℕ))
     (was lent new now : List (Source (Input S O F))) (before between after : Shown) (endings : List (ℕ × Ending)) (faults : List (Option FaultyLine)) (counts : Counts) (cause : Option Cause)
     (fault : Option ErrorKind) (end : Result ℕ Failure) (told told_after : Seen) (status : ℕ) (terms : Terms) (made : Form)
     → terms ≡ asking limits (listed_by config.except.items config.only.items) config.order config.explain → made ≡ form_on config.terminals config.form → AreLimitsFor config.long limits
     → AreNames config.files given names → map (sighted known) was ≡ source_sightings config.files given names → lent ≡ was → now ≡ new
     → WasRun terms made (map (sighted known) lent) (map (sighted known) new) before.writer between.writer endings faults counts cause
     → between.unflushed ≡ before.unflushed → WasFlushed between after fault → end ≡ end_of_run config.fail_open cause counts fault
-    → (remarks : List Remark) → map (λ r. r.noted) remarks ≡ noted_of_all (record { are_words = are_words config.files; on_terminal = config.terminals.errors }) now (if config.long then [] else endings) faults → AreShown remarks → Ends remarks end told told_after status
-    → WasJudged config given before after told told_after status
-judged known config given limits names was lent new now before between after endings faults counts cause fault end told told_after status terms made
+    → (remarks : List Remark) → map (λ r. r.noted) remarks ≡ noted_of_all (record { are_words = are_words config.files; on_terminal = config.terminals.errors }) now (if config.long then [] else endings) faults → AreShown holds remarks → Ends remarks end told told_after status
+    → WasJudged holds config given before after told told_after status
+judged holds known config given limits names was lent new now before between after endings faults counts cause fault end told told_after status terms made
     on_terms in_form are named seen is_was is_new run same flushed ended remarks on_noted shown_all ends =
     let sightings : List Sighted = source_sightings config.files given names in
     let wanted : Terms = asking limits (listed_by config.except.items config.only.items) config.order config.explain in

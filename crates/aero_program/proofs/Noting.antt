@@ -12,6 +12,7 @@ use Rattle.aero_batch.specs.declared.outcome.FaultyLine.{FaultyLine}
 use Rattle.aero_intake.specs.declared.source.Source.{Source}
 use Rattle.aero_program.specs.declared.input.Input.{Input}
 use Rattle.aero_program.specs.declared.notes.Naming.{Naming}
+use Rattle.aero_program.specs.declared.stamp.Stamp.{Stamp}
 use Rattle.aero_program.specs.Notes.{AreFaulty, AreNoted, AreNotes, AreShown, GrowsBy, Noted, Remark, fault_told, note, noted_of, noted_of_all, notes, was_too_large}
 use Rattle.aero_program.specs.Looks.{ShowsAs}
 use Rattle.aero_faults.specs.declared.look.Look.TheVariants.{Nothing}
@@ -29,21 +30,21 @@ one_more words (first ∷ more) source (ending ∷ rest) [] = ap (λ l. noted_of
 one_more words (first ∷ more) source (ending ∷ rest) (fault ∷ faults) = ap (λ l. noted_of words first (was_too_large (Some ending)) fault ∷ l) (one_more words more source rest faults)
 
 -- nothing is told of no sources
-pub no_notes : AreNotes [] []
-no_notes = record { remarks = []; are = refl; shown = tt; told = refl }
+pub no_notes : (holds : List ℕ → Stamp → Option (List ℕ) → Type 0) → AreNotes holds [] []
+no_notes holds = record { remarks = []; are = refl; shown = tt; told = refl }
 
-shown_more : (remarks : List Remark) (remark : Remark) → AreShown remarks → ShowsAs remark.noted.fault remark.look → AreShown (remarks ++ remark ∷ [])
-shown_more [] remark all last = (last, tt)
-shown_more (first ∷ more) remark all last = (all.0, shown_more more remark all.1 last)
+shown_more : (holds : List ℕ → Stamp → Option (List ℕ) → Type 0) (remarks : List Remark) (remark : Remark) → AreShown holds remarks → ShowsAs holds remark.noted.name remark.noted.opened remark.noted.fault remark.look → AreShown holds (remarks ++ remark ∷ [])
+shown_more holds [] remark all last = (last, tt)
+shown_more holds (first ∷ more) remark all last = (all.0, shown_more holds more remark all.1 last)
 
 -- the lines on one source more
-pub notes_grown : (noted : List Noted) (n : Noted) (old new : List ℕ) → AreNotes noted old → GrowsBy old new n → AreNotes (noted ++ n ∷ []) new
-notes_grown noted n old new before grows =
+pub notes_grown : (holds : List ℕ → Stamp → Option (List ℕ) → Type 0) (noted : List Noted) (n : Noted) (old new : List ℕ) → AreNotes holds noted old → GrowsBy holds old new n → AreNotes holds (noted ++ n ∷ []) new
+notes_grown holds noted n old new before grows =
     let last : Remark = record { noted = n; look = grows.look } in
     record {
       remarks = before.remarks ++ last ∷ [];
       are = map-append (λ r. r.noted) before.remarks (last ∷ []) ∙ ap (λ l. l ++ n ∷ []) before.are;
-      shown = shown_more before.remarks last before.shown grows.shown;
+      shown = shown_more holds before.remarks last before.shown grows.shown;
       told = grows.grown ∙ ap (λ l. l ++ note last) before.told
           ∙ sym (flat_map-append note before.remarks (last ∷ []) ∙ ap (λ l. notes before.remarks ++ l) (append-nil (note last)));
     }
@@ -102,10 +103,10 @@ looked_up None xs i none value = elim (cases_lt i (length xs)) [
 looked_up (Some x) xs i some value = sym (slice_get_read xs (length xs) i x.now refl (ltb-true i (length xs) (sym some)) value)
 
 -- what was noted, with what second looks showed
-pub record Remarks {T E : Type 0} (items : T → List ℕ) (noted : List Noted) (result : Result T E) : Type 0 where
+pub record Remarks {T E : Type 0} (holds : List ℕ → Stamp → Option (List ℕ) → Type 0) (items : T → List ℕ) (noted : List Noted) (result : Result T E) : Type 0 where
   pub remarks : List Remark
   pub are : map (λ r. r.noted) remarks ≡ noted
-  pub shown : AreShown remarks
+  pub shown : AreShown holds remarks
   pub told : IfOk result (λ text. items text ≡ notes remarks)
 
 unseen : Noted → Remark
@@ -116,26 +117,22 @@ unfolding unseen
 unseen_are [] = refl
 unseen_are (n ∷ more) = ap (λ l. n ∷ l) (unseen_are more)
 
-nothing_shown : (fault : Option FaultyLine) → ShowsAs fault Nothing
-nothing_shown None = tt
-nothing_shown (Some faulty) = tt
-
-unseen_shown : (noted : List Noted) → AreShown (map unseen noted)
+unseen_shown : (holds : List ℕ → Stamp → Option (List ℕ) → Type 0) (noted : List Noted) → AreShown holds (map unseen noted)
 unfolding unseen
-unseen_shown [] = tt
-unseen_shown (n ∷ more) = (nothing_shown n.fault, unseen_shown more)
+unseen_shown holds [] = tt
+unseen_shown holds (n ∷ more) = (tt, unseen_shown holds more)
 
-remarks_on : {T E : Type 0} (items : T → List ℕ) (noted : List Noted) (result : Result T E) → IfOk result (λ text. AreNotes noted (items text)) → Remarks items noted result
-remarks_on items noted (Ok text) h = record { remarks = h.remarks; are = h.are; shown = h.shown; told = h.told }
-remarks_on items noted (Err e) h = record { remarks = map unseen noted; are = unseen_are noted; shown = unseen_shown noted; told = tt }
+remarks_on : {T E : Type 0} (holds : List ℕ → Stamp → Option (List ℕ) → Type 0) (items : T → List ℕ) (noted : List Noted) (result : Result T E) → IfOk result (λ text. AreNotes holds noted (items text)) → Remarks holds items noted result
+remarks_on holds items noted (Ok text) h = record { remarks = h.remarks; are = h.are; shown = h.shown; told = h.told }
+remarks_on holds items noted (Err e) h = record { remarks = map unseen noted; are = unseen_are noted; shown = unseen_shown holds noted; told = tt }
 
 -- the lines on the sources, by endings and faults that are the same
-pub noted_as : {S O F T E : Type 0} (items : T → List ℕ) (is words : Naming) (sources : List (Source (Input S O F)))
+pub noted_as : {S O F T E : Type 0} (holds : List ℕ → Stamp → Option (List ℕ) → Type 0) (items : T → List ℕ) (is words : Naming) (sources : List (Source (Input S O F)))
     (given endings : List (ℕ × Ending)) (told faults : List (Option FaultyLine))
     → is ≡ words → given ≡ endings → told ≡ faults → (result : Result T E)
-    → IfOk result (λ text. AreNotes (noted_of_all is sources given told) (items text)) → Remarks items (noted_of_all words sources endings faults) result
-noted_as items is words sources given endings told faults known same told_same result h =
-    remarks_on items (noted_of_all words sources endings faults) result
-    (subst (λ w. IfOk result (λ text. AreNotes (noted_of_all w sources endings faults) (items text))) known
-    (subst (λ fs. IfOk result (λ text. AreNotes (noted_of_all is sources endings fs) (items text))) told_same
-    (subst (λ es. IfOk result (λ text. AreNotes (noted_of_all is sources es told) (items text))) same h)))
+    → IfOk result (λ text. AreNotes holds (noted_of_all is sources given told) (items text)) → Remarks holds items (noted_of_all words sources endings faults) result
+noted_as holds items is words sources given endings told faults known same told_same result h =
+    remarks_on holds items (noted_of_all words sources endings faults) result
+    (subst (λ w. IfOk result (λ text. AreNotes holds (noted_of_all w sources endings faults) (items text))) known
+    (subst (λ fs. IfOk result (λ text. AreNotes holds (noted_of_all is sources endings fs) (items text))) told_same
+    (subst (λ es. IfOk result (λ text. AreNotes holds (noted_of_all is sources es told) (items text))) same h)))

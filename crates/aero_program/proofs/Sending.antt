@@ -12,6 +12,8 @@ use Rattle.aero_program.specs.contracts.watched.Watched as Watched
 use Rattle.aero_program.specs.contracts.retrying.Retrying as Retrying
 use Rattle.aero_program.specs.contracts.start.Start as Start
 use Rattle.aero_program.specs.contracts.reason.Reason as Reason
+use Rattle.aero_program.specs.contracts.stamp.Moment as Moment
+use Rattle.aero_program.specs.contracts.stamp.Stamp as Stamp
 use Rattle.aero_program.specs.contracts.input.Stage as Stage
 use Rattle.aero_program.specs.contracts.input.Input as Input
 
@@ -31,16 +33,22 @@ start_send = search (sendable, crosses) depth 40
 reason_send : IsSend (Enum (enums.shape Reason.the_type))
 reason_send = search (sendable, crosses) depth 40
 
+moment_send : IsSend (Struct (structs.shape Moment.the_type))
+moment_send = search (sendable, crosses) depth 40
+
+stamp_send : IsSend (Struct (structs.shape Stamp.the_type))
+stamp_send = search (sendable, crosses, moment_send) depth 40
+
 error_kind_send : IsSend (Enum (enums.shape ErrorKind.the_type))
 error_kind_send = search (sendable, crosses) depth 100 fits 60000
 
 stage_send : (S O F : RattleType) → IsSend S → IsSend O → IsSend F → IsSend (Enum (enums.shape (Stage.the_type S O F)))
 stage_send S O F s o f = enum_send (enums.shape (Stage.the_type S O F))
-    ((retrying_send S s, tt), ((o, (search (sendable, crosses) depth 40, tt)), ((retrying_send F f, tt), (tt, ((error_kind_send, tt), tt)))))
+    ((retrying_send S s, tt), ((o, (search (sendable, crosses) depth 40, tt)), ((retrying_send F f, (search (sendable, crosses, stamp_send) depth 40, tt)), ((search (sendable, crosses, stamp_send) depth 40, tt), ((error_kind_send, (search (sendable, crosses, stamp_send) depth 40, tt)), tt)))))
 
 pub input_send : (S O F : RattleType) → IsSend S → IsSend O → IsSend F → IsSend (Struct (structs.shape (Input.the_type S O F)))
 input_send S O F s o f = struct_send (structs.shape (Input.the_type S O F))
-    (stage_send S O F s o f, (start_send, (search (sendable, crosses, reason_send) depth 40, (search (sendable, crosses) depth 40, tt))))
+    (stage_send S O F s o f, (start_send, (search (sendable, crosses, reason_send) depth 40, tt)))
 
 pub input_row_send : (S O F : RattleType) → IsSend S → IsSend O → IsSend F → IsSend (Input.the_row S O F)
 input_row_send S O F s o f =

@@ -19,6 +19,7 @@ use Rattle.aero_program.specs.declared.failure.Failure.{Failure}
 use Rattle.aero_program.specs.declared.failure.Failure.TheVariants as failure
 use Rattle.aero_program.specs.declared.listing.Unlisted.{Unlisted}
 use Rattle.aero_program.specs.declared.listing.Unlisted.TheVariants as unlisted
+use Rattle.aero_program.specs.declared.stamp.Stamp.{Stamp}
 use Rattle.aero_program.specs.Command.{AreLimitsFor, are_words, form_on, list_path, listed_by}
 use Rattle.aero_program.specs.Failure.{cut_failure, failure_status, line_of, word_line}
 use Rattle.aero_program.specs.Notes.{AreFaulty, AreNoted, AreShown, Noted, Remark, note_line, notes, said_on}
@@ -88,7 +89,7 @@ Ends remarks (Err why) told told_after status =
     (IsTold told told_after (notes remarks ++ line_of why) × (status ≡ failure_status why)) ⊎ Fails why told told_after status
 
 -- What the configuration asks for was judged: its sources, under the limits that it asks for, blocks that its labels leave out as no transactions. The report in its form went out on standard output, as every run's does, and a flush and the ends of the run decide.
-pub record WasJudged (config : Config) (given : Option (List ℕ)) (shown shown_after : Shown) (told told_after : Seen) (status : ℕ) : Type 0 where
+pub record WasJudged (holds : List ℕ → Stamp → Option (List ℕ) → Type 0) (config : Config) (given : Option (List ℕ)) (shown shown_after : Shown) (told told_after : Seen) (status : ℕ) : Type 0 where
   pub limits : Limits
   pub limits_are : AreLimitsFor config.long limits
   pub names : List (List ℕ)
@@ -109,7 +110,7 @@ pub record WasJudged (config : Config) (given : Option (List ℕ)) (shown shown_
   pub are_faulty : AreFaulty faults noted
   pub remarks : List Remark
   pub on_noted : map (λ r. r.noted) remarks ≡ noted
-  pub are_shown : AreShown remarks
+  pub are_shown : AreShown holds remarks
   pub ends : Ends remarks (end_of_run config.fail_open cause counts fault) told told_after status
 
 -- how it is told that there are no sources, since the list with their names, at this path, can't be had
@@ -125,12 +126,12 @@ pub record WasUnlisted (config : Config) (given : Option (List ℕ)) (told told_
   pub tells : TellsUnlisted config.terminals.errors (list_path config.files) why told told_after status
 
 -- or memory was refused before that
-abbrev pub Judges : Config → Option (List ℕ) → Shown → Shown → Seen → Seen → ℕ → Type 0
-Judges config given shown shown_after told told_after status =
-    WasJudged config given shown shown_after told told_after status
+abbrev pub Judges : (holds : List ℕ → Stamp → Option (List ℕ) → Type 0) → Config → Option (List ℕ) → Shown → Shown → Seen → Seen → ℕ → Type 0
+Judges holds config given shown shown_after told told_after status =
+    WasJudged holds config given shown shown_after told told_after status
     ⊎ ((shown_after ≡ shown) × (WasUnlisted config given told told_after status ⊎ Fails failure.Memory told told_after status))
 
--- `given` is what standard input has, where it is known
-abbrev pub AnswersTo : Result Config Stop → Option (List ℕ) → Shown → Shown → Seen → Seen → ℕ → Type 0
-AnswersTo (Ok config) given shown shown_after told told_after status = Judges config given shown shown_after told told_after status
-AnswersTo (Err why) given shown shown_after told told_after status = Stops why shown shown_after told told_after status
+-- `holds` says which bytes a file may have that was opened at a path and had a stamp, and `given` is what standard input has, where these are known
+abbrev pub AnswersTo : (holds : List ℕ → Stamp → Option (List ℕ) → Type 0) → Result Config Stop → Option (List ℕ) → Shown → Shown → Seen → Seen → ℕ → Type 0
+AnswersTo holds (Ok config) given shown shown_after told told_after status = Judges holds config given shown shown_after told told_after status
+AnswersTo holds (Err why) given shown shown_after told told_after status = Stops why shown shown_after told told_after status

@@ -1,11 +1,12 @@
 -- How far an input has come, and what one read does to that.
-use Rattle.std.specs.Prelude.{◌≡◌, ◌<◌, ◌+◌, ℕ, List, length, Option, None, Result, Ok, Err, ⊤, IsErr, is_err, if◌then◌else◌, option_map, string_bytes}
+use Rattle.std.specs.Prelude.{◌≡◌, ◌<◌, ◌+◌, ℕ, List, length, Option, None, Result, Ok, Err, ⊤, IfSome, IsErr, is_err, if◌then◌else◌, string_bytes}
 use Rattle.std.specs.Io.KnownBytes.{ReadConsumes}
 use Rattle.aero_model.specs.CallCounts.{Seen, moves_nothing}
 use Rattle.aero_program.specs.declared.input.Input.{Input}
 use Rattle.aero_program.specs.declared.input.Stage.{Stage}
 use Rattle.aero_program.specs.declared.input.Stage.TheVariants as stage
 use Rattle.aero_program.specs.declared.reason.Reason.{Reason}
+use Rattle.aero_program.specs.declared.stamp.Stamp.{Stamp}
 use Rattle.aero_program.specs.Retries.{seen_within}
 use Rattle.aero_program.specs.Starts.{start_bytes}
 
@@ -21,9 +22,9 @@ pub data Standing : Type 0 where
 abbrev pub stage_standing : {S O F : Type 0} → (S → Option (List ℕ)) → Stage S O F → Standing
 stage_standing known (stage.Standard stdin) = Standard (seen_within known stdin)
 stage_standing known (stage.Unopened files path) = Unopened (string_bytes path)
-stage_standing known (stage.Reading file) = Reading
-stage_standing known stage.Ended = Ended
-stage_standing known (stage.Failed kind) = Failed
+stage_standing known (stage.Reading file stamp) = Reading
+stage_standing known (stage.Ended stamp) = Ended
+stage_standing known (stage.Failed kind stamp) = Failed
 
 abbrev pub standing_of : {S O F : Type 0} → (S → Option (List ℕ)) → Input S O F → Standing
 standing_of known input = stage_standing known input.stage
@@ -36,9 +37,16 @@ start_of input = start_bytes input.start
 abbrev pub reason_of : {S O F : Type 0} → Input S O F → Option Reason
 reason_of input = input.reason
 
--- the path at which the file can be opened again, if it is a file at a path
-abbrev pub again_of : {S O F : Type 0} → Input S O F → Option (List ℕ)
-again_of input = option_map string_bytes input.again
+-- the stamp that the file had when it was opened, if it was and had one
+abbrev pub stage_opened : {S O F : Type 0} → Stage S O F → Option Stamp
+stage_opened (stage.Standard stdin) = None
+stage_opened (stage.Unopened files path) = None
+stage_opened (stage.Reading file stamp) = stamp
+stage_opened (stage.Ended stamp) = stamp
+stage_opened (stage.Failed kind stamp) = stamp
+
+abbrev pub opened_of : {S O F : Type 0} → Input S O F → Option Stamp
+opened_of input = stage_opened input.stage
 
 -- a reader of which nothing was read
 abbrev pub unread : Option (List ℕ) → Seen
@@ -66,6 +74,11 @@ Leaves standing buffer result = ⊥
 abbrev pub Begins : {E : Type 0} → (can_open : Type 0) → Standing → List ℕ → Result ℕ E → Type 0
 Begins can_open Failed buffer result = IsErr result
 Begins can_open standing buffer result = can_open × Leaves standing buffer result
+
+-- What one read does to the stamp: the first of a file notes that of a file which was opened at its path, and no other changes it. `holds` says which bytes a file may have that was opened at a path and had a stamp.
+abbrev pub OpensTo : (holds : List ℕ → Stamp → Option (List ℕ) → Type 0) → Standing → (before after : Option Stamp) → Type 0
+OpensTo holds (Unopened path) before after = IfSome after (λ stamp. (given : Option (List ℕ)) × holds path stamp given)
+OpensTo holds standing before after = after ≡ before
 
 -- One read: standard input answers as its reader does. A file is opened at the first, by an opener of which `can_open` says that an open of the path may work, and is read until its end is found, from where on each read gives 0 bytes, or until an open or a read fails, from where on each read fails.
 abbrev pub StepsTo : {E : Type 0} → (can_open : List ℕ → Type 0) → Standing → Standing → List ℕ → Result ℕ E → Type 0

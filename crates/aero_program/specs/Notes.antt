@@ -1,5 +1,5 @@
 -- The lines on the sources on standard error, each with the byte 10 that ends it.
-use Rattle.std.specs.Prelude.{◌≡◌, ◌==◌, ◌&&◌, ℕ, Bool, true, false, List, [], ◌∷◌, ◌++◌, Option, None, Some, codes, decimal, bytes_eq, flat_map, map, ⊤, if◌then◌else◌, slice_get}
+use Rattle.std.specs.Prelude.{◌≡◌, ◌==◌, ◌&&◌, ℕ, Bool, true, false, List, [], ◌∷◌, ◌++◌, Option, None, Some, codes, decimal, bytes_eq, flat_map, map, take, ⊤, if◌then◌else◌, slice_get}
 use Rattle.aero_model.specs.CallCounts.{inner_of}
 use Rattle.aero_model.specs.declared.verdict.Ending.{Ending}
 use Rattle.aero_model.specs.declared.verdict.Ending.TheVariants as endings
@@ -14,12 +14,13 @@ use Rattle.aero_program.specs.declared.input.Input.{Input}
 use Rattle.aero_program.specs.declared.notes.Naming.{Naming}
 use Rattle.aero_program.specs.declared.reason.Reason.{Reason}
 use Rattle.aero_program.specs.declared.reason.Reason.TheVariants.{System, Unnumbered, NotUtf8}
-use Rattle.aero_program.specs.Inputs.{start_of, reason_of}
+use Rattle.aero_program.specs.declared.stamp.Stamp.{Stamp}
+use Rattle.aero_program.specs.Inputs.{start_of, reason_of, opened_of}
 use Rattle.aero_program.specs.Looks.{ShowsAs}
 use Rattle.aero_program.specs.Reasons.{reason_words}
-use Rattle.aero_program.specs.Starts.{byte_order_mark}
+use Rattle.aero_program.specs.Starts.{byte_order_mark, gzip_mark}
 
--- what was noted of a source: its name, whether that is a FILE word, whether a terminal is told of it, the first three bytes that came, why the first read that failed did, whether it had more bytes than a source may have that isn't long, and its faulty line
+-- what was noted of a source: its name, whether that is a FILE word, whether a terminal is told of it, the first three bytes that came, why the first read that failed did, whether it had more bytes than a source may have that isn't long, its faulty line, and the stamp that its file had when it was opened
 pub record Noted : Type 0 where
   pub name : List ℕ
   pub is_word : Bool
@@ -28,6 +29,7 @@ pub record Noted : Type 0 where
   pub reason : Option Reason
   pub too_large : Bool
   pub fault : Option FaultyLine
+  pub opened : Option Stamp
 
 -- whether a source whose reading ended so, after so many bytes, was too large; one that the run didn't come to was not
 abbrev pub was_too_large : Option (ℕ × Ending) → Bool
@@ -48,6 +50,7 @@ noted_of naming source too_large fault = record {
   reason = reason_of (inner_of source.reader);
   too_large = too_large;
   fault = fault;
+  opened = opened_of (inner_of source.reader);
 }
 
 -- what was noted of the sources, whose names are to be told so, whose readings ended so, and of which these faulty lines were told, as far as the run came
@@ -110,10 +113,12 @@ sentence_of (IllFormed fault) look = shape_sentence fault look
 abbrev pub line_note : List ℕ → (line : ℕ) → List ℕ → List ℕ
 line_note name line words = codes "aerodrome: " ++ name ++ codes ":" ++ decimal line ++ codes ": " ++ words ++ 10 ∷ []
 
--- the same of a source that may have none
-abbrev pub sentence_on : Option FaultyLine → Look → List ℕ
-sentence_on None look = []
-sentence_on (Some faulty) look = sentence_of faulty.fault look
+-- the same of a source that may have none; of one that begins as all that gzip makes it is said how to judge what is in it
+abbrev pub sentence_on : (is_gzip : Bool) → Option FaultyLine → Look → List ℕ
+sentence_on is_gzip None look = []
+sentence_on is_gzip (Some faulty) look = if is_gzip
+    then codes "the source is compressed by gzip: zcat FILE | aerodrome judges what is in it"
+    else sentence_of faulty.fault look
 
 -- what is wrong with the source's faulty line, in this sentence
 abbrev pub fault_line : List ℕ → Option FaultyLine → List ℕ → List ℕ
@@ -125,17 +130,17 @@ pub record Remark : Type 0 where
   pub noted : Noted
   pub look : Look
 
--- each look shows what is told of it
-abbrev pub AreShown : List Remark → Type 0
-AreShown [] = ⊤
-AreShown (remark ∷ more) = ShowsAs remark.noted.fault remark.look × AreShown more
+-- Each look shows what is told of it, in the file that is named as the source is and had the stamp. `holds` says which bytes a file may have that was opened at a path and had a stamp.
+abbrev pub AreShown : (holds : List ℕ → Stamp → Option (List ℕ) → Type 0) → List Remark → Type 0
+AreShown holds [] = ⊤
+AreShown holds (remark ∷ more) = ShowsAs holds remark.noted.name remark.noted.opened remark.noted.fault remark.look × AreShown holds more
 
 -- the lines on a source
 abbrev pub note : Remark → List ℕ
 note remark =
     let noted = remark.noted in
     let name = said_on noted.on_terminal noted.name in
-    let sentence = said_on noted.on_terminal (sentence_on noted.fault remark.look) in
+    let sentence = said_on noted.on_terminal (sentence_on (bytes_eq (take 2 noted.start) gzip_mark) noted.fault remark.look) in
     mark_line name (bytes_eq noted.start byte_order_mark)
     ++ (reason_line noted.is_word name noted.reason ++ (size_line name noted.too_large ++ fault_line name noted.fault sentence))
 
@@ -144,14 +149,14 @@ abbrev pub notes : List Remark → List ℕ
 notes all = flat_map note all
 
 -- the text is the lines on sources of which this was noted
-pub record AreNotes (noted : List Noted) (text : List ℕ) : Type 0 where
+pub record AreNotes (holds : List ℕ → Stamp → Option (List ℕ) → Type 0) (noted : List Noted) (text : List ℕ) : Type 0 where
   pub remarks : List Remark
   pub are : map (λ r. r.noted) remarks ≡ noted
-  pub shown : AreShown remarks
+  pub shown : AreShown holds remarks
   pub told : text ≡ notes remarks
 
 -- a text that grew by the lines on a source of which this was noted
-pub record GrowsBy (old new : List ℕ) (noted : Noted) : Type 0 where
+pub record GrowsBy (holds : List ℕ → Stamp → Option (List ℕ) → Type 0) (old new : List ℕ) (noted : Noted) : Type 0 where
   pub look : Look
-  pub shown : ShowsAs noted.fault look
+  pub shown : ShowsAs holds noted.name noted.opened noted.fault look
   pub grown : new ≡ old ++ note (record { noted = noted; look = look })

@@ -14,6 +14,10 @@ abbrev pub start_after : {E : Type 0} → List ℕ → Result ℕ E → List ℕ
 start_after start (Ok n) buffer = take 3 (start ++ take n buffer)
 start_after start (Err error) buffer = start
 
+-- 1F 8B, with which all that gzip makes begins
+abbrev pub gzip_mark : List ℕ
+gzip_mark = 31 ∷ 139 ∷ []
+
 -- EF BB BF
 abbrev pub byte_order_mark : List ℕ
 byte_order_mark = 239 ∷ 187 ∷ 191 ∷ []

@@ -63,7 +63,7 @@ pub fn answer<
 ) -> u8
 where
     F::File: Send,
-    ensures { AnswersTo asked (S.remaining stdin) (shown_by O.contents output.old) (shown_by O.contents output.new)
+    ensures { AnswersTo F.holds asked (S.remaining stdin) (shown_by O.contents output.old) (shown_by O.contents output.new)
         (seen_by (λ w. E.contents (tried_by w)) errors.old) (seen_by (λ w. E.contents (tried_by w)) errors.new) result }
 {
     match asked {
@@ -90,7 +90,7 @@ fn judge<
 ) -> u8
 where
     F::File: Send,
-    ensures { Judges config (S.remaining stdin) (shown_by O.contents output.old) (shown_by O.contents output.new)
+    ensures { Judges F.holds config (S.remaining stdin) (shown_by O.contents output.old) (shown_by O.contents output.new)
         (seen_by E.contents errors.old) (seen_by E.contents errors.new) result }
 {
     let long = config.long;

@@ -1,48 +1,71 @@
 //! The files of a run, which tell a meter what is read of them.
-ghost use Rattle.std.specs.Prelude.{ℕ, List, IfOk, ⊤};
+ghost use Rattle.std.specs.Prelude.{◌≡◌, ℕ, List, Option, IfOk, IfSome, ⊤};
+ghost use Rattle.aero_program.specs.declared.stamp.Stamp.{Stamp};
 
+use crate::stamp::{Stamp, stamp_in, stamp_of};
 use aero_progress::gain::gain_of_failure;
 use aero_progress::meter::Meter;
 use aero_progress::metered::Metered;
 use std::fs::File;
-use std::io;
 use std::io::Read;
 use std::path::Path;
 use std::rt::Files;
+use std::{fs, io};
 
-/// What a run needs of files. Its ghost member `can_open` says of which paths an open may work.
+/// A file that was opened, to be read from its start, and its stamp then, if it is a plain one and has one.
+#[derive(Drop)]
+pub struct Opened<T> {
+    pub file: T,
+    pub stamp: Option<Stamp>,
+}
+
+/// What a run needs of files. Its ghost member `can_open` says of which paths an open may work, and `holds` which bytes a
+/// file may have that was opened at a path and bore a stamp, where they are known.
 pub trait Opener {
     ghost can_open: { List ℕ → Type 0 };
+
+    ghost holds: { List ℕ → Stamp → Option (List ℕ) → Type 0 };
 
     type File: Read + Drop;
 
     /// Opens the file at the path, to be read from its start.
-    fn open(&self, path: &str) -> io::Result<Self::File>
-        ensures worked { IfOk result (λ _. can_open path.now) };
+    fn open(&self, path: &str) -> io::Result<Opened<Self::File>>
+        ensures worked { IfOk result (λ _. can_open path.now) }
+        ensures stamped { IfOk result (λ opened. IfSome opened.stamp (λ stamp. holds path.now stamp (Self.File.remaining opened.file))) };
 
     /// Opens it again once the run is over, which no meter hears of.
-    fn open_again(&self, path: &str) -> io::Result<Self::File>
-        ensures worked { IfOk result (λ _. can_open path.now) };
+    fn open_again(&self, path: &str) -> io::Result<Opened<Self::File>>
+        ensures worked { IfOk result (λ _. can_open path.now) }
+        ensures stamped { IfOk result (λ opened. IfSome opened.stamp (λ stamp. holds path.now stamp (Self.File.remaining opened.file))) };
 
     /// Whether there is a plain file at the path, of which no read waits.
     fn is_plain(&self, path: &str) -> bool;
+
+    /// The stamp that a plain file at the path has now, if there is one and it can be told.
+    fn stamp_at(&self, path: &str) -> Option<Stamp>;
 }
 
 impl<O: Opener> Opener for &O {
     ghost can_open = { O.can_open };
 
+    ghost holds = { O.holds };
+
     type File = O::File;
 
-    fn open(&self, path: &str) -> io::Result<O::File> {
+    fn open(&self, path: &str) -> io::Result<Opened<O::File>> {
         (**self).open(path)
     }
 
-    fn open_again(&self, path: &str) -> io::Result<O::File> {
+    fn open_again(&self, path: &str) -> io::Result<Opened<O::File>> {
         (**self).open_again(path)
     }
 
     fn is_plain(&self, path: &str) -> bool {
         (**self).is_plain(path)
+    }
+
+    fn stamp_at(&self, path: &str) -> Option<Stamp> {
+        (**self).stamp_at(path)
     }
 }
 
@@ -67,18 +90,27 @@ impl<F: Files> Opener for FilesOf<F> {
     // Of the system's files nothing is known.
     ghost can_open = { λ _. ⊤ };
 
+    ghost holds = { λ _ _ _. ⊤ };
+
     type File = F::File;
 
-    fn open(&self, path: &str) -> io::Result<F::File> {
-        File::open(&self.files, path)
+    fn open(&self, path: &str) -> io::Result<Opened<F::File>> {
+        let file = File::open(&self.files, path)?;
+        let stamp = stamp_of(&file);
+        Ok(Opened { file, stamp })
     }
 
-    fn open_again(&self, path: &str) -> io::Result<F::File> {
+    fn open_again(&self, path: &str) -> io::Result<Opened<F::File>> {
         self.open(path)
     }
 
     fn is_plain(&self, path: &str) -> bool {
         Path::new(path).is_file(&self.files)
+    }
+
+    fn stamp_at(&self, path: &str) -> Option<Stamp> {
+        let metadata = fs::metadata(&self.files, path).ok()?;
+        stamp_in(&metadata)
     }
 }
 
@@ -104,11 +136,13 @@ impl<'a, O: Opener> MeteredFiles<'a, O> {
 impl<'a, O: Opener> Opener for MeteredFiles<'a, O> {
     ghost can_open = { O.can_open };
 
+    ghost holds = { O.holds };
+
     type File = Metered<'a, O::File>;
 
-    fn open(&self, path: &str) -> io::Result<Metered<'a, O::File>> {
+    fn open(&self, path: &str) -> io::Result<Opened<Metered<'a, O::File>>> {
         match self.opener.open(path) {
-            Ok(file) => Ok(Metered::new(file, self.meter)),
+            Ok(opened) => Ok(metered(opened, self.meter)),
             Err(error) => {
                 if let Some(meter) = self.meter {
                     meter.add(gain_of_failure(&error));
@@ -118,12 +152,28 @@ impl<'a, O: Opener> Opener for MeteredFiles<'a, O> {
         }
     }
 
-    fn open_again(&self, path: &str) -> io::Result<Metered<'a, O::File>> {
-        let file = self.opener.open_again(path)?;
-        Ok(Metered::new(file, None))
+    fn open_again(&self, path: &str) -> io::Result<Opened<Metered<'a, O::File>>> {
+        let opened = self.opener.open_again(path)?;
+        Ok(metered(opened, None))
     }
 
     fn is_plain(&self, path: &str) -> bool {
         self.opener.is_plain(path)
+    }
+
+    fn stamp_at(&self, path: &str) -> Option<Stamp> {
+        self.opener.stamp_at(path)
+    }
+}
+
+// A file that tells the meter, if there is one, what is read of it.
+fn metered<T: Drop>(opened: Opened<T>, meter: Option<&Meter>) -> Opened<Metered<'_, T>>
+    ensures file { result.file.inner ≡ opened.file }
+    ensures stamp { result.stamp ≡ opened.stamp }
+{
+    let Opened { file, stamp } = opened;
+    Opened {
+        file: Metered::new(file, meter),
+        stamp,
     }
 }

@@ -1,12 +1,13 @@
-//! Standard input or a file, as a reader that opens its file at the first read, and notes how its
-//! bytes begin and why a read failed.
-ghost use Rattle.std.specs.Prelude.{◌≡◌, ◌≢◌, IfErr, IfOk};
+//! Standard input or a file, as a reader that opens its file at the first read, and notes which file that
+//! was, how its bytes begin and why a read failed.
+ghost use Rattle.std.specs.Prelude.{◌≡◌, ◌≢◌, IfErr, IfOk, IfSome};
 ghost use Rattle.std.specs.IoError.{error_kind};
 ghost use Rattle.std.specs.declared.io.ErrorKind.TheVariants.{Interrupted};
 
-use crate::files::Opener;
+use crate::files::{Opened, Opener};
 use crate::reason::Reason;
 use crate::retrying::Retrying;
+use crate::stamp::Stamp;
 use crate::start::Start;
 use std::alloc::{AllocError, Global};
 use std::io::{ErrorKind, Read};
@@ -23,38 +24,36 @@ pub struct Input<S, O: Opener> {
     stage: Stage<S, O>,
     start: Start,
     reason: Option<Reason>,
-    again: Option<String>,
 }
 
-// How far an input has come.
+// How far an input has come. A file that was opened had this stamp then, if it had one.
 #[derive(Drop)]
 enum Stage<S, O: Opener> {
     Standard(Retrying<S>),
     Unopened(O, String),
-    Reading(Retrying<O::File>),
-    Ended,
+    Reading(Retrying<O::File>, Option<Stamp>),
+    Ended(Option<Stamp>),
     // An open or a read failed so.
-    Failed(ErrorKind),
+    Failed(ErrorKind, Option<Stamp>),
 }
 
 impl<S: Read + Drop, O: Opener + Drop> Input<S, O> {
-    ghost use Rattle.std.specs.Prelude.{◌≡◌, [], Some, None, IfOk, bytes_eq, option_map};
-    ghost use Rattle.aero_program.specs.Inputs.{again_of, standing_of, start_of, reason_of, unread, Standard, Unopened, Failed};
+    ghost use Rattle.std.specs.Prelude.{◌≡◌, [], Some, None, IfOk, bytes_eq, take};
+    ghost use Rattle.aero_program.specs.Inputs.{opened_of, standing_of, start_of, reason_of, unread, Standard, Unopened, Failed};
     ghost use Rattle.aero_program.specs.declared.reason.Reason.TheVariants.{NotUtf8};
-    ghost use Rattle.aero_program.specs.Starts.{byte_order_mark};
+    ghost use Rattle.aero_program.specs.Starts.{byte_order_mark, gzip_mark};
 
     /// Standard input.
     pub fn standard(stdin: S) -> Input<S, O>
         ensures standing { standing_of S.remaining result ≡ Standard (unread (S.remaining stdin)) }
         ensures start { start_of result ≡ [] }
         ensures reason { reason_of result ≡ None }
-        ensures again { again_of result ≡ None }
+        ensures opened { opened_of result ≡ None }
     {
         Input {
             stage: Stage::Standard(Retrying::new(stdin)),
             start: Start::Nothing,
             reason: None,
-            again: None,
         }
     }
 
@@ -63,15 +62,13 @@ impl<S: Read + Drop, O: Opener + Drop> Input<S, O> {
         ensures standing { IfOk result (λ input. standing_of S.remaining input ≡ Unopened path.now) }
         ensures start { IfOk result (λ input. start_of input ≡ []) }
         ensures reason { IfOk result (λ input. reason_of input ≡ None) }
-        ensures again { IfOk result (λ input. again_of input ≡ Some path.now) }
+        ensures opened { IfOk result (λ input. opened_of input ≡ None) }
     {
-        let again = String::from_str(alloc, path)?;
         let path = String::from_str(alloc, path)?;
         Ok(Input {
             stage: Stage::Unopened(files, path),
             start: Start::Nothing,
             reason: None,
-            again: Some(again),
         })
     }
 
@@ -80,13 +77,12 @@ impl<S: Read + Drop, O: Opener + Drop> Input<S, O> {
         ensures standing { standing_of S.remaining result ≡ Failed }
         ensures start { start_of result ≡ [] }
         ensures reason { reason_of result ≡ Some NotUtf8 }
-        ensures again { again_of result ≡ None }
+        ensures opened { opened_of result ≡ None }
     {
         Input {
-            stage: Stage::Failed(ErrorKind::InvalidFilename),
+            stage: Stage::Failed(ErrorKind::InvalidFilename, None),
             start: Start::Nothing,
             reason: Some(Reason::NotUtf8),
-            again: None,
         }
     }
 
@@ -97,6 +93,13 @@ impl<S: Read + Drop, O: Opener + Drop> Input<S, O> {
         self.start.is_mark()
     }
 
+    /// Whether the bytes that came begin as all that gzip makes, with 1F 8B.
+    pub fn is_gzip(&self) -> bool
+        ensures { result ≡ bytes_eq (take 2 (start_of self.now)) gzip_mark }
+    {
+        self.start.is_gzip()
+    }
+
     /// Why the first read that failed did, if one did.
     pub fn reason(&self) -> Option<Reason>
         ensures { result ≡ reason_of self.now }
@@ -104,13 +107,13 @@ impl<S: Read + Drop, O: Opener + Drop> Input<S, O> {
         self.reason
     }
 
-    /// The path at which its file can be opened again, if it is a file at a path.
-    pub fn again(&self) -> Option<&str>
-        ensures { option_map (λ path. path.now) result ≡ again_of self.now }
+    /// The stamp that its file had when it was opened, if it is a plain file at a path and was opened.
+    pub fn opened(&self) -> Option<Stamp>
+        ensures { result ≡ opened_of self.now }
     {
-        match &self.again {
-            Some(path) => Some(path.as_str()),
-            None => None,
+        match &self.stage {
+            Stage::Reading(_, stamp) | Stage::Ended(stamp) | Stage::Failed(_, stamp) => *stamp,
+            Stage::Standard(_) | Stage::Unopened(_, _) => None,
         }
     }
 }
@@ -118,7 +121,7 @@ impl<S: Read + Drop, O: Opener + Drop> Input<S, O> {
 impl<S: Read + Drop, O: Opener + Drop> Read for Input<S, O> {
     ghost use Rattle.std.specs.Io.{ReadsAtMost};
     ghost use Rattle.std.specs.Io.KnownBytes.{ReadConsumes};
-    ghost use Rattle.aero_program.specs.Inputs.{standing_of, bytes_left, start_of, reason_of, StepsTo};
+    ghost use Rattle.aero_program.specs.Inputs.{standing_of, bytes_left, opened_of, start_of, reason_of, OpensTo, StepsTo};
     ghost use Rattle.aero_program.specs.Starts.{start_after};
     ghost use Rattle.std.specs.IoError.{raw_os_error};
     ghost use Rattle.aero_program.specs.Reasons.{reason_after};
@@ -129,10 +132,11 @@ impl<S: Read + Drop, O: Opener + Drop> Read for Input<S, O> {
         ensures bound { ReadsAtMost result buf.new }
         ensures bytes { ReadConsumes (bytes_left (standing_of S.remaining self.old)) (bytes_left (standing_of S.remaining self.new)) result buf.new }
         ensures steps { StepsTo O.can_open (standing_of S.remaining self.old) (standing_of S.remaining self.new) buf.new result }
+        ensures opened { OpensTo O.holds (standing_of S.remaining self.old) (opened_of self.old) (opened_of self.new) }
         ensures start { start_of self.new ≡ start_after (start_of self.old) result buf.new }
         ensures reason { reason_of self.new ≡ reason_after raw_os_error (reason_of self.old) result }
     {
-        let (stage, outcome) = mem::replace(&mut self.stage, Stage::Ended).read(buf);
+        let (stage, outcome) = mem::replace(&mut self.stage, Stage::Ended(None)).read(buf);
         self.stage = stage;
         match &outcome {
             Ok(count) => self.start = self.start.after_all(&buf[..*count]),
@@ -145,13 +149,15 @@ impl<S: Read + Drop, O: Opener + Drop> Read for Input<S, O> {
 impl<S: Read + Drop, O: Opener + Drop> Stage<S, O> {
     ghost use Rattle.std.specs.Io.{ReadsAtMost};
     ghost use Rattle.std.specs.Io.KnownBytes.{ReadConsumes};
-    ghost use Rattle.aero_program.specs.Inputs.{stage_standing, bytes_left, StepsTo, Leaves};
+    ghost use Rattle.std.specs.Prelude.{◌≡◌};
+    ghost use Rattle.aero_program.specs.Inputs.{stage_standing, stage_opened, bytes_left, OpensTo, StepsTo, Leaves};
 
     // One read, and the stage after it.
     fn read(self, buf: &mut [u8]) -> (Stage<S, O>, io::Result<usize>)
         ensures bound { ReadsAtMost result.1 buf.new }
         ensures bytes { ReadConsumes (bytes_left (stage_standing S.remaining self)) (bytes_left (stage_standing S.remaining result.0)) result.1 buf.new }
         ensures steps { StepsTo O.can_open (stage_standing S.remaining self) (stage_standing S.remaining result.0) buf.new result.1 }
+        ensures opened { OpensTo O.holds (stage_standing S.remaining self) (stage_opened self) (stage_opened result.0) }
     {
         match self {
             Stage::Standard(mut stdin) => {
@@ -159,36 +165,44 @@ impl<S: Read + Drop, O: Opener + Drop> Stage<S, O> {
                 (Stage::Standard(stdin), outcome)
             }
             Stage::Unopened(files, path) => match open(&files, path.as_str()) {
-                Ok(file) => Stage::read_file(Retrying::new(file), buf),
-                Err(refusal) => (Stage::Failed(refusal.kind()), Err(refusal)),
+                Ok(Opened { file, stamp }) => Stage::read_file(Retrying::new(file), stamp, buf),
+                Err(refusal) => (Stage::Failed(refusal.kind(), None), Err(refusal)),
             },
-            Stage::Reading(file) => Stage::read_file(file, buf),
-            Stage::Ended => (Stage::Ended, Ok(0)),
-            Stage::Failed(kind) => (Stage::Failed(kind), Err(io::Error::from(kind))),
+            Stage::Reading(file, stamp) => Stage::read_file(file, stamp, buf),
+            Stage::Ended(stamp) => (Stage::Ended(stamp), Ok(0)),
+            Stage::Failed(kind, stamp) => {
+                (Stage::Failed(kind, stamp), Err(io::Error::from(kind)))
+            }
         }
     }
 
     // One read of an open file, which is closed where its end is found or the read fails.
-    fn read_file(mut file: Retrying<O::File>, buf: &mut [u8]) -> (Stage<S, O>, io::Result<usize>)
+    fn read_file(
+        mut file: Retrying<O::File>,
+        stamp: Option<Stamp>,
+        buf: &mut [u8],
+    ) -> (Stage<S, O>, io::Result<usize>)
         ensures bound { ReadsAtMost result.1 buf.new }
         ensures leaves { Leaves (stage_standing S.remaining result.0) buf.new result.1 }
+        ensures opened { stage_opened result.0 ≡ stamp }
     {
         match file.read(buf) {
-            Err(error) => (Stage::Failed(error.kind()), Err(error)),
-            Ok(0) if !buf.is_empty() => (Stage::Ended, Ok(0)),
-            Ok(count) => (Stage::Reading(file), Ok(count)),
+            Err(error) => (Stage::Failed(error.kind(), stamp), Err(error)),
+            Ok(0) if !buf.is_empty() => (Stage::Ended(stamp), Ok(0)),
+            Ok(count) => (Stage::Reading(file, stamp), Ok(count)),
         }
     }
 }
 
 // Opens a file. An open that is interrupted is tried again.
-fn open<O: Opener>(files: &O, path: &str) -> io::Result<O::File>
+fn open<O: Opener>(files: &O, path: &str) -> io::Result<Opened<O::File>>
     ensures lasting { IfErr result (λ e. error_kind e ≢ Interrupted) }
     ensures worked { IfOk result (λ _. O.can_open path.now) }
+    ensures stamped { IfOk result (λ opened. IfSome opened.stamp (λ stamp. O.holds path.now stamp (O.File.remaining opened.file))) }
 {
     for _ in 0..u64::MAX {
         match files.open(path) {
-            Ok(file) => return Ok(file),
+            Ok(opened) => return Ok(opened),
             Err(error) if error.kind() == ErrorKind::Interrupted => {}
             Err(error) => return Err(error),
         }

@@ -43,14 +43,15 @@
 //! - The notes on byte order marks, failed reads, sizes and faulty lines, as they are shown where standard error is a
 //!   terminal: `notes_of`, `reason_note`. The system's words: `Reason::of`, `words`.
 //! - A faulty line is told as a second look at the file shows it, or else in words: `notes_of`. Such a look shows the fault
-//!   that the run found, on its line, and something only of a file that can be opened: `Looker::look`, `look_at`. That it
-//!   shows something where it can is only tested.
+//!   that the run found, on its line, of a file that was opened at the source's name with the stamp that the input noted:
+//!   `Looker::look`, `look_at`. That it shows something where it can is only tested.
+//! - An input notes the stamp of the file that its first read opens: `Input::read`, `opened`.
 //! - After how many milliseconds the line on progress is shown first, if ever: `Progress::first_after`.
 //!
 //! No contract says which words there are, or whether a stream is a terminal: `words_of` asks, and `Config::on` is told.
 //! No contract says how often a stream is flushed: tests show that standard output is, once and behind all that it has.
-//! No contract says which bytes the files of an `Opener` have. Of `FilesOf` and `MeteredFiles` none says more than the
-//! types of their files do: a `Metered` one reads as the file within.
+//! Which bytes a file with a stamp may have, an `Opener` says by its ghost member `holds`. Of the files of `FilesOf` nothing is
+//! known, and those of `MeteredFiles` have the bytes of the files within.
 #![tactic(auto)]
 
 pub mod answer;
@@ -68,6 +69,7 @@ pub mod reason;
 pub mod retrying;
 pub mod sizes;
 pub mod sources;
+pub mod stamp;
 pub mod start;
 pub mod status;
 mod watched;

@@ -17,6 +17,10 @@ use itoa::Buffer;
 use std::alloc::{AllocError, Global};
 use std::io::Read;
 
+// What is told of the first line of what gzip made, which is none of a trace.
+const GZIP_SENTENCE: &str =
+    "the source is compressed by gzip: zcat FILE | aerodrome judges what is in it";
+
 /// How the names of sources are told.
 #[derive(Clone, Copy, Debug, PartialEq, Eq)]
 pub struct Naming {
@@ -44,7 +48,7 @@ pub fn notes_of<S: Read + Drop, F: Opener + Drop, G: Opener>(
     faults: &[Option<FaultyLine>],
     naming: Naming,
 ) -> Result<Vec<u8>, AllocError>
-    ensures { IfOk result (λ text. AreNotes (noted_of_all naming sources.items endings.now faults.now) text.items) }
+    ensures { IfOk result (λ text. AreNotes G.holds (noted_of_all naming sources.items endings.now faults.now) text.items) }
 {
     let mut text = Vec::new(looker.alloc);
     let mut place = 0usize;
@@ -91,16 +95,16 @@ fn append_notes<S: Read + Drop, F: Opener + Drop, G: Opener>(
     found: Found,
     naming: Naming,
 ) -> Result<(), AllocError>
-    ensures { OnOk result (GrowsBy text.old.items text.new.items (noted_of naming source found.too_large found.fault)) }
+    ensures { OnOk result (GrowsBy G.holds text.old.items text.new.items (noted_of naming source found.too_large found.fault)) }
 {
     let Source { name, reader, .. } = source;
     let input = reader.into_inner();
+    let seen = looker.look(&name, input.opened(), found.fault);
     let name = said(looker.alloc, name, naming.on_terminal)?;
     append_mark(text, &name, input.has_mark())?;
     append_reason(text, &name, input.reason(), naming.are_words)?;
     append_size(text, &name, found.too_large)?;
-    let seen = looker.look(input.again(), found.fault);
-    let sentence = sentence_on(looker.alloc, found.fault, &seen)?;
+    let sentence = sentence_on(looker.alloc, input.is_gzip(), found.fault, &seen)?;
     let sentence = said(looker.alloc, sentence, naming.on_terminal)?;
     append_fault(text, &name, found.fault, &sentence)?;
     Ok(())
@@ -238,12 +242,18 @@ fn append_faulty(
     Ok(())
 }
 
-// What is told of the fault, if there is one.
-fn sentence_on(alloc: Global, fault: Option<FaultyLine>, look: &Look) -> Result<Vec<u8>, AllocError>
-    ensures { IfOk result (λ text. text.items ≡ sentence_on fault look.now) }
+// What is told of the fault, if there is one, of a source that gzip made, or that it didn't make.
+fn sentence_on(
+    alloc: Global,
+    is_gzip: bool,
+    fault: Option<FaultyLine>,
+    look: &Look,
+) -> Result<Vec<u8>, AllocError>
+    ensures { IfOk result (λ text. text.items ≡ sentence_on is_gzip fault look.now) }
 {
     match fault {
         None => Ok(Vec::new(alloc)),
+        Some(_) if is_gzip => Vec::from_slice(alloc, GZIP_SENTENCE.as_bytes()),
         Some(faulty) => sentence_of(alloc, faulty.fault, look),
     }
 }

@@ -1,6 +1,6 @@
 //! How a source begins.
 ghost use Rattle.std.specs.Prelude.{◌≡◌, ◌∷◌, ◌++◌, [], take, bytes_eq};
-ghost use Rattle.aero_program.specs.Starts.{start_bytes, byte_order_mark};
+ghost use Rattle.aero_program.specs.Starts.{start_bytes, byte_order_mark, gzip_mark};
 
 /// The first three bytes of a source, as far as they came.
 #[derive(Clone, Copy)]
@@ -40,5 +40,12 @@ impl Start {
         ensures { result ≡ bytes_eq (start_bytes self) byte_order_mark }
     {
         matches!(self, Start::Three(0xEF, 0xBB, 0xBF))
+    }
+
+    /// Whether they are those with which all that gzip makes begins, 1F 8B.
+    pub fn is_gzip(self) -> bool
+        ensures { result ≡ bytes_eq (take 2 (start_bytes self)) gzip_mark }
+    {
+        matches!(self, Start::Two(0x1F, 0x8B) | Start::Three(0x1F, 0x8B, _))
     }
 }

@@ -204,6 +204,13 @@ const MARKED: Wanted = (
     0,
 );
 
+const COMPRESSED: Wanted = (
+    b"-:1: malformed: BadByte\n\
+        traces 1: serializable 0, open 0, violations 0, faults 1\n",
+    b"aerodrome: -:1: the source is compressed by gzip: zcat FILE | aerodrome judges what is in it\n",
+    2,
+);
+
 const BROKEN: Wanted = (
     b"-: broken after 8 bytes\n\
         traces 1: serializable 0, open 0, violations 0, faults 1\n",
@@ -223,11 +230,11 @@ const WRITE: &[u8] = b"T1|w(x)\n";
 const MARKED_WRITE: &[u8] = b"\xEF\xBB\xBFT1|w(x)\n";
 
 // Reads give one byte each: standard input, one that fails, once or for ever, or begins with a byte order
-// mark, files that can't be opened or read, a standard output that fails, once or for ever, or fails when
+// mark or as all that gzip makes, files that can't be opened or read, a standard output that fails, once or for ever, or fails when
 // flushed, and a standard error that fails.
 #[test]
 fn what_is_asked_for_is_judged(rt: HostRuntime) -> Result<(), Fail> {
-    let rows: [(Option<&str>, &'static [u8], Damage, Wanted); 15] = [
+    let rows: [(Option<&str>, &'static [u8], Damage, Wanted); 16] = [
         (None, WRITE, SOUND, SERIALIZABLE),
         (
             None,
@@ -241,6 +248,7 @@ fn what_is_asked_for_is_judged(rt: HostRuntime) -> Result<(), Fail> {
             ),
         ),
         (None, MARKED_WRITE, SOUND, MARKED),
+        (None, b"\x1f\x8b\x08\x00T1|w(x)\n", SOUND, COMPRESSED),
         (
             None,
             WRITE,

@@ -242,10 +242,10 @@ fn files_are_told(rt: HostRuntime) -> Result<(), Fail> {
     assert_eq!(rt; meter.ended(), 0);
     assert!(rt; files.open("a").is_err());
     assert_eq!(rt; meter.ended(), 1);
-    let mut file = files.open("a")?;
+    let mut opened = files.open("a")?;
     let mut buf = [0u8; 8];
-    let _ = file.read(&mut buf);
-    let _ = file.read(&mut buf);
+    let _ = opened.file.read(&mut buf);
+    let _ = opened.file.read(&mut buf);
     assert_eq!(rt; meter.bytes(), 3);
     assert_eq!(rt; meter.ended(), 1);
     Ok(())

@@ -143,7 +143,7 @@ fn first_wrong(alloc: Global, limits: &Limits, rows: &[Row]) -> Option<usize> {
     None
 }
 
-static EXPLAINED: [Row; 11] = [
+static EXPLAINED: [Row; 12] = [
     // In one part, and in three, of which the last is malformed.
     (
         "",
@@ -178,6 +178,12 @@ static EXPLAINED: [Row; 11] = [
         "",
         "T1|begin/T1|acq(l)/T1|rel(l)/T2|acq(l)/T2|rel(l)/T1|acq(l)+",
         "violation 6 T1 1/3 1 T1 Release l/4 4 T2 Acquire l/5 5 T2 Release l/6 1 T1 Acquire l",
+    ),
+    // By a variable, though a lock leads there too, and to an earlier event.
+    (
+        "",
+        "T1|begin/T1|acq(l)/T1|w(x)/T1|rel(l)/T2|begin/T2|acq(l)/T2|r(x)/T2|w(y)/T2|rel(l)/T2|end/T1|r(y)+",
+        "violation 11 T1 1/3 1 T1 Write x/7 5 T2 Read x/8 5 T2 Write y/11 1 T1 Read y",
     ),
     // By a write after a read.
     (

@@ -116,6 +116,44 @@ fn is_answered(alloc: Global, row: &Row) -> bool {
     run(&mut leads, row.0) == Ok(row.1) && leads.closed() == row.1
 }
 
+// A trace, a thread, and the place of its first event to which an open block leads.
+type PlaceRow = (&'static str, u32, Option<u32>);
+
+fn has_least_place(alloc: Global, row: &PlaceRow) -> bool {
+    let mut leads = Leads::new(alloc);
+    run(&mut leads, row.0) == Ok(None) && leads.least_place(row.1) == row.2
+}
+
+fn first_misplaced(alloc: Global, rows: &[PlaceRow]) -> Option<usize> {
+    for i in 0..rows.len() {
+        if !has_least_place(alloc, &rows[i]) {
+            return Some(i);
+        }
+    }
+    None
+}
+
+static LEAST_PLACES: [PlaceRow; 7] = [
+    // Its own block, from its begin on.
+    ("0|w(1)/0|begin/0|w(1)", 0, Some(1)),
+    // The read of what an open block wrote, though not what comes before.
+    ("1|w(2)/0|begin/0|w(1)/1|r(1)/1|r(1)", 1, Some(3)),
+    // The whole of a block that has ended, from its begin on.
+    ("0|begin/1|begin/0|w(1)/1|r(1)/1|end", 1, Some(1)),
+    // None once the open block has ended, in no block, and of a thread that made no event.
+    ("0|begin/0|w(1)/1|r(1)/0|end", 1, None),
+    ("0|w(1)/1|r(1)", 1, None),
+    ("0|begin/0|w(1)", 1, None),
+    // Of two open blocks the one that leads to an earlier event.
+    ("0|begin/2|begin/0|w(1)/2|w(3)/1|r(3)/1|r(1)", 1, Some(4)),
+];
+
+#[test]
+fn least_places_are_those_of_the_first_events_that_open_blocks_lead_to(rt: HostRuntime) {
+    let wrong = first_misplaced(rt.alloc(), &LEAST_PLACES);
+    assert!(rt; wrong == None);
+}
+
 // The first row that doesn't hold.
 fn first_wrong(alloc: Global, rows: &[Row]) -> Option<usize> {
     for i in 0..rows.len() {

@@ -257,17 +257,17 @@ open_told words rules fed lines checker state (Err e) undecided so = tt
 -- and there is one line too many at most
 lines_so : {E : Type 0} (words : Words E) (rules : Rules) (fed : List Reading) (lines : ℕ) (checker : Checker E) → FedSo words rules fed lines checker Undecided → lines ≤ rules.limits.lines + 1 → rules.limits.lines ≤ 4000000000 →
     (whole_reading fed).lines ≤ rules.limits.lines + 1
-lines_so words rules fed lines checker so few most =
+lines_so words rules fed lines checker so few bounded =
     let all = all_fed words rules fed lines checker so in
     let lines_are = all.lines_are in
     let total : (whole_reading fed).lines ≡ all.total + 0 = all.before.lines_are ∙ ap (λ ps. all.total + (whole_reading ps).lines) (drop_all (length fed) fed (omega arith)) in
-    omega (arith, total, lines_are, few, most)
+    omega (arith, total, lines_are, few, bounded)
 
 pub lines_told : {E : Type 0} (words : Words E) (rules : Rules) (fed : List Reading) (lines : ℕ) (checker : Checker E) (state : State) (result : Result Bool AllocError) → IfOk result (λ b. b ≡ false → state ≡ Undecided) →
     FedSo words rules fed lines checker state → (state ≡ Undecided → lines ≤ rules.limits.lines + 1) → rules.limits.lines ≤ 4000000000 → IfOk result (λ b. b ≡ false → (whole_reading fed).lines ≤ rules.limits.lines + 1)
-lines_told words rules fed lines checker state (Ok b) undecided so few most = λ no.
-    lines_so words rules fed lines checker (subst (FedSo words rules fed lines checker) (undecided no) so) (few (undecided no)) most
-lines_told words rules fed lines checker state (Err e) undecided so few most = tt
+lines_told words rules fed lines checker state (Ok b) undecided so few bounded = λ no.
+    lines_so words rules fed lines checker (subst (FedSo words rules fed lines checker) (undecided no) so) (few (undecided no)) bounded
+lines_told words rules fed lines checker state (Err e) undecided so few bounded = tt
 
 -- the parts that were fed are readings
 one_only : {X : Type 0} (P : X → Type 0) (x : X) → P x → All P (x ∷ [])

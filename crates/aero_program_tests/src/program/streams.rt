@@ -1,8 +1,9 @@
 // Streams and files of which calls fail, once or for ever, or are interrupted.
 ghost use Rattle.std.specs.Prelude.{⊤};
 
-use aero_program::files::Opener;
+use aero_program::files::{Opened, Opener};
 use aero_program::sizes::Sizes;
+use aero_program::stamp::{Moment, Stamp};
 use std::alloc::Global;
 use std::io;
 use std::io::{ErrorKind, Read, Write};
@@ -181,6 +182,21 @@ fn spend(count: &AtomicU64) -> bool {
     left > 0
 }
 
+// The stamp of a file that was written in this second.
+fn written_in(second: i64) -> Stamp {
+    let moment = Moment {
+        seconds: second,
+        nanoseconds: 0,
+    };
+    Stamp {
+        device: 1,
+        inode: 2,
+        size: 3,
+        written: moment,
+        changed: moment,
+    }
+}
+
 // Plain files and others, each with one text. A plain one has a path that begins with a `p`.
 #[derive(Drop)]
 pub(crate) struct Drawer {
@@ -190,21 +206,35 @@ pub(crate) struct Drawer {
 impl Opener for Drawer {
     ghost can_open = { λ _. ⊤ };
 
+    ghost holds = { λ _ _ _. ⊤ };
+
     type File = Text;
 
-    fn open(&self, _path: &str) -> io::Result<Text> {
-        Ok(Text {
+    fn open(&self, path: &str) -> io::Result<Opened<Text>> {
+        let file = Text {
             left: self.text,
             failures: 0,
+        };
+        Ok(Opened {
+            file,
+            stamp: self.stamp_at(path),
         })
     }
 
-    fn open_again(&self, path: &str) -> io::Result<Text> {
+    fn open_again(&self, path: &str) -> io::Result<Opened<Text>> {
         self.open(path)
     }
 
     fn is_plain(&self, path: &str) -> bool {
         path.starts_with("p")
+    }
+
+    fn stamp_at(&self, path: &str) -> Option<Stamp> {
+        if self.is_plain(path) {
+            Some(written_in(0))
+        } else {
+            None
+        }
     }
 }
 
@@ -227,9 +257,11 @@ impl Sizes for Drawer {
 impl Opener for Shelf {
     ghost can_open = { λ _. ⊤ };
 
+    ghost holds = { λ _ _ _. ⊤ };
+
     type File = Interrupted<Text>;
 
-    fn open(&self, _path: &str) -> io::Result<Interrupted<Text>> {
+    fn open(&self, path: &str) -> io::Result<Opened<Interrupted<Text>>> {
         if spend(&self.interruptions) {
             return Err(io::Error::from(ErrorKind::Interrupted));
         }
@@ -240,15 +272,26 @@ impl Opener for Shelf {
             left: self.text,
             failures: self.read_failures,
         };
-        Ok(Interrupted::new(text, self.times))
+        Ok(Opened {
+            file: Interrupted::new(text, self.times),
+            stamp: self.stamp_at(path),
+        })
     }
 
-    fn open_again(&self, path: &str) -> io::Result<Interrupted<Text>> {
+    fn open_again(&self, path: &str) -> io::Result<Opened<Interrupted<Text>>> {
         self.open(path)
     }
 
     fn is_plain(&self, _path: &str) -> bool {
         self.size.is_some()
+    }
+
+    fn stamp_at(&self, path: &str) -> Option<Stamp> {
+        if self.is_plain(path) {
+            Some(written_in(0))
+        } else {
+            None
+        }
     }
 }
 
@@ -264,7 +307,8 @@ impl Sizes for Shelf {
 // opens work, how many reads fail behind the text, and whether the files are plain ones.
 pub(crate) type Again = (&'static [u8], &'static [u8], u32, u32, bool);
 
-// Files that all have one text, and others when they are opened again.
+// Files that all have one text, and others when they are opened again. How often a stamp was asked for or an open gave one tells
+// from when on it is another.
 #[derive(Drop)]
 pub(crate) struct Changing {
     first: &'static [u8],
@@ -274,6 +318,7 @@ pub(crate) struct Changing {
     failures: u32,
     are_plain: bool,
     turn: AtomicU64,
+    stamps_left: AtomicU64,
 }
 
 impl Changing {
@@ -286,6 +331,25 @@ impl Changing {
             failures: later.3,
             are_plain: later.4,
             turn: AtomicU64::new(0),
+            stamps_left: AtomicU64::new(u64::from(EVER)),
+        }
+    }
+
+    // The same, where the first so many stamps are alike, and all later ones of another file.
+    pub(crate) fn with_stamps(mut self, alike: u32) -> Changing {
+        self.stamps_left = AtomicU64::new(u64::from(alike));
+        self
+    }
+
+    // The next stamp.
+    fn next_stamp(&self) -> Option<Stamp> {
+        if !self.are_plain {
+            return None;
+        }
+        if spend(&self.stamps_left) {
+            Some(written_in(0))
+        } else {
+            Some(written_in(1))
         }
     }
 }
@@ -293,35 +357,124 @@ impl Changing {
 impl Opener for Changing {
     ghost can_open = { λ _. ⊤ };
 
+    ghost holds = { λ _ _ _. ⊤ };
+
     type File = Text;
 
-    fn open(&self, _path: &str) -> io::Result<Text> {
-        Ok(Text {
+    fn open(&self, _path: &str) -> io::Result<Opened<Text>> {
+        let file = Text {
             left: self.first,
             failures: 0,
+        };
+        Ok(Opened {
+            file,
+            stamp: self.next_stamp(),
         })
     }
 
-    fn open_again(&self, _path: &str) -> io::Result<Text> {
+    fn open_again(&self, _path: &str) -> io::Result<Opened<Text>> {
         let turn = self.turn.load(Ordering::SeqCst);
         if turn >= u64::from(self.opens) {
             return Err(io::Error::from_raw_os_error(13));
         }
         self.turn.store(turn.saturating_add(1), Ordering::SeqCst);
         let left = if turn == 0 { self.again } else { self.last };
-        Ok(Text {
+        let file = Text {
             left,
             failures: self.failures,
+        };
+        Ok(Opened {
+            file,
+            stamp: self.next_stamp(),
         })
     }
 
     fn is_plain(&self, _path: &str) -> bool {
         self.are_plain
     }
+
+    fn stamp_at(&self, _path: &str) -> Option<Stamp> {
+        self.next_stamp()
+    }
 }
 
 // How many bytes they have isn't said.
 impl Sizes for Changing {
+    ghost has_size = { λ _ _. ⊤ };
+
+    fn size(&self, _path: &str) -> Option<u64> {
+        None
+    }
+}
+
+// Files of one text, each of which is without end when it is opened again, and has no byte 10 then. It is counted how many bytes
+// are read of it, and no more than a million are given.
+#[derive(Drop)]
+pub(crate) struct Endless<'a> {
+    pub(crate) text: &'static [u8],
+    pub(crate) given: &'a AtomicU64,
+}
+
+#[derive(Drop)]
+pub(crate) struct EndlessFile<'a> {
+    text: Text,
+    given: Option<&'a AtomicU64>,
+}
+
+impl Read for EndlessFile<'_> {
+    fn read(&mut self, buf: &mut [u8]) -> io::Result<usize> {
+        let Some(given) = self.given else {
+            return self.text.read(buf);
+        };
+        let so_far = given.load(Ordering::SeqCst);
+        if so_far > 1_000_000 {
+            return Ok(0);
+        }
+        buf.fill(b'x');
+        given.store(so_far.saturating_add(buf.len() as u64), Ordering::SeqCst);
+        Ok(buf.len())
+    }
+}
+
+impl<'a> Endless<'a> {
+    fn opened(&self, given: Option<&'a AtomicU64>) -> Opened<EndlessFile<'a>> {
+        let text = Text {
+            left: self.text,
+            failures: 0,
+        };
+        Opened {
+            file: EndlessFile { text, given },
+            stamp: Some(written_in(0)),
+        }
+    }
+}
+
+impl<'a> Opener for Endless<'a> {
+    ghost can_open = { λ _. ⊤ };
+
+    ghost holds = { λ _ _ _. ⊤ };
+
+    type File = EndlessFile<'a>;
+
+    fn open(&self, _path: &str) -> io::Result<Opened<EndlessFile<'a>>> {
+        Ok(self.opened(None))
+    }
+
+    fn open_again(&self, _path: &str) -> io::Result<Opened<EndlessFile<'a>>> {
+        Ok(self.opened(Some(self.given)))
+    }
+
+    fn is_plain(&self, _path: &str) -> bool {
+        true
+    }
+
+    fn stamp_at(&self, _path: &str) -> Option<Stamp> {
+        Some(written_in(0))
+    }
+}
+
+// How many bytes they have isn't said.
+impl Sizes for Endless<'_> {
     ghost has_size = { λ _ _. ⊤ };
 
     fn size(&self, _path: &str) -> Option<u64> {

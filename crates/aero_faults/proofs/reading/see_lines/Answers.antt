@@ -19,6 +19,6 @@ loop-before-preserved g c =
     subst (λ (l : List ℕ). (before : List (ℕ × Named)) → HasSeen old before → SeesLine now before n (meaning l)) c.deref.ensures.value sees in
     record {
       same = record { event = same.event ∙ c.loop-before.invariant.same.event; fault = same.fault ∙ c.loop-before.invariant.same.fault };
-      seen = one_more_seen (g.B.Read.remaining c.args.lines.now) (g.B.Read.remaining c.loop-before.lines) (g.B.Read.remaining c.next_line.new.lines) c.loop-before.before c.next_line.new.line.items old now
+      seen = one_more_seen (g.B.Read.remaining c.args.lines.now.inner) (g.B.Read.remaining c.loop-before.lines.inner) (g.B.Read.remaining c.next_line.new.lines.inner) c.loop-before.before c.next_line.new.line.items old now
           c.loop-before.invariant.seen (c.in_ok-next_line.ensures.endless c.if-not-branch.false) (c.in_ok-next_line.ensures.came c.if-not-branch.false) told;
     }

@@ -5,5 +5,5 @@ use Rattle.aero_faults.proofs.reading.see_lines.Given as goal
 abbrev pub invariant-loop-before : goal.invariant-loop-before
 invariant-loop-before g l = record {
   same : IsSameSearch l.fn.first l.search;
-  seen : AreSeen (g.B.Read.remaining l.fn.lines) (g.B.Read.remaining l.lines) l.before l.search;
+  seen : AreSeen (g.B.Read.remaining l.fn.lines.inner) (g.B.Read.remaining l.lines.inner) l.before l.search;
 }

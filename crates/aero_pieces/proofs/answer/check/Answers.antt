@@ -1,9 +1,6 @@
-use Rattle.std.proofs.Common.{◌≡◌, ℕ, sym, subst}
-use Rattle.std.specs.Prelude.{option_map}
-use Rattle.std.proofs.lemmas.Bool.{not-true}
+use Rattle.std.proofs.Common.{ℕ, true, sym, subst}
+use Rattle.std.proofs.lemmas.Bool.{not-true, not-false}
 use Rattle.std.proofs.lemmas.Result.{IfOk-weaker}
-use Rattle.aero_verdict.specs.Ordered.{TellsInOrder}
-use Rattle.aero_verdict.specs.Verdict.{under}
 use Rattle.aero_pieces.specs.declared.question.Question.TheVariants.{Check}
 use Rattle.aero_pieces.specs.Values.{IsValueOf}
 use Rattle.aero_pieces.proofs.Asked.{no_order}
@@ -16,3 +13,14 @@ returns-then-not-asked c =
     IfOk-weaker c.judge.result _ (λ value. (trace : ℕ) →
     IsValueOf (Check trace c.args.parts.now c.args.limits.now c.args.except.now asked.order asked.explain) value)
     (λ value fits trace. fits trace asked.order (λ verdict is. no_order asked.order none verdict)) c.judge.ensures
+
+-- both are asked for
+pub returns-then-asked : goal.returns-then-asked
+returns-then-asked c =
+    let asked = c.args.asked in
+    IfOk-weaker c.find.result _ (λ value. (trace : ℕ) →
+    IsValueOf (Check trace c.args.parts.now c.args.limits.now c.args.except.now asked.order asked.explain) value)
+    (λ value fits trace.
+    subst (λ o. IsValueOf (Check trace c.args.parts.now c.args.limits.now c.args.except.now o asked.explain) value) (sym (not-false asked.order c.if-not-asked.false))
+    (subst (λ e. IsValueOf (Check trace c.args.parts.now c.args.limits.now c.args.except.now true e) value) (sym c.if-asked.true) (fits trace)))
+    c.find.ensures

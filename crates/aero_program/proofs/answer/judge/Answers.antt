@@ -34,9 +34,9 @@ returns g c =
     let seen = c.in-Ok-sources_of.ensures.sighted ∙ ap (λ (s : Sources). source_sightings s given names) asked_is in
     let naming_of : Bool → Naming = λ words. record { are_words = words; on_terminal = config.terminals.errors } in
     let words_are = ap naming_of (c.are_words.ensures ∙ ap are_words asked_is) in
-    let told = noted_as (λ text. text.items) (naming_of c.are_words.result) (naming_of (are_words config.files)) _ c.noted-endings.result.now (if config.long then [] else c.run_all-report.result.0.endings.items) c.deref-3.result.now c.run_all-report.result.0.faults.items
+    let told = noted_as g.F.Opener.holds (λ text. text.items) (naming_of c.are_words.result) (naming_of (are_words config.files)) _ c.noted-endings.result.now (if config.long then [] else c.run_all-report.result.0.endings.items) c.deref-3.result.now c.run_all-report.result.0.faults.items
     words_are (c.noted-endings.ensures ∙ ap (λ l. if config.long then [] else l) c.deref-2.ensures.value) c.deref-3.ensures.value c.notes_of-notes.result c.notes_of-notes.ensures in
-    inl (judged (λ input. bytes_left (standing_of g.S.Read.remaining input)) config given
+    inl (judged g.F.Opener.holds (λ input. bytes_left (standing_of g.S.Read.remaining input)) config given
     c.in-Ok.plan.limits names c.in-Ok-sources_of.sources.items c.in-Ok-sources_of.sources.items c.run_all-report.result.1.items c.run_all-report.result.1.items
     (shown_by g.O.Write.contents c.args.output.now)
     (record {

@@ -15,7 +15,7 @@ returns g c =
     let known = c.args.sources.ok.0 in
     let whole : into_iter_len c.into_iter-source-iterator.result ≡ length c.args.sources.items = omega (arith, gives.1, known) in
     let t = YieldsList-end (YieldsList-from_vec {s = c.into_iter-source-iterator.result} c.args.sources.items gives.0 whole) c.loop-source.yielded c.loop-source.source-iterator c.loop-source.yielded_by c.next.result c.next.new.self c.in-None.is c.next.ensures.steps in
-    subst (λ l. AreNotes (noted_of_all c.args.naming l c.args.endings.now c.args.faults.now) c.loop-source.text.items) (sym (map-id c.loop-source.yielded) ∙ t.0) c.loop-source.invariant.text
+    subst (λ l. AreNotes g.G.Opener.holds (noted_of_all c.args.naming l c.args.endings.now c.args.faults.now) c.loop-source.text.items) (sym (map-id c.loop-source.yielded) ∙ t.0) c.loop-source.invariant.text
 
 pub loop-source-preserved : goal.loop-source-preserved
 loop-source-preserved g c =
@@ -30,11 +30,11 @@ loop-source-preserved g c =
     let n : Noted = noted_of c.args.naming source (was_too_large (slice_get endings (length yielded))) (fault_told (slice_get c.args.faults.now (length yielded))) in
     let old = c.loop-source.text.items in
     let new = c.append_notes.new.text.items in
-    let grows : GrowsBy old new n =
-    subst (λ (f : Option FaultyLine). GrowsBy old new (noted_of c.args.naming source (was_too_large (slice_get endings (length yielded))) f)) fault
-    (subst (λ (b : Bool). GrowsBy old new (noted_of c.args.naming source b c.fault_of-fault.result)) told c.in_ok-append_notes.ensures) in
+    let grows : GrowsBy g.G.Opener.holds old new n =
+    subst (λ (f : Option FaultyLine). GrowsBy g.G.Opener.holds old new (noted_of c.args.naming source (was_too_large (slice_get endings (length yielded))) f)) fault
+    (subst (λ (b : Bool). GrowsBy g.G.Opener.holds old new (noted_of c.args.naming source b c.fault_of-fault.result)) told c.in_ok-append_notes.ensures) in
     record {
-      text = subst (λ (l : List Noted). AreNotes l new) (sym (one_more c.args.naming yielded source endings c.args.faults.now)) (notes_grown before n old new c.loop-source.invariant.text grows);
+      text = subst (λ (l : List Noted). AreNotes g.G.Opener.holds l new) (sym (one_more c.args.naming yielded source endings c.args.faults.now)) (notes_grown g.G.Opener.holds before n old new c.loop-source.invariant.text grows);
       place = let longer = length-append yielded (source ∷ []) in let before = c.loop-source.invariant.place in omega (arith, longer, before);
     }
 

@@ -5,6 +5,6 @@ use Rattle.aero_program.proofs.notes.notes_of.Given as goal
 -- the lines on the sources so far, and how many these are
 abbrev pub invariant-loop-source : goal.invariant-loop-source
 invariant-loop-source g l = record {
-  text : AreNotes (noted_of_all l.naming l.yielded l.endings l.faults) l.text.items;
+  text : AreNotes g.G.Opener.holds (noted_of_all l.naming l.yielded l.endings l.faults) l.text.items;
   place : l.place ≡ length l.yielded;
 }

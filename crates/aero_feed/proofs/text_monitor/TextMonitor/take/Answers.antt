@@ -1,14 +1,14 @@
 use Rattle.std.proofs.Common.{◌≡◌, true, false, refl, sym, ◌∙◌, ◌++◌, ap, subst}
 use Rattle.std.specs.Prelude.{is_some}
 use Rattle.aero_verdict.specs.Verdict.{Rules}
-use Rattle.aero_feed.specs.Reads.{StandsAt}
-use Rattle.aero_feed.proofs.Texts.{stands_sure, stands_more, same_some, none_of, on_ok}
+use Rattle.aero_feed.specs.Reads.{StandsAt, fed_by}
+use Rattle.aero_feed.proofs.Texts.{stands_sure, stands_more, none_of, on_ok}
 use Rattle.aero_feed.proofs.text_monitor.TextMonitor.take.Goals as goal
 
-pub invariant_of-self-then-is_some : goal.invariant_of-self-then-is_some
-invariant_of-self-then-is_some c =
-    let m = c.self.inside.monitor in
-    let sure : is_some m.certain ≡ true = same_some _ c.certain.result m.certain c.is_some.result true c.certain.ensures.same c.is_some.ensures c.if-is_some.true in
+pub invariant_of-self-then-is_certain : goal.invariant_of-self-then-is_certain
+invariant_of-self-then-is_certain c =
+    let m = fed_by c.self.inside.judge in
+    let sure : is_some m.certain ≡ true = sym c.is_certain.ensures.told ∙ c.if-is_certain.true in
     record {
       labels = c.self.invariant.labels;
       stands = λ unspent. subst (λ t. StandsAt t c.self.inside.cutter m m.certain) (sym c.with-self-inside.ensures)
@@ -17,13 +17,13 @@ invariant_of-self-then-is_some c =
 
 pub invariant_of-self-2 : goal.invariant_of-self-2
 invariant_of-self-2 c =
-    let was = c.self.inside.monitor in
-    let is = c.judge_piece-judged.new.monitor in
+    let was = fed_by c.self.inside.judge in
+    let is = fed_by c.judge_piece-judged.new.judge in
     let r = c.judge_piece-judged.result in
     let e = c.judge_piece-judged.ensures in
     let b = c.is_err-self-inside.result in
     let value = c.is_err-self-inside.ensures.value in
-    let off : is_some was.certain ≡ false = same_some _ c.certain.result was.certain c.is_some.result false c.certain.ensures.same c.is_some.ensures c.if-is_some.false in
+    let off : is_some was.certain ≡ false = sym c.is_certain.ensures.told ∙ c.if-is_certain.false in
     record {
       labels = c.self.invariant.labels ∙ sym (ap (λ (r : Rules). r.labels) e.rules);
       stands = λ unspent.

@@ -20,8 +20,8 @@ cycle_in-requires c =
         readings = c.self.invariant.readings;
         few = m.limits.most_lines;
         checker = m.checker;
-        names = c.names-in-Decided.ensures;
-        engine = c.engine-in-Decided.ensures;
+        names = c.names.ensures;
+        engine = c.engine.ensures;
         tells = tells_certain (words_of StandsForLeads HasRecorded) rules m.fed.parts m.lines m.checker c.in-Decided.verdict
             (subst (FedSo (words_of StandsForLeads HasRecorded) rules m.fed.parts m.lines m.checker) c.in-Decided.is c.self.invariant.so);
       },
@@ -36,8 +36,8 @@ returns-in-Decided c =
       readings = c.self.invariant.readings;
       few = m.limits.most_lines;
       checker = m.checker;
-      names = c.names-in-Decided.ensures;
-      engine = c.engine-in-Decided.ensures;
+      names = c.names.ensures;
+      engine = c.engine.ensures;
       tells = tells_certain (words_of StandsForLeads HasRecorded) rules m.fed.parts m.lines m.checker c.in-Decided.verdict
           (subst (FedSo (words_of StandsForLeads HasRecorded) rules m.fed.parts m.lines m.checker) c.in-Decided.is c.self.invariant.so);
     }) in
