@@ -217,3 +217,68 @@ fn violations_are_explained(rt: HostRuntime) {
     let wrong = first_wrong(rt.alloc(), &Limits::greatest(), &EXPLAINED);
     assert!(rt; wrong == None);
 }
+
+// A trace, events that come behind it so many times, what comes behind these, and the verdict with the events of a cycle.
+type LongRow = (&'static str, &'static str, u32, &'static str, &'static str);
+
+fn feed_often(
+    alloc: Global,
+    monitor: &mut Monitor<Recorder>,
+    except: &Except,
+    text: &str,
+    times: u32,
+) -> bool {
+    let Some(parts) = parts_of(alloc, text) else {
+        return false;
+    };
+    for _ in 0..times {
+        feed_all(monitor, &parts, except);
+    }
+    true
+}
+
+fn is_told_at_length(alloc: Global, limits: &Limits, row: &LongRow) -> bool {
+    let (first, between, times, last, wanted) = *row;
+    let Some(except) = except_of(alloc, "") else {
+        return false;
+    };
+    let mut monitor = Monitor::<Recorder>::new(alloc, limits, &except);
+    feed_often(alloc, &mut monitor, &except, first, 1)
+        && feed_often(alloc, &mut monitor, &except, between, times)
+        && feed_often(alloc, &mut monitor, &except, last, 1)
+        && shows(alloc, &monitor, wanted)
+}
+
+fn first_untold(alloc: Global, limits: &Limits, rows: &[LongRow]) -> Option<usize> {
+    for i in 0..rows.len() {
+        if !is_told_at_length(alloc, limits, &rows[i]) {
+            return Some(i);
+        }
+    }
+    None
+}
+
+static AT_LENGTH: [LongRow; 2] = [
+    // What a block leads to that stays open is told after many events to which it doesn't lead.
+    (
+        "T1|begin(long)/T1|w(x)/T2|r(x)/+",
+        "T3|begin(short)/T4|r(z)/T3|w(z)/T4|w(u)/T3|end/+",
+        30_000,
+        "T2|w(y)/T1|r(y)+",
+        "violation 150005 T1 1/label long/2 1 T1 Write x/3 3 T2 Read x/150004 150004 T2 Write y/150005 1 T1 Read y",
+    ),
+    // So are blocks that begin after many events, where no block is open in between.
+    (
+        "T3|begin(short)/T4|r(z)/T3|w(z)/T3|end/+",
+        "T3|begin(short)/T4|r(z)/T3|w(z)/T4|w(u)/T3|end/+",
+        30_000,
+        "T1|begin(late)/T2|begin/T1|w(x)/T2|r(x)/T2|w(y)/T1|r(y)+",
+        "violation 150010 T1 150005/label late/150007 150005 T1 Write x/150008 150006 T2 Read x/150009 150006 T2 Write y/150010 150005 T1 Read y",
+    ),
+];
+
+#[test]
+fn violations_are_explained_after_many_events(rt: HostRuntime) {
+    let wrong = first_untold(rt.alloc(), &Limits::greatest(), &AT_LENGTH);
+    assert!(rt; wrong == None);
+}
