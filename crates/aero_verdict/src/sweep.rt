@@ -98,11 +98,7 @@ pub(crate) fn keep_marked<T: Copy>(
     Ok(())
 }
 
-fn marked_items<T: Copy>(
-    alloc: Global,
-    items: &[T],
-    marks: &[bool],
-) -> Result<Vec<T>, AllocError>
+fn marked_items<T: Copy>(alloc: Global, items: &[T], marks: &[bool]) -> Result<Vec<T>, AllocError>
     ensures { IfOk result (λ kept. kept.items ≡ marked marks.now items.now) }
 {
     let mut kept = Vec::new(alloc);
