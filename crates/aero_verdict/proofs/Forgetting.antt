@@ -27,9 +27,10 @@ use Rattle.aero_witness.proofs.Enough.{enough_stays, led_is_enough}
 use Rattle.aero_witness.proofs.Pushed.{push_front, push_last, push_cases, nth_mark, marked_at, marked_same, marked_long}
 use Rattle.aero_witness.proofs.Trail.{led_back, led_on}
 use Rattle.aero_verdict.specs.declared.recorder.Recorder.{Recorder}
-use Rattle.aero_verdict.specs.Recorded.{recorded, IsSaidOf, HasStill, AreJudgedAs, IsNoted, AreNoted, HasRecordedAs, HasRecorded, IsNotedNext, AreMarks, IsMarked, IsSwept, IsAsBefore}
+use Rattle.aero_verdict.specs.Recorded.{recorded, IsSaidOf, HasStill, AreJudgedAs, IsNoted, AreNoted, HasRecordedAs, HasRecorded, IsNotedNext, AreMarks, SaysSame, IsMarked, IsSwept, IsAsBefore}
 use Rattle.aero_verdict.proofs.Recording.{given_at, trail_of}
 use Rattle.aero_verdict.proofs.Said.{said_still}
+use Rattle.aero_verdict.proofs.Zipped.{zip_long, zip_beside}
 
 -- a list of one more item
 record Ended {X : Type 0} (xs : List X) : Type 0 where
@@ -128,7 +129,7 @@ module _ (a b : Recorder) (given : List Given) (marks : List Bool) (is : IsMarke
   marked_noted = record {
     count = is.count ∙ noted.count;
     lines = ap length is.lines ∙ marked_long marks a.lines.items a.places.items noted.lines ∙ sym (ap length is.places);
-    said = ap length is.said ∙ marked_long marks a.said.items a.places.items noted.said ∙ sym (ap length is.places);
+    said = zip_long (SaysSame a.labels.names b.labels.names) (marked marks a.said.items) b.said.items is.said ∙ marked_long marks a.said.items a.places.items noted.said ∙ sym (ap length is.places);
     each = each;
   }
     where
@@ -136,11 +137,13 @@ module _ (a b : Recorder) (given : List Given) (marks : List Bool) (is : IsMarke
       each i p g at given_here =
           let here : slice_get (marked marks a.places.items) i ≡ Some p = sym (ap (λ ps. slice_get ps i) is.places) ∙ at in
           let old = noted.each (nth_mark marks i) p g (marked_at marks a.places.items i p here) given_here in
+          let said_here : slice_get (marked marks a.said.items) i ≡ Some old.code = marked_same marks a.said.items a.places.items i p noted.said here ∙ old.code_at in
+          let new = zip_beside (SaysSame a.labels.names b.labels.names) (marked marks a.said.items) b.said.items i old.code is.said said_here in
           record {
             line = ap (λ ls. slice_get ls i) is.lines ∙ marked_same marks a.lines.items a.places.items i p noted.lines here ∙ old.line;
-            code = old.code;
-            code_at = ap (λ cs. slice_get cs i) is.said ∙ marked_same marks a.said.items a.places.items i p noted.said here ∙ old.code_at;
-            said = subst (λ names. IsSaidOf names g old.code) (sym is.labels) old.said;
+            code = new.0;
+            code_at = new.1;
+            said = new.2 g.event.what g.label old.said;
           }
 
 same_noted : (a b : Recorder) (given : List Given) → IsAsBefore a b → AreNoted a given → AreNoted b given

@@ -36,6 +36,13 @@ zip_long R [] (w ∷ ys) zip = absurd zip
 zip_long R (z ∷ xs) [] zip = absurd zip
 zip_long R (z ∷ xs) (w ∷ ys) zip = ap suc (zip_long R xs ys zip.1)
 
+-- an item of the first list has one beside it
+pub zip_beside : {A B : Type 0} (R : A → B → Type 0) (xs : List A) (ys : List B) (i : ℕ) (x : A) → AllZip R xs ys → slice_get xs i ≡ Some x → (y : B) × (slice_get ys i ≡ Some y) × R x y
+zip_beside R [] ys i x zip at = absurd (cc)
+zip_beside R (z ∷ xs) [] i x zip at = absurd zip
+zip_beside R (z ∷ xs) (w ∷ ys) zero x zip at = (w, refl, subst (λ a. R a w) (same_Some z x at) zip.0)
+zip_beside R (z ∷ xs) (w ∷ ys) (suc i) x zip at = zip_beside R xs ys i x zip.1 at
+
 -- the same of pairs that are so as well
 pub zip_as : {A B : Type 0} (R S : A → B → Type 0) → ((x : A) (y : B) → R x y → S x y) → (xs : List A) (ys : List B) → AllZip R xs ys → AllZip S xs ys
 zip_as R S thus [] [] zip = zip

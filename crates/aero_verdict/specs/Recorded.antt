@@ -1,5 +1,6 @@
 -- What a `Recorder` keeps of the events that it is given, and for which it stands.
 use Rattle.std.specs.Prelude.{◌≡◌, ℕ, suc, ◌+◌, ◌<◌, Bool, List, [], ◌∷◌, ◌++◌, length, take, slice_get, Option, None, Some, map}
+use Rattle.std.specs.List.{AllZip}
 use Rattle.aero_model.specs.declared.numbered.Numbered.{Numbered}
 use Rattle.aero_model.specs.declared.numbered.What.{What}
 use Rattle.aero_model.specs.declared.numbered.What.TheVariants.{Begin, End, Exempt}
@@ -105,14 +106,17 @@ pub record AreMarks (rows : Rows) (events : List Numbered) (places : List ℕ) (
       → slice_get places i ≡ Some p
       → (least : Option ℕ) × IsLeastOf (rows e.thread) least × (slice_get marks i ≡ Some (is_led least p))
 
--- what is marked is kept, and nothing else
+-- what a code says by the first labels another one says by the second
+abbrev pub SaysSame : List (List ℕ) → List (List ℕ) → ℕ → ℕ → Type 0
+SaysSame before after old new = (what : What) (label : Option (List ℕ)) → IsSaid before what label old → IsSaid after what label new
+
+-- what is marked is kept, and nothing else, with codes by the labels that are left
 pub record IsMarked (old new : Recorder) (marks : List Bool) : Type 0 where
   pub firsts : new.leads ≡ old.leads
   pub events : new.events.items ≡ marked marks old.events.items
   pub lines : new.lines.items ≡ marked marks old.lines.items
-  pub said : new.said.items ≡ marked marks old.said.items
+  pub said : AllZip (SaysSame old.labels.names new.labels.names) (marked marks old.said.items) new.said.items
   pub places : new.places.items ≡ marked marks old.places.items
-  pub labels : new.labels.names ≡ old.labels.names
   pub count : new.count ≡ old.count
 
 -- just what open blocks lead to is kept

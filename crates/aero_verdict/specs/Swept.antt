@@ -1,7 +1,11 @@
 -- What a sweep of a record looks up.
-use Rattle.std.specs.Prelude.{◌≡◌, ℕ, Bool, false, List, Option, Some, None, slice_get}
+use Rattle.std.specs.Prelude.{◌≡◌, ℕ, ◌-◌, nat_lt, if◌then◌else◌, Bool, false, List, Option, Some, None, slice_get}
 use Rattle.aero_leads.specs.Leads.{Rows, is_led}
 use Rattle.aero_leads.specs.Leasts.{IsLeastOf}
+
+-- the label that a code names
+abbrev pub label_in : List (List ℕ) → ℕ → Option (List ℕ)
+label_in labels code = if nat_lt code 2 then None else slice_get labels (code - 2)
 
 -- the least places of the first threads' rows
 abbrev pub AreLeasts : Rows → List (Option ℕ) → Type 0

@@ -25,7 +25,8 @@ use std::alloc::{AllocError, Global};
 /// the block comes with it that the verdict names, if it has one, and the events of a telling cycle that begins there,
 /// in the order in which it is gone round: from the one by which the block is left to the one by which it is entered
 /// again. None that begins there goes through fewer transactions. The events are gathered for it while they are judged,
-/// in 24 bytes each, until one closes a cycle, and the labels of their begins.
+/// in 28 bytes each, until one closes a cycle, and the labels of their begins. Each time when there are twice as many as
+/// before, those are forgotten to which no open block leads.
 ///
 /// An `AllocError` says that memory was refused.
 pub fn check_trace_explained(

@@ -1,10 +1,12 @@
 //! First places as an engine that also records the events that it is given, for the cycle that closes with one.
 ghost use Rattle.std.specs.Prelude.{◌≡◌, ◌⊎◌, ◌≤◌, ◌++◌, ◌∷◌, [], ℕ, List, length, Option, option_copied, IfOk, OnOk};
+ghost use Rattle.std.specs.List.{AllZip};
 ghost use Rattle.aero_model.specs.declared.numbered.Numbered.{Numbered};
 ghost use Rattle.aero_model.specs.Exempt.{IsJudgedAs};
 ghost use Rattle.aero_engine.specs.Given.{Given};
 ghost use Rattle.aero_engine.specs.Judging.{IsAdmitted, ComesAfter, Tells};
-ghost use Rattle.aero_verdict.specs.Recorded.{inner_what, recorded_what, IsLabelSaid, IsSaid, HasStill, HasRecorded, StandsForLeads, IsNotedNext, IsSwept, IsAsBefore};
+ghost use Rattle.aero_verdict.specs.Recorded.{inner_what, recorded_what, IsLabelSaid, IsSaid, HasStill, HasRecorded, StandsForLeads, IsNotedNext, IsSwept, IsAsBefore, SaysSame};
+ghost use Rattle.aero_verdict.specs.Swept.{label_in};
 
 use crate::sweep::{keep_marked, marks_of};
 use aero_engine::by_kind;
@@ -19,22 +21,26 @@ use std::alloc::{AllocError, Global};
 /// What judges the events, by first places, and what records them with their lines. Of their begins and ends the outermost
 /// ones alone are recorded as such, the others as exempt. So a code says of each event whether it is a begin, and with
 /// which label.
+///
+/// Events to which no open block leads are in no cycle that closes later. They are forgotten each time when there are
+/// twice as many events as were left by the last time, and at least 65,536.
 #[derive(Drop)]
 pub struct Recorder {
     leads: Leads,
     pub(crate) events: Vec<Numbered>,
     pub(crate) lines: Vec<u32>,
     pub(crate) said: Vec<u32>,
+    // The place of each event among those that were given.
     places: Vec<u32>,
     pub(crate) labels: Names,
     // How many events were given.
     count: u32,
-    // At how many recorded events those are forgotten that no open block leads to.
+    // At how many recorded events some are forgotten.
     due: usize,
     alloc: Global,
 }
 
-// As long as so few events are recorded none is forgotten.
+// As long as fewer events are recorded none is forgotten.
 const FEW: usize = 1 << 16;
 
 impl Recorder {
@@ -130,7 +136,55 @@ fn sweep(recorder: &mut Recorder) -> Result<(), AllocError>
     keep_marked(alloc, &mut recorder.lines, &marks)?;
     keep_marked(alloc, &mut recorder.said, &marks)?;
     keep_marked(alloc, &mut recorder.places, &marks)?;
+    relabel(alloc, &mut recorder.labels, &mut recorder.said)?;
     Ok(())
+}
+
+// Forgets the labels that none of these codes names, and numbers the others anew.
+fn relabel(alloc: Global, labels: &mut Names, said: &mut Vec<u32>) -> Result<(), AllocError>
+    ensures { OnOk result (AllZip (SaysSame labels.old.names labels.new.names) said.old.items said.new.items) }
+{
+    let mut left = Names::new(alloc, u32::MAX);
+    let mut codes = Vec::new(alloc);
+    recode_all(labels, &mut left, &mut codes, said)?;
+    *labels = left;
+    *said = codes;
+    Ok(())
+}
+
+fn recode_all(
+    labels: &Names,
+    left: &mut Names,
+    codes: &mut Vec<u32>,
+    said: &[u32],
+) -> Result<(), AllocError>
+    requires { codes.old.items ≡ [] }
+    ensures { OnOk result (AllZip (SaysSame labels.now.names left.new.names) said.now codes.new.items) }
+{
+    for code in said {
+        codes.push(recode(labels, left, *code)?)?;
+    }
+    Ok(())
+}
+
+// What says by the labels that are left what the code says.
+fn recode(labels: &Names, left: &mut Names, code: u32) -> Result<u32, AllocError>
+    ensures same { IfOk result (SaysSame labels.now.names left.new.names code) }
+    ensures still { OnOk result (HasStill left.old.names left.new.names) }
+{
+    match code {
+        0 => Ok(0),
+        code => code_of_begin(left, label_of(labels, code)),
+    }
+}
+
+fn label_of(labels: &Names, code: u32) -> Option<&[u8]>
+    ensures { option_copied result ≡ label_in labels.now.names code }
+{
+    if code < 2 {
+        return None;
+    }
+    labels.name(code - 2)
 }
 
 // Records the event, its line, its place, and the code of its begin.
