@@ -30,7 +30,6 @@ impl<'a, F: Opener> Looker<'a, F> {
 
     /// What a second look shows at the faulty line of the source of this name, whose file had this stamp when it was
     /// opened: one without a fault, and one without a stamp, as standard input is, shows nothing.
-    #[tactic(auto, using(crate::proofs::Looking::shows_as))]
     pub fn look(&self, name: &[u8], opened: Option<Stamp>, fault: Option<FaultyLine>) -> Look
         ensures { ShowsAs F.holds name.now opened fault result }
     {
