@@ -8,6 +8,7 @@ mod Names
 mod Noting
 mod Parts
 mod Sizing
+mod Stamps
 mod Tells
 mod Wording
 mod Sending

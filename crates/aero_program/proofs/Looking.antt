@@ -1,12 +1,13 @@
 -- A look at a line that was read again.
 use Rattle.std.proofs.Common.{◌≡◌, ℕ, List, Option, IfSome, subst, sym}
+use Rattle.aero_model.specs.declared.verdict.LineFault.{LineFault}
 use Rattle.aero_model.specs.declared.verdict.ShapeFault.{ShapeFault}
-use Rattle.aero_batch.specs.declared.outcome.Fault.TheVariants.{IllFormed}
+use Rattle.aero_batch.specs.declared.outcome.Fault.TheVariants.{IllFormed, Malformed}
 use Rattle.aero_batch.specs.declared.outcome.Fault.{Fault}
 use Rattle.aero_batch.specs.declared.outcome.FaultyLine.{FaultyLine}
 use Rattle.aero_faults.specs.declared.look.Look.{Look}
 use Rattle.aero_faults.specs.declared.look.Look.TheVariants.{Nothing, Line, Event}
-use Rattle.aero_faults.specs.Looks.{IsEventLook, IsLine}
+use Rattle.aero_faults.specs.Looks.{IsEventLook, IsLine, IsLineLook}
 use Rattle.aero_program.specs.declared.stamp.Stamp.{Stamp}
 use Rattle.aero_program.specs.Looks.{IsSecondLook, IsShown, LooksAt, Shows, ShowsAs}
 use Rattle.std.specs.Prelude.{Some}
@@ -21,6 +22,15 @@ second_look can_open held faulty (Event e hindrance) first again line can one tw
 
 pub on_line : {V : Type 0} (items : V → List ℕ) (first : Option (List ℕ)) (number : ℕ) (o : Option V) (v : V) → o ≡ Some v → IfSome o (λ l. IsLine first number (items l)) → IsLine first number (items v)
 on_line items first number o v is h = subst (λ x. IfSome x (λ l. IsLine first number (items l))) is h
+
+pub malformed_second : (can_open : Type 0) (held : Option (List ℕ) → Type 0) (faulty : FaultyLine) (fault : LineFault) (look : Look) (first : Option (List ℕ)) (line : List ℕ) → can_open → held first
+    → IsLine first faulty.line line → faulty.fault ≡ Malformed fault → IsLineLook fault line look → IsSecondLook can_open held faulty look
+malformed_second can_open held faulty fault look first line can one is of_fault looks =
+    second_look can_open held faulty look first first line can one one is (subst (λ (f : Fault). LooksAt first faulty.line line f look) (sym of_fault) looks)
+
+-- what is said of the stamp that was found
+pub found_held : (P : Stamp → Type 0) (found : Option Stamp) (stamp : Stamp) → found ≡ Some stamp → IfSome found P → P stamp
+found_held P found stamp is all = subst (λ (o : Option Stamp). IfSome o P) is all
 
 pub ill_formed_second : (can_open : Type 0) (held : Option (List ℕ) → Type 0) (faulty : FaultyLine) (fault : ShapeFault) (look : Look) (first again : Option (List ℕ)) (line seen : List ℕ) → can_open → held first → held again
     → IsLine first faulty.line line → seen ≡ line → faulty.fault ≡ IllFormed fault → IsEventLook again faulty.line seen fault look → IsSecondLook can_open held faulty look
