@@ -114,8 +114,8 @@ static inline uint32_t aerodrome_begin_labelled(struct aerodrome *monitor, bool 
     return aerodrome_held_begin_labelled(monitor, is_long, labels == NULL ? "" : labels, length, is_only);
 }
 
-/* The same, with labels or none, of a trace whose violation aerodrome_cycle shows. It keeps 24 bytes of each event, and the labels of
- * begins, until an event closes a cycle. */
+/* The same, with labels or none, of a trace whose violation aerodrome_cycle shows. Until an event closes a cycle it keeps 28 bytes of
+ * each event to which an open block leads, and the labels of begins among them. */
 static inline uint32_t aerodrome_begin_explained(struct aerodrome *monitor, bool is_long, const char *labels, size_t length, bool is_only)
 {
     if (monitor == NULL || !aerodrome_may_be(labels, length)) {
