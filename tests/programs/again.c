@@ -2,10 +2,12 @@
  * since the allocator gives a thread what it gave back last, writes that and hands it over; then the block does as much. Where
  * all that is one variable, the other thread's write comes between two of the block. Pipes hand over, which no log has.
  *
- *   again [NAME]   allocates by the function NAME (malloc): calloc, realloc, reallocarray, memalign, aligned_alloc, posix_memalign */
+ *   again [NAME]   allocates by the function NAME (malloc): calloc, realloc, reallocarray, memalign, aligned_alloc, posix_memalign
+ *   again grown    hands over what lies behind other memory, which it lets grow over that once it was freed */
 #define _GNU_SOURCE
 #include <malloc.h>
 #include <pthread.h>
+#include <stddef.h>
 #include <stdio.h>
 #include <stdlib.h>
 #include <string.h>
@@ -51,6 +53,26 @@ static void uses_twice(void) {
     free(behind);
 }
 
+/* The other thread writes what it was handed, and frees it. */
+static void grows(void) {
+    long *before = malloc(BYTES), *behind = use(1);
+    ptrdiff_t place = behind - before;
+    hand_over(there, behind);
+    taken_over(back);
+    long *grown = realloc(before, 2 * BYTES);
+    int is_over = grown == before && place > 0 && (size_t)place < 2 * BYTES / sizeof *grown;
+    if (is_over) grown[place] = 3;
+    printf("%s\n", is_over ? "at one address" : "at several addresses");
+    free(grown);
+}
+static void *writes_and_frees(void *unused) {
+    long *memory = taken_over(there);
+    *memory = 2;
+    free(memory);
+    hand_over(back, NULL);
+    return unused;
+}
+
 static void *other(void *unused) {
     free(taken_over(there));
     hand_over(back, use(2));
@@ -62,8 +84,10 @@ int main(int words, char **word) {
     if (words > 1) name = word[1];
     mallopt(M_ARENA_MAX, 1);
     if (pipe(there) || pipe(back)) return 2;
-    pthread_create(&thread, NULL, other, NULL);
-    uses_twice();
+    int is_grown = !strcmp(name, "grown");
+    pthread_create(&thread, NULL, is_grown ? writes_and_frees : other, NULL);
+    if (is_grown) grows();
+    else uses_twice();
     pthread_join(thread, NULL);
     return 0;
 }
