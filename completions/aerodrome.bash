@@ -16,8 +16,8 @@ _aerodrome() {
     case ${COMP_WORDS[0]##*/} in
         aerodrome-merge) options='--fail-open --help' ;;
         aerodrome-refine) options='--except --only --long --fail-open --help' ;;
-        aerodrome-page) options='--output --folder --root --no-traces --except --only --context --pictures --rows --help' ;;
-        aerodrome-sarif) options='--output --folder --root --no-traces --except --only --help' ;;
+        aerodrome-page) options='--output --folder --root --no-traces --context --pictures --rows --help' ;;
+        aerodrome-sarif) options='--output --folder --root --no-traces --help' ;;
         *) options='--workers --piece --except --only --order --explain --long --format --progress --quiet
             --files0-from --label --fail-open --help --version' ;;
     esac

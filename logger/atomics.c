@@ -6,6 +6,7 @@ enum { SEQUENTIAL = __ATOMIC_SEQ_CST };
 
 /* The statement `work`, which an operation on `at` of the type consists of, and its line. */
 #define LOGGED(type, operation, at, work) \
+    aero_may_be_cancelled(); \
     if (!aero_enter()) { work; } \
     else { \
         if (UNLIKELY(aero_me.jumped)) aero_left(FRAME); \

@@ -70,6 +70,7 @@ void aero_left(uintptr_t frame) {
 
 /* What no hooked function has called, as main or what a thread starts with, has its own place. */
 EXPORT void __tsan_func_entry(void *caller) {
+    aero_may_be_cancelled();
     if (!aero_enter()) return;
     if (UNLIKELY(aero_me.jumped)) aero_left(FRAME + 1);
     push(aero_function(HERE), FRAME, aero_me.depth ? (uintptr_t)caller : HERE);

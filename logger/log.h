@@ -14,7 +14,14 @@
 
 /* The files of the logger are compiled with hidden names. What the compiler and the program call is exported, and weak: a
  * program that has a function of that name, as an allocator of its own, keeps it. */
-#define EXPORT __attribute__((visibility("default"), weak))
+#define EXPORT __attribute__((visibility("default"), weak)) ALIGNED
+/* Code written in assembly may call C with a stack that isn't aligned, where it knows that the functions need none aligned; with
+ * their hooks they would. */
+#if defined(__x86_64__) || defined(__i386__)
+#define ALIGNED __attribute__((force_align_arg_pointer))
+#else
+#define ALIGNED
+#endif
 #define LIKELY(condition) __builtin_expect(!!(condition), 1)
 #define UNLIKELY(condition) __builtin_expect(!!(condition), 0)
 /* Where the caller of the function goes on, and where the function's own frame lies. */
@@ -63,6 +70,7 @@ struct thread {
     volatile int busy;       /* in the logger: what a signal handler does meanwhile isn't logged */
     int error;               /* errno as the program had it */
     int jumped;              /* functions may have been left without their hook: by longjmp, or by exec in a child of vfork */
+    int cancels;             /* asynchronous cancelling was asked for; threads.c */
     int has_end;             /* what it has left open is ended with it */
     int length;
     char prefix[16];         /* "T12|" */
@@ -76,10 +84,11 @@ struct thread {
 };
 extern __thread struct thread aero_me;
 
-/* A lock. Who waits long for it sleeps. */
+/* A lock. Who waits long for it sleeps. The two have a line of the cache each: threads that wait look at the first one all the
+ * time, and who lets go looks at the second one. */
 typedef struct {
-    atomic_int owner;                /* the number of the thread that holds it, or 0 */
-    atomic_int sleepers;
+    _Alignas(64) atomic_int owner;       /* the number of the thread that holds it, or 0 */
+    _Alignas(64) atomic_int sleepers;    /* 1: some may sleep */
 } lock_word;
 enum { NUMBERLESS = 1 << 30 };       /* in the place of the number of a thread that has none yet */
 void aero_wait_for(lock_word *lock, int number);
@@ -135,6 +144,12 @@ static inline void aero_leave(void) {
     errno = aero_me.error;
     atomic_signal_fence(memory_order_seq_cst);
     aero_me.busy = 0;
+}
+
+/* Before an event of compiled code: where asynchronous cancelling was asked for, the thread may end here. */
+void aero_be_cancelled(void);
+static inline void aero_may_be_cancelled(void) {
+    if (UNLIKELY(aero_me.cancels)) aero_be_cancelled();
 }
 
 /* target.c */

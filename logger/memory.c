@@ -98,6 +98,7 @@ void aero_span(const char *operation, uintptr_t address, size_t bytes, uintptr_t
 }
 
 static void access_at(const char *operation, uintptr_t address, size_t bytes, uintptr_t code, uintptr_t frame) {
+    aero_may_be_cancelled();
     if (!aero_enter()) return;
     if (UNLIKELY(aero_me.jumped)) aero_left(frame);
     aero_lock();

@@ -27,6 +27,26 @@ void aero_forget_threads(void) {
     atomic_store(&joinable_lock.sleepers, 0);
 }
 
+/* ---- cancelling */
+
+/* Within the logger a thread that is cancelled asynchronously would end with the logger's locks. So it is cancelled as usual
+ * instead, at its next access, function entry or cancellation point. */
+EXPORT int pthread_setcanceltype(int type, int *old) {
+    REAL(int, pthread_setcanceltype, int, int *)
+    int is_known = type == PTHREAD_CANCEL_DEFERRED || type == PTHREAD_CANCEL_ASYNCHRONOUS;
+    int is_logged = atomic_load_explicit(&aero_state, memory_order_relaxed) == ON || aero_me.cancels;
+    if (!is_known || !is_logged) return real(type, old);
+    int error = real(PTHREAD_CANCEL_DEFERRED, old);
+    if (old && aero_me.cancels) *old = PTHREAD_CANCEL_ASYNCHRONOUS;
+    aero_me.cancels = type == PTHREAD_CANCEL_ASYNCHRONOUS;
+    return error;
+}
+void aero_be_cancelled(void) {
+    if (!aero_me.busy) pthread_testcancel();
+}
+
+/* ---- numbers */
+
 /* The place of the thread, or else a free one, which is the last if there is none but that. */
 static size_t place_of(pthread_t id, int or_free) {
     size_t free_place = joinable_count;

@@ -6,8 +6,10 @@
 For each violation it reads the trace by the definitions (blocks, their labels and ends up to the violation), and then the
 picture: columns or lanes in the order in which the transactions begin, rows for lines downwards, how many lines are folded, the
 red number, a box for each transaction from its first line to its end, the blamed one, dashed feet, and arrows that leave and
-enter the boxes at the heights of their events. No arrow passes over a text. The last line counts pictures and arrows.
+enter the boxes at the heights of their events. No arrow passes over a text. The report's transactions and closing event are held
+to the trace too. The last line counts pictures and arrows.
 """
+import itertools
 import json
 import re
 import sys
@@ -34,6 +36,22 @@ def blocks_of(path, last):
                 first = inside.pop(thread)[0]
                 found[first][3] = line if found[first][1] else None
     return found
+
+
+def wrong_members(finding, blocks):
+    """Which of the members that go with the cycle aren't what the trace says."""
+    told = []
+    for first in dict.fromkeys(step["first"] for step in finding["cycle"]):
+        thread, is_block, label, end = blocks[first]
+        one = {"first": first, "thread": thread, "block": is_block, "label": label, "end": end}
+        told.append({key: value for key, value in one.items() if value is not None and value != ""})
+    if finding["transactions"] != told:
+        yield f"transactions {finding['transactions']}, and not {told}"
+    with open(finding["source"], encoding="utf-8") as trace:
+        text = next(itertools.islice(trace, finding["line"] - 1, None))
+    closing = finding["closing"]
+    if text.strip().split("|")[:2] != [closing["thread"], closing["op"] + f"({closing.get('target')})" * ("target" in closing)]:
+        yield f"closing {closing}"
 
 
 def points_of(path):
@@ -122,6 +140,8 @@ class Picture:
             names = [text for text, x, y in places if left <= x <= right and top <= y <= bottom]
             if not self.is_wide and is_block and (label or "block") not in names:
                 yield f"the box from line {first} has no {label or 'block'}"
+            if not self.is_wide and not is_block and len(names) != 1:
+                yield f"the box of the event on line {first} has {names}"
         if [thread for _, thread in sorted((left, thread) for thread, left in lefts.items())] != threads:
             yield "columns in another order"
 
@@ -188,7 +208,8 @@ def main(page, report):
     for finding, article in zip(findings, articles):
         picture = Picture(next(article.iter("svg")))
         arrows += len(picture.of("arrow"))
-        told = picture.faults(finding, blocks_of(finding["source"], finding["line"]))
+        blocks = blocks_of(finding["source"], finding["line"])
+        told = [*wrong_members(finding, blocks), *picture.faults(finding, blocks)]
         faults += [f"{finding['source']}: {fault}" for fault in told]
     print(*faults[:20], f"{len(articles)} pictures, {arrows} arrows", sep="\n")
     return bool(faults)

@@ -7,13 +7,14 @@ from typing import Callable
 from . import words
 from .columns import columns
 from .command import Asked
+from .cycle import Event
 from .lanes import lanes
 from .markup import MOST_NAME, MOST_TEXT, bare, code
 from .names import cut, is_text, readable, shown, word_of_shell
-from .report import Event, Finding
+from .report import Finding, Options
 from .sheet import Sheet
 from .sources import Sources, place_of
-from .trace import Rules, Seen, Transaction, look, parts_of, transactions_of
+from .trace import Seen, look, parts_of
 from .words import Arrow, arrows_of, counted, roles_of
 
 MOST_COLUMNS = 6  # threads that are columns of a picture
@@ -27,7 +28,7 @@ MOST_SED = 12  # lines that are named one by one
 Picture = Callable[[Sheet], tuple[str, float]]
 
 
-def article(finding: Finding, number: int, asked: Asked, sources: Sources) -> str:
+def article(finding: Finding, number: int, options: Options, asked: Asked, sources: Sources) -> str:
     thread, begun, line = bare(finding.thread), finding.counts["begun"], finding.counts["line"]
     block = f"The block of {thread} from line {begun}"
     if finding.label is not None:
@@ -42,14 +43,14 @@ def article(finding: Finding, number: int, asked: Asked, sources: Sources) -> st
     context = min(asked.context, max(0, MOST_LINES // len(finding.cycle) - 1) // 2)
     seen = Seen(why_not="the traces weren't read")
     if not asked.no_traces:
-        seen = look(finding, asked.folder, context, asked.rules)
-    sheet = Sheet(finding, transactions_of(finding, seen, asked.rules), seen)
+        seen = look(finding, asked.folder, context)
+    sheet = Sheet(finding, seen)
     picture: Picture = lanes if len(sheet.threads) > MOST_COLUMNS else columns
     drawn, width = picture(sheet)
     is_wide = width > MOST_BESIDE
     scrolls = f' tabindex="0" role="region" aria-label="Picture {number}"' if width > MOST_STILL else ""
     figure = f'<figure><div class="scroll"{scrolls}>{drawn}</div><figcaption>{legend(sheet.arrows)}</figcaption></figure>\n'
-    told, do = why(finding, sheet.of, sheet.arrows, is_wide), advice(finding, sheet.arrows, asked.rules)
+    told, do = why(finding, sheet.arrows, is_wide), advice(finding, sheet.arrows, options)
     parts = f"{told}{figure}{do}" if is_wide else f'{figure}<div class="why">{told}{do}</div>\n'
     body = f'<div class="{"wide" if is_wide else "beside"}">\n{parts}{events(finding, seen, sources)}</div>\n'
     return head + body + excerpt(finding, seen, number) + "</article>\n"
@@ -61,19 +62,19 @@ def legend(arrows: list[Arrow]) -> str:
     return f'<ul class="legend"><li class="block">the block that isn\'t atomic</li>{kinds}</ul>'
 
 
-def why(finding: Finding, of: dict[int, Transaction], arrows: list[Arrow], is_wide: bool) -> str:
+def why(finding: Finding, arrows: list[Arrow], is_wide: bool) -> str:
     """The conflicts in sentences, whose numbers are those of the picture."""
-    told = zip(arrows, words.reasons(finding, of, code))
+    told = zip(arrows, words.reasons(finding, code))
     steps = "".join(f'<li class="{arrow.kind}">{reason}</li>\n' for arrow, reason in told)
     box = '<div class="box" tabindex="0" role="region" aria-label="Reasons">' if is_wide else "<div>"
-    detours = "".join(f"<p>{detour}</p>\n" for detour in words.detours(finding, of, code))
+    detours = "".join(f"<p>{detour}</p>\n" for detour in words.detours(finding, code))
     return (
         f'<h3>Why no serial order is left</h3>\n{box}<ol class="steps">\n{steps}</ol></div>\n'
-        f"<p><strong>{words.conclusion(finding, of, code)}</strong></p>\n{detours}"
+        f"<p><strong>{words.conclusion(finding, code)}</strong></p>\n{detours}"
     )
 
 
-def advice(finding: Finding, arrows: list[Arrow], rules: Rules) -> str:
+def advice(finding: Finding, arrows: list[Arrow], options: Options) -> str:
     """What to do about the block, and how to see more of the trace."""
     begun, file = finding.counts["begun"], word_of_shell(finding.source)
     file = f"-- {file}" if file.startswith("-") and file != "-" else file
@@ -85,12 +86,8 @@ def advice(finding: Finding, arrows: list[Arrow], rules: Rules) -> str:
         told += "<p>It has no label, so it can't be left out: let its begin be logged as <code>begin(LABEL)</code>.</p>\n"
     elif not is_text(finding.label):
         told += "<p>Its label isn't UTF-8 and can't be a word, so it can't be left out.</p>\n"
-    elif rules.only:
-        told += "<p>Or, if it isn't meant to be atomic, leave its label out of those of <code>--only</code>.</p>\n"
     else:
-        options = " ".join(map(option_of, (*rules.excepted, finding.label)))
-        too = " too" if rules.excepted else ""
-        told += f"<p>Or, if it isn't meant to be atomic, leave it out{too}:</p>\n{command(f'aerodrome {options} {file}')}"
+        told += without(finding.label, options, file)
     if finding.source != b"-":
         lines = sorted({event.line for event in finding.cycle})
         which = f"{min(begun, lines[0])},{lines[-1]}p"
@@ -100,12 +97,26 @@ def advice(finding: Finding, arrows: list[Arrow], rules: Rules) -> str:
     return f"<h3>What to do</h3>\n{told}"
 
 
+def without(label: bytes, options: Options, file: str) -> str:
+    """How the file is judged again, as it was, but without the blocks of this label."""
+    words_of = ["aerodrome"] + ["--long"] * options.is_long
+    if options.only:
+        kept = [option_of("--only", other) for other in options.only if other != label]
+        if not kept:
+            return "<p>No other label stands behind <code>--only</code>: without it no block would have to be atomic.</p>\n"
+        told = "Or, if it isn't meant to be atomic, leave its label out of those of <code>--only</code>:"
+        return f"<p>{told}</p>\n{command(' '.join([*words_of, *kept, file]))}"
+    words_of += [option_of("--except", other) for other in (*options.excepted, label)]
+    too = " too" if options.excepted else ""
+    return f"<p>Or, if it isn't meant to be atomic, leave it out{too}:</p>\n{command(' '.join([*words_of, file]))}"
+
+
 def command(line: str) -> str:
     return f"<pre><code>{escape(line)}</code></pre>\n"
 
 
-def option_of(label: bytes) -> str:
-    return f"--except={word_of_shell(label)}" if label.startswith(b"-") else f"--except {word_of_shell(label)}"
+def option_of(name: str, label: bytes) -> str:
+    return f"{name}={word_of_shell(label)}" if label.startswith(b"-") else f"{name} {word_of_shell(label)}"
 
 
 def events(finding: Finding, seen: Seen, sources: Sources) -> str:
@@ -136,7 +147,7 @@ def action(event: Event) -> str:
 
 def place(event: Event, seen: Seen, sources: Sources) -> str:
     """Where an event was in the code, and the line that stands there."""
-    location = seen.location_of(event)
+    location = seen.location_of(event.line)
     if not location:
         return ""
     found = place_of(location)

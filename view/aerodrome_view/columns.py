@@ -39,7 +39,7 @@ def columns(sheet: Sheet) -> tuple[str, float]:
         middle = sum(edges[n]) / 2
         back.append(f'<path class="life" d="M{middle:.0f} 28V{height:.0f}"/>')
         back.append(text_at(middle, 18, "column", cut(plain(thread), WIDEST), "middle", plain(thread)))
-    back += [sheet.box(one, *edges[sheet.threads[one.thread]]) for one in sheet.of.values()]
+    back += [sheet.box(one, *edges[sheet.threads[one.thread]]) for one in sheet.finding.transactions.values()]
     drawn = [_drawn(sheet, run, edges, channels) for run in runs]
     lines, marks = [line for line, _ in drawn], [mark for _, mark in drawn]  # so that no line crosses a number
     return sheet.svg(width, height + 4, back + _texts(sheet, runs, edges) + lines + marks), width

@@ -8,17 +8,15 @@ import signal
 import sys
 import tempfile
 from dataclasses import dataclass
-from typing import IO, Callable, Iterator
+from typing import IO, Any, Callable, Iterator
 
 from .names import shown
-from .report import NoReport
-from .trace import Rules
+from .report import NoReport, Report
 
 REFUSED, FAILED = 3, 4  # statuses, as those of the program
 MOST = 1_000_000  # of a number on the command line
 FLAGS = {"--no-traces": "no_traces"}
 TEXTS = {"-o": "output", "--output": "output", "--folder": "folder", "--root": "root"}
-LABELS = {"--except": "excepted", "--only": "only"}
 NUMBERS = {"--context": "context", "--pictures": "pictures", "--rows": "rows"}
 
 
@@ -39,18 +37,12 @@ class Asked:
     folder: str = ""
     root: str = ""
     no_traces: bool = False
-    excepted: tuple[bytes, ...] = ()
-    only: tuple[bytes, ...] = ()
     context: int = 2
     pictures: int = 200
     rows: int = 2000
 
-    @property
-    def rules(self) -> Rules:
-        return Rules(self.excepted, self.only)
 
-
-Make = Callable[[Asked, Iterator[bytes], IO[str]], None]
+Make = Callable[[Asked, Report, IO[str]], None]
 
 
 def run(name: str, usage: str, words: list[str], further: tuple[str, ...], make: Make) -> int:
@@ -62,9 +54,9 @@ def run(name: str, usage: str, words: list[str], further: tuple[str, ...], make:
         if words_before(words, ("-h", "--help")):
             write(lambda out: out.write(usage), "")
             return 0
-        asked = settle(words, (*FLAGS, *LABELS, "-o", "--output", "--folder", "--root", *further))
-        with unnamed() as whole:
-            make(asked, lines_of(asked.report), whole)
+        asked = settle(words, (*FLAGS, *TEXTS, *further))
+        with unnamed("wb+") as kept, unnamed() as whole:
+            make(asked, Report(lines_of(asked.report), kept), whole)
             whole.seek(0)
             write(lambda out: shutil.copyfileobj(whole, out), asked.output)
     except NoReport as why:
@@ -76,7 +68,7 @@ def run(name: str, usage: str, words: list[str], further: tuple[str, ...], make:
     except (Failed, MemoryError) as why:
         return say(name, str(why) or "out of memory", FAILED)
     except OSError as why:
-        return say(name, f"what is made can't be kept: {why.strerror}", FAILED)
+        return say(name, f"what is read or made can't be kept: {why.strerror}", FAILED)
     return 0
 
 
@@ -101,8 +93,6 @@ def settle(words: list[str], options: tuple[str, ...]) -> Asked:
             set_value(asked, option, value if equals else next(left, None))
     if len(reports) > 1:
         raise Refused(f"more than one REPORT: {told(reports[1])}")
-    if asked.excepted and asked.only:
-        raise Refused("--except and --only don't go together")
     asked.report = reports[0] if reports else "-"
     return asked
 
@@ -110,9 +100,7 @@ def settle(words: list[str], options: tuple[str, ...]) -> Asked:
 def set_value(asked: Asked, option: str, value: str | None) -> None:
     if value is None:
         raise Refused(f"{option} wants a value")
-    if option in LABELS:
-        setattr(asked, LABELS[option], (*getattr(asked, LABELS[option]), os.fsencode(value)))
-    elif option in TEXTS:
+    if option in TEXTS:
         setattr(asked, TEXTS[option], value)
     elif value.isascii() and value.isdigit() and len(value) < 10 and int(value) <= MOST:
         setattr(asked, NUMBERS[option], int(value))
@@ -135,10 +123,11 @@ def lines_of(report: str) -> Iterator[bytes]:
         raise Refused(f"{told(report)}: {why.strerror}") from None
 
 
-def unnamed() -> IO[str]:
-    """A file without a name, in which what is made is kept."""
+def unnamed(mode: str = "w+") -> IO[Any]:
+    """A file without a name, in which the report or what is made of it is kept: as text, or as bytes where the mode says so."""
+    form = {} if "b" in mode else {"encoding": "utf-8", "newline": "\n"}
     try:
-        return tempfile.TemporaryFile("w+", encoding="utf-8", newline="\n")
+        return tempfile.TemporaryFile(mode, **form)
     except OSError as why:
         raise Failed(f"no temporary file: {why.strerror}") from None
 

@@ -6,10 +6,11 @@ from typing import Any, Optional
 from urllib.parse import quote
 
 from . import words
+from .cycle import Event, Transaction
 from .names import plain
-from .report import Event, Finding
+from .report import Finding
 from .sources import Sources, place_of
-from .trace import Seen, Transaction, location_of
+from .trace import Seen
 from .words import action_of, arrows_of
 
 Json = dict[str, Any]
@@ -51,7 +52,6 @@ class Places:
 
     def __init__(self, finding: Finding, seen: Seen, sources: Sources, folder: str) -> None:
         self.seen, self.sources = seen, sources
-        self.told = {event.line: event.location for event in finding.cycle if event.location}
         trace = finding.source if finding.source == b"-" else os.path.join(os.fsencode(folder), finding.source)
         self.trace = artifact(trace, sources.name_of(os.path.abspath(trace)))
 
@@ -61,7 +61,7 @@ class Places:
 
     def in_source(self, line: int) -> Optional[Json]:
         """The place in the code that a line of the trace tells, if it tells one."""
-        found = place_of(self.told.get(line) or location_of(self.seen.lines.get(line, b"")))
+        found = place_of(self.seen.location_of(line))
         return at_line(artifact(found.path, self.sources.name_of(found.path)), found.line, found.column) if found else None
 
     def of(self, line: int, told: str) -> Json:
@@ -71,19 +71,18 @@ class Places:
 class Flow:
     """A cycle as the places that an editor walks through."""
 
-    def __init__(self, finding: Finding, places: Places, of: dict[int, Transaction]) -> None:
-        self.finding, self.places, self.of = finding, places, of
+    def __init__(self, finding: Finding, places: Places) -> None:
+        self.finding, self.places = finding, places
         self.roles: dict[int, list[str]] = {}
-        for arrow, reason in zip(arrows_of(finding.cycle), words.reasons(finding, of, plain, is_apart=True)):
+        for arrow, reason in zip(arrows_of(finding.cycle), words.reasons(finding, plain, is_apart=True)):
             for event in (arrow.before, arrow.after):
                 self.roles.setdefault(event.line, []).append(reason)
 
     def threads(self) -> list[Json]:
         """For each thread of the cycle its events, and the begins and ends of its blocks, in the order of their lines."""
         events = {event.line: event for event in self.finding.cycle}
-        edges = {
-            line: one for one in self.of.values() if one.is_block for line in (one.first, one.end) if line and line not in events
-        }
+        blocks = [one for one in self.finding.transactions.values() if one.is_block]
+        edges = {line: one for one in blocks for line in (one.first, one.end) if line and line not in events}
         by_thread: dict[bytes, list[Json]] = {}
         for order, line in enumerate(sorted([*events, *edges]), 1):
             if line in events:
@@ -97,7 +96,7 @@ class Flow:
 
     def event(self, event: Event, order: int) -> Json:
         told = f"line {event.line}: {plain(event.thread)} {action_of(event, plain)}. {' '.join(self.roles[event.line])}"
-        is_inside = self.of[event.first].is_block and event.line != event.first
+        is_inside = event.line != event.first
         return {
             "location": self.places.of(event.line, told),
             "kinds": KINDS[event.op],

@@ -23,7 +23,8 @@ def lanes(sheet: Sheet) -> tuple[str, float]:
     middles = {thread: x_lane + step * (n + 0.5) for thread, n in sheet.threads.items()}
     height = _place_rows(sheet)
     half = step * 0.38
-    parts = [sheet.box(one, middles[one.thread] - half, middles[one.thread] + half) for one in sheet.of.values()]
+    transactions = sheet.finding.transactions.values()
+    parts = [sheet.box(one, middles[one.thread] - half, middles[one.thread] + half) for one in transactions]
     for row in sheet.rows.values():
         thread, kind = _thread(row), "event" if row.event else "dim"
         title = sheet.title(row.event) if row.event else row.action

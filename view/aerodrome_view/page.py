@@ -5,13 +5,13 @@ import shutil
 from collections import Counter
 from dataclasses import dataclass, field
 from pathlib import Path
-from typing import IO, Iterator
+from typing import IO
 
 from . import words
 from .article import article
 from .command import Asked, run, unnamed
 from .markup import MOST_TEXT, bare, code
-from .report import FAULTS, Finding, Tally, findings
+from .report import FAULTS, Finding, Options, Report, Tally
 from .sources import Sources
 from .trace import look
 from .words import counted
@@ -27,8 +27,6 @@ several reports, one after the other. The traces are read where they lie, for th
   --folder DIR        the names of traces are relative to DIR
   --root DIR          shows the source lines of the files below DIR
   --no-traces         reads no trace: for a report of which nobody knows who made it
-  --except LABEL      as it was given to aerodrome; again and again
-  --only LABEL        as it was given to aerodrome; again and again
   --context N         shows N lines of the trace round each event (2)
   --pictures N        draws the first N violations (200)
   --rows N            lists the first N serializable traces (2000)
@@ -37,7 +35,7 @@ several reports, one after the other. The traces are read where they lie, for th
 The exit status:
   0  the page is written; also after --help
   3  the command line was refused, or REPORT can't be read or isn't whole
-  4  memory ran out, or the page couldn't be written, or what is made couldn't be kept
+  4  memory ran out, or the page couldn't be written, or what is read or made couldn't be kept
 With status 3 no page is begun. Standard error says what is wrong.
 """
 OPTIONS = ("--context", "--pictures", "--rows")
@@ -60,7 +58,7 @@ HEADS = "".join(
 )
 FOOTER = (
     "The numbers in a picture are those of the sentences. A box is a block, from its first line to its end; one with a "
-    "dashed foot hadn't ended yet, as far as is known. Lines that play no part are folded."
+    "dashed foot hadn't ended yet. Lines that play no part are folded."
 )
 
 
@@ -72,29 +70,28 @@ class Page:
     rows: IO[str]
     articles: IO[str]
     sources: Sources
-    tally: Tally = field(default_factory=Tally)
+    tally: Tally
     pictures: int = 0
-    left_out: int = 0
+    listed: int = 0
     blamed: Counter[bytes] = field(default_factory=Counter)
 
-    def add(self, finding: Finding) -> None:
+    def add(self, finding: Finding, options: Options) -> None:
         if finding.label is not None:
             self.blamed[finding.label] += 1
-        if finding.verdict == "serializable" and self.tally.of["serializable"] > self.asked.rows:
-            self.left_out += 1
-            return
-        says = words.sentence(finding, code)
+        if finding.verdict == "serializable":
+            if self.listed == self.asked.rows:
+                return
+            self.listed += 1
+        says = words.sentence(finding, options, code, lambda note: bare(note, MOST_FAULTY))
         if finding.verdict == "violation" and self.pictures < self.asked.pictures:
             self.pictures += 1
             says += f' <a href="#v{self.pictures}">Why<span class="hidden"> in {bare(finding.source)}</span></a>'
-            self.articles.write(article(finding, self.pictures, self.asked, self.sources))
+            self.articles.write(article(finding, self.pictures, options, self.asked, self.sources))
         source = bare(finding.source, MOST_TEXT)
         self.rows.write(row(KIND_OF[finding.verdict], source, finding.verdict, says + self.fault(finding)))
 
     def fault(self, finding: Finding) -> str:
-        """What more is known of a fault: a note of the program, or else the faulty line."""
-        if finding.note:
-            return f"<br />{bare(finding.note, MOST_FAULTY)}"
+        """The faulty line, if there is one."""
         if not finding.fault or self.asked.no_traces:
             return ""
         line = look(finding, self.asked.folder).lines.get(finding.counts["line"])
@@ -115,8 +112,9 @@ class Page:
             '<th scope="col">Verdict</th><th scope="col">What it says</th></tr></thead>\n<tbody>\n'
         )
         pour(self.rows, out)
-        if self.left_out:
-            further = counted(self.left_out, "further trace")
+        left_out = self.tally.of["serializable"] - self.listed
+        if left_out:
+            further = counted(left_out, "further trace")
             out.write(row("serializables", further, "serializable", "Not listed here (--rows)."))
         out.write("</tbody></table>\n")
         pour(self.articles, out)
@@ -176,11 +174,11 @@ def blames(labels: Counter[bytes]) -> str:
     return f'<table class="blames"><caption>Blocks that violations blame</caption><tbody>{rows}</tbody></table>{more}\n'
 
 
-def make(asked: Asked, lines: Iterator[bytes], whole: IO[str]) -> None:
+def make(asked: Asked, report: Report, whole: IO[str]) -> None:
     with unnamed() as rows, unnamed() as articles:
-        page = Page(asked, rows, articles, Sources(asked.root))
-        for finding in findings(lines, page.tally):
-            page.add(finding)
+        page = Page(asked, rows, articles, Sources(asked.root), report.tally)
+        for finding, options in report.findings():
+            page.add(finding, options)
         page.write(whole)
 
 

@@ -1,12 +1,12 @@
-"""The report of `aerodrome --format json --explain`, an object a line, as findings."""
+"""The report of `aerodrome --format json --explain`, an object a line, as findings and the options of the run."""
 from __future__ import annotations
 
-import base64
 import json
 from dataclasses import dataclass, field
-from typing import Any, Iterable, Iterator, Optional
+from typing import IO, Iterable, Iterator, Optional
 
-Json = dict[str, Any]
+from .cycle import Closing, Event, Transaction, closing_of, events_of, transactions_of
+from .members import Json, line, name, names, number, word
 
 COUNTS = {  # by verdict: the members that are numbers
     "serializable": ("events", "blocks"),
@@ -17,12 +17,12 @@ COUNTS = {  # by verdict: the members that are numbers
     "broken": ("bytes",),
     "too large": (),
 }
-LINES = ("line", "begun", "first")  # the numbers that are lines, which are counted from 1
+LINES = ("line", "begun")  # the numbers that are lines
 FAULTS = ("malformed", "ill-formed", "broken", "too large")
-OPERATIONS = ("r", "w", "acq", "rel", "fork", "join", "begin", "end")
 SUMMARY = ("traces", "serializable", "open", "violations", "faults")
 MEMBER_OF = {"serializable": "serializable", "open": "open", "violation": "violations", **dict.fromkeys(FAULTS, "faults")}
-GREATEST = 2**63 - 1
+MOST_BYTES = 2**30  # of a source, where its run wasn't given --long
+MOST_LABELS = 64  # of --except or --only
 
 
 class NoReport(Exception):
@@ -30,20 +30,8 @@ class NoReport(Exception):
 
 
 @dataclass(frozen=True)
-class Event:
-    """An event of a cycle; `first` is the line of the first event of its transaction."""
-
-    line: int
-    first: int
-    thread: bytes
-    op: str
-    target: Optional[bytes]
-    location: bytes = b""
-
-
-@dataclass(frozen=True)
 class Finding:
-    """What the report says of one source."""
+    """What the report says of one source. Of a cycle the transactions stand by their first lines, in the order of these."""
 
     source: bytes
     verdict: str
@@ -53,6 +41,22 @@ class Finding:
     note: bytes = b""
     label: Optional[bytes] = None
     cycle: tuple[Event, ...] = ()
+    transactions: dict[int, Transaction] = field(default_factory=dict)
+    closing: Optional[Closing] = None
+
+
+@dataclass(frozen=True)
+class Options:
+    """What a run was told, as its summary has it: which blocks are no transactions (those of `excepted`, or all but those of
+    `only`), and how many bytes a source may have."""
+
+    excepted: tuple[bytes, ...] = ()
+    only: tuple[bytes, ...] = ()
+    most_bytes: int = MOST_BYTES
+
+    @property
+    def is_long(self) -> bool:
+        return self.most_bytes > MOST_BYTES
 
 
 @dataclass
@@ -66,100 +70,95 @@ class Tally:
         self.of[MEMBER_OF[verdict]] += 1
 
 
-def findings(lines: Iterable[bytes], tally: Tally) -> Iterator[Finding]:
-    """The findings of a report, or of several one after the other, as they come; `tally` counts them.
+class Report:
+    """A report, or several one after the other, each with its summary behind its sources. It is read once, and kept in a file.
 
-    Each report has its summary behind its sources. Where one has none, or a line is none of a report, NoReport says so.
+    Where one has no summary, or a line is none of a report, NoReport says so.
     """
-    since, number, has_ended = Tally(), 0, False
-    for number, line in enumerate(lines, 1):
-        try:
-            of = json.loads(line)
-            if not isinstance(of, dict):
-                raise ValueError("no object")
-            has_ended = "traces" in of
-            if has_ended:
-                if {key: _number(of, key) for key in SUMMARY} != since.of:
-                    raise ValueError("the summary counts other sources than stand before it")
+
+    def __init__(self, lines: Iterable[bytes], kept: IO[bytes]) -> None:
+        self.kept, self.tally = kept, Tally()
+        self.options: list[Options] = []  # of each report
+        since, at = Tally(), 0
+        for at, text in enumerate(lines, 1):
+            told = _told(text, at)
+            if isinstance(told, Finding):
+                since.add(told.verdict)
+                self.tally.add(told.verdict)
+            elif told.counts == since.of:
+                self.options.append(told.options)
                 since = Tally()
-                continue
-            finding = _finding(of)
-        except (ValueError, RecursionError) as why:
-            is_json = not isinstance(why, (json.JSONDecodeError, UnicodeError, RecursionError))
-            raise NoReport(f"line {number} is none of --format json: {why if is_json else 'no JSON'}") from None
-        since.add(finding.verdict)
-        tally.add(finding.verdict)
-        yield finding
-    if not has_ended:
-        raise NoReport(f"no summary behind line {number}: is the report whole, and of --format json?")
+            else:
+                raise NoReport(_wrong(at, "the summary counts other sources than stand before it"))
+            kept.write(text)
+        if since.of["traces"] or not self.options:
+            raise NoReport(f"no summary behind line {at}: is the report whole, and of --format json?")
+
+    def findings(self) -> Iterator[tuple[Finding, Options]]:
+        """The findings, each with the options of its run."""
+        self.kept.seek(0)
+        report = 0
+        for at, text in enumerate(self.kept, 1):
+            told = _told(text, at)
+            if isinstance(told, Finding):
+                yield told, self.options[report]
+            else:
+                report += 1
+
+
+@dataclass(frozen=True)
+class Summary:
+    counts: dict[str, int]
+    options: Options
+
+
+def _told(text: bytes, at: int) -> Finding | Summary:
+    """What a line of a report says, which is the line `at`."""
+    try:
+        of = json.loads(text)
+        if not isinstance(of, dict):
+            raise ValueError("no object")
+        return _summary(of) if "traces" in of else _finding(of)
+    except (json.JSONDecodeError, UnicodeError, RecursionError):
+        raise NoReport(_wrong(at, "no JSON")) from None
+    except ValueError as why:
+        raise NoReport(_wrong(at, str(why))) from None
+
+
+def _wrong(at: int, why: str) -> str:
+    return f"line {at} is none of --format json: {why}"
+
+
+def _summary(of: Json) -> Summary:
+    excepted, only, limits = names(of, "except"), names(of, "only"), of.get("limits", {"bytes": MOST_BYTES})
+    if not isinstance(limits, dict):
+        raise ValueError("no object limits")
+    if excepted and only or len(excepted + only) > MOST_LABELS:
+        raise ValueError("labels of except and only that no run takes")
+    return Summary({key: number(of, key) for key in SUMMARY}, Options(excepted, only, number(limits, "bytes", 1)))
 
 
 def _finding(of: Json) -> Finding:
-    verdict = _word(of, "verdict")
+    verdict = word(of, "verdict")
     if verdict not in COUNTS:
         raise ValueError("a verdict that isn't known")
     is_violation, is_line_faulty = verdict == "violation", verdict in ("malformed", "ill-formed")
+    cycle, transactions, closing = _cycle(of) if is_violation and "cycle" in of else ((), {}, None)
     return Finding(
-        source=_name(of, "source"),
+        source=name(of, "source"),
         verdict=verdict,
-        counts={key: _number(of, key) for key in COUNTS[verdict]},
-        thread=_name(of, "thread") if is_violation else b"",
-        fault=_word(of, "fault") if is_line_faulty else "",
-        note=_name(of, "note") if "note" in of else b"",
-        label=_name(of, "label") if is_violation and "label" in of else None,
-        cycle=_cycle(of, _number(of, "begun")) if is_violation and "cycle" in of else (),
+        counts={key: (line if key in LINES else number)(of, key) for key in COUNTS[verdict]},
+        thread=name(of, "thread") if is_violation else b"",
+        fault=word(of, "fault") if is_line_faulty else "",
+        note=word(of, "note").encode() if is_line_faulty and "note" in of else b"",
+        label=name(of, "label") if is_violation and "label" in of else None,
+        cycle=cycle,
+        transactions=transactions,
+        closing=closing,
     )
 
 
-def _cycle(of: Json, begun: int) -> tuple[Event, ...]:
-    """The events of a cycle from the block that begins on line `begun` to that block again."""
-    steps = of["cycle"]
-    if not isinstance(steps, list):
-        raise ValueError("a cycle that is no array")
-    cycle = tuple(map(_event, steps))
-    moves = [before.first != after.first for before, after in zip(cycle, cycle[1:])]
-    if len(cycle) < 3 or not cycle[0].first == cycle[-1].first == begun or not moves[0] or not moves[-1]:
-        raise ValueError("a cycle that doesn't leave the named block and enter it again")
-    if any(not here and not further for here, further in zip(moves, moves[1:])):
-        raise ValueError("a cycle with three events of one transaction in a row")
-    if any(move and before.line >= after.line for move, before, after in zip(moves, cycle, cycle[1:])):
-        raise ValueError("a cycle with a conflict that goes back")
-    if len({(event.first, event.thread) for event in cycle}) > len({event.first for event in cycle}):
-        raise ValueError("a cycle with a transaction of two threads")
-    return cycle
-
-
-def _event(of: object) -> Event:
-    if not isinstance(of, dict) or of.get("op") not in OPERATIONS:
-        raise ValueError("a cycle with something that is no event")
-    line, first = _number(of, "line"), _number(of, "first")
-    if line < first:
-        raise ValueError("a cycle with an event before its transaction")
-    target = _name(of, "target") if "target" in of else None
-    location = _name(of, "location") if "location" in of else b""
-    return Event(line, first, _name(of, "thread"), of["op"], target, location)
-
-
-def _number(of: Json, key: str) -> int:
-    value, least = of.get(key), 1 if key in LINES else 0
-    if not isinstance(value, int) or isinstance(value, bool) or not least <= value <= GREATEST:
-        raise ValueError(f"no number {key}")
-    return value
-
-
-def _word(of: Json, key: str) -> str:
-    value = of.get(key)
-    if not isinstance(value, str):
-        raise ValueError(f"no text {key}")
-    return value
-
-
-def _name(of: Json, key: str) -> bytes:
-    """A name: its text, or {"bytes":BASE64} where that isn't UTF-8."""
-    value = of.get(key)
-    if isinstance(value, dict):
-        try:
-            return base64.b64decode(_word(value, "bytes"), validate=True)
-        except ValueError:
-            raise ValueError(f"no BASE64 {key}") from None
-    return _word(of, key).encode()
+def _cycle(of: Json) -> tuple[tuple[Event, ...], dict[int, Transaction], Closing]:
+    """A cycle: it stands with its transactions and its closing event."""
+    cycle, closing = events_of(of), closing_of(of)
+    return cycle, transactions_of(of, cycle, closing), closing

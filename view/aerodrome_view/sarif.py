@@ -3,16 +3,16 @@ from __future__ import annotations
 
 import hashlib
 import json
-from typing import IO, Any, Iterator
+from typing import IO, Any
 from urllib.parse import quote
 
 from . import words
 from .command import Asked, run
 from .flow import Flow, Places, message
 from .names import plain
-from .report import Finding, Tally, findings
+from .report import Finding, Options, Report
 from .sources import Sources
-from .trace import Seen, Transaction, look, transactions_of
+from .trace import Seen, look
 
 USAGE = """Makes a SARIF 2.1.0 log of a report, for code scanning and for the viewers of editors.
 
@@ -26,14 +26,12 @@ FILE:LINE, and else its line of the trace. The traces are read where they lie.
   --folder DIR        the names of traces are relative to DIR
   --root DIR          files below DIR have names relative to DIR
   --no-traces         reads no trace: for a report of which nobody knows who made it
-  --except LABEL      as it was given to aerodrome; again and again
-  --only LABEL        as it was given to aerodrome; again and again
   -h, --help          prints this
 
 The exit status:
   0  the log is written; also after --help
   3  the command line was refused, or REPORT can't be read or isn't whole
-  4  memory ran out, or the log couldn't be written, or what is made couldn't be kept
+  4  memory ran out, or the log couldn't be written, or what is read or made couldn't be kept
 With status 3 no log is begun. Standard error says what is wrong.
 """
 Json = dict[str, Any]
@@ -79,17 +77,16 @@ def driver() -> Json:
     return {"driver": {"name": "aerodrome", "rules": rules}}
 
 
-def result_of(finding: Finding, asked: Asked, sources: Sources) -> Json:
+def result_of(finding: Finding, options: Options, asked: Asked, sources: Sources) -> Json:
     seen, line = Seen(), finding.counts.get("line", 0)
     if line and not asked.no_traces:
-        seen = look(finding, asked.folder, rules=asked.rules)
+        seen = look(finding, asked.folder)
     places = Places(finding, seen, sources, asked.folder)
-    flow = Flow(finding, places, transactions_of(finding, seen, asked.rules)) if finding.cycle else None
     result: Json = {
         "ruleId": finding.verdict.replace(" ", "-"),
         "ruleIndex": VERDICTS.index(finding.verdict),
         "level": RULES[finding.verdict][1],
-        "message": message(told_of(finding, flow.of if flow else {})),
+        "message": message(told_of(finding, options)),
         "locations": [places.in_trace(line)],
         "partialFingerprints": {"cycle/v1": fingerprint(finding, seen)},
     }
@@ -99,19 +96,19 @@ def result_of(finding: Finding, asked: Asked, sources: Sources) -> Json:
         result["relatedLocations"] = [{"id": 1, **places.in_trace(line), "message": message("the trace")}]
     if finding.label is not None:
         result["locations"][0]["logicalLocations"] = [{"name": plain(finding.label), "kind": "function"}]
-    if flow:
-        result["codeFlows"] = [{"threadFlows": flow.threads()}]
+    if finding.cycle:
+        result["codeFlows"] = [{"threadFlows": Flow(finding, places).threads()}]
     return result
 
 
-def told_of(finding: Finding, of: dict[int, Transaction]) -> str:
+def told_of(finding: Finding, options: Options) -> str:
     """What is found, with each reason, up to some twenty."""
-    told = [words.sentence(finding, plain)]
+    told = [words.sentence(finding, options, plain)]
     if finding.cycle:
-        reasons = list(words.reasons(finding, of, plain))
+        reasons = list(words.reasons(finding, plain))
         left = len(reasons) - MOST_REASONS
         told += reasons[:MOST_REASONS] + [f"And {words.counted(left, 'further conflict')}."] * (left > 0)
-        told += [*words.detours(finding, of, plain), words.conclusion(finding, of, plain)]
+        told += [*words.detours(finding, plain), words.conclusion(finding, plain)]
     return " ".join(told)
 
 
@@ -119,11 +116,11 @@ def fingerprint(finding: Finding, seen: Seen) -> str:
     """What stays the same from run to run: the label, and the operations with their places in the code, or what they act on."""
     of = hashlib.sha256(repr((finding.verdict, finding.fault, finding.label)).encode())
     for event in finding.cycle:
-        of.update(repr((event.op, seen.location_of(event) or event.target)).encode())
+        of.update(repr((event.op, seen.location_of(event.line) or event.target)).encode())
     return of.hexdigest()
 
 
-def make(asked: Asked, lines: Iterator[bytes], whole: IO[str]) -> None:
+def make(asked: Asked, report: Report, whole: IO[str]) -> None:
     sources = Sources(asked.root)
     whole.write('{"$schema":"https://json.schemastore.org/sarif-2.1.0.json","version":"2.1.0","runs":[{"tool":')
     whole.write(json.dumps(driver()))
@@ -131,9 +128,9 @@ def make(asked: Asked, lines: Iterator[bytes], whole: IO[str]) -> None:
         whole.write(',"originalUriBaseIds":' + json.dumps({"%SRCROOT%": {"uri": f"file://{quote(sources.root)}/"}}))
     whole.write(',"columnKind":"unicodeCodePoints","results":[')
     between = "\n"
-    for finding in findings(lines, Tally()):
+    for finding, options in report.findings():
         if finding.verdict in RULES:
-            whole.write(between + json.dumps(result_of(finding, asked, sources)))
+            whole.write(between + json.dumps(result_of(finding, options, asked, sources)))
             between = ",\n"
     whole.write("\n]}]}\n")
 

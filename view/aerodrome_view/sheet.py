@@ -5,9 +5,10 @@ from dataclasses import dataclass, field
 from html import escape
 from typing import Iterator, Optional
 
+from .cycle import Event, Transaction
 from .names import plain, shown
-from .report import Event, Finding
-from .trace import Seen, Transaction
+from .report import Finding
+from .trace import Seen
 from .words import Arrow, action_of, arrows_of
 
 CHARACTER = 7.3  # the width of a character
@@ -40,7 +41,6 @@ class Sheet:
     """The rows of a picture, its threads from left to right, and its conflicts."""
 
     finding: Finding
-    of: dict[int, Transaction]
     seen: Seen
     rows: dict[int, Row] = field(default_factory=dict)
     threads: dict[bytes, int] = field(default_factory=dict)
@@ -49,7 +49,7 @@ class Sheet:
     def __post_init__(self) -> None:
         for event in self.finding.cycle:
             self._row(event.line).event = event
-        for one in self.of.values():
+        for one in self.finding.transactions.values():
             self.threads.setdefault(one.thread, len(self.threads))
             if one.is_block:
                 self._row(one.first).begins = one
@@ -73,7 +73,7 @@ class Sheet:
 
     def title(self, event: Event) -> str:
         """The whole event, for who points at it."""
-        place = self.seen.location_of(event)
+        place = self.seen.location_of(event.line)
         return f"line {event.line}: {plain(event.thread)} {action_of(event, plain)}" + (f", {shown(place)}" if place else "")
 
     def number(self, row: Row, x: float) -> str:
@@ -90,14 +90,13 @@ class Sheet:
             low = self.rows[one.end or one.first].bottom - corner
             foot = f"q0 {down} {up} {down}H{left + corner:.1f}q{up} 0 {up} {up}z"
             return f'<path class="{kind}" d="M{left:.1f} {low:.1f}{head}V{low:.1f}{foot}"/>'
-        own = [event.line for event in self.finding.cycle if event.first == one.first]
-        low = self.rows[max(own) if self.seen.why_not else max(self.rows)].bottom + 8
+        low = self.rows[max(self.rows)].bottom + 8
         sides = f'<path class="{kind}" d="M{left:.1f} {low:.1f}{head}V{low:.1f}"/>'
         return f'{sides}<path class="foot" d="M{left:.1f} {low:.1f}H{right:.1f}"/>'
 
     def svg(self, width: float, height: float, parts: list[str]) -> str:
         label = (
-            f"Picture of a cycle of {len(self.arrows)} conflicts between {len(self.of)} transactions of "
+            f"Picture of a cycle of {len(self.arrows)} conflicts between {len(self.finding.transactions)} transactions of "
             f"{len(self.threads)} threads, as the sentences tell it"
         )
         return (

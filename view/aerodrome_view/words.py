@@ -4,9 +4,9 @@ from __future__ import annotations
 from dataclasses import dataclass
 from typing import Callable, Iterator
 
+from .cycle import Event, Transaction
 from .names import shown
-from .report import Event, Finding
-from .trace import Transaction
+from .report import Finding, Options
 
 Dress = Callable[[bytes], str]
 
@@ -21,33 +21,14 @@ KINDS = {  # of conflicts, each with its name
     "other": "another conflict",
 }
 KIND_OF = {("w", "r"): "write-read", ("r", "w"): "read-write", ("w", "w"): "write-write", ("rel", "acq"): "lock"}
-LINE_FAULTS = {
-    "TooLong": "has more than 4,096 bytes",
-    "BadByte": "has a control character",
-    "NoOperation": "has no |",
-    "EmptyThread": "has no thread before the first |",
-    "UnknownOperation": "has another word than an operation",
-    "BadParenthesis": "has a ( and no ) at the operation's end",
-    "MissingTarget": "has no target, or an empty one, where the operation wants one",
-    "NameTooLong": "has a name of more than 255 bytes",
-    "TooManyLines": "is one more than 2^28, with --long than 4,000,000,000",
-}
-EVENT_FAULTS = {  # what the event does, and why mostly
-    "TooManyThreads": ("names one thread more than 65,536", "names aren't used again in a thread pool"),
-    "TooManyNames": ("names one variable, or lock, more than 2^26", "memory that is allocated again has new names"),
-    "ThreadJoined": ("is by a thread that was joined", "a thread's name is used again"),
-    "LockHeldByOther": (
-        "acquires a lock that another thread holds",
-        "the acquire is logged before the lock is had, or the release after it is given back",
-    ),
-    "LockNotHeld": (
-        "releases a lock that its thread doesn't hold",
-        "logging began while the lock was held, or another thread releases it, as a semaphore",
-    ),
-    "ForkSelf": ("forks its own thread", ""),
-    "ForkStarted": ("forks a thread that has acted, was forked or joined", "the fork is logged after the thread has begun"),
-    "JoinSelf": ("joins its own thread", ""),
-    "EndWithoutBegin": ("ends a block that didn't begin", "logging began within a block"),
+MOSTLY = {  # why an event mostly can't stand where it does
+    "TooManyThreads": "names aren't used again in a thread pool",
+    "TooManyNames": "memory that is allocated again has new names",
+    "ThreadJoined": "a thread's name is used again",
+    "LockHeldByOther": "the acquire is logged before the lock is had, or the release after it is given back",
+    "LockNotHeld": "logging began while the lock was held, or another thread releases it, as a semaphore",
+    "ForkStarted": "the fork is logged after the thread has begun",
+    "EndWithoutBegin": "logging began within a block",
 }
 
 
@@ -123,12 +104,12 @@ def because(arrow: Arrow, dress: Dress) -> str:
     }[arrow.kind]
 
 
-def reasons(finding: Finding, of: dict[int, Transaction], dress: Dress, is_apart: bool = False) -> Iterator[str]:
+def reasons(finding: Finding, dress: Dress, is_apart: bool = False) -> Iterator[str]:
     """A sentence for each conflict of a cycle, in its order: together they leave no serial order.
 
     Where each is read apart from the others, none refers to one before it.
     """
-    arrows = arrows_of(finding.cycle)
+    arrows, of = arrows_of(finding.cycle), finding.transactions
     blamed = named(of[finding.counts["begun"]], dress)
     for arrow in arrows:
         before, after = (named(of[event.first], dress) for event in (arrow.before, arrow.after))
@@ -140,45 +121,64 @@ def reasons(finding: Finding, of: dict[int, Transaction], dress: Dress, is_apart
             yield f"And it must come before {blamed}: {because(arrow, dress)}."
 
 
-def conclusion(finding: Finding, of: dict[int, Transaction], dress: Dress) -> str:
+def conclusion(finding: Finding, dress: Dress) -> str:
     if len(arrows_of(finding.cycle)) > 2:
-        return f"So {named(of[finding.counts['begun']], dress)} would have to come before itself."
+        return f"So {named(finding.transactions[finding.counts['begun']], dress)} would have to come before itself."
     return "No serial order has both."
 
 
-def detours(finding: Finding, of: dict[int, Transaction], dress: Dress) -> Iterator[str]:
+def detours(finding: Finding, dress: Dress) -> Iterator[str]:
     """A sentence for each block but the blamed one that is left by an earlier event than it is entered."""
     for entered, left in zip(finding.cycle[1:], finding.cycle[2:-1]):
         if entered.first == left.first and entered.line > left.line:
-            end = of[left.first].end
+            one = finding.transactions[left.first]
             yield (
-                f"{capital(named(of[left.first], dress))} is left on line {left.line} and entered later, on line {entered.line}. "
-                f"That counts since it has ended{f' (line {end})' if end else ''}: a serial order has it as one whole."
+                f"{capital(named(one, dress))} is left on line {left.line} and entered later, on line {entered.line}. "
+                f"That counts since it has ended (line {one.end}): a serial order has it as one whole."
             )
 
 
-def sentence(finding: Finding, dress: Dress) -> str:
-    """What the report says of a source, in a sentence or two."""
+def sentence(finding: Finding, options: Options, dress: Dress, quote: Dress = shown) -> str:
+    """What the report says of a source, in a sentence or two. Words of the program are told by `quote`."""
     counts, verdict = finding.counts, finding.verdict
     if verdict == "violation":
         label = "" if finding.label is None else f" {dress(finding.label)}"
         return (
             f"The block{label} of {dress(finding.thread)} from line {counts['begun']} isn't atomic: "
-            f"line {counts['line']} closes a cycle through it."
+            f"line {counts['line']} closes a cycle through it{ending(finding, dress)}."
         )
-    if verdict == "malformed":
-        return f"Line {counts['line']} {LINE_FAULTS.get(finding.fault, 'is no event')} ({dress(finding.fault.encode())})."
-    if verdict == "ill-formed":
-        does, mostly = EVENT_FAULTS.get(finding.fault, ("can't stand there", ""))
-        because_ = f" Often because {mostly}." if mostly else ""
-        return f"The event on line {counts['line']} {does} ({dress(finding.fault.encode())}).{because_}"
+    if verdict in ("malformed", "ill-formed"):
+        return faulty(finding, dress, quote)
     if verdict == "broken":
         if not counts["bytes"]:
             return "It couldn't be opened, or the first read failed. Standard error said why."
         return f"A read failed after {counted(counts['bytes'], 'byte')}. Standard error said why."
     if verdict == "too large":
-        return "It has more than 2^30 bytes. --long judges sources of any size."
+        advice = "" if options.is_long else " --long judges sources of any size."
+        return f"It has more than {power(options.most_bytes)} bytes.{advice}"
     size = f"{counted(counts['events'], 'event')}, {counted(counts['blocks'], 'block')}"
     if verdict == "open":
         return f"Nothing is wrong so far, but {counted(counts['open'], 'block')} of {counts['blocks']:,} didn't end ({size})."
     return f"Each block behaves as if it had run alone ({size})."
+
+
+def ending(finding: Finding, dress: Dress) -> str:
+    """What more there is to say where a cycle is closed by the end of a block."""
+    if finding.closing is None or finding.closing.op != "end":
+        return ""
+    return f", as a block of {dress(finding.closing.thread)} has ended there"
+
+
+def faulty(finding: Finding, dress: Dress, quote: Dress) -> str:
+    """What is wrong with a line, in the words of the program where the report has them."""
+    line, name = finding.counts["line"], dress(finding.fault.encode())
+    note = f": {quote(finding.note)}" if finding.note else ""
+    if finding.verdict == "malformed":
+        return f"Line {line} is no event{note} ({name})."
+    mostly = MOSTLY.get(finding.fault, "")
+    return f"The event on line {line} can't stand there{note} ({name}).{f' Often because {mostly}.' if mostly else ''}"
+
+
+def power(number: int) -> str:
+    """A number, of which a power of two is told as such."""
+    return f"{number:,}" if number & (number - 1) else f"2^{number.bit_length() - 1}"

@@ -13,6 +13,7 @@ use Rattle.aero_model.specs.declared.verdict.Finding.{Finding}
 use Rattle.aero_model.specs.CallCounts.{Seen}
 use Rattle.aero_report.specs.Texts.{counts_of, counted, no_counts}
 use Rattle.aero_report.specs.declared.form.Form.{Form}
+use Rattle.aero_intake.specs.PlanTerms.{options_in}
 use Rattle.aero_report.specs.Forms.{source_line_in, source_lines_in, summary_line_in}
 use Rattle.aero_batch.specs.declared.outcome.Cause.{Cause}
 use Rattle.aero_batch.specs.declared.outcome.Cause.TheVariants.{Memory, Write}
@@ -252,28 +253,28 @@ findings_told (f ∷ founds) = ap (λ fs. f.finding ∷ fs) (findings_told found
 -- all sources are told, and the summary is written, or not
 pub summary_stops : (terms : Terms) (form : Form) (old now : List Sighted) (before mid after : Seen) (p : Underway) (a : Told) →
     vec_len a.endings ≡ length old → Stands terms form old now before mid p a →
-    (r : Result Unit Cause) → TellsText (summary_line_in form a.counts) mid after r → (cause : Option Cause) → cause ≡ cause_of r →
+    (r : Result Unit Cause) → TellsText (summary_line_in form (options_in terms) a.counts) mid after r → (cause : Option Cause) → cause ≡ cause_of r →
     WasRun terms form old now before after a.endings.items a.faults.items a.counts cause
 summary_stops terms form old now before mid after p a all st r tells cause is = go r tells cause is
   where
     told_all : length st.founds ≡ length old
     told_all = sym (a.endings.ok.0 ∙ (ap length st.are_told.endings ∙ length-map st.founds ending_of)) ∙ all
 
-    go : (r : Result Unit Cause) → TellsText (summary_line_in form a.counts) mid after r → (cause : Option Cause) → cause ≡ cause_of r →
+    go : (r : Result Unit Cause) → TellsText (summary_line_in form (options_in terms) a.counts) mid after r → (cause : Option Cause) → cause ≡ cause_of r →
         WasRun terms form old now before after a.endings.items a.faults.items a.counts cause
     go (Ok u) tells cause is = subst (λ c. WasRun terms form old now before after a.endings.items a.faults.items a.counts c) (sym is)
         (stopped terms form old now now before mid after p a st None (λ s less. refl) refl (
           told_all,
-          subst (λ c. Took before after (lines_of_all form st.founds ++ summary_line_in form c))
+          subst (λ c. Took before after (lines_of_all form st.founds ++ summary_line_in form (options_in terms) c))
               (st.are_told.counts ∙ sym (ap counts_of (findings_told st.founds)))
-              (took_more before mid after (lines_of_all form st.founds) (summary_line_in form a.counts) st.are_told.took tells),
+              (took_more before mid after (lines_of_all form st.founds) (summary_line_in form (options_in terms) a.counts) st.are_told.took tells),
         ))
     go (Err Memory) tells cause is = subst (λ c. WasRun terms form old now before after a.endings.items a.faults.items a.counts c) (sym is)
         (memory_stops terms form old now now before mid after p a st (λ s less. refl) refl tells)
     go (Err Write) tells cause is = subst (λ c. WasRun terms form old now before after a.endings.items a.faults.items a.counts c) (sym is)
         (stopped terms form old now now before mid after p a st (Some Write) (λ s less. refl) refl
-        (cut_off terms form old now before mid after st.founds (summary_line_in form (counts_of_all st.founds)) (inr (told_all, refl)) st.are_told.took
-        (subst (λ c. WasCut mid after (summary_line_in form c)) st.are_told.counts tells)))
+        (cut_off terms form old now before mid after st.founds (summary_line_in form (options_in terms) (counts_of_all st.founds)) (inr (told_all, refl)) st.are_told.took
+        (subst (λ c. WasCut mid after (summary_line_in form (options_in terms) c)) st.are_told.counts tells)))
 
 -- what is told stays true where another source's story goes on
 still_told : (terms : Terms) (form : Form) (old : List Sighted) (before mid : Seen) (p q : Underway) (a : Told) (tale new : ℕ → Story) (founds : List Found) →
@@ -541,7 +542,7 @@ refused_at_once terms form old before = record {
 -- at the end: all sources are told, and the summary is written, or not
 pub summary_done : (terms : Terms) (form : Form) (old now : List Sighted) (before mid after : Seen) (p : Underway) (a : Told) →
     vec_len a.endings ≡ length now → Stands terms form old now before mid p a →
-    (r : Result Unit Cause) → TellsText (summary_line_in form a.counts) mid after r →
+    (r : Result Unit Cause) → TellsText (summary_line_in form (options_in terms) a.counts) mid after r →
     OnOk r (WasRun terms form old now before after a.endings.items a.faults.items a.counts None)
     × IfErr r (λ cause. WasRun terms form old now before after a.endings.items a.faults.items a.counts (Some cause))
 summary_done terms form old now before mid after p a all st r tells = go r (summary_stops terms form old now before mid after p a told_all st r tells)

@@ -13,6 +13,7 @@ use Rattle.aero_batch.specs.declared.outcome.Cause.{Cause}
 use Rattle.aero_batch.specs.declared.outcome.Cause.TheVariants.{Memory, Write}
 use Rattle.aero_batch.specs.declared.outcome.FaultyLine.{FaultyLine}
 use Rattle.aero_intake.specs.declared.source.Source.{Source}
+use Rattle.aero_intake.specs.PlanTerms.{options_in}
 use Rattle.aero_intake.specs.Source.{WasRead}
 use Rattle.aero_verdict.specs.Finding.{Terms, IsFinding}
 
@@ -77,7 +78,7 @@ pub record Took (before after : Seen) (text : List ℕ) : Type 0 where
 abbrev pub IsNextText : Terms → Form → List Sighted → List Sighted → List Found → List ℕ → Type 0
 IsNextText terms form old new founds text =
     ((found : Found) × IsFoundAt terms old new (length founds) found × (text ≡ source_line_in form found.name found.finding))
-    ⊎ ((length founds ≡ length old) × (text ≡ summary_line_in form (counts_of_all founds)))
+    ⊎ ((length founds ≡ length old) × (text ≡ summary_line_in form (options_in terms) (counts_of_all founds)))
 
 -- what the writer took is these lines and then a part of the next text, at which a write failed
 pub record WasCutOff (terms : Terms) (form : Form) (old new : List Sighted) (founds : List Found) (before after : Seen) : Type 0 where
@@ -91,7 +92,7 @@ pub record WasCutOff (terms : Terms) (form : Form) (old new : List Sighted) (fou
 -- What was written. Without a refusal it is the report on all sources. Where memory was refused it is the lines of the founds alone, and
 -- where a write failed a part of the next text follows them.
 abbrev pub IsWritten : Terms → Form → List Sighted → List Sighted → List Found → Seen → Seen → Option Cause → Type 0
-IsWritten terms form old new founds before after None = (length founds ≡ length old) × Took before after (report_in form (map told founds))
+IsWritten terms form old new founds before after None = (length founds ≡ length old) × Took before after (report_in form (options_in terms) (map told founds))
 IsWritten terms form old new founds before after (Some Memory) = Took before after (lines_of_all form founds)
 IsWritten terms form old new founds before after (Some Write) = WasCutOff terms form old new founds before after
 

@@ -165,6 +165,7 @@ fn run_on<R: Read, W: Write, H: Helpers, T: Wait>(
         if advance(setting, sources, writer, helpers, standing)? {
             return tell_summary(
                 style_of(setting.alloc, setting.plan),
+                setting.plan.options(),
                 &standing.told.counts,
                 writer,
             );

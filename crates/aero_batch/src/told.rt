@@ -1,6 +1,7 @@
 //! What was told so far of the sources, and telling it.
 ghost use Rattle.std.specs.Prelude.{◌≡◌, ◌<◌, ◌≤◌, ◌+◌, ◌++◌, ◌∷◌, [], vec_len, vec_capacity, Ok, Err, IfOk, IfErr, OnOk};
 ghost use Rattle.aero_model.specs.CallCounts.{seen_by};
+ghost use Rattle.aero_report.specs.Asked.{options_of};
 ghost use Rattle.aero_report.specs.Forms.{summary_line_in};
 ghost use Rattle.aero_report.specs.Texts.{no_counts, counted, verdict_counted};
 ghost use Rattle.aero_batch.specs.Faults.{fault_of as fault_in, verdict_fault as verdict_fault_in};
@@ -10,7 +11,7 @@ use crate::outcome::{Cause, Fault, FaultyLine};
 use aero_intake::track::Track;
 use aero_model::counting::Counting;
 use aero_model::verdict::{Counts, Ending, Finding, Verdict};
-use aero_report::{Form, put, source_text, totals_text};
+use aero_report::{Form, Options, put, source_text, totals_text};
 use std::alloc::{AllocError, Global};
 use std::io::Write;
 
@@ -116,15 +117,16 @@ pub fn tell_found<W: Write>(
     Ok(true)
 }
 
-/// Writes the summary.
+/// Writes the summary of sources that were judged so.
 pub fn tell_summary<W: Write>(
     style: Style,
+    options: Options<'_>,
     counts: &Counts,
     writer: &mut Counting<W>,
 ) -> Result<(), Cause>
-    ensures { TellsText (summary_line_in style.form counts.now) (seen_by W.contents writer.old) (seen_by W.contents writer.new) result }
+    ensures { TellsText (summary_line_in style.form (options_of options.entry) counts.now) (seen_by W.contents writer.old) (seen_by W.contents writer.new) result }
 {
-    let text = totals_text(style.alloc, style.form, counts).map_err(|_| Cause::Memory)?;
+    let text = totals_text(style.alloc, style.form, options, counts).map_err(|_| Cause::Memory)?;
     tell(writer, &text)
 }
 

@@ -79,7 +79,7 @@ const CYCLE_OF_TWO: &str =
 
 // The same without cycles, as JSON.
 const OBJECTS_OF_TWO: &str =
-    "{\"source\":\"a\",\"verdict\":\"violation\",\"line\":6,\"thread\":\"T1\",\"begun\":1}/{\"source\":\"b\",\"verdict\":\"violation\",\"line\":6,\"thread\":\"T1\",\"begun\":1}/{\"traces\":2,\"serializable\":0,\"open\":0,\"violations\":2,\"faults\":0}/";
+    "{\"source\":\"a\",\"verdict\":\"violation\",\"line\":6,\"thread\":\"T1\",\"begun\":1}/{\"source\":\"b\",\"verdict\":\"violation\",\"line\":6,\"thread\":\"T1\",\"begun\":1}/{\"traces\":2,\"serializable\":0,\"open\":0,\"violations\":2,\"faults\":0,\"version\":\"0.1.0\",\"order\":false,\"explain\":false,\"limits\":{\"bytes\":1073741824,\"lines\":268435456,\"threads\":65536,\"names\":67108864},\"except\":[]}/";
 
 fn lines_of(alloc: Global, text: &str) -> Result<Vec<u8>, AllocError> {
     let mut bytes = text.as_bytes().to_vec(alloc)?;

@@ -13,7 +13,7 @@ use Rattle.aero_model.specs.Named.{Named}
 use Rattle.aero_model.specs.Names.{is_bad_byte}
 use Rattle.aero_grammar.specs.Meaning.{operation_field, operation_word}
 use Rattle.aero_faults.specs.Searches.{target_of}
-use Rattle.aero_faults.specs.Words.{line_words}
+use Rattle.aero_report.specs.Words.{line_words}
 use Rattle.aero_faults.specs.declared.hindrance.Hindrance.{Hindrance}
 use Rattle.aero_faults.specs.declared.hindrance.Hindrance.TheVariants.{Held, Free, Acted, Forked, Joined, Itself, NoneOpen}
 

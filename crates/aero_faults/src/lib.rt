@@ -29,7 +29,7 @@
 //!   stands in its way after those before it. `line_at`; `malformed_look`, `ill_formed_look`. That something is shown
 //!   where it is there, tests show.
 //! - The sentences are byte by byte as defined: `append_malformed`, `append_ill_formed`; `append_line`,
-//!   `append_hindrance`; `line_words`, `shape_words`.
+//!   `append_hindrance`.
 #![tactic(auto)]
 
 mod deeds;
@@ -43,4 +43,3 @@ pub mod reading;
 pub mod search;
 mod short;
 pub mod texts;
-pub mod words;

@@ -6,14 +6,17 @@ use Rattle.std.specs.List.{concat}
 use Rattle.aero_model.specs.declared.numbered.Numbered.{Numbered}
 use Rattle.aero_model.specs.declared.verdict.Cycle.{Cycle}
 use Rattle.aero_model.specs.declared.verdict.CycleStep.{CycleStep}
+use Rattle.aero_model.specs.declared.verdict.CycleTransaction.{CycleTransaction}
+use Rattle.aero_model.specs.declared.verdict.Extent.{Extent}
+use Rattle.aero_model.specs.declared.verdict.Extent.TheVariants as extents
 use Rattle.aero_model.specs.declared.verdict.LineFault.{LineFault}
 use Rattle.aero_model.specs.declared.verdict.ShapeFault.{ShapeFault}
 use Rattle.aero_model.specs.declared.verdict.Verdict.{Verdict}
 use Rattle.aero_model.specs.declared.verdict.Verdict.TheVariants.{Serializable, Pending, Violation, Malformed, IllFormed}
-use Rattle.aero_model.specs.Blocks.{Block, opens, transaction}
+use Rattle.aero_model.specs.Blocks.{Block, Unary, opens, transaction, HasEnded}
 use Rattle.aero_model.specs.Cycle.{HasTellingCycle, IsClosing, IsOpener}
 use Rattle.aero_model.specs.Exempt.{judged_trace, marked_trace}
-use Rattle.aero_model.specs.Graph.{IsTelling}
+use Rattle.aero_model.specs.Graph.{Visit, IsTelling}
 use Rattle.aero_model.specs.Named.{Named}
 use Rattle.aero_model.specs.Numbering.{tables_of, trace_of}
 use Rattle.aero_model.specs.Shape.{IsLawful, fault_at}
@@ -22,7 +25,7 @@ use Rattle.aero_grammar.specs.Reading.{Reading, reading_of, whole_reading, event
 use Rattle.aero_grammar.proofs.Joined.{reading_of-cap, reading_of-concat}
 use Rattle.aero_lines.specs.Cutting.{nothing_yet, blocks_from}
 use Rattle.aero_lines.proofs.Runs.{blocks_are_the_text}
-use Rattle.aero_verdict.specs.Explained.{round_places, IsCycleStep, IsExplained, IsCycleOf}
+use Rattle.aero_verdict.specs.Explained.{round_places, IsFirstOf, IsLastOf, IsEnd, IsExtent, IsCycleStep, IsCycleTransaction, IsExplained, IsCycleOf}
 use Rattle.aero_verdict.proofs.Zipped.{zip_as}
 use Rattle.aero_verdict.specs.Verdict.{Rules, IsVerdict, IsViolation, IsIllFormed, IsMalformed, IsFaultless, IsClean, BeginsOnLine}
 
@@ -136,6 +139,28 @@ module _ (rules : Rules) (parts others : List Reading) (same : events_within rul
     first_line = on_line is.first step.first is.first_line;
   }
 
+  end_same : (n first : ℕ) (end : Option ℕ) → IsEnd parts rules n first end → IsEnd others rules n first end
+  end_same n first None is = subst (λ es. ¬ HasEnded (trace es) n (transaction (trace es) first)) same is
+  end_same n first (Some line) (ended, (last, is, on)) =
+      (subst (λ es. HasEnded (trace es) n (transaction (trace es) first)) same ended, (last, subst (λ es. IsLastOf (trace es) n first last) same is, on_line last line on))
+
+  extent_same : (n first : ℕ) (extent : Extent) → IsExtent parts rules n first extent → IsExtent others rules n first extent
+  extent_same n first extents.Alone is = subst (λ es. transaction (trace es) first ≡ Unary first) same is
+  extent_same n first (extents.Block label end) (block, labelled, ends) = (
+    subst (λ es. transaction (trace es) first ≢ Unary first) same block,
+    subst (λ es. option_map (λ e. e.1.target) (slice_get es first) ≡ Some label) same labelled,
+    end_same n first end ends,
+  )
+
+  transaction_same : (n : ℕ) (v : Visit) (t : CycleTransaction) → IsCycleTransaction parts rules n v t → IsCycleTransaction others rules n v t
+  transaction_same n v t is = record {
+    first = is.first;
+    is_first = subst (λ es. IsFirstOf (trace es) v.enters is.first) same is.is_first;
+    first_line = on_line is.first t.first is.first_line;
+    thread = subst (λ es. option_map (λ e. e.1.thread) (slice_get es is.first) ≡ Some t.thread) same is.thread;
+    extent = extent_same n is.first t.extent is.extent;
+  }
+
   explained : (line : ℕ) (thread : List ℕ) (begun : ℕ) (cycle : Cycle) → IsExplained parts rules line thread begun cycle → IsExplained others rules line thread begun cycle
   unfolding violation begins
   explained line thread begun cycle is =
@@ -150,6 +175,8 @@ module _ (rules : Rules) (parts others : List Reading) (same : events_within rul
         fewest = λ other more telling from. is.fewest other more (subst (λ es. IsTelling (trace es) (suc v.place) other more) (sym same) telling)
             (subst (λ es. transaction (trace es) other.enters ≡ Block v.t v.number) (sym same) from);
         steps_are = zip_as (IsCycleStep parts rules) (IsCycleStep others rules) step_same (round_places is.first is.rest) cycle.steps.items is.steps_are;
+        transactions_are = zip_as (IsCycleTransaction parts rules (suc v.place)) (IsCycleTransaction others rules (suc v.place)) (transaction_same (suc v.place)) (is.first ∷ is.rest) cycle.transactions.items is.transactions_are;
+        closing_is = subst (λ es. option_map (λ e. e.1) (slice_get es v.place) ≡ Some cycle.closing) same is.closing_is;
       }
 
   pub same_cycle : (verdict : Verdict) (cycle : Cycle) → IsCycleOf parts rules verdict cycle → IsCycleOf others rules verdict cycle

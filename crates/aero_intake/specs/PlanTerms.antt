@@ -2,11 +2,16 @@
 use Rattle.std.specs.Prelude.{ℕ, ◌+◌, ◌==◌, if◌then◌else◌}
 use Rattle.aero_intake.specs.declared.plan.Keeping.{Keeping}
 use Rattle.aero_intake.specs.declared.plan.Plan.{Plan}
+use Rattle.aero_report.specs.Options.{Options}
 use Rattle.aero_verdict.specs.Finding.{Terms, asking}
 
 -- on which the sources are judged
 abbrev pub terms_of : Plan → Terms
 terms_of plan = asking plan.limits plan.except plan.order plan.explain
+
+-- the same, as the summary of a report tells it
+abbrev pub options_in : Terms → Options
+options_in terms = record { limits = terms.rules.limits; labels = terms.rules.labels; order = terms.order; explain = terms.explain }
 
 -- how many events are kept at most of the source at this place, where there are so many sources
 abbrev pub most_kept : Keeping → ℕ → ℕ → ℕ

@@ -1,13 +1,10 @@
 //! How a run is made.
-ghost use Rattle.std.specs.Prelude.{◌≡◌, ◌<◌, ◌≤◌, ◌^◌, ◌↔◌, IsSome, IfSome, IfOk, true, false, if◌then◌else◌};
-ghost use Rattle.aero_intake.specs.Plans.{IsPlan};
-ghost use Rattle.aero_report.specs.declared.form.Form.TheVariants.{Text};
-ghost use Rattle.aero_verdict.specs.Finding.{asking};
+ghost use Rattle.std.specs.Prelude.{◌≡◌, ◌<◌, ◌≤◌, ◌^◌, if◌then◌else◌};
 
 use crate::terms::Terms;
 use aero_model::except::SharedExcept;
 use aero_model::limits::Limits;
-use aero_report::Form;
+use aero_report::{Form, Options};
 use std::alloc::AllocError;
 
 /// How many events of a source are kept at most until it is judged. Once more have come its blocks are judged as they
@@ -63,6 +60,13 @@ const KEEPING: Keeping = Keeping {
 };
 
 impl Plan {
+    ghost use Rattle.std.specs.Prelude.{◌≡◌, ◌<◌, ◌≤◌, ◌^◌, ◌↔◌, IsSome, IfSome, IfOk, true, false};
+    ghost use Rattle.aero_intake.specs.Plans.{IsPlan};
+    ghost use Rattle.aero_intake.specs.PlanTerms.{options_in, terms_of};
+    ghost use Rattle.aero_report.specs.Asked.{options_of};
+    ghost use Rattle.aero_report.specs.declared.form.Form.TheVariants.{Text};
+    ghost use Rattle.aero_verdict.specs.Finding.{asking};
+
     /// This plan, or `None` where a number is 0, there are more than 16 workers, or a piece is of
     /// more than 1,048,576 bytes. Of a source 1,048,576 events are kept at most, and 65,536 of the last one. No
     /// violation is to be explained, and the report is for people.
@@ -148,6 +152,18 @@ impl Plan {
         let mut plan = self;
         plan.form = form;
         plan
+    }
+
+    /// How the sources are judged, as the summary of a report tells it.
+    pub fn options(&self) -> Options<'_>
+        ensures { options_of result ≡ options_in (terms_of self.now) }
+    {
+        Options {
+            limits: &self.limits,
+            except: self.except.get(),
+            order: self.order,
+            explain: self.explain,
+        }
     }
 
     /// On what terms the sources are judged. An `AllocError` says that the labels have too many holders.

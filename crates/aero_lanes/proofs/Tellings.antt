@@ -10,6 +10,7 @@ use Rattle.aero_model.specs.declared.verdict.Finding.{Finding}
 use Rattle.aero_model.specs.CallCounts.{Seen}
 use Rattle.aero_report.specs.Texts.{counts_of, counted}
 use Rattle.aero_report.specs.declared.form.Form.{Form}
+use Rattle.aero_intake.specs.PlanTerms.{options_in}
 use Rattle.aero_report.specs.Forms.{source_line_in, summary_line_in}
 use Rattle.aero_batch.specs.declared.outcome.Cause.{Cause}
 use Rattle.aero_batch.specs.declared.outcome.Cause.TheVariants.{Memory, Write}
@@ -227,7 +228,7 @@ module _ {R : Type 0} (known : R → Option (List ℕ)) (terms : Terms) (form : 
 
 -- all sources are told, and the summary is written, or not
 pub summary_so : {R : Type 0} (known : R → Option (List ℕ)) (terms : Terms) (form : Form) (origin : List (Source R)) (all : List (Seat R)) (before mid after : Seen) (a : Told) →
-    vec_len a.endings ≡ length all → StandsSo known terms form origin before mid all a → (r : Result Unit Cause) → TellsText (summary_line_in form a.counts) mid after r →
+    vec_len a.endings ≡ length all → StandsSo known terms form origin before mid all a → (r : Result Unit Cause) → TellsText (summary_line_in form (options_in terms) a.counts) mid after r →
     StopsSo known terms form origin before after all a (cause_of r)
 summary_so known terms form origin all before mid after a whole st r tells = record {
   seated = st.seated;
@@ -242,16 +243,16 @@ summary_so known terms form origin all before mid after a whole st r tells = rec
     told_all : length st.founds ≡ length origin
     told_all = sym (place_is known terms form all mid after a a st.founds st.told_so.endings) ∙ (whole ∙ st.seated.count)
 
-    go : (r : Result Unit Cause) → TellsText (summary_line_in form a.counts) mid after r → IsWrittenSo known terms form origin all st.founds before after (cause_of r)
+    go : (r : Result Unit Cause) → TellsText (summary_line_in form (options_in terms) a.counts) mid after r → IsWrittenSo known terms form origin all st.founds before after (cause_of r)
     go (Ok u) tells = (
       told_all,
-      subst (λ c. Took before after (lines_of_all form st.founds ++ summary_line_in form c))
+      subst (λ c. Took before after (lines_of_all form st.founds ++ summary_line_in form (options_in terms) c))
           (st.told_so.counts ∙ sym (ap counts_of (findings_told st.founds)))
-          (took_more before mid after (lines_of_all form st.founds) (summary_line_in form a.counts) st.told_so.took tells),
+          (took_more before mid after (lines_of_all form st.founds) (summary_line_in form (options_in terms) a.counts) st.told_so.took tells),
     )
     go (Err Memory) tells = took_nothing before mid after (lines_of_all form st.founds) st.told_so.took tells
-    go (Err Write) tells = cut_so known terms form all mid after a a origin before st.founds (summary_line_in form (counts_of_all st.founds)) (inr (told_all, refl)) st.told_so.took
-        (subst (λ c. WasCut mid after (summary_line_in form c)) st.told_so.counts tells)
+    go (Err Write) tells = cut_so known terms form all mid after a a origin before st.founds (summary_line_in form (options_in terms) (counts_of_all st.founds)) (inr (told_all, refl)) st.told_so.took
+        (subst (λ c. WasCut mid after (summary_line_in form (options_in terms) c)) st.told_so.counts tells)
 
 -- the numbers once one more is told
 module _ (R : Type 0) (form : Form) (sources : ℕ) (mid after : Seen) (a b : Told) (numbers : HasNumbersOf sources a) where

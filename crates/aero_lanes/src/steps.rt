@@ -39,7 +39,10 @@ pub(crate) fn tell_all<
     'steps: for _ in shared.rt.forever() {
         match advance(scope, shared, lanes, writer, told) {
             Ok(false) => {}
-            Ok(true) => return tell_summary(style_of(shared), &told.counts, writer),
+            Ok(true) => {
+                let options = shared.plan.options();
+                return tell_summary(style_of(shared), options, &told.counts, writer);
+            }
             Err(cause) => return Err(cause),
         }
     }

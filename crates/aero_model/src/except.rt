@@ -62,6 +62,20 @@ impl Except {
         Some(Except { labels, only })
     }
 
+    /// The labels that are listed, in their order.
+    pub fn labels(&self) -> &[Name]
+        ensures { result.now ≡ self.now.labels }
+    {
+        &self.labels
+    }
+
+    /// Whether the blocks with these labels are the only transactions, beside events outside of them.
+    pub fn is_only(&self) -> bool
+        ensures { result ≡ self.now.only }
+    {
+        self.only
+    }
+
     /// Whether the label is listed.
     pub fn has(&self, label: &Name) -> bool
         ensures { result ≡ list_any (bytes_eq label.now) self.now.labels }

@@ -103,12 +103,35 @@ pub struct CycleStep {
     pub event: Event,
 }
 
+/// What a transaction of a telling cycle is.
+#[derive(Drop)]
+pub enum Extent {
+    /// An event by itself, outside all blocks that are transactions.
+    Alone,
+    /// A block: its label, if it has one, and the line of its end, if it has ended by the closing event.
+    Block {
+        label: Option<Name>,
+        end: Option<u32>,
+    },
+}
+
+/// A transaction of a telling cycle: the line of its first event, from 1, the thread that made it, and what it is.
+#[derive(Drop)]
+pub struct CycleTransaction {
+    pub first: u32,
+    pub thread: Name,
+    pub extent: Extent,
+}
+
 /// What shows a violation: the label of the block that the verdict names, if it has one, and the events of a telling
-/// cycle that begins in it, in the order in which it is gone round.
+/// cycle that begins in it, in the order in which it is gone round. With them stand the transactions through which it
+/// goes, in the same order, that block first, and the event that closes it.
 #[derive(Drop)]
 pub struct Cycle {
     pub label: Option<Name>,
     pub steps: Vec<CycleStep>,
+    pub transactions: Vec<CycleTransaction>,
+    pub closing: Event,
 }
 
 /// How the reading of a source ended.

@@ -1,5 +1,5 @@
 -- A run, a flush and what was told after it, as one.
-use Rattle.std.proofs.Common.{◌≡◌, ◌∙◌, ℕ, if◌then◌else◌, List, [], ◌∷◌, map, Option, Result, ap, subst, refl}
+use Rattle.std.proofs.Common.{◌≡◌, ◌∙◌, ℕ, if◌then◌else◌, List, [], ◌∷◌, ◌++◌, map, Option, Result, ap, subst, refl}
 use Rattle.std.specs.declared.io.ErrorKind.{ErrorKind}
 use Rattle.aero_model.specs.declared.limits.Limits.{Limits}
 use Rattle.aero_model.specs.declared.verdict.Counts.{Counts}
@@ -18,15 +18,20 @@ use Rattle.aero_program.specs.declared.notes.Naming.{Naming}
 use Rattle.aero_program.specs.declared.stamp.Stamp.{Stamp}
 use Rattle.aero_program.specs.Answers.{Ends, WasJudged}
 use Rattle.aero_program.specs.Command.{AreLimitsFor, are_words, form_on, listed_by}
-use Rattle.aero_program.specs.Notes.{AreShown, Remark, noted_of_all}
+use Rattle.aero_program.specs.Notes.{AreShown, Remark, label_lines, labels_told, noted_of_all, notes}
 use Rattle.aero_program.proofs.Noting.{are_faulty, are_noted}
-use Rattle.aero_program.specs.Sightings.{AreNames, bytes_known, sighting, source_sightings}
+use Rattle.aero_program.specs.Sightings.{AreNames, bytes_known, resighted, sighting, source_sightings}
 use Rattle.aero_program.specs.Status.{end_of_run}
 use Rattle.aero_program.specs.Streams.{Shown, WasFlushed}
 
 names_of_sightings : (known : Option (List ℕ)) (names : List (List ℕ)) → map (λ s. s.name) (map (sighting known) names) ≡ names
 names_of_sightings known [] = refl
 names_of_sightings known (name ∷ more) = ap (λ l. name ∷ l) (names_of_sightings known more)
+
+-- nothing was read of what nothing was read of
+pub resighted_sightings : (known : Option (List ℕ)) (names : List (List ℕ)) → map resighted (map (sighting known) names) ≡ map (sighting known) names
+resighted_sightings known [] = refl
+resighted_sightings known (name ∷ more) = ap (λ l. sighting known name ∷ l) (resighted_sightings known more)
 
 names_noted : {S O F : Type 0} (words : Naming) (known : Input S O F → Option (List ℕ)) (sources : List (Source (Input S O F))) (endings : List (ℕ × Ending)) (faults : List (Option FaultyLine))
     → map (λ n. n.name) (noted_of_all words sources endings faults) ≡ map (λ s. s.name) (map (sighted known) sources)
@@ -37,16 +42,17 @@ names_noted words known (source ∷ more) (ending ∷ rest) [] = ap (λ l. sourc
 names_noted words known (source ∷ more) (ending ∷ rest) (fault ∷ faults) = ap (λ l. source.name.items ∷ l) (names_noted words known more rest faults)
 
 pub judged : {S O F : Type 0} (holds : List ℕ → Stamp → Option (List ℕ) → Type 0) (known : Input S O F → Option (List ℕ)) (config : Config) (given : Option (List ℕ)) (limits : Limits) (names : List (List ℕ))
-    (was lent new now : List (Source (Input S O F))) (before between after : Shown) (endings : List (ℕ × Ending)) (faults : List (Option FaultyLine)) (counts : Counts) (cause : Option Cause)
+    (was lent new : List (Source (Input S O F))) (before between after : Shown) (endings : List (ℕ × Ending)) (faults : List (Option FaultyLine)) (counts : Counts) (cause : Option Cause)
     (fault : Option ErrorKind) (end : Result ℕ Failure) (told told_after : Seen) (status : ℕ) (terms : Terms) (made : Form)
     → terms ≡ asking limits (listed_by config.except.items config.only.items) config.order config.explain → made ≡ form_on config.terminals config.form → AreLimitsFor config.long limits
-    → AreNames config.files given names → map (sighted known) was ≡ source_sightings config.files given names → lent ≡ was → now ≡ new
+    → AreNames config.files given names → map (sighted known) was ≡ source_sightings config.files given names → lent ≡ was
     → WasRun terms made (map (sighted known) lent) (map (sighted known) new) before.writer between.writer endings faults counts cause
     → between.unflushed ≡ before.unflushed → WasFlushed between after fault → end ≡ end_of_run config.fail_open cause counts fault
-    → (remarks : List Remark) → map (λ r. r.noted) remarks ≡ noted_of_all (record { are_words = are_words config.files; on_terminal = config.terminals.errors }) now (if config.long then [] else endings) faults → AreShown holds remarks → Ends remarks end told told_after status
+    → (remarks : List Remark) → map (λ r. r.noted) remarks ≡ noted_of_all (record { are_words = are_words config.files; on_terminal = config.terminals.errors }) new (if config.long then [] else endings) faults → AreShown holds remarks
+    → Ends (notes remarks ++ label_lines config.terminals.errors (labels_told cause endings (noted_of_all (record { are_words = are_words config.files; on_terminal = config.terminals.errors }) new (if config.long then [] else endings) faults) (listed_by config.except.items config.only.items).labels)) end told told_after status
     → WasJudged holds config given before after told told_after status
-judged holds known config given limits names was lent new now before between after endings faults counts cause fault end told told_after status terms made
-    on_terms in_form are named seen is_was is_new run same flushed ended remarks on_noted shown_all ends =
+judged holds known config given limits names was lent new before between after endings faults counts cause fault end told told_after status terms made
+    on_terms in_form are named seen is_was run same flushed ended remarks on_noted shown_all ends =
     let sightings : List Sighted = source_sightings config.files given names in
     let wanted : Terms = asking limits (listed_by config.except.items config.only.items) config.order config.explain in
     let words : Naming = record { are_words = are_words config.files; on_terminal = config.terminals.errors } in
@@ -77,7 +83,7 @@ judged holds known config given limits names was lent new now before between aft
       are_noted = are_noted words new noted_endings faults;
       are_faulty = are_faulty words new noted_endings faults;
       remarks = remarks;
-      on_noted = on_noted ∙ ap (λ l. noted_of_all words l noted_endings faults) is_new;
+      on_noted = on_noted;
       are_shown = shown_all;
-      ends = subst (λ e. Ends remarks e told told_after status) ended ends;
+      ends = subst (λ e. Ends (notes remarks ++ label_lines config.terminals.errors (labels_told cause endings (noted_of_all words new noted_endings faults) (listed_by config.except.items config.only.items).labels)) e told told_after status) ended ends;
     }

@@ -1,8 +1,10 @@
 mod Faulting
 mod Fronts
+mod Gathering
 mod Helping
 mod Interruptions
 mod Judged
+mod Labelling
 mod Looking
 mod Names
 mod Noting

@@ -9,7 +9,7 @@ use Rattle.aero_faults.specs.declared.look.Look.{Look}
 use Rattle.aero_faults.specs.declared.look.Look.TheVariants.{Nothing, Line, Event}
 use Rattle.aero_faults.specs.Looks.{IsEventLook, IsLine, IsLineLook}
 use Rattle.aero_program.specs.declared.stamp.Stamp.{Stamp}
-use Rattle.aero_program.specs.Looks.{IsSecondLook, IsShown, LooksAt, Shows, ShowsAs}
+use Rattle.aero_program.specs.Looks.{IsSecondLook, IsShown, LooksAt, ShowsAs}
 use Rattle.std.specs.Prelude.{Some}
 
 pub second_look : (can_open : Type 0) (held : Option (List ℕ) → Type 0) (faulty : FaultyLine) (look : Look) (first again : Option (List ℕ)) (line : List ℕ) → can_open → held first → held again

@@ -1,19 +1,24 @@
 -- What was noted of the sources, one after another.
-use Rattle.std.proofs.Common.{◌≡◌, ◌∙◌, ℕ, zero, suc, Bool, false, List, [], ◌∷◌, ◌++◌, length, get_or, nat_lt, Option, None, Some, Result, Ok, Err, map, append_assoc, inl, inr, ap, sym, subst, refl}
+use Rattle.std.proofs.Common.{◌≡◌, ◌∙◌, ◌&&◌, ℕ, zero, suc, Bool, true, false, if◌then◌else◌, List, [], ◌∷◌, ◌++◌, length, get_or, nat_lt, Option, None, Some, Result, Ok, Err, map, append_assoc, inl, inr, ap, sym, subst, refl}
 use Rattle.std.specs.Borrow.{Bor}
 use Rattle.std.specs.Option.{option_copied}
-use Rattle.std.specs.Prelude.{slice_get, is_some, IfSome, IfOk}
+use Rattle.std.specs.Prelude.{bytes_eq, slice_get, is_some, IfSome, IfOk}
+use Rattle.std.specs.List.{filter, list_all, list_any}
 use Rattle.std.proofs.lemmas.Bool.{cases_lt, lt-ltb, ltb-true}
 use Rattle.std.proofs.lemmas.Option.{slice_get_past, slice_get_read}
 use Rattle.std.proofs.lemmas.List.{append-nil, map-append}
 use Rattle.std.proofs.lemmas.Grind.{flat_map-append}
 use Rattle.aero_model.specs.declared.verdict.Ending.{Ending}
+use Rattle.aero_model.specs.CallCounts.{inner_of}
+use Rattle.aero_batch.specs.declared.outcome.Cause.{Cause}
 use Rattle.aero_batch.specs.declared.outcome.FaultyLine.{FaultyLine}
 use Rattle.aero_intake.specs.declared.source.Source.{Source}
 use Rattle.aero_program.specs.declared.input.Input.{Input}
 use Rattle.aero_program.specs.declared.notes.Naming.{Naming}
 use Rattle.aero_program.specs.declared.stamp.Stamp.{Stamp}
-use Rattle.aero_program.specs.Notes.{AreFaulty, AreNoted, AreNotes, AreShown, GrowsBy, Noted, Remark, fault_told, note, noted_of, noted_of_all, notes, was_too_large}
+use Rattle.aero_program.specs.Inputs.{opened_of, reason_of, start_of}
+use Rattle.aero_program.specs.Labels.{missing_of}
+use Rattle.aero_program.specs.Notes.{AreFaulty, AreNoted, AreNotes, AreShown, AreTold, GrowsBy, Noted, Remark, all_read, fault_told, label_lines, labels_told, missing_in_each, named_input, note, noted_of, noted_of_all, notes, was_too_large}
 use Rattle.aero_program.specs.Looks.{ShowsAs}
 use Rattle.aero_faults.specs.declared.look.Look.TheVariants.{Nothing}
 
@@ -102,13 +107,6 @@ looked_up None xs i none value = elim (cases_lt i (length xs)) [
 ]
 looked_up (Some x) xs i some value = sym (slice_get_read xs (length xs) i x.now refl (ltb-true i (length xs) (sym some)) value)
 
--- what was noted, with what second looks showed
-pub record Remarks {T E : Type 0} (holds : List ℕ → Stamp → Option (List ℕ) → Type 0) (items : T → List ℕ) (noted : List Noted) (result : Result T E) : Type 0 where
-  pub remarks : List Remark
-  pub are : map (λ r. r.noted) remarks ≡ noted
-  pub shown : AreShown holds remarks
-  pub told : IfOk result (λ text. items text ≡ notes remarks)
-
 unseen : Noted → Remark
 unseen n = record { noted = n; look = Nothing }
 
@@ -122,17 +120,127 @@ unfolding unseen
 unseen_shown holds [] = tt
 unseen_shown holds (n ∷ more) = (tt, unseen_shown holds more)
 
-remarks_on : {T E : Type 0} (holds : List ℕ → Stamp → Option (List ℕ) → Type 0) (items : T → List ℕ) (noted : List Noted) (result : Result T E) → IfOk result (λ text. AreNotes holds noted (items text)) → Remarks holds items noted result
-remarks_on holds items noted (Ok text) h = record { remarks = h.remarks; are = h.are; shown = h.shown; told = h.told }
-remarks_on holds items noted (Err e) h = record { remarks = map unseen noted; are = unseen_are noted; shown = unseen_shown holds noted; told = tt }
+-- what was noted, with what second looks showed, and lines behind those on the sources
+pub record ToldRemarks {T E : Type 0} (holds : List ℕ → Stamp → Option (List ℕ) → Type 0) (items : T → List ℕ) (noted : List Noted) (lines : List ℕ) (result : Result T E) : Type 0 where
+  pub remarks : List Remark
+  pub are : map (λ r. r.noted) remarks ≡ noted
+  pub shown : AreShown holds remarks
+  pub told : IfOk result (λ text. items text ≡ notes remarks ++ lines)
 
--- the lines on the sources, by endings and faults that are the same
-pub noted_as : {S O F T E : Type 0} (holds : List ℕ → Stamp → Option (List ℕ) → Type 0) (items : T → List ℕ) (is words : Naming) (sources : List (Source (Input S O F)))
-    (given endings : List (ℕ × Ending)) (told faults : List (Option FaultyLine))
-    → is ≡ words → given ≡ endings → told ≡ faults → (result : Result T E)
-    → IfOk result (λ text. AreNotes holds (noted_of_all is sources given told) (items text)) → Remarks holds items (noted_of_all words sources endings faults) result
-noted_as holds items is words sources given endings told faults known same told_same result h =
-    remarks_on holds items (noted_of_all words sources endings faults) result
-    (subst (λ w. IfOk result (λ text. AreNotes holds (noted_of_all w sources endings faults) (items text))) known
-    (subst (λ fs. IfOk result (λ text. AreNotes holds (noted_of_all is sources endings fs) (items text))) told_same
-    (subst (λ es. IfOk result (λ text. AreNotes holds (noted_of_all is sources es told) (items text))) same h)))
+told_on : {T E : Type 0} (holds : List ℕ → Stamp → Option (List ℕ) → Type 0) (items : T → List ℕ) (noted : List Noted) (cause : Option Cause) (endings : List (ℕ × Ending)) (on_terminal : Bool) (labels : List (List ℕ)) (result : Result T E)
+    → IfOk result (λ text. AreTold holds noted cause endings on_terminal labels (items text)) → ToldRemarks holds items noted (label_lines on_terminal (labels_told cause endings noted labels)) result
+told_on holds items noted cause endings on_terminal labels (Ok text) h = record { remarks = h.remarks; are = h.are; shown = h.shown; told = h.told }
+told_on holds items noted cause endings on_terminal labels (Err e) h = record { remarks = map unseen noted; are = unseen_are noted; shown = unseen_shown holds noted; told = tt }
+
+-- all lines, of sources that are named so, and of labels that are these
+pub told_as : {S O F T E : Type 0} (holds : List ℕ → Stamp → Option (List ℕ) → Type 0) (items : T → List ℕ) (is words : Naming) (sources : List (Source (Input S O F)))
+    (given : List (ℕ × Ending)) (faults : List (Option FaultyLine)) (cause : Option Cause) (endings : List (ℕ × Ending)) (on_terminal : Bool) (labels wanted : List (List ℕ))
+    → is ≡ words → labels ≡ wanted → (result : Result T E)
+    → IfOk result (λ text. AreTold holds (noted_of_all is sources given faults) cause endings on_terminal labels (items text))
+    → ToldRemarks holds items (noted_of_all words sources given faults) (label_lines on_terminal (labels_told cause endings (noted_of_all words sources given faults) wanted)) result
+told_as holds items is words sources given faults cause endings on_terminal labels wanted known same result h =
+    told_on holds items (noted_of_all words sources given faults) cause endings on_terminal wanted result
+    (subst (λ w. IfOk result (λ text. AreTold holds (noted_of_all w sources given faults) cause endings on_terminal wanted (items text))) known
+    (subst (λ ls. IfOk result (λ text. AreTold holds (noted_of_all is sources given faults) cause endings on_terminal ls (items text))) same h))
+
+-- what is noted is noted of names and inputs
+noted_pair : {S O F : Type 0} → Naming → List ℕ × Input S O F → Bool → Option FaultyLine → Noted
+noted_pair naming pair too_large fault = record {
+  name = pair.0;
+  is_word = naming.are_words;
+  on_terminal = naming.on_terminal;
+  start = start_of pair.1;
+  reason = reason_of pair.1;
+  too_large = too_large;
+  fault = fault;
+  opened = opened_of pair.1;
+  missing = missing_of pair.1;
+}
+
+noted_pairs : {S O F : Type 0} → Naming → List (List ℕ × Input S O F) → List (ℕ × Ending) → List (Option FaultyLine) → List Noted
+noted_pairs naming [] endings faults = []
+noted_pairs naming (pair ∷ more) [] [] = noted_pair naming pair false None ∷ noted_pairs naming more [] []
+noted_pairs naming (pair ∷ more) [] (fault ∷ faults) = noted_pair naming pair false fault ∷ noted_pairs naming more [] faults
+noted_pairs naming (pair ∷ more) (ending ∷ rest) [] = noted_pair naming pair (was_too_large (Some ending)) None ∷ noted_pairs naming more rest []
+noted_pairs naming (pair ∷ more) (ending ∷ rest) (fault ∷ faults) = noted_pair naming pair (was_too_large (Some ending)) fault ∷ noted_pairs naming more rest faults
+
+as_pairs : {S O F : Type 0} (naming : Naming) (sources : List (Source (Input S O F))) (endings : List (ℕ × Ending)) (faults : List (Option FaultyLine))
+    → noted_of_all naming sources endings faults ≡ noted_pairs naming (map named_input sources) endings faults
+unfolding noted_pair noted_pairs
+as_pairs naming [] endings faults = refl
+as_pairs naming (source ∷ more) [] [] = ap (λ l. noted_of naming source false None ∷ l) (as_pairs naming more [] [])
+as_pairs naming (source ∷ more) [] (fault ∷ faults) = ap (λ l. noted_of naming source false fault ∷ l) (as_pairs naming more [] faults)
+as_pairs naming (source ∷ more) (ending ∷ rest) [] = ap (λ l. noted_of naming source (was_too_large (Some ending)) None ∷ l) (as_pairs naming more rest [])
+as_pairs naming (source ∷ more) (ending ∷ rest) (fault ∷ faults) = ap (λ l. noted_of naming source (was_too_large (Some ending)) fault ∷ l) (as_pairs naming more rest faults)
+
+noted_same : {S O F : Type 0} (naming : Naming) (kept sources : List (Source (Input S O F))) (endings : List (ℕ × Ending)) (faults : List (Option FaultyLine)) → map named_input kept ≡ map named_input sources
+    → noted_of_all naming kept endings faults ≡ noted_of_all naming sources endings faults
+noted_same naming kept sources endings faults same =
+    as_pairs naming kept endings faults ∙ ap (λ pairs. noted_pairs naming pairs endings faults) same ∙ sym (as_pairs naming sources endings faults)
+
+missing_noted : {S O F : Type 0} (words : Naming) (sources : List (Source (Input S O F))) (endings : List (ℕ × Ending)) (faults : List (Option FaultyLine))
+    → map (λ n. n.missing) (noted_of_all words sources endings faults) ≡ map (λ s. missing_of (inner_of s.reader)) sources
+missing_noted words [] endings faults = refl
+missing_noted words (source ∷ more) [] [] = ap (λ l. missing_of (inner_of source.reader) ∷ l) (missing_noted words more [] [])
+missing_noted words (source ∷ more) [] (fault ∷ faults) = ap (λ l. missing_of (inner_of source.reader) ∷ l) (missing_noted words more [] faults)
+missing_noted words (source ∷ more) (ending ∷ rest) [] = ap (λ l. missing_of (inner_of source.reader) ∷ l) (missing_noted words more rest [])
+missing_noted words (source ∷ more) (ending ∷ rest) (fault ∷ faults) = ap (λ l. missing_of (inner_of source.reader) ∷ l) (missing_noted words more rest faults)
+
+told_if : (read : Bool) (lists : List (List (List ℕ))) (labels : List (List ℕ)) → missing_in_each lists (if read then labels else []) ≡ (if read then missing_in_each lists labels else [])
+told_if true lists labels = refl
+told_if false lists labels = refl
+
+-- the lines on the sources, and then those on labels
+pub all_told : {S O F : Type 0} (holds : List ℕ → Stamp → Option (List ℕ) → Type 0) (naming : Naming) (kept sources : List (Source (Input S O F))) (given endings : List (ℕ × Ending)) (faults : List (Option FaultyLine)) (cause : Option Cause)
+    (labels told : List (List ℕ)) (read : Bool) (front lines text : List ℕ)
+    → map named_input kept ≡ map named_input sources → AreNotes holds (noted_of_all naming kept given faults) front → read ≡ all_read cause endings → told ≡ (if read then labels else [])
+    → lines ≡ label_lines naming.on_terminal (missing_in_each (map (λ s. missing_of (inner_of s.reader)) sources) told) → text ≡ front ++ lines
+    → AreTold holds (noted_of_all naming sources given faults) cause endings naming.on_terminal labels text
+all_told holds naming kept sources given endings faults cause labels told read front lines text same h is_read is_told is_lines is_text =
+    let lists : List (List (List ℕ)) = map (λ s. missing_of (inner_of s.reader)) sources in
+    let told_are : missing_in_each lists told ≡ labels_told cause endings (noted_of_all naming sources given faults) labels =
+    ap (missing_in_each lists) (is_told ∙ ap (λ b. if b then labels else []) is_read) ∙ told_if (all_read cause endings) lists labels
+    ∙ ap (λ ls. if all_read cause endings then missing_in_each ls labels else []) (sym (missing_noted naming sources given faults)) in
+    record {
+      remarks = h.remarks;
+      are = h.are ∙ noted_same naming kept sources given faults same;
+      shown = h.shown;
+      told = is_text ∙ ap (λ f. f ++ lines) h.told ∙ ap (λ l. notes h.remarks ++ l) (is_lines ∙ ap (label_lines naming.on_terminal) told_are);
+    }
+
+-- labels and lists of missing ones
+
+filter_all : (f : List ℕ → Bool) → ((x : List ℕ) → f x ≡ true) → (xs : List (List ℕ)) → filter f xs ≡ xs
+filter_all f is [] = refl
+filter_all f is (x ∷ xs) = ap (λ b. if b then x ∷ filter f xs else filter f xs) (is x) ∙ ap (λ l. x ∷ l) (filter_all f is xs)
+
+pub missing_in_none : (labels : List (List ℕ)) → labels ≡ missing_in_each [] labels
+missing_in_none labels = sym (filter_all (λ label. true) (λ x. refl) labels)
+
+pub no_lines : (on_terminal : Bool) (lists : List (List (List ℕ))) (labels : List (List ℕ)) (text : List ℕ) → text ≡ [] → labels ≡ [] → text ≡ label_lines on_terminal (missing_in_each lists labels)
+no_lines on_terminal lists labels text empty none = empty ∙ ap (λ ls. label_lines on_terminal (missing_in_each lists ls)) (sym none)
+
+filter_both_step : (a b : Bool) (f : List ℕ → Bool) (x : List ℕ) (ys zs : List (List ℕ)) → f x ≡ b → filter f ys ≡ zs → filter f (if a then x ∷ ys else ys) ≡ (if a && b then x ∷ zs else zs)
+filter_both_step false b f x ys zs at later = later
+filter_both_step true true f x ys zs at later = ap (λ c. if c then x ∷ filter f ys else filter f ys) at ∙ ap (λ l. x ∷ l) later
+filter_both_step true false f x ys zs at later = ap (λ c. if c then x ∷ filter f ys else filter f ys) at ∙ later
+
+all_more : (f : List (List ℕ) → Bool) (lists : List (List (List ℕ))) (m : List (List ℕ)) → list_all f (lists ++ m ∷ []) ≡ (list_all f lists && f m)
+all_more f [] m = alone (f m)
+  where
+    alone : (b : Bool) → (b && true) ≡ b
+    alone true = refl
+    alone false = refl
+all_more f (first ∷ lists) m = ap (λ b. f first && b) (all_more f lists m) ∙ grouped (f first)
+  where
+    grouped : (a : Bool) → (a && (list_all f lists && f m)) ≡ ((a && list_all f lists) && f m)
+    grouped true = refl
+    grouped false = refl
+
+pub missing_in_more : (lists : List (List (List ℕ))) (m : List (List ℕ)) (labels : List (List ℕ))
+    → filter (λ label. list_any (bytes_eq label) m) (missing_in_each lists labels) ≡ missing_in_each (lists ++ m ∷ []) labels
+missing_in_more lists m [] = refl
+missing_in_more lists m (x ∷ labels) =
+    let f : List (List ℕ) → Bool = λ missing. list_any (bytes_eq x) missing in
+    filter_both_step (list_all f lists) (f m) (λ label. list_any (bytes_eq label) m) x (missing_in_each lists labels) (missing_in_each (lists ++ m ∷ []) labels) refl (missing_in_more lists m labels)
+    ∙ ap (λ b. if b then x ∷ missing_in_each (lists ++ m ∷ []) labels else missing_in_each (lists ++ m ∷ []) labels) (sym (all_more f lists m))

@@ -10,7 +10,6 @@ use Rattle.aero_program.specs.declared.failure.Failure.{Failure}
 use Rattle.aero_program.specs.declared.failure.Failure.TheVariants as failure
 use Rattle.aero_program.specs.Answers.{Ends, Fails}
 use Rattle.aero_program.specs.Failure.{failure_status, line_of}
-use Rattle.aero_program.specs.Notes.{Remark, notes}
 use Rattle.aero_program.specs.Streams.{IsTold, WasCut}
 
 pub is_told : {T E : Type 0} (r : Result T E) (a b : Seen) (text : List ℕ) → OnOk r (Took a b text) → OnErr r (WasCut a b text) → IsTold a b text
@@ -42,28 +41,28 @@ told_more a b c text more first (inr cut) =
     })
 
 -- the notes were told, and there is nothing more to tell
-pub ends_well : (remarks : List Remark) (end : Result ℕ Failure) (wanted : ℕ) (a b : Seen) (text : List ℕ) → end ≡ Ok wanted → text ≡ notes remarks
-    → IsTold a b text → Ends remarks end a b wanted
-ends_well remarks end wanted a b text is same h =
-    subst (λ r. Ends remarks r a b wanted) (sym is) (inl (subst (IsTold a b) same h, refl))
+pub ends_well : (notes : List ℕ) (end : Result ℕ Failure) (wanted : ℕ) (a b : Seen) (text : List ℕ) → end ≡ Ok wanted → text ≡ notes
+    → IsTold a b text → Ends notes end a b wanted
+ends_well notes end wanted a b text is same h =
+    subst (λ r. Ends notes r a b wanted) (sym is) (inl (subst (IsTold a b) same h, refl))
 
 -- they were, and then the failure
-pub ends_failing : (remarks : List Remark) (end : Result ℕ Failure) (why : Failure) (a b c : Seen) (text : List ℕ) (status : ℕ) → end ≡ Err why → text ≡ notes remarks
-    → Took a b text → Fails why b c status → Ends remarks end a c status
-ends_failing remarks end why a b c text status is same h fails =
-    subst (λ r. Ends remarks r a c status) (sym is) (inl (told_more a b c (notes remarks) (line_of why) (subst (Took a b) same h) fails.line, fails.is))
+pub ends_failing : (notes : List ℕ) (end : Result ℕ Failure) (why : Failure) (a b c : Seen) (text : List ℕ) (status : ℕ) → end ≡ Err why → text ≡ notes
+    → Took a b text → Fails why b c status → Ends notes end a c status
+ends_failing notes end why a b c text status is same h fails =
+    subst (λ r. Ends notes r a c status) (sym is) (inl (told_more a b c notes (line_of why) (subst (Took a b) same h) fails.line, fails.is))
 
 -- standard error took only a part of them
-pub ends_cut : (remarks : List Remark) (end : Result ℕ Failure) (why : Failure) (a b : Seen) (text : List ℕ) (status : ℕ) → end ≡ Err why → text ≡ notes remarks
-    → WasCut a b text → status ≡ failure_status why → Ends remarks end a b status
-ends_cut remarks end why a b text status is same h status_is =
-    subst (λ r. Ends remarks r a b status) (sym is) (inl (inr (cut_longer a b (notes remarks) (line_of why) (subst (WasCut a b) same h)), status_is))
+pub ends_cut : (notes : List ℕ) (end : Result ℕ Failure) (why : Failure) (a b : Seen) (text : List ℕ) (status : ℕ) → end ≡ Err why → text ≡ notes
+    → WasCut a b text → status ≡ failure_status why → Ends notes end a b status
+ends_cut notes end why a b text status is same h status_is =
+    subst (λ r. Ends notes r a b status) (sym is) (inl (inr (cut_longer a b notes (line_of why) (subst (WasCut a b) same h)), status_is))
 
 -- memory was refused for the notes
-pub ends_unnoted : (remarks : List Remark) (end : Result ℕ Failure) (wanted : ℕ) (a b : Seen) (status : ℕ) → end ≡ Ok wanted
-    → Fails failure.Memory a b status → Ends remarks end a b status
-ends_unnoted remarks end wanted a b status is fails = subst (λ r. Ends remarks r a b status) (sym is) (inr fails)
+pub ends_unnoted : (notes : List ℕ) (end : Result ℕ Failure) (wanted : ℕ) (a b : Seen) (status : ℕ) → end ≡ Ok wanted
+    → Fails failure.Memory a b status → Ends notes end a b status
+ends_unnoted notes end wanted a b status is fails = subst (λ r. Ends notes r a b status) (sym is) (inr fails)
 
-pub fails_unnoted : (remarks : List Remark) (end : Result ℕ Failure) (why : Failure) (a b : Seen) (status : ℕ) → end ≡ Err why
-    → Fails why a b status → Ends remarks end a b status
-fails_unnoted remarks end why a b status is fails = subst (λ r. Ends remarks r a b status) (sym is) (inr fails)
+pub fails_unnoted : (notes : List ℕ) (end : Result ℕ Failure) (why : Failure) (a b : Seen) (status : ℕ) → end ≡ Err why
+    → Fails why a b status → Ends notes end a b status
+fails_unnoted notes end why a b status is fails = subst (λ r. Ends notes r a b status) (sym is) (inr fails)

@@ -1,10 +1,10 @@
 -- Which word is the first that isn't UTF-8.
-use Rattle.std.proofs.Common.{◌≡◌, ◌∙◌, ◌<◌, ℕ, zero, suc, List, [], ◌∷◌, ◌++◌, take, drop, length, get_or, map, Result, Ok, Err, true, ap, sym, refl, arith}
+use Rattle.std.proofs.Common.{◌≡◌, ◌∙◌, ◌<◌, ℕ, zero, suc, List, [], ◌∷◌, ◌++◌, take, drop, length, get_or, map, Err, true, ap, sym, refl, arith}
 use Rattle.std.specs.List.{list_all}
 use Rattle.std.specs.Str.{is_utf8}
 use Rattle.aero_program.specs.declared.arguments.Unread.{Unread}
 use Rattle.aero_program.specs.declared.arguments.Unread.TheVariants.{NotUtf8, Memory}
-use Rattle.aero_program.specs.Arguments.{IsFirstOdd, IsOdd, IsUnread, IsWordOf}
+use Rattle.aero_program.specs.Arguments.{IsOdd, IsUnread, IsWordOf}
 
 -- the items of a list before a place, at it and behind it
 parted : {W : Type 0} (f : W → List ℕ) (ws : List W) (i : ℕ) (d : W) → i < length ws → map f ws ≡ map f (take i ws) ++ f (get_or ws i d) ∷ map f (drop (suc i) ws)

@@ -22,7 +22,7 @@ use Rattle.aero_program.specs.declared.listing.Unlisted.TheVariants as unlisted
 use Rattle.aero_program.specs.declared.stamp.Stamp.{Stamp}
 use Rattle.aero_program.specs.Command.{AreLimitsFor, are_words, form_on, list_path, listed_by}
 use Rattle.aero_program.specs.Failure.{cut_failure, failure_status, line_of, word_line}
-use Rattle.aero_program.specs.Notes.{AreFaulty, AreNoted, AreShown, Noted, Remark, note_line, notes, said_on}
+use Rattle.aero_program.specs.Notes.{AreFaulty, AreNoted, AreShown, Noted, Remark, label_lines, labels_told, note_line, notes, said_on}
 use Rattle.aero_program.specs.Reasons.{reason_words}
 use Rattle.aero_program.specs.Sightings.{AreNames, AreUnlisted, source_sightings}
 use Rattle.aero_program.specs.Status.{end_of_help, end_of_run}
@@ -81,14 +81,14 @@ Stops (stop.Refused refused.TooManyLabels) shown shown_after told told_after sta
 Stops (stop.Refused refused.Memory) shown shown_after told told_after status = (shown_after ≡ shown) × Fails failure.Memory told told_after status
 Stops (stop.Unread why) shown shown_after told told_after status = (shown_after ≡ shown) × TellsNoWords why told told_after status
 
--- After a run: the notes on the sources go out on standard error, and then why the program fails, where it does. Where memory is refused for the notes, there are none, and the program fails.
-abbrev pub Ends : List Remark → Result ℕ Failure → Seen → Seen → ℕ → Type 0
-Ends remarks (Ok wanted) told told_after status =
-    (IsTold told told_after (notes remarks) × (status ≡ wanted)) ⊎ Fails failure.Memory told told_after status
-Ends remarks (Err why) told told_after status =
-    (IsTold told told_after (notes remarks ++ line_of why) × (status ≡ failure_status why)) ⊎ Fails why told told_after status
+-- After a run: the text of the notes goes out on standard error, and then why the program fails, where it does. Where memory is refused for the notes, there are none, and the program fails.
+abbrev pub Ends : (text : List ℕ) → Result ℕ Failure → Seen → Seen → ℕ → Type 0
+Ends text (Ok wanted) told told_after status =
+    (IsTold told told_after text × (status ≡ wanted)) ⊎ Fails failure.Memory told told_after status
+Ends text (Err why) told told_after status =
+    (IsTold told told_after (text ++ line_of why) × (status ≡ failure_status why)) ⊎ Fails why told told_after status
 
--- What the configuration asks for was judged: its sources, under the limits that it asks for, blocks that its labels leave out as no transactions. The report in its form went out on standard output, as every run's does, and a flush and the ends of the run decide.
+-- What the configuration asks for was judged: its sources, under the limits that it asks for, blocks that its labels leave out as no transactions. The report in its form went out on standard output, as every run's does, and a flush and the ends of the run decide. The lines on its labels stand behind those on the sources.
 pub record WasJudged (holds : List ℕ → Stamp → Option (List ℕ) → Type 0) (config : Config) (given : Option (List ℕ)) (shown shown_after : Shown) (told told_after : Seen) (status : ℕ) : Type 0 where
   pub limits : Limits
   pub limits_are : AreLimitsFor config.long limits
@@ -111,7 +111,7 @@ pub record WasJudged (holds : List ℕ → Stamp → Option (List ℕ) → Type 
   pub remarks : List Remark
   pub on_noted : map (λ r. r.noted) remarks ≡ noted
   pub are_shown : AreShown holds remarks
-  pub ends : Ends remarks (end_of_run config.fail_open cause counts fault) told told_after status
+  pub ends : Ends (notes remarks ++ label_lines config.terminals.errors (labels_told cause endings noted (listed_by config.except.items config.only.items).labels)) (end_of_run config.fail_open cause counts fault) told told_after status
 
 -- how it is told that there are no sources, since the list with their names, at this path, can't be had
 abbrev pub TellsUnlisted : (on_terminal : Bool) → (path : List ℕ) → Unlisted → Seen → Seen → ℕ → Type 0

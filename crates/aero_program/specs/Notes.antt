@@ -1,8 +1,10 @@
 -- The lines on the sources on standard error, each with the byte 10 that ends it.
 use Rattle.std.specs.Prelude.{◌≡◌, ◌==◌, ◌&&◌, ℕ, Bool, true, false, List, [], ◌∷◌, ◌++◌, Option, None, Some, codes, decimal, bytes_eq, flat_map, map, take, ⊤, if◌then◌else◌, slice_get}
+use Rattle.std.specs.List.{filter, list_all, list_any}
 use Rattle.aero_model.specs.CallCounts.{inner_of}
 use Rattle.aero_model.specs.declared.verdict.Ending.{Ending}
 use Rattle.aero_model.specs.declared.verdict.Ending.TheVariants as endings
+use Rattle.aero_batch.specs.declared.outcome.Cause.{Cause}
 use Rattle.aero_batch.specs.declared.outcome.Fault.{Fault}
 use Rattle.aero_batch.specs.declared.outcome.Fault.TheVariants.{Malformed, IllFormed}
 use Rattle.aero_batch.specs.declared.outcome.FaultyLine.{FaultyLine}
@@ -16,11 +18,12 @@ use Rattle.aero_program.specs.declared.reason.Reason.{Reason}
 use Rattle.aero_program.specs.declared.reason.Reason.TheVariants.{System, Unnumbered, NotUtf8}
 use Rattle.aero_program.specs.declared.stamp.Stamp.{Stamp}
 use Rattle.aero_program.specs.Inputs.{start_of, reason_of, opened_of}
+use Rattle.aero_program.specs.Labels.{missing_of}
 use Rattle.aero_program.specs.Looks.{ShowsAs}
 use Rattle.aero_program.specs.Reasons.{reason_words}
 use Rattle.aero_program.specs.Starts.{byte_order_mark, gzip_mark}
 
--- what was noted of a source: its name, whether that is a FILE word, whether a terminal is told of it, the first three bytes that came, why the first read that failed did, whether it had more bytes than a source may have that isn't long, its faulty line, and the stamp that its file had when it was opened
+-- what was noted of a source: its name, whether that is a FILE word, whether a terminal is told of it, the first three bytes that came, why the first read that failed did, whether it had more bytes than a source may have that isn't long, its faulty line, the stamp that its file had when it was opened, and the labels that it was watched for and with which no line that came begins a block
 pub record Noted : Type 0 where
   pub name : List ℕ
   pub is_word : Bool
@@ -30,6 +33,7 @@ pub record Noted : Type 0 where
   pub too_large : Bool
   pub fault : Option FaultyLine
   pub opened : Option Stamp
+  pub missing : List (List ℕ)
 
 -- whether a source whose reading ended so, after so many bytes, was too large; one that the run didn't come to was not
 abbrev pub was_too_large : Option (ℕ × Ending) → Bool
@@ -51,6 +55,7 @@ noted_of naming source too_large fault = record {
   too_large = too_large;
   fault = fault;
   opened = opened_of (inner_of source.reader);
+  missing = missing_of (inner_of source.reader);
 }
 
 -- what was noted of the sources, whose names are to be told so, whose readings ended so, and of which these faulty lines were told, as far as the run came
@@ -154,6 +159,42 @@ pub record AreNotes (holds : List ℕ → Stamp → Option (List ℕ) → Type 0
   pub are : map (λ r. r.noted) remarks ≡ noted
   pub shown : AreShown holds remarks
   pub told : text ≡ notes remarks
+
+-- what a source is named as, and how its input stands
+abbrev pub named_input : {S O F : Type 0} → Source (Input S O F) → List ℕ × Input S O F
+named_input source = (source.name.items, inner_of source.reader)
+
+-- the labels that each of these lists of missing labels has
+abbrev pub missing_in_each : List (List (List ℕ)) → List (List ℕ) → List (List ℕ)
+missing_in_each lists labels = filter (λ label. list_all (λ missing. list_any (bytes_eq label) missing) lists) labels
+
+abbrev pub is_whole : Ending → Bool
+is_whole endings.Whole = true
+is_whole endings.Broken = false
+is_whole endings.TooLarge = false
+
+-- whether a run that stopped for this cause, or for none, read each source to its end
+abbrev pub all_read : Option Cause → List (ℕ × Ending) → Bool
+all_read None endings = list_all (λ ending. is_whole ending.1) endings
+all_read (Some cause) endings = false
+
+-- The labels with which no block of any source begins, where each was read to its end. Else none are told: a block may begin with one behind what came.
+abbrev pub labels_told : Option Cause → List (ℕ × Ending) → List Noted → List (List ℕ) → List (List ℕ)
+labels_told cause endings noted labels = if all_read cause endings then missing_in_each (map (λ n. n.missing) noted) labels else []
+
+abbrev pub label_line : (on_terminal : Bool) → List ℕ → List ℕ
+label_line on_terminal label = codes "aerodrome: no block begins with begin(" ++ said_on on_terminal label ++ codes ")" ++ 10 ∷ []
+
+-- the lines on labels, in order
+abbrev pub label_lines : (on_terminal : Bool) → List (List ℕ) → List ℕ
+label_lines on_terminal labels = flat_map (label_line on_terminal) labels
+
+-- the text is the lines on sources of which this was noted, and then those on labels, after a run that stopped for this cause, or for none, and in which the readings of the sources ended so
+pub record AreTold (holds : List ℕ → Stamp → Option (List ℕ) → Type 0) (noted : List Noted) (cause : Option Cause) (endings : List (ℕ × Ending)) (on_terminal : Bool) (labels : List (List ℕ)) (text : List ℕ) : Type 0 where
+  pub remarks : List Remark
+  pub are : map (λ r. r.noted) remarks ≡ noted
+  pub shown : AreShown holds remarks
+  pub told : text ≡ notes remarks ++ label_lines on_terminal (labels_told cause endings noted labels)
 
 -- a text that grew by the lines on a source of which this was noted
 pub record GrowsBy (holds : List ℕ → Stamp → Option (List ℕ) → Type 0) (old new : List ℕ) (noted : Noted) : Type 0 where

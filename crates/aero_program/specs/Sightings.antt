@@ -27,6 +27,10 @@ bytes_known (sources.Listed path) given = None
 abbrev pub sighting : Option (List ℕ) → List ℕ → Sighted
 sighting known name = record { name = name; reader = unread known }
 
+-- the same source, of which nothing was read
+abbrev pub resighted : Sighted → Sighted
+resighted s = record { name = s.name; reader = unread s.reader.bytes }
+
 abbrev pub source_sightings : Sources → (given : Option (List ℕ)) → List (List ℕ) → List Sighted
 source_sightings sources given names = map (sighting (bytes_known sources given)) names
 

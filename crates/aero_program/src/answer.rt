@@ -1,12 +1,12 @@
 //! What the program does with what its words ask for.
-ghost use Rattle.std.specs.Prelude.{◌≡◌, ◌⊎◌, ◌≤◌, List, [], if◌then◌else◌, map, vec_len, IfOk, OnOk, OnErr};
+ghost use Rattle.std.specs.Prelude.{◌≡◌, ◌⊎◌, ◌≤◌, ℕ, List, [], if◌then◌else◌, map, vec_len, IfOk, OnOk, OnErr};
 ghost use Rattle.aero_model.specs.CallCounts.{seen_by};
 ghost use Rattle.aero_batch.specs.Founds.{sighted, Took, WasRun};
 ghost use Rattle.aero_intake.specs.PlanTerms.{terms_of};
 ghost use Rattle.aero_program.specs.Answers.{AnswersTo, Ends, Fails, Helps, Judges, Stops, TellsNoWords, TellsUnlisted, TellsWord};
 ghost use Rattle.aero_program.specs.declared.failure.Failure.TheVariants.{Memory};
 ghost use Rattle.aero_program.specs.declared.listing.Unlisted.TheVariants.{Unread};
-ghost use Rattle.aero_program.specs.Notes.{Remark, notes as notes_on};
+ghost use Rattle.aero_program.specs.Notes.{AreTold, noted_of_all};
 ghost use Rattle.aero_program.specs.Retries.{tried_by};
 ghost use Rattle.aero_program.specs.Streams.{WasCut, shown_by};
 
@@ -15,6 +15,7 @@ use crate::command::{Config, Refused, Stop};
 use crate::failure::{Failure, odd_word_line};
 use crate::files::Opener;
 use crate::input::Input;
+use crate::labels::{all_read, label_notes, watched};
 use crate::lasting::flush_fault;
 use crate::listing::Unlisted;
 use crate::looker::Looker;
@@ -29,6 +30,7 @@ use aero_batch::source::Source;
 use aero_intake::plan::Plan;
 use aero_lanes::{Report, run_in_lanes, run_in_turn};
 use aero_model::counting::Counting;
+use aero_model::name::Name;
 use aero_model::verdict::Ending;
 use aero_report::{Cut, put};
 use std::alloc::{AllocError, Global};
@@ -41,7 +43,7 @@ use std::thread::Threads;
 /// Where they ask for traces to be judged, it judges the files, or standard input where there are
 /// none, in which blocks with the labels that they give are no transactions, writes the report, with
 /// the serial orders and the events of cycles where they ask for those, to standard output and
-/// flushes it, and then writes the notes on the sources to standard error. Where the files stand in a
+/// flushes it, and then writes the notes on the sources and on labels to standard error. Where the files stand in a
 /// list that can't be had, it says why, and judges nothing. Help goes to standard
 /// output, which is flushed; why there is nothing to judge, and why the program fails, goes to
 /// standard error. Where standard error takes nothing, the status still tells. A read, a write or a
@@ -104,18 +106,57 @@ where
         Err(why) => return tell_unlisted(alloc, asked.list_path(), why, on_terminal, errors),
     };
     let host = Host { rt, alloc };
+    let Ok(sources) = watched(alloc, sources, &plan.except) else {
+        return fail(Failure::Memory, errors);
+    };
     let in_lanes = are_worth_threads(files, &sources);
     let (report, sources) = run_all(host, in_lanes, sources, &mut output.writer, &plan);
     let flushed = output.flush();
     let end = end_after(report.cause, &report.counts, &flushed, fail_open);
-    let endings = noted(&report.endings, long);
     let looker = Looker::new(alloc, files);
-    let naming = Naming {
-        are_words: asked.are_words(),
-        on_terminal,
+    let telling = Telling {
+        naming: Naming {
+            are_words: asked.are_words(),
+            on_terminal,
+        },
+        long,
+        labels: plan.except.get().labels(),
     };
-    let notes = notes_of(&looker, sources, endings, &report.faults, naming);
+    let notes = all_notes(&looker, sources, &report, telling);
     finish(end, notes, errors)
+}
+
+// How the notes are told: how sources are named, whether they were long, and of which labels.
+#[derive(Clone, Copy)]
+struct Telling<'a> {
+    naming: Naming,
+    long: bool,
+    labels: &'a [Name],
+}
+
+// The notes on the sources, and those on the labels, where each source was read to its end.
+fn all_notes<S: Read + Drop, F: Opener + Drop, G: Opener>(
+    looker: &Looker<'_, G>,
+    sources: Vec<Source<Input<S, F>>>,
+    report: &Report,
+    telling: Telling<'_>,
+) -> Result<Vec<u8>, AllocError>
+    ensures { IfOk result (λ text. AreTold G.holds (noted_of_all telling.entry.naming sources.items (if telling.entry.long then [] else report.now.endings.items) report.now.faults.items)
+        report.now.cause report.now.endings.items telling.entry.naming.on_terminal telling.entry.labels.now text.items) }
+{
+    let labels = told_of(telling.labels, all_read(report.cause, &report.endings));
+    let (lines, sources) = label_notes(looker.alloc, sources, labels, telling.naming.on_terminal)?;
+    let endings = noted(&report.endings, telling.long);
+    let mut text = notes_of(looker, sources, endings, &report.faults, telling.naming)?;
+    text.extend_from_slice(&lines)?;
+    Ok(text)
+}
+
+// The labels of which it is told whether they begin no block: of all, or of none.
+fn told_of(labels: &[Name], all_read: bool) -> &[Name]
+    ensures { result.now ≡ (if all_read then labels.now else []) }
+{
+    if all_read { labels } else { &[] }
 }
 
 // What a run takes time and memory from.
@@ -186,13 +227,13 @@ fn noted(endings: &[(u64, Ending)], long: bool) -> &[(u64, Ending)]
     if long { &[] } else { endings }
 }
 
-// Tells the notes on the sources, and then why the program fails, where it does.
+// Tells the notes, and then why the program fails, where it does.
 fn finish<E: Write>(
     end: Result<u8, Failure>,
     notes: Result<Vec<u8>, AllocError>,
     errors: &mut Counting<E>,
 ) -> u8
-    ensures { (remarks : List Remark) → IfOk notes (λ text. text.items ≡ notes_on remarks) → Ends remarks end (seen_by E.contents errors.old) (seen_by E.contents errors.new) result }
+    ensures { (text : List ℕ) → IfOk notes (λ notes. notes.items ≡ text) → Ends text end (seen_by E.contents errors.old) (seen_by E.contents errors.new) result }
 {
     let Ok(notes) = notes else {
         return match end {

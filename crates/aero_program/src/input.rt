@@ -1,14 +1,16 @@
 //! Standard input or a file, as a reader that opens its file at the first read, and notes which file that
-//! was, how its bytes begin and why a read failed.
-ghost use Rattle.std.specs.Prelude.{◌≡◌, ◌≢◌, IfErr, IfOk, IfSome};
+//! was, how its bytes begin, why a read failed, and, where it is asked for, which labels begin no block in them.
+ghost use Rattle.std.specs.Prelude.{◌≡◌, ◌≢◌, ◌++◌, ℕ, List, IfErr, IfOk, IfSome};
 ghost use Rattle.std.specs.IoError.{error_kind};
 ghost use Rattle.std.specs.declared.io.ErrorKind.TheVariants.{Interrupted};
+ghost use Rattle.aero_program.specs.Labels.{HasWatched, watched_in};
 
 use crate::files::{Opened, Opener};
 use crate::reason::Reason;
 use crate::retrying::Retrying;
 use crate::stamp::Stamp;
 use crate::start::Start;
+use aero_watch::watch::Watch;
 use std::alloc::{AllocError, Global};
 use std::io::{ErrorKind, Read};
 use std::{io, mem};
@@ -24,6 +26,7 @@ pub struct Input<S, O: Opener> {
     stage: Stage<S, O>,
     start: Start,
     reason: Option<Reason>,
+    watch: Option<Watch>,
 }
 
 // How far an input has come. A file that was opened had this stamp then, if it had one.
@@ -39,7 +42,9 @@ enum Stage<S, O: Opener> {
 
 impl<S: Read + Drop, O: Opener + Drop> Input<S, O> {
     ghost use Rattle.std.specs.Prelude.{◌≡◌, [], Some, None, IfOk, bytes_eq, take};
+    ghost use Rattle.std.specs.List.{list_any};
     ghost use Rattle.aero_program.specs.Inputs.{opened_of, standing_of, start_of, reason_of, unread, Standard, Unopened, Failed};
+    ghost use Rattle.aero_program.specs.Labels.{missing_of};
     ghost use Rattle.aero_program.specs.declared.reason.Reason.TheVariants.{NotUtf8};
     ghost use Rattle.aero_program.specs.Starts.{byte_order_mark, gzip_mark};
 
@@ -54,6 +59,7 @@ impl<S: Read + Drop, O: Opener + Drop> Input<S, O> {
             stage: Stage::Standard(Retrying::new(stdin)),
             start: Start::Nothing,
             reason: None,
+            watch: None,
         }
     }
 
@@ -69,6 +75,7 @@ impl<S: Read + Drop, O: Opener + Drop> Input<S, O> {
             stage: Stage::Unopened(files, path),
             start: Start::Nothing,
             reason: None,
+            watch: None,
         })
     }
 
@@ -83,6 +90,31 @@ impl<S: Read + Drop, O: Opener + Drop> Input<S, O> {
             stage: Stage::Failed(ErrorKind::InvalidFilename, None),
             start: Start::Nothing,
             reason: Some(Reason::NotUtf8),
+            watch: None,
+        }
+    }
+
+    /// The same, whose bytes a watch looks at from now on, or none.
+    pub fn watched_by(self, watch: Option<Watch>) -> Input<S, O>
+        ensures { result ≡ record self { watch = watch } }
+    {
+        let mut input = self;
+        input.watch = watch;
+        input
+    }
+
+    /// Whether its watch has this label, and no line of the bytes that came begins a block with it. Where it has no watch
+    /// it lacks none.
+    ///
+    /// # Errors
+    ///
+    /// `AllocError` where memory is refused now, or was to the watch.
+    pub fn lacks(&self, label: &[u8]) -> Result<bool, AllocError>
+        ensures { IfOk result (λ lacks. lacks ≡ list_any (bytes_eq label.now) (missing_of self.now)) }
+    {
+        match &self.watch {
+            Some(watch) => watch.lacks(label),
+            None => Ok(false),
         }
     }
 
@@ -119,9 +151,11 @@ impl<S: Read + Drop, O: Opener + Drop> Input<S, O> {
 }
 
 impl<S: Read + Drop, O: Opener + Drop> Read for Input<S, O> {
+    ghost use Rattle.std.specs.Prelude.{ℕ, List};
     ghost use Rattle.std.specs.Io.{ReadsAtMost};
     ghost use Rattle.std.specs.Io.KnownBytes.{ReadConsumes};
     ghost use Rattle.aero_program.specs.Inputs.{standing_of, bytes_left, opened_of, start_of, reason_of, OpensTo, StepsTo};
+    ghost use Rattle.aero_program.specs.Labels.{came_after, HasWatched, watched_in};
     ghost use Rattle.aero_program.specs.Starts.{start_after};
     ghost use Rattle.std.specs.IoError.{raw_os_error};
     ghost use Rattle.aero_program.specs.Reasons.{reason_after};
@@ -135,11 +169,16 @@ impl<S: Read + Drop, O: Opener + Drop> Read for Input<S, O> {
         ensures opened { OpensTo O.holds (standing_of S.remaining self.old) (opened_of self.old) (opened_of self.new) }
         ensures start { start_of self.new ≡ start_after (start_of self.old) result buf.new }
         ensures reason { reason_of self.new ≡ reason_after raw_os_error (reason_of self.old) result }
+        ensures watched { watched_in self.new.watch ≡ watched_in self.old.watch }
+        ensures seen { (came : List ℕ) → HasWatched self.old.watch came → HasWatched self.new.watch (came_after came result buf.new) }
     {
         let (stage, outcome) = mem::replace(&mut self.stage, Stage::Ended(None)).read(buf);
         self.stage = stage;
         match &outcome {
-            Ok(count) => self.start = self.start.after_all(&buf[..*count]),
+            Ok(count) => {
+                self.start = self.start.after_all(&buf[..*count]);
+                feed(&mut self.watch, &buf[..*count]);
+            }
             Err(error) => self.reason = self.reason.or(Some(Reason::of(error))),
         }
         outcome
@@ -191,6 +230,16 @@ impl<S: Read + Drop, O: Opener + Drop> Stage<S, O> {
             Ok(0) if !buf.is_empty() => (Stage::Ended(stamp), Ok(0)),
             Ok(count) => (Stage::Reading(file, stamp), Ok(count)),
         }
+    }
+}
+
+// Lets the watch see the next bytes, if there is one.
+fn feed(watch: &mut Option<Watch>, piece: &[u8])
+    ensures watched { watched_in watch.new ≡ watched_in watch.old }
+    ensures seen { (came : List ℕ) → HasWatched watch.old came → HasWatched watch.new (came ++ piece.now) }
+{
+    if let Some(watch) = watch {
+        watch.feed(piece);
     }
 }
 

@@ -31,7 +31,10 @@
 //!   finds the end exactly where the stream does: `Input::standard`, `read`, `steps`.
 //! - A file is opened at its first read, by any `Opener`. It has bytes or an end only where an open can have worked, and
 //!   after a failed open each read fails: `Input::path`, `read`, `steps`.
-//! - An input notes its first three bytes and its first failure: `Input::read`, `start`, `reason`.
+//! - An input notes its first three bytes and its first failure: `Input::read`, `start`, `reason`. It notes with which labels
+//!   of its watch no line of the bytes that came begins a block: `Input::read`, `watched`, `seen`; `lacks`.
+//! - Behind the notes on sources those labels are told, in order, that each source lacks, where each was read to its end:
+//!   `label_notes`, `all_read`, `answer`. That a source gets a watch for them, `watched` says.
 //! - Where the flush of standard output fails as that of a pipe whose reader has gone, no line says so: `answer`,
 //!   `status_after`, `Failure::of_write`, `of_cut`.
 //! - The whole size of files is the sum of theirs, where each is known: `whole_size`.
@@ -60,6 +63,7 @@ pub mod command;
 pub mod failure;
 pub mod files;
 pub mod input;
+pub mod labels;
 mod lasting;
 pub mod listing;
 pub mod looker;

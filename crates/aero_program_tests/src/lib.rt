@@ -1,4 +1,4 @@
-//! Tests of what the program does with a run, of its command line, and of its line on progress.
+//! Tests of what the program does with a run, of its command line, of its line on progress, and of labels that begin no block.
 //!
 //! A crate with tests is proved twice, with them and without, so they stand here, above these crates, and
 //! each is proved once. A module has the tests of the crate that it is named for. It has nothing for
@@ -9,5 +9,7 @@
 mod program;
 #[cfg(test)]
 mod progress;
+#[cfg(test)]
+mod watch;
 #[cfg(test)]
 mod words;

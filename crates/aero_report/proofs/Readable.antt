@@ -11,9 +11,15 @@ use Rattle.aero_model.specs.declared.verdict.Verdict.{Verdict}
 use Rattle.aero_model.specs.declared.verdict.Verdict.TheVariants.{Serializable, Pending, Violation, Malformed, IllFormed}
 use Rattle.aero_model.specs.declared.verdict.Step.{Step}
 use Rattle.aero_model.specs.declared.verdict.CycleStep.{CycleStep}
+use Rattle.aero_model.specs.declared.verdict.CycleTransaction.{CycleTransaction}
+use Rattle.aero_model.specs.declared.verdict.Extent.{Extent}
+use Rattle.aero_model.specs.declared.verdict.Extent.TheVariants as extents
+use Rattle.aero_model.specs.declared.verdict.Counts.{Counts}
 use Rattle.aero_model.specs.declared.verdict.Finding.{Finding}
 use Rattle.aero_model.specs.declared.verdict.Finding.TheVariants.{Judged, Ordered, Explained, Broken, TooLarge}
-use Rattle.aero_report.specs.Json.{Member, members_of, items_of, bytes_value, name_value, verdict_members, step_value, target_members, cycle_step_value, label_members, finding_members, source_value, ReadsBack}
+use Rattle.aero_model.specs.Named.{Named}
+use Rattle.aero_report.specs.Options.{Options}
+use Rattle.aero_report.specs.Json.{Member, members_of, items_of, object_of, bytes_value, name_value, verdict_members, step_value, target_members, event_members, cycle_step_value, label_members, end_members, extent_members, transaction_value, list, cycle_members, finding_members, source_value, count_members, listed_member, option_members, summary_value, ReadsBack}
 
 pub reads_back : {T E : Type 0} (r : Result T E) (ts : List Token) (j : Json) → depth j ≤ max_depth → ts ≡ json_tokens j → OnOk r (tokens (print ts) ≡ ts) → OnOk r (ReadsBack j)
 reads_back (Ok x) ts j shallow is h =
@@ -31,12 +37,19 @@ target_depth : (t : Option (List ℕ)) → members_depth (members_of (target_mem
 target_depth None = omega arith
 target_depth (Some t) = omega (arith, name_depth t)
 
+event_depth : (e : Named) → members_depth (members_of (event_members e)) ≤ 1
+event_depth e = omega (arith, name_depth e.thread, target_depth e.target)
+
 cycle_step_depth : (s : CycleStep) → depth (cycle_step_value s) ≤ 2
-cycle_step_depth s = omega (arith, name_depth s.event.thread, target_depth s.event.target)
+cycle_step_depth s = omega (arith, event_depth s.event)
 
 label_depth : (l : Option (List ℕ)) → members_depth (members_of (label_members l)) ≤ 1
 label_depth None = omega arith
 label_depth (Some l) = omega (arith, name_depth l)
+
+end_depth : (end : Option ℕ) → members_depth (members_of (end_members end)) ≤ 1
+end_depth None = omega arith
+end_depth (Some line) = omega arith
 
 verdict_depth : (v : Verdict) → members_depth (members_of (verdict_members v)) ≤ 1
 verdict_depth (Serializable events blocks) = omega arith
@@ -49,18 +62,35 @@ list_depth : {A : Type 0} (f : A → Json) → ((x : A) → depth (f x) ≤ 2) �
 list_depth f h [] = omega arith
 list_depth f h (x ∷ xs) = omega (arith, h x, list_depth f h xs)
 
-both_depth : (ms ns : List Member) → members_depth (members_of ms) ≤ 3 → members_depth (members_of ns) ≤ 3 → members_depth (members_of (ms ++ ns)) ≤ 3
-both_depth [] ns h k = k
-both_depth (m ∷ ms) ns h k = omega (arith, both_depth ms ns (omega arith) k)
+both_depth : (n : ℕ) (ms ns : List Member) → members_depth (members_of ms) ≤ n → members_depth (members_of ns) ≤ n → members_depth (members_of (ms ++ ns)) ≤ n
+both_depth n [] ns h k = k
+both_depth n (m ∷ ms) ns h k = omega (arith, h, both_depth n ms ns (omega (arith, h)) k)
+
+extent_depth : (e : Extent) → members_depth (members_of (extent_members e)) ≤ 1
+extent_depth extents.Alone = omega arith
+extent_depth (extents.Block label end) = omega (arith, both_depth 1 (label_members label) (end_members end) (label_depth label) (end_depth end))
+
+transaction_depth : (t : CycleTransaction) → depth (transaction_value t) ≤ 2
+transaction_depth t = omega (arith, name_depth t.thread, extent_depth t.extent)
 
 finding_depth : (f : Finding) → members_depth (members_of (finding_members f)) ≤ 3
 finding_depth (Judged v) = omega (arith, verdict_depth v)
-finding_depth (Ordered v steps) = both_depth (verdict_members v) _ (omega (arith, verdict_depth v)) (omega (arith, list_depth step_value step_depth steps.items))
+finding_depth (Ordered v steps) = both_depth 3 (verdict_members v) _ (omega (arith, verdict_depth v)) (omega (arith, list_depth step_value step_depth steps.items))
 finding_depth (Explained v cycle) =
-    both_depth (verdict_members v) _ (omega (arith, verdict_depth v))
-    (both_depth (label_members cycle.label) _ (omega (arith, label_depth cycle.label)) (omega (arith, list_depth cycle_step_value cycle_step_depth cycle.steps.items)))
+    both_depth 3 (verdict_members v) _ (omega (arith, verdict_depth v))
+    (both_depth 3 (label_members cycle.label) _ (omega (arith, label_depth cycle.label))
+    (omega (arith, list_depth cycle_step_value cycle_step_depth cycle.steps.items, list_depth transaction_value transaction_depth cycle.transactions.items, event_depth cycle.closing)))
 finding_depth (Broken bytes) = omega arith
 finding_depth TooLarge = omega arith
 
 pub source_depth : (bytes : List ℕ) (f : Finding) → depth (source_value bytes f) ≤ max_depth
 source_depth bytes f = omega (arith, name_depth bytes, finding_depth f)
+
+labels_depth : (labels : List (List ℕ)) → items_depth (items_of (map name_value labels)) ≤ 2
+labels_depth labels = list_depth name_value (λ l. omega (arith, name_depth l)) labels
+
+option_depth : (o : Options) → members_depth (members_of (option_members o)) ≤ 3
+option_depth o = omega (arith, labels_depth o.labels.labels)
+
+pub summary_depth : (o : Options) (counts : Counts) → depth (summary_value o counts) ≤ max_depth
+summary_depth o counts = omega (arith, both_depth 3 (count_members counts) (option_members o) (omega arith) (option_depth o))

@@ -1,7 +1,7 @@
 -- The definitions at values that are known from elsewhere.
-use Rattle.std.proofs.Common.{◌≡◌, [], ◌∷◌, ◌++◌, refl, ap, ap₂}
+use Rattle.std.proofs.Common.{◌≡◌, [], ◌∷◌, ◌++◌, refl, ap, ap₂, lit<, lit≤}
 use Rattle.std.specs.Fmt.{digits}
-use Rattle.std.specs.Prelude.{codes, flat_map, Vec, Some, None}
+use Rattle.std.specs.Prelude.{codes, flat_map, Vec, Some, None, true, false, ◌^◌}
 use Rattle.std.specs.Global.{Global}
 use Rattle.aero_model.specs.declared.verdict.Step.{Step}
 use Rattle.aero_model.specs.declared.verdict.Cycle.{Cycle}
@@ -14,7 +14,12 @@ use Rattle.aero_report.specs.declared.form.Form.TheVariants.{Json}
 use Rattle.json.proofs.OnLiterals.{json_on_literals}
 use Rattle.std.specs.Str.{chars, is_utf8}
 use Rattle.aero_report.specs.Texts.{cycle_line, label_line, step_line, source_line, summary_line, no_counts, counts_of, report}
-use Rattle.aero_report.specs.Forms.{source_line_in, report_in}
+use Rattle.aero_model.specs.declared.limits.Limits.{Limits}
+use Rattle.aero_model.specs.declared.verdict.Extent.TheVariants.{Alone, Block}
+use Rattle.aero_model.specs.Exempt.{all_but}
+use Rattle.aero_report.specs.Forms.{source_line_in, summary_line_in}
+use Rattle.aero_report.specs.Json.{transaction_value, json_text}
+use Rattle.aero_report.specs.Options.{Options}
 
 broken : source_line (codes "n") (Broken 20) ≡ codes "n: broken after 20 bytes" ++ 10 ∷ []
 unfolding digits
@@ -80,9 +85,44 @@ one_broken : report ((codes "n", Broken 20) ∷ []) ≡ codes "n: broken after 2
 unfolding digits
 one_broken = refl
 
-one_broken_object : report_in Json ((codes "n", Broken 20) ∷ []) ≡ codes "{\"source\":\"n\",\"verdict\":\"broken\",\"bytes\":20}" ++ 10 ∷ codes "{\"traces\":1,\"serializable\":0,\"open\":0,\"violations\":0,\"faults\":1}" ++ 10 ∷ []
+one_broken_object : source_line_in Json (codes "n") (Broken 20) ≡ codes "{\"source\":\"n\",\"verdict\":\"broken\",\"bytes\":20}" ++ 10 ∷ []
 unfolding digits json_on_literals chars is_utf8
 one_broken_object = refl
+
+ill_formed_object : source_line_in Json (codes "n") (Judged (IllFormed 3 shape_faults.JoinSelf)) ≡ codes "{\"source\":\"n\",\"verdict\":\"ill-formed\",\"line\":3,\"fault\":\"JoinSelf\",\"note\":\"the thread joins itself\"}" ++ 10 ∷ []
+unfolding digits json_on_literals chars is_utf8
+ill_formed_object = refl
+
+abbrev few : Limits
+few = record {
+  bytes = 20;
+  lines = 4;
+  threads = 3;
+  names = 2;
+  some_bytes = lit< tt;
+  most_bytes = lit≤ tt;
+  some_lines = lit< tt;
+  most_lines = lit≤ tt;
+  some_threads = lit< tt;
+  most_threads = lit≤ tt;
+  some_names = lit< tt;
+  most_names = lit≤ tt;
+}
+
+abbrev options : Options
+options = record { limits = few; labels = all_but (codes "f" ∷ codes "g" ∷ []); order = false; explain = true }
+
+summary_object : summary_line_in Json options (counts_of (Broken 20 ∷ [])) ≡ codes "{\"traces\":1,\"serializable\":0,\"open\":0,\"violations\":0,\"faults\":1,\"version\":\"0.1.0\",\"order\":false,\"explain\":true,\"limits\":{\"bytes\":20,\"lines\":4,\"threads\":3,\"names\":2},\"only\":[\"f\",\"g\"]}" ++ 10 ∷ []
+unfolding digits json_on_literals chars is_utf8
+summary_object = refl
+
+block_object : json_text (transaction_value (record { first = 5; thread = codes "T2"; extent = Block (Some (codes "f")) (Some 8) })) ≡ codes "{\"first\":5,\"thread\":\"T2\",\"block\":true,\"label\":\"f\",\"end\":8}"
+unfolding digits json_on_literals chars is_utf8
+block_object = refl
+
+event_object : json_text (transaction_value (record { first = 9; thread = codes "T3"; extent = Alone })) ≡ codes "{\"first\":9,\"thread\":\"T3\",\"block\":false}"
+unfolding digits json_on_literals chars is_utf8
+event_object = refl
 
 quotes_object : source_line_in Json (97 ∷ 34 ∷ 9 ∷ []) TooLarge ≡ codes "{\"source\":\"a\\\"\\t\",\"verdict\":\"too large\"}" ++ 10 ∷ []
 unfolding digits json_on_literals chars is_utf8

@@ -7,6 +7,7 @@ use Rattle.aero_model.specs.declared.verdict.Counts.{Counts}
 use Rattle.aero_report.specs.declared.form.Form.{Form}
 use Rattle.aero_report.specs.declared.form.Form.TheVariants.{Text, Terminal, Json}
 use Rattle.aero_report.specs.Texts.{source_line, summary_line, counts_of}
+use Rattle.aero_report.specs.Options.{Options}
 use Rattle.aero_report.specs.Json.{json_line, source_value, summary_value, ReadsBack}
 
 -- the lines of a source as a terminal is shown them: its name, which may have any byte, and what stands behind it, where each byte 10 ends a line, since no name there has one
@@ -19,11 +20,11 @@ source_line_in Text name finding = source_line name finding
 source_line_in Terminal name finding = shown_source_line name finding
 source_line_in Json name finding = json_line (source_value name finding)
 
--- what is said of the counts
-abbrev pub summary_line_in : Form → Counts → List ℕ
-summary_line_in Text counts = summary_line counts
-summary_line_in Terminal counts = summary_line counts
-summary_line_in Json counts = json_line (summary_value counts)
+-- what is said of the counts, and, where it is JSON, of how the sources were judged
+abbrev pub summary_line_in : Form → Options → Counts → List ℕ
+summary_line_in Text options counts = summary_line counts
+summary_line_in Terminal options counts = summary_line counts
+summary_line_in Json options counts = json_line (summary_value options counts)
 
 -- where it is JSON, its text without the newline is a document that means this value
 abbrev pub IsReadable : Form → value.Json → Type 0
@@ -36,5 +37,5 @@ abbrev pub source_lines_in : Form → List (List ℕ × Finding) → List ℕ
 source_lines_in form sources = flat_map (λ s. source_line_in form s.0 s.1) sources
 
 -- the report on them: their lines in order, then the summary
-abbrev pub report_in : Form → List (List ℕ × Finding) → List ℕ
-report_in form sources = source_lines_in form sources ++ summary_line_in form (counts_of (map (λ s. s.1) sources))
+abbrev pub report_in : Form → Options → List (List ℕ × Finding) → List ℕ
+report_in form options sources = source_lines_in form sources ++ summary_line_in form options (counts_of (map (λ s. s.1) sources))

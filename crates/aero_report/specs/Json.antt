@@ -1,19 +1,28 @@
 -- The report for machines: the data of each line as JSON, with its members in this order, and the line's text.
-use Rattle.std.specs.Prelude.{◌≡◌, ℕ, ◌+◌, List, [], ◌∷◌, ◌++◌, if◌then◌else◌, Option, Some, None, map, codes, decimal}
+use Rattle.std.specs.Prelude.{◌≡◌, ℕ, ◌+◌, List, [], ◌∷◌, ◌++◌, Bool, true, false, if◌then◌else◌, Option, Some, None, map, codes, decimal}
 use Rattle.std.specs.Str.{is_utf8}
 use Rattle.base64.specs.Engines.{standard}
 use Rattle.base64.specs.GeneralPurpose.{encode_of}
-use Rattle.json.specs.Json.{Json, string, number, array, object, Items, no_items, item, Members, no_members, member, document}
+use Rattle.json.specs.Json.{Json, boolean, string, number, array, object, Items, no_items, item, Members, no_members, member, document}
 use Rattle.json.specs.Tree.{json_tokens}
 use Rattle.json.specs.Print.{print}
+use Rattle.aero_model.specs.declared.limits.Limits.{Limits}
 use Rattle.aero_model.specs.declared.verdict.Verdict.{Verdict}
 use Rattle.aero_model.specs.declared.verdict.Verdict.TheVariants.{Serializable, Pending, Violation, Malformed, IllFormed}
 use Rattle.aero_model.specs.declared.verdict.Step.{Step}
+use Rattle.aero_model.specs.declared.verdict.Cycle.{Cycle}
 use Rattle.aero_model.specs.declared.verdict.CycleStep.{CycleStep}
+use Rattle.aero_model.specs.declared.verdict.CycleTransaction.{CycleTransaction}
+use Rattle.aero_model.specs.declared.verdict.Extent.{Extent}
+use Rattle.aero_model.specs.declared.verdict.Extent.TheVariants as extents
 use Rattle.aero_model.specs.declared.verdict.Finding.{Finding}
 use Rattle.aero_model.specs.declared.verdict.Finding.TheVariants.{Judged, Ordered, Explained, Broken, TooLarge}
 use Rattle.aero_model.specs.declared.verdict.Counts.{Counts}
+use Rattle.aero_model.specs.Exempt.{Listed}
+use Rattle.aero_model.specs.Named.{Named}
+use Rattle.aero_report.specs.Options.{Options}
 use Rattle.aero_report.specs.Texts.{line_fault_name, shape_fault_name, op_name}
+use Rattle.aero_report.specs.Words.{line_words, shape_words}
 
 -- a member of an object: its key and its value
 abbrev pub Member : Type 0
@@ -36,6 +45,9 @@ count key n = (key, number (decimal n))
 abbrev pub word : List ℕ → List ℕ → Member
 word key text = (key, string text)
 
+abbrev pub flag : List ℕ → Bool → Member
+flag key b = (key, boolean b)
+
 -- {"bytes":BASE64}, in the standard alphabet and padded
 abbrev pub bytes_value : List ℕ → Json
 bytes_value bytes = object_of (word (codes "bytes") (encode_of standard bytes) ∷ [])
@@ -51,8 +63,8 @@ abbrev pub verdict_members : Verdict → List Member
 verdict_members (Serializable events blocks) = word (codes "verdict") (codes "serializable") ∷ count (codes "events") events ∷ count (codes "blocks") blocks ∷ []
 verdict_members (Pending events blocks pending) = word (codes "verdict") (codes "open") ∷ count (codes "events") events ∷ count (codes "blocks") blocks ∷ count (codes "open") pending ∷ []
 verdict_members (Violation line thread begun) = word (codes "verdict") (codes "violation") ∷ count (codes "line") line ∷ name (codes "thread") thread ∷ count (codes "begun") begun ∷ []
-verdict_members (Malformed line fault) = word (codes "verdict") (codes "malformed") ∷ count (codes "line") line ∷ word (codes "fault") (line_fault_name fault) ∷ []
-verdict_members (IllFormed line fault) = word (codes "verdict") (codes "ill-formed") ∷ count (codes "line") line ∷ word (codes "fault") (shape_fault_name fault) ∷ []
+verdict_members (Malformed line fault) = word (codes "verdict") (codes "malformed") ∷ count (codes "line") line ∷ word (codes "fault") (line_fault_name fault) ∷ word (codes "note") (line_words fault) ∷ []
+verdict_members (IllFormed line fault) = word (codes "verdict") (codes "ill-formed") ∷ count (codes "line") line ∷ word (codes "fault") (shape_fault_name fault) ∷ word (codes "note") (shape_words fault) ∷ []
 
 -- a transaction of a serial order
 abbrev pub step_value : Step → Json
@@ -63,23 +75,49 @@ abbrev pub target_members : Option (List ℕ) → List Member
 target_members None = []
 target_members (Some target) = name (codes "target") target ∷ []
 
+-- an event: its thread, its operation, and its target, if it has one
+abbrev pub event_members : Named → List Member
+event_members event = name (codes "thread") event.thread ∷ word (codes "op") (op_name event.op) ∷ target_members event.target
+
 -- an event of a cycle
 abbrev pub cycle_step_value : CycleStep → Json
-cycle_step_value step =
-    object_of (count (codes "line") step.line ∷ count (codes "first") step.first ∷ name (codes "thread") step.event.thread ∷ word (codes "op") (op_name step.event.op) ∷ target_members step.event.target)
+cycle_step_value step = object_of (count (codes "line") step.line ∷ count (codes "first") step.first ∷ event_members step.event)
 
--- the label of the block that is named, if it has one
+-- a label, if there is one
 abbrev pub label_members : Option (List ℕ) → List Member
 label_members None = []
 label_members (Some label) = name (codes "label") label ∷ []
 
+-- the line of the block's end, if it has ended
+abbrev pub end_members : Option ℕ → List Member
+end_members None = []
+end_members (Some line) = count (codes "end") line ∷ []
+
+-- whether it is a block, and then its label and its end
+abbrev pub extent_members : Extent → List Member
+extent_members extents.Alone = flag (codes "block") false ∷ []
+extent_members (extents.Block label end) = flag (codes "block") true ∷ (label_members label ++ end_members end)
+
+-- a transaction of a cycle
+abbrev pub transaction_value : CycleTransaction → Json
+transaction_value t = object_of (count (codes "first") t.first ∷ name (codes "thread") t.thread ∷ extent_members t.extent)
+
 abbrev pub list : List ℕ → List Json → Member
 list key values = (key, array (items_of values))
+
+-- what shows a violation: the label of the block that is named, if it has one, the events of the cycle, the transactions through which it goes, and the event that closes it
+abbrev pub cycle_members : Cycle → List Member
+cycle_members cycle =
+    label_members cycle.label
+    ++ list (codes "cycle") (map cycle_step_value cycle.steps.items)
+    ∷ list (codes "transactions") (map transaction_value cycle.transactions.items)
+    ∷ (codes "closing", object_of (event_members cycle.closing))
+    ∷ []
 
 abbrev pub finding_members : Finding → List Member
 finding_members (Judged verdict) = verdict_members verdict
 finding_members (Ordered verdict steps) = verdict_members verdict ++ list (codes "order") (map step_value steps.items) ∷ []
-finding_members (Explained verdict cycle) = verdict_members verdict ++ (label_members cycle.label ++ list (codes "cycle") (map cycle_step_value cycle.steps.items) ∷ [])
+finding_members (Explained verdict cycle) = verdict_members verdict ++ cycle_members cycle
 finding_members (Broken bytes) = word (codes "verdict") (codes "broken") ∷ count (codes "bytes") bytes ∷ []
 finding_members TooLarge = word (codes "verdict") (codes "too large") ∷ []
 
@@ -87,15 +125,34 @@ finding_members TooLarge = word (codes "verdict") (codes "too large") ∷ []
 abbrev pub source_value : List ℕ → Finding → Json
 source_value bytes finding = object_of (name (codes "source") bytes ∷ finding_members finding)
 
-abbrev pub summary_members : Counts → List Member
-summary_members counts =
+abbrev pub count_members : Counts → List Member
+count_members counts =
     count (codes "traces") (counts.serializable + counts.pending + counts.violations + counts.faults)
     ∷ count (codes "serializable") counts.serializable ∷ count (codes "open") counts.pending
     ∷ count (codes "violations") counts.violations ∷ count (codes "faults") counts.faults ∷ []
 
+-- how much a source may have
+abbrev pub limits_value : Limits → Json
+limits_value limits =
+    object_of (count (codes "bytes") limits.bytes ∷ count (codes "lines") limits.lines ∷ count (codes "threads") limits.threads ∷ count (codes "names") limits.names ∷ [])
+
+-- the labels of the blocks that are no transactions, or of the only blocks that are, in their order
+abbrev pub listed_member : Listed → Member
+listed_member listed = list (if listed.only then codes "only" else codes "except") (map name_value listed.labels)
+
+-- the program's version, and how the sources were judged
+abbrev pub option_members : Options → List Member
+option_members options =
+    word (codes "version") (codes "0.1.0")
+    ∷ flag (codes "order") options.order
+    ∷ flag (codes "explain") options.explain
+    ∷ (codes "limits", limits_value options.limits)
+    ∷ listed_member options.labels
+    ∷ []
+
 -- the data of the summary
-abbrev pub summary_value : Counts → Json
-summary_value counts = object_of (summary_members counts)
+abbrev pub summary_value : Options → Counts → Json
+summary_value options counts = object_of (count_members counts ++ option_members options)
 
 -- the text of a value, with no blank
 abbrev pub json_text : Json → List ℕ

@@ -1,9 +1,11 @@
 //! The report in the form that is asked for.
 ghost use Rattle.std.specs.Prelude.{◌≡◌, IfOk, OnOk};
+ghost use Rattle.aero_report.specs.Asked.{options_of};
 ghost use Rattle.aero_report.specs.Forms.{shown_source_line, source_line_in, summary_line_in, IsReadable};
 ghost use Rattle.aero_report.specs.Json.{source_value, summary_value};
 
-use crate::objects::{source_object, summary_object};
+use crate::objects::source_object;
+use crate::options::{Options, summary_object};
 use crate::summary::summary_text;
 use crate::texts::trace_text;
 use aero_model::verdict::{Counts, Finding};
@@ -43,17 +45,22 @@ pub fn source_text(
 }
 
 /// The last line of a report, with a newline: how many sources there are, and how many were found to
-/// be what.
+/// be what. As JSON it also has the program's version, and how the sources were judged.
 ///
 /// The first number is the sum of the four counts, also where it is above 2^64 - 1. Fails only
 /// where memory runs out.
-pub fn totals_text(alloc: Global, form: Form, counts: &Counts) -> Result<Vec<u8>, AllocError>
-    ensures text { IfOk result (λ text. text.items ≡ summary_line_in form counts.now) }
-    ensures readable { OnOk result (IsReadable form (summary_value counts.now)) }
+pub fn totals_text(
+    alloc: Global,
+    form: Form,
+    options: Options<'_>,
+    counts: &Counts,
+) -> Result<Vec<u8>, AllocError>
+    ensures text { IfOk result (λ text. text.items ≡ summary_line_in form (options_of options.entry) counts.now) }
+    ensures readable { OnOk result (IsReadable form (summary_value (options_of options.entry) counts.now)) }
 {
     match form {
         Form::Text | Form::Terminal => summary_text(alloc, counts),
-        Form::Json => summary_object(alloc, counts),
+        Form::Json => summary_object(alloc, options, counts),
     }
 }
 

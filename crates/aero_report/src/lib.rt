@@ -17,7 +17,7 @@
 //! assert_eq!(rt; text.as_slice(), b"trace.std:2: malformed: BadParenthesis\n".as_slice());
 //!
 //! let text = source_text(alloc, Form::Json, b"trace.std", &finding)?;
-//! let line = r#"{"source":"trace.std","verdict":"malformed","line":2,"fault":"BadParenthesis"}"#;
+//! let line = r#"{"source":"trace.std","verdict":"malformed","line":2,"fault":"BadParenthesis","note":"no ) at the operation's end"}"#;
 //! assert_eq!(rt; text.as_slice().strip_suffix(b"\n"), Some(line.as_bytes()));
 //!
 //! let mut writer = Counting::new(stdout());
@@ -37,14 +37,18 @@
 //!   `cut_written`, `cut_short`, `cut_at_fault`.
 #![tactic(auto)]
 
+mod cycles;
 mod form;
 mod line;
 mod objects;
+mod options;
 mod output;
 mod summary;
 mod texts;
+pub mod words;
 
 pub use form::{Form, source_text, totals_text};
+pub use options::{Options, VERSION};
 pub use output::{Cut, put};
 pub use summary::summary_text;
 pub use texts::{cycle_text, trace_text};

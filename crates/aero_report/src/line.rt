@@ -1,6 +1,6 @@
 //! A line of JSON while it is written.
 ghost use Rattle.std.specs.Prelude.{◌≡◌, [], ◌∷◌, ◌++◌, decimal, IfOk, OnOk};
-ghost use Rattle.json.specs.Token.{begin_object, end_object, begin_array, end_array, key, string, number};
+ghost use Rattle.json.specs.Token.{begin_object, end_object, begin_array, end_array, key, string, number, boolean};
 ghost use Rattle.json.specs.Lex.{tokens};
 ghost use Rattle.json.specs.Tree.{json_tokens};
 ghost use Rattle.json.specs.Print.{print, IsNumber};
@@ -51,6 +51,14 @@ impl Line {
         self.writer.begin_object()
     }
 
+    /// The key of an object, and its beginning.
+    pub fn begin_member(&mut self, label: &str) -> Result<(), AllocError>
+        ensures { OnOk result (self.new ≡ self.old ++ (key label.now ∷ begin_object ∷ [])) }
+    {
+        self.writer.key(label)?;
+        self.writer.begin_object()
+    }
+
     pub fn end_object(&mut self) -> Result<(), AllocError>
         ensures { OnOk result (self.new ≡ self.old ++ end_object ∷ []) }
     {
@@ -95,6 +103,14 @@ impl Line {
         self.writer.number(buffer.format(total))
     }
 
+    /// A member that is true or false.
+    pub fn flag(&mut self, label: &str, flag: bool) -> Result<(), AllocError>
+        ensures { OnOk result (self.new ≡ self.old ++ (key label.now ∷ boolean flag ∷ [])) }
+    {
+        self.writer.key(label)?;
+        self.writer.boolean(flag)
+    }
+
     /// A member that is a string.
     pub fn word(&mut self, label: &str, word: &str) -> Result<(), AllocError>
         ensures { OnOk result (self.new ≡ self.old ++ (key label.now ∷ string word.now ∷ [])) }
@@ -111,8 +127,8 @@ impl Line {
         self.name_alone(name)
     }
 
-    // A string where the bytes are UTF-8, else an object.
-    fn name_alone(&mut self, name: &[u8]) -> Result<(), AllocError>
+    /// A name in an array: a string where its bytes are UTF-8, else an object.
+    pub fn name_alone(&mut self, name: &[u8]) -> Result<(), AllocError>
         ensures { OnOk result (self.new ≡ self.old ++ json_tokens (name_value name.now)) }
     {
         match from_utf8(name) {

@@ -1,16 +1,14 @@
-//! The report as JSON: an object for each source, and one for the summary.
+//! What is said of a source, as JSON.
 ghost use Rattle.std.specs.Prelude.{◌≡◌, [], ◌∷◌, ◌++◌, codes, map, flat_map, IfOk, OnOk};
 ghost use Rattle.json.specs.Tree.{json_tokens};
-ghost use Rattle.aero_report.specs.Json.{object_of, count, word, name, verdict_members, step_value, cycle_step_value, label_members, target_members, list, finding_members, source_value, summary_members, summary_value, json_line, ReadsBack};
+ghost use Rattle.aero_report.specs.Json.{object_of, count, word, name, verdict_members, step_value, list, finding_members, source_value, json_line, ReadsBack};
 ghost use Rattle.aero_report.specs.Members.{member_tokens, all_members_tokens};
-ghost use Rattle.aero_report.specs.Texts.{op_name};
 
+use crate::cycles::write_cycle;
 use crate::line::Line;
-use crate::summary::sources_of;
-use crate::texts::{line_fault_name, op_name, shape_fault_name};
-use aero_model::event::Event;
-use aero_model::name::Name;
-use aero_model::verdict::{Counts, Cycle, CycleStep, Finding, Step, Verdict};
+use crate::texts::{line_fault_name, shape_fault_name};
+use crate::words::{line_words, shape_words};
+use aero_model::verdict::{Finding, Step, Verdict};
 use std::alloc::{AllocError, Global};
 
 /// The line of a source as JSON, with a newline.
@@ -23,16 +21,6 @@ pub fn source_object(alloc: Global, name: &[u8], finding: &Finding) -> Result<Ve
     out.into_text()
 }
 
-/// The line of the summary as JSON, with a newline.
-pub fn summary_object(alloc: Global, counts: &Counts) -> Result<Vec<u8>, AllocError>
-    ensures text { IfOk result (λ text. text.items ≡ json_line (summary_value counts.now)) }
-    ensures reads_back { OnOk result (ReadsBack (summary_value counts.now)) }
-{
-    let mut out = Line::new(alloc);
-    write_summary(&mut out, counts)?;
-    out.into_text()
-}
-
 fn write_source(out: &mut Line, name: &[u8], finding: &Finding) -> Result<(), AllocError>
     ensures { OnOk result (out.new ≡ out.old ++ json_tokens (source_value name.now finding.now)) }
 {
@@ -40,24 +28,6 @@ fn write_source(out: &mut Line, name: &[u8], finding: &Finding) -> Result<(), Al
     out.name("source", name)?;
     write_finding(out, finding)?;
     out.end_object()
-}
-
-fn write_summary(out: &mut Line, counts: &Counts) -> Result<(), AllocError>
-    ensures { OnOk result (out.new ≡ out.old ++ json_tokens (summary_value counts.now)) }
-{
-    out.begin_object()?;
-    write_counts(out, counts)?;
-    out.end_object()
-}
-
-fn write_counts(out: &mut Line, counts: &Counts) -> Result<(), AllocError>
-    ensures { OnOk result (out.new ≡ out.old ++ all_members_tokens (summary_members counts.now)) }
-{
-    out.total("traces", sources_of(counts))?;
-    out.long_count("serializable", counts.serializable)?;
-    out.long_count("open", counts.pending)?;
-    out.long_count("violations", counts.violations)?;
-    out.long_count("faults", counts.faults)
 }
 
 fn write_finding(out: &mut Line, finding: &Finding) -> Result<(), AllocError>
@@ -102,10 +72,12 @@ fn write_verdict(out: &mut Line, verdict: &Verdict) -> Result<(), AllocError>
             begun,
         } => write_violation(out, *line, thread.bytes(), *begun),
         Verdict::Malformed { line, fault } => {
-            write_fault(out, "malformed", *line, line_fault_name(*fault))
+            let name = line_fault_name(*fault);
+            write_fault(out, "malformed", *line, name, line_words(*fault))
         }
         Verdict::IllFormed { line, fault } => {
-            write_fault(out, "ill-formed", *line, shape_fault_name(*fault))
+            let name = shape_fault_name(*fault);
+            write_fault(out, "ill-formed", *line, name, shape_words(*fault))
         }
     }
 }
@@ -129,13 +101,21 @@ fn write_violation(out: &mut Line, line: u32, thread: &[u8], begun: u32) -> Resu
     out.count("begun", begun)
 }
 
-fn write_fault(out: &mut Line, verdict: &str, line: u32, fault: &str) -> Result<(), AllocError>
+// The line of a fault, its name, and what it is in words.
+fn write_fault(
+    out: &mut Line,
+    verdict: &str,
+    line: u32,
+    fault: &str,
+    words: &str,
+) -> Result<(), AllocError>
     ensures { OnOk result (out.new ≡ out.old ++ all_members_tokens
-        (word (codes "verdict") verdict.now ∷ count (codes "line") line ∷ word (codes "fault") fault.now ∷ [])) }
+        (word (codes "verdict") verdict.now ∷ count (codes "line") line ∷ word (codes "fault") fault.now ∷ word (codes "note") words.now ∷ [])) }
 {
     out.word("verdict", verdict)?;
     out.count("line", line)?;
-    out.word("fault", fault)
+    out.word("fault", fault)?;
+    out.word("note", words)
 }
 
 fn write_order(out: &mut Line, steps: &[Step]) -> Result<(), AllocError>
@@ -164,67 +144,4 @@ fn write_step(out: &mut Line, line: u32, thread: &[u8]) -> Result<(), AllocError
     out.count("line", line)?;
     out.name("thread", thread)?;
     out.end_object()
-}
-
-// The label of the block, if it has one, and the events.
-fn write_cycle(out: &mut Line, cycle: &Cycle) -> Result<(), AllocError>
-    ensures { OnOk result (out.new ≡ out.old
-        ++ (all_members_tokens (label_members cycle.now.label) ++ member_tokens (list (codes "cycle") (map cycle_step_value cycle.now.steps.items)))) }
-{
-    write_label(out, &cycle.label)?;
-    write_events(out, &cycle.steps)
-}
-
-fn write_label(out: &mut Line, label: &Option<Name>) -> Result<(), AllocError>
-    ensures { OnOk result (out.new ≡ out.old ++ all_members_tokens (label_members label.now)) }
-{
-    match label {
-        Some(label) => out.name("label", label.bytes()),
-        None => Ok(()),
-    }
-}
-
-fn write_events(out: &mut Line, steps: &[CycleStep]) -> Result<(), AllocError>
-    ensures { OnOk result (out.new ≡ out.old ++ member_tokens (list (codes "cycle") (map cycle_step_value steps.now))) }
-{
-    out.begin_array("cycle")?;
-    write_cycle_steps(out, steps)?;
-    out.end_array()
-}
-
-fn write_cycle_steps(out: &mut Line, steps: &[CycleStep]) -> Result<(), AllocError>
-    ensures { OnOk result (out.new ≡ out.old ++ flat_map (λ s. json_tokens (cycle_step_value s)) steps.now) }
-{
-    for step in steps {
-        write_cycle_step(out, step)?;
-    }
-    Ok(())
-}
-
-fn write_cycle_step(out: &mut Line, step: &CycleStep) -> Result<(), AllocError>
-    ensures { OnOk result (out.new ≡ out.old ++ json_tokens (cycle_step_value step.now)) }
-{
-    out.begin_object()?;
-    out.count("line", step.line)?;
-    out.count("first", step.first)?;
-    write_event(out, &step.event)?;
-    out.end_object()
-}
-
-fn write_event(out: &mut Line, event: &Event) -> Result<(), AllocError>
-    ensures { OnOk result (out.new ≡ out.old ++ all_members_tokens
-        (name (codes "thread") event.now.thread ∷ word (codes "op") (op_name event.now.op) ∷ target_members event.now.target)) }
-{
-    out.name("thread", event.thread.bytes())?;
-    out.word("op", op_name(event.op))?;
-    write_target(out, &event.target)
-}
-
-fn write_target(out: &mut Line, target: &Option<Name>) -> Result<(), AllocError>
-    ensures { OnOk result (out.new ≡ out.old ++ all_members_tokens (target_members target.now)) }
-{
-    match target {
-        Some(target) => out.name("target", target.bytes()),
-        None => Ok(()),
-    }
 }

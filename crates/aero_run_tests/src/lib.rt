@@ -3,9 +3,11 @@
 //!
 //! A crate with tests is proved twice, with them and without, so they stand here, above all of the
 //! crates, and each is proved once. A module has the tests of the crate that it is named for, and
-//! `objects` those of the report as JSON, and `shown` those of names on a terminal. It has nothing for other crates.
+//! `objects`, `cycle_objects` and `summaries` those of the report as JSON, and `shown` those of names on a terminal. It has nothing for other crates.
 #![tactic(auto)]
 
+#[cfg(test)]
+mod cycle_objects;
 #[cfg(test)]
 mod except;
 #[cfg(test)]
@@ -24,5 +26,7 @@ mod report;
 mod shown;
 #[cfg(test)]
 mod stage;
+#[cfg(test)]
+mod summaries;
 #[cfg(test)]
 mod worker;

@@ -1,16 +1,13 @@
 // What no clause says of aero_report's JSON: texts known from elsewhere.
-use aero_model::event::{Event, Op};
 use aero_model::name::Name;
-use aero_model::verdict::{
-    Counts, Cycle, CycleStep, Finding, LineFault, ShapeFault, Step, Verdict,
-};
-use aero_report::{Form, source_text, totals_text};
+use aero_model::verdict::{Finding, LineFault, ShapeFault, Step, Verdict};
+use aero_report::{Form, source_text};
 use std::alloc::Global;
 
 // The helpers below say that a row doesn't hold where memory is refused.
 
 // Whether the text is this line, with a newline.
-fn is_line(text: &[u8], line: &str) -> bool {
+pub(crate) fn is_line(text: &[u8], line: &str) -> bool {
     match text.split_last() {
         Some((last, rest)) => *last == b'\n' && rest == line.as_bytes(),
         None => false,
@@ -18,7 +15,7 @@ fn is_line(text: &[u8], line: &str) -> bool {
 }
 
 // Whether a source with this name has this line as JSON.
-fn has_object(alloc: Global, name: &[u8], finding: &Finding, line: &str) -> bool {
+pub(crate) fn has_object(alloc: Global, name: &[u8], finding: &Finding, line: &str) -> bool {
     match source_text(alloc, Form::Json, name, finding) {
         Ok(text) => is_line(text.as_slice(), line),
         Err(_) => false,
@@ -105,7 +102,8 @@ fn is_malformed_so(alloc: Global) -> bool {
         line: 2,
         fault: LineFault::BadParenthesis,
     };
-    let line = r#"{"source":"a","verdict":"malformed","line":2,"fault":"BadParenthesis"}"#;
+    let line =
+        r#"{"source":"a","verdict":"malformed","line":2,"fault":"BadParenthesis","note":"no ) at the operation's end"}"#;
     judges_so(alloc, verdict, line)
 }
 
@@ -114,7 +112,8 @@ fn is_ill_formed_so(alloc: Global) -> bool {
         line: 4294967295,
         fault: ShapeFault::LockNotHeld,
     };
-    let line = r#"{"source":"a","verdict":"ill-formed","line":4294967295,"fault":"LockNotHeld"}"#;
+    let line =
+        r#"{"source":"a","verdict":"ill-formed","line":4294967295,"fault":"LockNotHeld","note":"the thread doesn't hold the lock"}"#;
     judges_so(alloc, verdict, line)
 }
 
@@ -194,159 +193,4 @@ static ORDERED: [Ordered; 3] = [
 #[test]
 fn each_step_has_its_object(rt: HostRuntime) {
     assert_eq!(rt; first_misordered(rt.alloc(), &ORDERED), None);
-}
-
-fn push_release(alloc: Global, steps: &mut Vec<CycleStep>) -> bool {
-    let Ok(thread) = Name::read(alloc, b"T1") else {
-        return false;
-    };
-    let Ok(target) = Name::read(alloc, b"m") else {
-        return false;
-    };
-    let event = Event {
-        thread,
-        op: Op::Release,
-        target: Some(target),
-    };
-    let step = CycleStep {
-        line: 4,
-        first: 1,
-        event,
-    };
-    steps.push(step).is_ok()
-}
-
-fn push_end(alloc: Global, steps: &mut Vec<CycleStep>) -> bool {
-    let Ok(thread) = Name::read(alloc, b"T2") else {
-        return false;
-    };
-    let event = Event {
-        thread,
-        op: Op::End,
-        target: None,
-    };
-    let step = CycleStep {
-        line: 7,
-        first: 5,
-        event,
-    };
-    steps.push(step).is_ok()
-}
-
-fn push_both(alloc: Global, steps: &mut Vec<CycleStep>) -> bool {
-    push_release(alloc, steps) && push_end(alloc, steps)
-}
-
-// A violation with this label and these steps has this line.
-fn is_explained_so(alloc: Global, label: Option<Name>, steps: Vec<CycleStep>, line: &str) -> bool {
-    let Ok(thread) = Name::read(alloc, b"T1") else {
-        return false;
-    };
-    let verdict = Verdict::Violation {
-        line: 9,
-        thread,
-        begun: 1,
-    };
-    let finding = Finding::Explained(verdict, Cycle { label, steps });
-    has_object(alloc, b"a", &finding, line)
-}
-
-fn is_labelled_so(alloc: Global) -> bool {
-    let Ok(label) = Name::read(alloc, b"withdraw") else {
-        return false;
-    };
-    let mut steps = Vec::new(alloc);
-    let line =
-        r#"{"source":"a","verdict":"violation","line":9,"thread":"T1","begun":1,"label":"withdraw","cycle":[{"line":4,"first":1,"thread":"T1","op":"rel","target":"m"},{"line":7,"first":5,"thread":"T2","op":"end"}]}"#;
-    push_both(alloc, &mut steps) && is_explained_so(alloc, Some(label), steps, line)
-}
-
-fn is_unlabelled_so(alloc: Global) -> bool {
-    let mut steps = Vec::new(alloc);
-    let line =
-        r#"{"source":"a","verdict":"violation","line":9,"thread":"T1","begun":1,"cycle":[{"line":4,"first":1,"thread":"T1","op":"rel","target":"m"}]}"#;
-    push_release(alloc, &mut steps) && is_explained_so(alloc, None, steps, line)
-}
-
-// The label, where there is one, and the events of a cycle stand behind the violation.
-#[test]
-fn each_event_of_a_cycle_has_its_object(rt: HostRuntime) {
-    let alloc = rt.alloc();
-    assert_eq!(rt; [is_labelled_so(alloc), is_unlabelled_so(alloc)], [true; 2]);
-}
-
-// Four counts, and the object of them.
-type Counted = ([u64; 4], &'static str);
-
-fn is_summed_so(alloc: Global, row: &Counted) -> bool {
-    let ([serializable, pending, violations, faults], line) = *row;
-    let counts = Counts {
-        serializable,
-        pending,
-        violations,
-        faults,
-    };
-    match totals_text(alloc, Form::Json, &counts) {
-        Ok(text) => is_line(text.as_slice(), line),
-        Err(_) => false,
-    }
-}
-
-// The first row that doesn't hold.
-fn first_missummed(alloc: Global, rows: &[Counted]) -> Option<usize> {
-    for i in 0..rows.len() {
-        if !is_summed_so(alloc, &rows[i]) {
-            return Some(i);
-        }
-    }
-    None
-}
-
-static SUMMARIES: [Counted; 3] = [
-    (
-        [0, 0, 0, 0],
-        r#"{"traces":0,"serializable":0,"open":0,"violations":0,"faults":0}"#,
-    ),
-    (
-        [1, 0, 1, 1],
-        r#"{"traces":3,"serializable":1,"open":0,"violations":1,"faults":1}"#,
-    ),
-    (
-        [1, u64::MAX, 0, 0],
-        r#"{"traces":18446744073709551616,"serializable":1,"open":18446744073709551615,"violations":0,"faults":0}"#,
-    ),
-];
-
-#[test]
-fn the_object_of_the_summary_counts_what_was_found(rt: HostRuntime) {
-    assert_eq!(rt; first_missummed(rt.alloc(), &SUMMARIES), None);
-}
-
-// Whether the line of a source for people is that of `trace_text`.
-fn has_source_text(alloc: Global) -> bool {
-    match source_text(alloc, Form::Text, b"n", &Finding::Broken(20)) {
-        Ok(text) => text.as_slice() == b"n: broken after 20 bytes\n".as_slice(),
-        Err(_) => false,
-    }
-}
-
-// Whether the summary for people is that of `summary_text`.
-fn has_totals_text(alloc: Global) -> bool {
-    let counts = Counts {
-        serializable: 0,
-        pending: 0,
-        violations: 0,
-        faults: 1,
-    };
-    let line = "traces 1: serializable 0, open 0, violations 0, faults 1";
-    match totals_text(alloc, Form::Text, &counts) {
-        Ok(text) => is_line(text.as_slice(), line),
-        Err(_) => false,
-    }
-}
-
-#[test]
-fn the_form_for_people_has_the_lines_of_the_report(rt: HostRuntime) {
-    let alloc = rt.alloc();
-    assert!(rt; has_source_text(alloc) && has_totals_text(alloc));
 }

@@ -254,9 +254,19 @@ fn is_explained_so(alloc: Global) -> bool {
     for i in 0..CYCLE.len() {
         fits &= push_write(alloc, &mut steps, &CYCLE[i]);
     }
+    let Ok(ending) = Name::read(alloc, b"T1") else {
+        return false;
+    };
+    let closing = Event {
+        thread: ending,
+        op: Op::End,
+        target: None,
+    };
     let cycle = Cycle {
         label: Some(label),
         steps,
+        transactions: Vec::new(alloc),
+        closing,
     };
     let lines =
         "n: violation at line 4: block of T1 from line 1\n  label f g\n  2 1 T1|w(x)\n  3 3 T2|w(x)\n  4 1 T1|w(x)\n";

@@ -17,18 +17,18 @@ use std::test::*;
 use std::thread;
 use std::thread::Threads;
 
-const TURNS: u32 = 1_000_000;
+const TURNS: u32 = 20_000_000;
 
 const REFUSED: &str = "memory was refused";
 
 // How the waits of a row ended: all in time, or the first that came to no end within the turns.
 const IN_TIME: &str = "in time";
 
-const NOT_MET: &str = "no second worker entered the gate within 1,000,000 turns";
+const NOT_MET: &str = "no second worker entered the gate within 20,000,000 turns";
 
-const NOT_POSTED: &str = "a job wasn't posted within 1,000,000 turns";
+const NOT_POSTED: &str = "a job wasn't posted within 20,000,000 turns";
 
-const NOT_ANSWERED: &str = "66 answers didn't come within 1,000,000 turns";
+const NOT_ANSWERED: &str = "66 answers didn't come within 20,000,000 turns";
 
 // A trace in which the block of T1 closes a cycle with its last event.
 const CYCLE: &[u8] = b"T1|begin\nT2|begin\nT1|w(x)\nT2|r(x)\nT2|w(y)\nT1|r(y)";

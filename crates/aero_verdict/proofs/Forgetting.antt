@@ -22,7 +22,7 @@ use Rattle.aero_leads.specs.Standing as standing
 use Rattle.aero_leads.specs.Standing.{state_of}
 use Rattle.aero_leads.proofs.LedEvents.{led_from, led_to}
 use Rattle.aero_witness.specs.Led.{IsLed}
-use Rattle.aero_witness.specs.Thinned.{IsEnough, marked}
+use Rattle.aero_witness.specs.Thinned.{IsAmong, IsEnough, marked}
 use Rattle.aero_witness.proofs.Enough.{enough_stays, led_is_enough}
 use Rattle.aero_witness.proofs.Pushed.{push_front, push_last, push_cases, nth_mark, marked_at, marked_same, marked_long}
 use Rattle.aero_witness.proofs.Trail.{led_back, led_on}
@@ -193,6 +193,12 @@ module _ (b d : Recorder) (given : List Given) (g : Given) (kept : Kept b given)
       (subst (λ es. IsEnough (told ++ recorded g ∷ []) es d.places.items) (sym next.events)
       (subst (IsEnough (told ++ recorded g ∷ []) (b.events.items ++ recorded g ∷ [])) (sym places) stays))
 
+  next_latest : (n : ℕ) → length (given ++ g ∷ []) ≡ suc n → IsAmong d.places.items n
+  next_latest n long =
+      let before = (kept.noted).count in
+      let same : b.count ≡ n = omega (arith, before, long, length_push given g) in
+      (length b.places.items, ap (λ ps. slice_get ps (length b.places.items)) next.places ∙ push_last b.places.items b.count ∙ ap Some same)
+
   next_noted : AreNoted d (given ++ g ∷ [])
   next_noted = record {
     count = (let count = next.count in let before = (kept.noted).count in omega (arith, count, before, length_push given g));
@@ -266,6 +272,7 @@ module _ (a b d : Recorder) (l : Leads) (given : List Given) (g : Given) (r : Re
           record {
             noted = record { count = noted.count; lines = noted.lines; said = noted.said; each = λ i p f at here. (let n = noted.each i p f at here in record { line = n.line; code = n.code; code_at = n.code_at; said = n.said }) };
             enough = next_enough b d given g kept next;
+            latest = next_latest b d given g kept next;
             stands = λ untold. now.stands (none o now.told untold);
           }
         where

@@ -10,6 +10,7 @@ pub mod Said
 pub mod ReadAt
 pub mod Showing
 pub mod Rising
+pub mod Spanning
 pub mod Explaining
 pub mod Staying
 pub mod Steps

@@ -10,9 +10,13 @@ use Rattle.std.proofs.lemmas.Option.{slice_get-map, slice_get_within, same_Some}
 use Rattle.aero_model.specs.declared.numbered.Numbered.{Numbered}
 use Rattle.aero_model.specs.declared.verdict.Cycle.{Cycle}
 use Rattle.aero_model.specs.declared.verdict.CycleStep.{CycleStep}
+use Rattle.aero_model.specs.declared.verdict.CycleTransaction.{CycleTransaction}
+use Rattle.aero_model.specs.declared.verdict.Extent.{Extent}
+use Rattle.aero_model.specs.declared.verdict.Extent.TheVariants as extents
 use Rattle.aero_model.specs.declared.verdict.Verdict.{Verdict}
 use Rattle.aero_model.specs.declared.verdict.Verdict.TheVariants.{Serializable, Pending, Violation, Malformed, IllFormed}
-use Rattle.aero_model.specs.Blocks.{Block, blocks, depth, is_begin, by_thread}
+use Rattle.aero_model.specs.Blocks.{Block, transaction, blocks, depth, is_begin, by_thread, HasEnded}
+use Rattle.aero_model.specs.Graph.{Visit}
 use Rattle.aero_model.specs.Cycle.{HasTellingCycle, IsClosing, IsOpener}
 use Rattle.aero_model.specs.Exempt.{Marked, marked, judged, judged_trace}
 use Rattle.aero_model.specs.Named.{Named, HasItsTarget}
@@ -20,7 +24,7 @@ use Rattle.aero_model.specs.Numbering.{tables_of, number_of, numbered}
 use Rattle.aero_model.specs.Shape.{fault_at, limit_fault, shape_fault}
 use Rattle.aero_model.proofs.Depths.{opening_at}
 use Rattle.aero_model.proofs.Exempt.{judged_at, judged_taken}
-use Rattle.aero_model.proofs.Stability.{Agree, agree_back, opens_same, transaction_same}
+use Rattle.aero_model.proofs.Stability.{Agree, agree_back, opens_same, transaction_same, ended_same}
 use Rattle.aero_model.proofs.TellingCycles.{telling_same}
 use Rattle.aero_model.proofs.WellFormed.{slice_get-take}
 use Rattle.aero_grammar.specs.Reading.{Reading, whole_reading}
@@ -31,12 +35,12 @@ use Rattle.aero_names.proofs.Fronts.{Extends, tables_pushed, tables_extended, nu
 use Rattle.aero_witness.proofs.Nests.{opening_first}
 use Rattle.aero_engine.specs.Given.{Given}
 use Rattle.aero_verdict.specs.declared.checker.Checker.{Checker}
-use Rattle.aero_verdict.specs.Explained.{round_places, IsCycleStep, IsExplained, IsCycleOf}
+use Rattle.aero_verdict.specs.Explained.{round_places, IsFirstOf, IsLastOf, IsEnd, IsExtent, IsCycleStep, IsCycleTransaction, IsExplained, IsCycleOf}
 use Rattle.aero_verdict.specs.Fed.{IsCertain}
 use Rattle.aero_verdict.specs.Parts.{KeepsAt}
 use Rattle.aero_verdict.specs.Standing.{names_of, marked_in, AreGiven}
-use Rattle.aero_verdict.specs.Verdict.{Rules, counted_events, read_trace, checked_trace, HasName, IsViolation, IsVerdict}
-use Rattle.aero_verdict.proofs.Explaining.{none_past, round_within}
+use Rattle.aero_verdict.specs.Verdict.{Rules, counted_events, read_trace, checked_trace, HasName, IsOnLine, IsViolation, IsVerdict}
+use Rattle.aero_verdict.proofs.Explaining.{none_past, round_within, enters_within}
 use Rattle.aero_verdict.proofs.Readings.{begins_with, slice_get_front}
 use Rattle.aero_verdict.proofs.Steps.{take_pushed, front_and_rest}
 use Rattle.aero_verdict.proofs.Stops.{named_still}
@@ -236,18 +240,66 @@ module _ (parts others : List Reading) (rules : Rules) (line : ℕ) (thread : Li
     };
   }
 
-  step_same : (place : ℕ) (step : CycleStep) → place < m → IsCycleStep parts rules place step → IsCycleStep others rules place step
-  step_same place step less is =
-      let first_less : is.first < m = elim (cases_lt place is.first) [ inl later ↦ absurd (is.is_first.none place later refl) | inr le ↦ omega (arith, le, less) ] in
+  one_same : (place : ℕ) → place < m → transaction a place ≡ transaction b place
+  one_same place less = transaction_same m a b agrees place less
+
+  on_same : (place l : ℕ) → place < m → IsOnLine parts rules place l → IsOnLine others rules place l
+  on_same place l less on = ap (option_map (λ (x : ℕ × Named). x.0)) (sym (same.at_same place less)) ∙ on
+
+  -- the first event of a transaction is no later than its others
+  first_within : (place first : ℕ) → place < m → IsFirstOf a place first → first < m
+  first_within place first less is = elim (cases_lt place first) [ inl later ↦ absurd (is.none place later refl) | inr le ↦ omega (arith, le, less) ]
+
+  first_same : (place first : ℕ) → place < m → IsFirstOf a place first → IsFirstOf b place first
+  first_same place first less is =
+      let first_less = first_within place first less is in
       record {
-        line = ap (option_map (λ (x : ℕ × Named). x.0)) (sym (same.at_same place less)) ∙ is.line;
-        event = ap (option_map (λ (x : ℕ × Named). x.1)) (sym (same.at_same place less)) ∙ is.event;
+        one = sym (one_same first first_less) ∙ is.one ∙ one_same place less;
+        none = λ k l eq. is.none k l (one_same k (omega (arith, l, first_less)) ∙ eq ∙ sym (one_same place less));
+      }
+
+  step_same : (place : ℕ) (step : CycleStep) → place < m → IsCycleStep parts rules place step → IsCycleStep others rules place step
+  step_same place step less is = record {
+    line = on_same place step.line less is.line;
+    event = ap (option_map (λ (x : ℕ × Named). x.1)) (sym (same.at_same place less)) ∙ is.event;
+    first = is.first;
+    is_first = first_same place is.first less is.is_first;
+    first_line = on_same is.first step.first (first_within place is.first less is.is_first) is.first_line;
+  }
+
+  end_same : (first : ℕ) (end : Option ℕ) → first < m → IsEnd parts rules m first end → IsEnd others rules m first end
+  end_same first None less going =
+      λ ended. going (subst (HasEnded a m) (sym (one_same first less)) (ended_same m b a (agree_back m a b agrees) m (transaction b first) (omega arith) ended))
+  end_same first (Some l) less (ended, (last, is, on)) = (
+    subst (HasEnded b m) (one_same first less) (ended_same m a b agrees m (transaction a first) (omega arith) ended),
+    (
+      last,
+      record {
+        within = is.within;
+        one = sym (one_same last is.within) ∙ is.one ∙ one_same first less;
+        none = λ k later below eq. is.none k later below (one_same k below ∙ eq ∙ sym (one_same first less));
+      },
+      on_same last l is.within on,
+    ),
+  )
+
+  extent_same : (first : ℕ) (extent : Extent) → first < m → IsExtent parts rules m first extent → IsExtent others rules m first extent
+  extent_same first extents.Alone less is = sym (one_same first less) ∙ is
+  extent_same first (extents.Block label end) less (block, labelled, ends) = (
+    λ single. block (one_same first less ∙ single),
+    ap (option_map (λ (x : ℕ × Named). x.1.target)) (sym (same.at_same first less)) ∙ labelled,
+    end_same first end less ends,
+  )
+
+  transaction_kept : (w : Visit) (t : CycleTransaction) → w.enters < m → IsCycleTransaction parts rules m w t → IsCycleTransaction others rules m w t
+  transaction_kept w t less is =
+      let first_less = first_within w.enters is.first less is.is_first in
+      record {
         first = is.first;
-        is_first = record {
-          one = sym (transaction_same m a b agrees is.first first_less) ∙ is.is_first.one ∙ transaction_same m a b agrees place less;
-          none = λ k l eq. is.is_first.none k l (transaction_same m a b agrees k (omega (arith, l, first_less)) ∙ eq ∙ sym (transaction_same m a b agrees place less));
-        };
-        first_line = ap (option_map (λ (x : ℕ × Named). x.0)) (sym (same.at_same is.first first_less)) ∙ is.first_line;
+        is_first = first_same w.enters is.first less is.is_first;
+        first_line = on_same is.first t.first first_less is.first_line;
+        thread = ap (option_map (λ (x : ℕ × Named). x.1.thread)) (sym (same.at_same is.first first_less)) ∙ is.thread;
+        extent = extent_same is.first t.extent first_less is.extent;
       }
 
   pub explained_same : IsExplained others rules line thread begun cycle
@@ -261,6 +313,8 @@ module _ (parts others : List Reading) (rules : Rules) (line : ℕ) (thread : Li
     begins = sym (transaction_same m a b agrees e.first.enters e.telling.visit.enters) ∙ e.begins;
     fewest = λ other more tells from. e.fewest other more (telling_same m b a (agree_back m a b agrees) m (omega arith) other more tells) (transaction_same m a b agrees other.enters tells.visit.enters ∙ from);
     steps_are = zip_where (λ p. p < m) (IsCycleStep parts rules) (IsCycleStep others rules) (λ p s less is. step_same p s less is) (round_places e.first e.rest) cycle.steps.items (round_within a m e.first e.rest e.telling) e.steps_are;
+    transactions_are = zip_where (λ (w : Visit). w.enters < m) (IsCycleTransaction parts rules m) (IsCycleTransaction others rules m) (λ w t less is. transaction_kept w t less is) (e.first ∷ e.rest) cycle.transactions.items (enters_within a m e.first e.rest e.telling) e.transactions_are;
+    closing_is = ap (option_map (λ (x : ℕ × Named). x.1)) (sym (same.at_same v.place (omega arith))) ∙ e.closing_is;
   }
 
 -- the closing event is one

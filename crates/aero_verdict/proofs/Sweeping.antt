@@ -1,8 +1,8 @@
 -- What is marked of a record, event by event.
-use Rattle.std.proofs.Common.{◌≡◌, ◌⊎◌, ℕ, zero, suc, ◌+◌, ◌<◌, Bool, true, false, if◌then◌else◌, List, [], ◌∷◌, ◌++◌, length, take, Option, Some, None, inl, inr, refl, sym, ◌∙◌, ap, ap₂, subst, add-one, arith}
+use Rattle.std.proofs.Common.{◌≡◌, ◌⊎◌, ℕ, zero, suc, ◌+◌, ◌<◌, Bool, true, false, if◌then◌else◌, List, [], ◌∷◌, ◌++◌, length, map, take, Option, Some, None, inl, inr, refl, sym, ◌∙◌, ap, subst, append-nil, append_assoc, add-one, arith}
 use Rattle.std.specs.Prelude.{slice_get}
 use Rattle.std.proofs.lemmas.Bool.{cases_lt}
-use Rattle.std.proofs.lemmas.List.{length_push}
+use Rattle.std.proofs.lemmas.List.{length_push, map-append}
 use Rattle.std.proofs.lemmas.Option.{same_Some, slice_get_within}
 use Rattle.aero_model.specs.declared.numbered.Numbered.{Numbered}
 use Rattle.aero_model.proofs.WellFormed.{slice_get-take, length-take_at}
@@ -11,7 +11,7 @@ use Rattle.aero_leads.specs.Leasts.{IsLeastOf}
 use Rattle.aero_witness.specs.Thinned.{marked}
 use Rattle.aero_witness.proofs.Pushed.{push_front, push_last}
 use Rattle.aero_verdict.specs.Recorded.{AreMarks}
-use Rattle.aero_verdict.specs.Swept.{IsMarkedAt, mark_or_not}
+use Rattle.aero_verdict.specs.Swept.{IsMarkedAt, items_at, one_or_none, set_places}
 
 pub marks_next : (rows : Rows) (events : List Numbered) (places : List ℕ) (marks : List Bool) (i : ℕ) (e : Numbered) (mark : Bool) (place : Option ℕ)
     → slice_get events i ≡ Some e → place ≡ slice_get places i → IsMarkedAt (rows e.thread) place mark → AreMarks rows (take i events) places marks → AreMarks rows (take (i + 1) events) places (marks ++ mark ∷ [])
@@ -46,18 +46,33 @@ marks_next rows events places marks i e mark place here place_is (least, is, mar
               (least, subst (λ (x : Numbered). IsLeastOf (rows x.thread) least) event is, ap (slice_get (marks ++ mark ∷ [])) last ∙ push_last marks mark ∙ ap Some (marked_so p (place_is ∙ ap (slice_get places) (sym same) ∙ place_j)))
         ]
 
-pub marked_none : {X : Type 0} (bs : List Bool) → ◌≡◌ {A = List X} (marked bs []) []
-marked_none [] = refl
-marked_none (b ∷ bs) = refl
+items_shifted : {X : Type 0} (x : X) (xs : List X) (places : List ℕ) → items_at (x ∷ xs) (map suc places) ≡ items_at xs places
+items_shifted x xs [] = refl
+items_shifted x xs (p ∷ ps) = ap (λ ys. one_or_none (slice_get xs p) ++ ys) (items_shifted x xs ps)
 
--- one item more
-next_marked : {X : Type 0} (bs : List Bool) (xs : List X) (i : ℕ) (x : X) → slice_get xs i ≡ Some x → marked bs (take (suc i) xs) ≡ marked bs (take i xs) ++ (if mark_or_not (slice_get bs i) then x ∷ [] else [])
-next_marked bs [] i x at = absurd (let none : None ≡ Some x = at in cc)
-next_marked [] (y ∷ ys) i x at = refl
-next_marked (true ∷ bs) (y ∷ ys) zero x at = ap₂ (λ z zs. z ∷ zs) (same_Some y x at) (marked_none bs)
-next_marked (false ∷ bs) (y ∷ ys) zero x at = marked_none bs
-next_marked (true ∷ bs) (y ∷ ys) (suc i) x at = ap (λ zs. y ∷ zs) (next_marked bs ys i x at)
-next_marked (false ∷ bs) (y ∷ ys) (suc i) x at = next_marked bs ys i x at
+items_none : {X : Type 0} (places : List ℕ) → ◌≡◌ {A = List X} (items_at [] places) []
+items_none [] = refl
+items_none (p ∷ ps) = items_none ps
 
-pub marked_next : {X : Type 0} (bs : List Bool) (xs : List X) (i : ℕ) (x : X) → slice_get xs i ≡ Some x → marked bs (take (i + 1) xs) ≡ marked bs (take i xs) ++ (if mark_or_not (slice_get bs i) then x ∷ [] else [])
-marked_next bs xs i x at = ap (λ k. marked bs (take k xs)) (add-one i) ∙ next_marked bs xs i x at
+-- what stands at the places of marks that are set is what is marked
+pub marked_items : {X : Type 0} (marks : List Bool) (xs : List X) → items_at xs (set_places marks) ≡ marked marks xs
+marked_items [] xs = refl
+marked_items (b ∷ bs) [] = items_none (set_places (b ∷ bs))
+marked_items (true ∷ bs) (x ∷ xs) = ap (λ ys. x ∷ ys) (items_shifted x xs (set_places bs) ∙ marked_items bs xs)
+marked_items (false ∷ bs) (x ∷ xs) = items_shifted x xs (set_places bs) ∙ marked_items bs xs
+
+if_suc : (b : Bool) (n : ℕ) → map suc (if b then n ∷ [] else []) ≡ (if b then suc n ∷ [] else [])
+if_suc true n = refl
+if_suc false n = refl
+
+next_place : (marks : List Bool) (i : ℕ) (b : Bool) → slice_get marks i ≡ Some b → set_places (take (suc i) marks) ≡ set_places (take i marks) ++ (if b then i ∷ [] else [])
+next_place [] i b at = absurd (let none : None ≡ Some b = at in cc)
+next_place (c ∷ cs) zero b at = append-nil (if c then 0 ∷ [] else []) ∙ ap (λ d. if d then 0 ∷ [] else []) (same_Some c b at)
+next_place (c ∷ cs) (suc i) b at =
+    ap (λ ps. (if c then 0 ∷ [] else []) ++ map suc ps) (next_place cs i b at)
+    ∙ ap (λ ps. (if c then 0 ∷ [] else []) ++ ps) (map-append suc (set_places (take i cs)) (if b then i ∷ [] else []) ∙ ap (λ ps. map suc (set_places (take i cs)) ++ ps) (if_suc b i))
+    ∙ sym (append_assoc (if c then 0 ∷ [] else []) (map suc (set_places (take i cs))) (if b then suc i ∷ [] else []))
+
+-- with one mark more
+pub places_next : (marks : List Bool) (i : ℕ) (b : Bool) → slice_get marks i ≡ Some b → set_places (take (i + 1) marks) ≡ set_places (take i marks) ++ (if b then i ∷ [] else [])
+places_next marks i b at = ap (λ k. set_places (take k marks)) (add-one i) ∙ next_place marks i b at

@@ -49,3 +49,12 @@ zip_as R S thus [] [] zip = zip
 zip_as R S thus [] (y ∷ ys) zip = absurd zip
 zip_as R S thus (x ∷ xs) [] zip = absurd zip
 zip_as R S thus (x ∷ xs) (y ∷ ys) zip = (thus x y zip.0, zip_as R S thus xs ys zip.1)
+
+-- what joins the first list to the second, and that to a third
+pub zip_on : {A B C : Type 0} (R : A → B → Type 0) (S : B → C → Type 0) (T : A → C → Type 0) → ((x : A) (y : B) (z : C) → R x y → S y z → T x z) → (xs : List A) (ys : List B) (zs : List C) → AllZip R xs ys → AllZip S ys zs → AllZip T xs zs
+zip_on R S T thus [] [] [] r s = tt
+zip_on R S T thus [] [] (z ∷ zs) r s = absurd s
+zip_on R S T thus [] (y ∷ ys) zs r s = absurd r
+zip_on R S T thus (x ∷ xs) [] zs r s = absurd r
+zip_on R S T thus (x ∷ xs) (y ∷ ys) [] r s = absurd s
+zip_on R S T thus (x ∷ xs) (y ∷ ys) (z ∷ zs) r s = (thus x y z r.0 s.0, zip_on R S T thus xs ys zs r.1 s.1)

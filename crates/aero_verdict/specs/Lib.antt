@@ -1,7 +1,7 @@
 -- To be believed: Verdict (the verdict on parts under rules), Ordered (the order by lines and steps), Explained (the cycle
 -- that shows a violation), Finding (what is found of a source) and Laws. Also Fed (what a monitor
 -- was fed, and when its verdict is certain) and Actors. What an engine is given and answers stands in aero_engine.
--- For proofs alone: Naming, Limited, Begun, Known, Standing, InOrder, Recorded, Full, Records, Spots and Parts. Monitored tells how the
+-- For proofs alone: Naming, Limited, Begun, Known, Standing, InOrder, Recorded, Full, Records, Spans, Spots and Parts. Monitored tells how the
 -- view of Monitor reads its state.
 pub mod Naming
 pub mod Limited
@@ -24,3 +24,4 @@ pub mod Fed
 pub mod Monitored
 pub mod Laws
 pub mod Records
+pub mod Spans

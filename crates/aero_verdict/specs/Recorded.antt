@@ -15,7 +15,7 @@ use Rattle.aero_leads.specs.Standing.{state_of}
 use Rattle.aero_shape.specs.Admission.{admitted_as}
 use Rattle.aero_shape.specs.declared.admission.Admitted.{Admitted}
 use Rattle.aero_shape.specs.declared.admission.Admitted.TheVariants.{OuterBegin, OuterEnd}
-use Rattle.aero_witness.specs.Thinned.{IsEnough, marked}
+use Rattle.aero_witness.specs.Thinned.{IsAmong, IsEnough, marked}
 use Rattle.aero_verdict.specs.declared.recorder.Recorder.{Recorder}
 
 -- a begin or an end that isn't outermost is an exempt one
@@ -72,10 +72,11 @@ pub record AreNoted (recorder : Recorder) (given : List Given) : Type 0 where
   pub said : length recorder.said.items ≡ length recorder.places.items
   pub each : (i p : ℕ) (g : Given) → slice_get recorder.places.items i ≡ Some p → slice_get given p ≡ Some g → IsNoted recorder i g
 
--- What it keeps of events that were given and are judged as these: at least those to which an open block leads. As long as there is no telling cycle it stands for them.
+-- What it keeps of events that were given and are judged as these: the latest one, and at least those to which an open block leads. As long as there is no telling cycle it stands for them.
 pub record HasRecordedAs (recorder : Recorder) (given : List Given) (h : List Numbered) : Type 0 where
   pub noted : AreNoted recorder given
   pub enough : IsEnough (map recorded given) recorder.events.items recorder.places.items
+  pub latest : (n : ℕ) → length given ≡ suc n → IsAmong recorder.places.items n
   pub stands : ¬ HasTellingCycle h (length h) → leads.StandsFor recorder.leads h
 
 -- however they are judged

@@ -1,7 +1,12 @@
 -- What is recorded of a trace up to the event with which a cycle closes, and what is told of its events.
-use Rattle.std.specs.Prelude.{◌≡◌, ◌<◌, ◌≤◌, ◌^◌, ℕ, suc, All, List, [], ◌∷◌, length, take, slice_get, Some}
+use Rattle.std.specs.Prelude.{◌≡◌, ◌<◌, ◌≤◌, ◌^◌, ℕ, suc, All, List, [], ◌∷◌, length, take, slice_get, Option, Some, option_and_then}
 use Rattle.aero_model.specs.declared.numbered.Numbered.{Numbered}
+use Rattle.aero_model.specs.declared.numbered.What.{What}
+use Rattle.aero_model.specs.declared.numbered.What.TheVariants.{Begin}
 use Rattle.aero_model.specs.declared.verdict.CycleStep.{CycleStep}
+use Rattle.aero_model.specs.declared.verdict.CycleTransaction.{CycleTransaction}
+use Rattle.aero_model.specs.declared.verdict.Extent.{Extent}
+use Rattle.aero_model.specs.declared.verdict.Extent.TheVariants as extents
 use Rattle.aero_model.specs.Named.{Named}
 use Rattle.aero_model.specs.Numbering.{tables_of}
 use Rattle.aero_grammar.specs.Reading.{Reading, IsReading}
@@ -12,12 +17,14 @@ use Rattle.aero_engine.specs.Given.{Given, words_of}
 use Rattle.aero_verdict.specs.declared.checker.Checker.{Checker}
 use Rattle.aero_verdict.specs.declared.numbering.Numbering.{Numbering}
 use Rattle.aero_verdict.specs.declared.recorder.Recorder.{Recorder}
+use Rattle.aero_verdict.specs.declared.spans.Span.{Span}
 use Rattle.aero_verdict.specs.Explained.{round_places}
 use Rattle.aero_verdict.specs.Limited.{names_in}
 use Rattle.aero_verdict.specs.Standing.{AreGiven}
 use Rattle.aero_verdict.specs.Monitored.{TellsFed}
 use Rattle.aero_verdict.specs.Recorded.{HasRecorded, StandsForLeads}
 use Rattle.aero_verdict.specs.Shown.{shown, CanShow}
+use Rattle.aero_verdict.specs.Spans.{IsSpanOf}
 use Rattle.aero_verdict.specs.Verdict.{Rules, counted_events, events_of, IsViolation}
 
 -- the events are recorded up to the one on this line, with which a cycle closes, and the names are theirs
@@ -75,3 +82,24 @@ pub record IsStepAt (numbering : Numbering) (recorder : Recorder) (firsts : List
   pub first_at : slice_get firsts place ≡ Some first
   pub first_line : slice_get recorder.lines.items first ≡ Some step.first
   pub event : IsEventAt numbering recorder place step.event
+
+-- the line of the last place, if there is one
+abbrev pub end_line : List ℕ → Option ℕ → Option ℕ
+end_line lines last = option_and_then (slice_get lines) last
+
+-- what a transaction is whose first event is this one, with this label and with its end on this line
+abbrev pub extent_of : What → Option (List ℕ) → Option ℕ → Extent
+extent_of (Begin unlabelled) label end = extents.Block label end
+extent_of _ label end = extents.Alone
+
+-- the line and the thread of the first event of the span, and what the transaction is
+pub record IsTransactionAt (numbering : Numbering) (recorder : Recorder) (span : Span) (t : CycleTransaction) : Type 0 where
+  pub first_line : slice_get recorder.lines.items span.first ≡ Some t.first
+  pub event : Named
+  pub event_is : IsEventAt numbering recorder span.first event
+  pub thread : event.thread ≡ t.thread
+  pub extent : t.extent ≡ extent_of event_is.e.what event.target (end_line recorder.lines.items span.last)
+
+-- the transaction into which the visit comes
+abbrev pub IsTransactionOf : Numbering → Recorder → Visit → CycleTransaction → Type 0
+IsTransactionOf numbering recorder v t = (span : Span) × IsSpanOf recorder.events.items v span × IsTransactionAt numbering recorder span t

@@ -1,5 +1,5 @@
 -- What a sweep of a record looks up.
-use Rattle.std.specs.Prelude.{◌≡◌, ℕ, ◌-◌, nat_lt, if◌then◌else◌, Bool, false, List, Option, Some, None, slice_get}
+use Rattle.std.specs.Prelude.{◌≡◌, ℕ, suc, ◌-◌, nat_lt, if◌then◌else◌, Bool, List, [], ◌∷◌, ◌++◌, map, flat_map, Option, Some, None, slice_get}
 use Rattle.aero_leads.specs.Leads.{Rows, is_led}
 use Rattle.aero_leads.specs.Leasts.{IsLeastOf}
 
@@ -15,6 +15,15 @@ AreLeasts rows leasts = (o : ℕ) (least : Option ℕ) → slice_get leasts o �
 abbrev pub IsMarkedAt : (ℕ → Option ℕ) → Option ℕ → Bool → Type 0
 IsMarkedAt row place mark = (least : Option ℕ) × IsLeastOf row least × ((p : ℕ) → place ≡ Some p → mark ≡ is_led least p)
 
-abbrev pub mark_or_not : Option Bool → Bool
-mark_or_not None = false
-mark_or_not (Some mark) = mark
+-- the places of the marks that are set
+abbrev pub set_places : List Bool → List ℕ
+set_places [] = []
+set_places (b ∷ bs) = (if b then 0 ∷ [] else []) ++ map suc (set_places bs)
+
+abbrev pub one_or_none : {X : Type 0} → Option X → List X
+one_or_none None = []
+one_or_none (Some x) = x ∷ []
+
+-- the items at these places, as far as there are any
+abbrev pub items_at : {X : Type 0} → List X → List ℕ → List X
+items_at xs places = flat_map (λ p. one_or_none (slice_get xs p)) places

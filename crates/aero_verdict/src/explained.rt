@@ -1,32 +1,37 @@
 //! The telling cycle that shows a violation, event by event.
-ghost use Rattle.std.specs.Prelude.{◌≡◌, ◌++◌, ◌<◌, ◌^◌, ℕ, List, All, Some, length, slice_get, flat_map, IfOk, OnOk};
+ghost use Rattle.std.specs.Prelude.{◌≡◌, ◌++◌, ◌-◌, ◌<◌, ◌^◌, ℕ, List, All, Some, length, slice_get, flat_map, IfOk, OnOk};
 ghost use Rattle.std.specs.List.{AllZip};
 ghost use Rattle.aero_grammar.specs.Reading.{Reading};
 ghost use Rattle.aero_model.specs.Verdicts.{HasOwnFault};
+ghost use Rattle.aero_witness.specs.Parts.{AreOf};
 ghost use Rattle.aero_witness.specs.Telling.{visit_of, visits_of};
 ghost use Rattle.aero_verdict.specs.Explained.{TellsExplained, ShowsVerdict, visit_places, IsExplained};
-ghost use Rattle.aero_verdict.specs.Records.{IsJudged, IsRecord, IsRecordOf, AreShown, CanBeShown, IsEventAt, IsStepAt, round_of};
+ghost use Rattle.aero_verdict.specs.Records.{IsJudged, IsRecord, IsRecordOf, AreShown, CanBeShown, IsEventAt, IsStepAt, IsTransactionAt, IsTransactionOf, round_of, end_line, extent_of};
 ghost use Rattle.aero_verdict.specs.Verdict.{Rules, under};
 
 use crate::monitor::{Monitor, State, feed_all};
 use crate::numbering::Numbering;
 use crate::recorder::Recorder;
 use crate::shown::event_shown;
+use crate::spans::{Span, spans_of};
 use aero_grammar::parsed::Parsed;
 use aero_model::event::Event;
 use aero_model::except::Except;
 use aero_model::limits::Limits;
-use aero_model::verdict::{Cycle, CycleStep, Verdict};
-use aero_witness::search::shortest_of;
+use aero_model::name::Name;
+use aero_model::numbered::What;
+use aero_model::verdict::{Cycle, CycleStep, CycleTransaction, Extent, Verdict};
+use aero_witness::search::{Shortest, shortest_of};
 use aero_witness::visit::Visit;
 use std::alloc::{AllocError, Global};
 
 /// The verdict on the trace that the parts hold, as `check_trace` tells it. Where it is a `Violation`, the label of
 /// the block comes with it that the verdict names, if it has one, and the events of a telling cycle that begins there,
 /// in the order in which it is gone round: from the one by which the block is left to the one by which it is entered
-/// again. None that begins there goes through fewer transactions. The events are gathered for it while they are judged,
-/// in 28 bytes each, until one closes a cycle, and the labels of their begins. Each time when there are twice as many as
-/// before, those are forgotten to which no open block leads.
+/// again. None that begins there goes through fewer transactions. These come too, in the same order, and the event that
+/// closes the cycle. The events are gathered for it while they are judged, in 28 bytes each, until one closes a cycle,
+/// and the labels of their begins. Each time when there are twice as many as before, those are forgotten to which no open
+/// block leads.
 ///
 /// An `AllocError` says that memory was refused.
 pub fn check_trace_explained(
@@ -49,7 +54,8 @@ impl Monitor<Recorder> {
     ghost use Rattle.aero_verdict.specs.Explained.{ShowsCertain, TellsExplained};
 
     /// The verdict on exactly the parts that were fed. Where it is a `Violation`, what shows it comes with it, though
-    /// no part was kept: the label of the block that the verdict names, and the events of a telling cycle.
+    /// no part was kept: the label of the block that the verdict names, the events and the transactions of a telling
+    /// cycle, and the event that closes it.
     ///
     /// An `AllocError` says that memory was refused.
     pub fn finish_explained(self) -> Result<(Verdict, Option<Cycle>), AllocError>
@@ -114,10 +120,14 @@ fn cycle_of(
     let places = round_of(alloc, &shortest.visits)?;
     let firsts = &shortest.transactions.firsts;
     let steps = steps_at(alloc, names, recorder, firsts, &places)?;
+    let transactions = transactions_of(alloc, names, recorder, &shortest)?;
     let opener = event_at(alloc, names, recorder, begin)?;
+    let closing = closing_event(alloc, names, recorder)?;
     Ok(Cycle {
         label: opener.target,
         steps,
+        transactions,
+        closing,
     })
 }
 
@@ -203,6 +213,99 @@ fn step_at(
     let first = lines[firsts[place as usize] as usize];
     let event = event_at(alloc, names, recorder, place)?;
     Ok(CycleStep { line, first, event })
+}
+
+// The transactions into which the visits come, in their order.
+fn transactions_of(
+    alloc: Global,
+    names: &Numbering,
+    recorder: &Recorder,
+    shortest: &Shortest,
+) -> Result<Vec<CycleTransaction>, AllocError>
+    requires few { length recorder.now.events.items < 2 ^ 32 }
+    requires shown { AreShown names.now recorder.now }
+    requires of { AreOf recorder.now.events.items shortest.now.transactions }
+    requires within { All (λ visit. visit.enters < length recorder.now.events.items) shortest.now.visits.items }
+    ensures { IfOk result (λ told. AllZip (IsTransactionOf names.now recorder.now) shortest.now.visits.items told.items) }
+{
+    let spans = spans_of(
+        alloc,
+        &recorder.events,
+        &shortest.transactions,
+        &shortest.visits,
+    )?;
+    transactions_at(alloc, names, recorder, &spans)
+}
+
+fn transactions_at(
+    alloc: Global,
+    names: &Numbering,
+    recorder: &Recorder,
+    spans: &[Span],
+) -> Result<Vec<CycleTransaction>, AllocError>
+    requires shown { AreShown names.now recorder.now }
+    requires within { All (λ span. span.first < length recorder.now.events.items) spans.now }
+    ensures { IfOk result (λ told. AllZip (IsTransactionAt names.now recorder.now) spans.now told.items) }
+{
+    let mut told = Vec::with_capacity(alloc, spans.len())?;
+    for span in spans {
+        told.push(transaction_at(alloc, names, recorder, *span)?)?;
+    }
+    Ok(told)
+}
+
+fn transaction_at(
+    alloc: Global,
+    names: &Numbering,
+    recorder: &Recorder,
+    span: Span,
+) -> Result<CycleTransaction, AllocError>
+    requires shown { AreShown names.now recorder.now }
+    requires within { span.first < length recorder.now.events.items }
+    ensures { IfOk result (IsTransactionAt names.now recorder.now span) }
+{
+    let lines = recorder.lines.as_slice();
+    let events = recorder.events.as_slice();
+    let first = lines[span.first as usize];
+    let what = events[span.first as usize].what;
+    let end = end_line(lines, span.last);
+    let event = event_at(alloc, names, recorder, span.first)?;
+    Ok(CycleTransaction {
+        first,
+        thread: event.thread,
+        extent: extent_of(what, event.target, end),
+    })
+}
+
+// The line of the last place, if there is one.
+fn end_line(lines: &[u32], last: Option<u32>) -> Option<u32>
+    ensures { result ≡ end_line lines.now last }
+{
+    match last {
+        Some(last) => lines.get(last as usize).copied(),
+        None => None,
+    }
+}
+
+// What a transaction is, by what its first event does, the label of that, and the line of its end.
+fn extent_of(what: What, label: Option<Name>, end: Option<u32>) -> Extent
+    ensures { result ≡ extent_of what label end }
+{
+    match what {
+        What::Begin(_) => Extent::Block { label, end },
+        _ => Extent::Alone,
+    }
+}
+
+// The event that was recorded last, which closes the cycle.
+fn closing_event(alloc: Global, names: &Numbering, recorder: &Recorder) -> Result<Event, AllocError>
+    requires few { length recorder.now.events.items < 2 ^ 32 }
+    requires some { 0 < length recorder.now.events.items }
+    requires shown { AreShown names.now recorder.now }
+    ensures { IfOk result (IsEventAt names.now recorder.now (length recorder.now.events.items - 1)) }
+{
+    let last = recorder.events.as_slice().len() - 1;
+    event_at(alloc, names, recorder, last as u32)
 }
 
 // The event at this place.

@@ -39,7 +39,8 @@
 //! - A monitor of `Recorder` gives at its end the verdict on what it was fed, and exactly where it is a violation the label
 //!   of the block that it names and the events of a telling cycle, though no part was kept. It is one of the events up to
 //!   the closing one, begins in that block, and none from there has fewer visits. Each event comes with its line and that
-//!   of the first event of its transaction:
+//!   of the first event of its transaction. With them come the transactions of the cycle, each with its thread, its line,
+//!   and as a block with its label and, where it has ended, the line of its end, and the closing event:
 //!   `Monitor::finish_explained`, `told`, `own_fault`. `check_trace_explained` gives the same of parts at once, and
 //!   `Monitor::explain` of a violation that is certain, while the monitor goes on.
 //! - A monitor of `Full` gives at its end both, each with the verdict that it goes with: `Monitor::finish_in_full`.
@@ -73,6 +74,7 @@ mod on_line;
 pub mod recorder;
 mod serial;
 mod shown;
+mod spans;
 mod sweep;
 
 pub use actor::actor_at;

@@ -8,7 +8,7 @@ ghost use Rattle.aero_engine.specs.Judging.{IsAdmitted, ComesAfter, Tells};
 ghost use Rattle.aero_verdict.specs.Recorded.{inner_what, recorded_what, IsLabelSaid, IsSaid, HasStill, HasRecorded, StandsForLeads, IsNotedNext, IsSwept, IsAsBefore, SaysSame};
 ghost use Rattle.aero_verdict.specs.Swept.{label_in};
 
-use crate::sweep::{keep_marked, marks_of};
+use crate::sweep::{keep_at, marks_of, set_places};
 use aero_engine::by_kind;
 use aero_engine::engine::Engine;
 use aero_engine::spent::Spent;
@@ -23,7 +23,7 @@ use std::alloc::{AllocError, Global};
 /// which label.
 ///
 /// Events to which no open block leads are in no cycle that closes later. They are forgotten each time when there are
-/// twice as many events as were left by the last time, and at least 65,536.
+/// twice as many events as were left by the last time, and at least 8,192.
 #[derive(Drop)]
 pub struct Recorder {
     leads: Leads,
@@ -40,8 +40,8 @@ pub struct Recorder {
     alloc: Global,
 }
 
-// As long as fewer events are recorded none is forgotten.
-const FEW: usize = 1 << 16;
+// As long as fewer events are recorded none is forgotten. So few stay in a processor's cache.
+const FEW: usize = 1 << 13;
 
 impl Recorder {
     ghost use Rattle.std.specs.Prelude.{◌≡◌};
@@ -132,10 +132,11 @@ fn sweep(recorder: &mut Recorder) -> Result<(), AllocError>
 {
     let alloc = recorder.alloc;
     let marks = marks_of(alloc, &recorder.leads, &recorder.events, &recorder.places)?;
-    keep_marked(alloc, &mut recorder.events, &marks)?;
-    keep_marked(alloc, &mut recorder.lines, &marks)?;
-    keep_marked(alloc, &mut recorder.said, &marks)?;
-    keep_marked(alloc, &mut recorder.places, &marks)?;
+    let led = set_places(alloc, &marks)?;
+    keep_at(alloc, &mut recorder.events, &led)?;
+    keep_at(alloc, &mut recorder.lines, &led)?;
+    keep_at(alloc, &mut recorder.said, &led)?;
+    keep_at(alloc, &mut recorder.places, &led)?;
     relabel(alloc, &mut recorder.labels, &mut recorder.said)?;
     Ok(())
 }

@@ -3,9 +3,8 @@ ghost use Rattle.std.specs.Prelude.{◌≡◌, ◌++◌, ◌∷◌, [], ℕ, Opt
 ghost use Rattle.aero_leads.specs.Leads.{is_led};
 ghost use Rattle.aero_leads.specs.Leasts.{IsLeastOf};
 ghost use Rattle.aero_leads.specs.Standing.{state_of};
-ghost use Rattle.aero_witness.specs.Thinned.{marked};
 ghost use Rattle.aero_verdict.specs.Recorded.{AreMarks};
-ghost use Rattle.aero_verdict.specs.Swept.{AreLeasts, IsMarkedAt, mark_or_not};
+ghost use Rattle.aero_verdict.specs.Swept.{AreLeasts, IsMarkedAt, items_at, one_or_none, set_places};
 
 use aero_leads::leads::Leads;
 use aero_model::numbered::Numbered;
@@ -21,19 +20,19 @@ pub(crate) fn marks_of(
     ensures { IfOk result (λ marks. AreMarks (state_of leads.now).rows events.now places.now marks.items) }
 {
     let mut leasts = Vec::new(alloc);
-    let mut marks = Vec::new(alloc);
+    let mut marks = Vec::with_capacity(alloc, events.len())?;
     for (i, event) in events.iter().enumerate() {
-        let place = place_at(places, i);
+        let place = item_at(places, i);
         let mark = mark_of(leads, &mut leasts, event.thread, place)?;
         marks.push(mark)?;
     }
     Ok(marks)
 }
 
-fn place_at(places: &[u32], i: usize) -> Option<u32>
-    ensures { result ≡ slice_get places.now i }
+fn item_at<T: Copy>(items: &[T], i: usize) -> Option<T>
+    ensures { result ≡ slice_get items.now i }
 {
-    places.get(i).copied()
+    items.get(i).copied()
 }
 
 // Whether an open block leads to the event of the thread at this place. The least places of threads are looked up once.
@@ -85,42 +84,53 @@ fn is_led(least: Option<u32>, place: Option<u32>) -> bool
     }
 }
 
-/// Keeps the marked items.
-pub(crate) fn keep_marked<T: Copy>(
+/// The places of the marks that are set.
+pub(crate) fn set_places(alloc: Global, marks: &[bool]) -> Result<Vec<usize>, AllocError>
+    ensures { IfOk result (λ set. set.items ≡ set_places marks.now) }
+{
+    let mut set = Vec::new(alloc);
+    for (i, mark) in marks.iter().enumerate() {
+        push_if(&mut set, *mark, i)?;
+    }
+    Ok(set)
+}
+
+fn push_if(set: &mut Vec<usize>, mark: bool, place: usize) -> Result<(), AllocError>
+    ensures { OnOk result (set.new.items ≡ set.old.items ++ (if mark then place ∷ [] else [])) }
+{
+    if mark {
+        set.push(place)?;
+    }
+    Ok(())
+}
+
+/// Keeps the items at these places.
+pub(crate) fn keep_at<T: Copy>(
     alloc: Global,
     items: &mut Vec<T>,
-    marks: &[bool],
+    places: &[usize],
 ) -> Result<(), AllocError>
-    ensures { OnOk result (items.new.items ≡ marked marks.now items.old.items) }
+    ensures { OnOk result (items.new.items ≡ items_at items.old.items places.now) }
 {
-    let kept = marked_items(alloc, items, marks)?;
+    let kept = items_at(alloc, items, places)?;
     *items = kept;
     Ok(())
 }
 
-fn marked_items<T: Copy>(alloc: Global, items: &[T], marks: &[bool]) -> Result<Vec<T>, AllocError>
-    ensures { IfOk result (λ kept. kept.items ≡ marked marks.now items.now) }
+fn items_at<T: Copy>(alloc: Global, items: &[T], places: &[usize]) -> Result<Vec<T>, AllocError>
+    ensures { IfOk result (λ kept. kept.items ≡ items_at items.now places.now) }
 {
-    let mut kept = Vec::new(alloc);
-    for (i, item) in items.iter().enumerate() {
-        push_if(&mut kept, is_marked(marks, i), *item)?;
+    let mut kept = Vec::with_capacity(alloc, places.len())?;
+    for place in places {
+        push_some(&mut kept, item_at(items, *place))?;
     }
     Ok(kept)
 }
 
-fn is_marked(marks: &[bool], i: usize) -> bool
-    ensures { result ≡ mark_or_not (slice_get marks.now i) }
+fn push_some<T: Copy>(kept: &mut Vec<T>, item: Option<T>) -> Result<(), AllocError>
+    ensures { OnOk result (kept.new.items ≡ kept.old.items ++ one_or_none item) }
 {
-    match marks.get(i) {
-        Some(mark) => *mark,
-        None => false,
-    }
-}
-
-fn push_if<T: Copy>(kept: &mut Vec<T>, mark: bool, item: T) -> Result<(), AllocError>
-    ensures { OnOk result (kept.new.items ≡ kept.old.items ++ (if mark then item ∷ [] else [])) }
-{
-    if mark {
+    if let Some(item) = item {
         kept.push(item)?;
     }
     Ok(())

@@ -149,8 +149,8 @@ pub(crate) fn first_at(firsts: &[u32], place: u32) -> u32
     firsts[place as usize]
 }
 
-// Whether the event's transaction has ended.
-pub(crate) fn has_ended(events: &[Numbered], transactions: &Transactions, place: u32) -> bool
+/// Whether the transaction of the event at this place, from 0, has ended.
+pub fn has_ended(events: &[Numbered], transactions: &Transactions, place: u32) -> bool
     requires of { AreOf events.now transactions.now }
     requires within { place < length events.now }
     ensures { IsTrue result ↔ HasEnded events.now (length events.now) (transaction events.now place) }

@@ -1,7 +1,5 @@
-//! The texts of `--help` and `--version`, in at most 80 columns. The manual page docs/aerodrome.1
+//! The texts of `--help`, in at most 80 columns. The manual page docs/aerodrome.1
 //! says the same.
-
-pub const VERSION: &str = "0.1.0";
 
 pub const ABOUT: &str =
     "Judges traces of threaded programs: is each atomic block as if it ran alone?";
@@ -194,6 +192,9 @@ After the report, on standard error, in the order of the traces:
       It is too large without --long.
   aerodrome: NAME:L: WORDS
       What is wrong with line L, which is malformed or ill-formed.
+  aerodrome: no block begins with begin(LABEL)
+      No begin of any trace has this label of --except or --only. Nothing is
+      said where a trace couldn't be read to its end.
 
 The exit status, the highest that applies, so that 2 hides 1:
   0  no trace has a violation or a fault; also after --help and --version

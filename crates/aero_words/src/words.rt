@@ -12,6 +12,7 @@ use crate::help;
 use aero_model::except::MOST_LABELS;
 use aero_model::name::{Name, NameFault};
 pub use aero_program::command::{Config, Form, MOST_FILES, Progress, Refused, Sources, Terminals};
+use aero_report::VERSION;
 use clap::builder::ValueParser;
 use clap::error::ErrorKind;
 use clap::{Arg, ArgAction, ArgMatches, Command, Error, value_parser};
@@ -81,7 +82,7 @@ fn bare_line<'a>(alloc: Global) -> Command<'a>
 {
     Command::new(alloc, "aerodrome")
         .no_binary_name(true)
-        .version(help::VERSION)
+        .version(VERSION)
         .about(help::ABOUT)
         .long_about(help::LONG_ABOUT)
         .after_long_help(help::REPORT)

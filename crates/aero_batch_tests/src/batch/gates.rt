@@ -18,12 +18,12 @@ use std::test::Fail;
 use std::thread;
 use std::thread::Threads;
 
-const TURNS: u32 = 1_000_000;
+const TURNS: u32 = 20_000_000;
 
 // How the waits in a gate ended: all in time, or one of them in vain.
 const IN_TIME: &str = "in time";
 
-const TOO_LATE: &str = "the other worker didn't come within 1,000,000 turns";
+const TOO_LATE: &str = "the other worker didn't come within 20,000,000 turns";
 
 // Where a gate waits for others.
 #[derive(Drop)]

@@ -3,12 +3,13 @@ use Rattle.std.proofs.lemmas.List.{length-map}
 use Rattle.aero_model.specs.CallCounts.{seen_by}
 use Rattle.aero_report.specs.declared.form.Form.{Form}
 use Rattle.aero_report.specs.Forms.{summary_line_in}
+use Rattle.aero_report.specs.Options.{Options}
 use Rattle.aero_batch.specs.Founds.{sighted}
 use Rattle.aero_batch.specs.Telling.{TellsText}
 use Rattle.aero_batch.specs.Holding.{IsBegun}
 use Rattle.aero_batch.proofs.Stands.{begun_stands, summary_done}
 use Rattle.aero_batch.proofs.run.run_on.Goals as goal
-use Rattle.aero_intake.specs.PlanTerms.{terms_of}
+use Rattle.aero_intake.specs.PlanTerms.{options_in, terms_of}
 
 pub steps-init : goal.steps-init
 steps-init g c =
@@ -29,8 +30,9 @@ returns-then-branch-clause-done g c =
     let after = seen_by g.W.Write.contents c.tell_summary.new.writer in
     let st = c.in_ok-advance.ensures.stands old before c.steps.invariant in
     let all = c.in_ok-advance.ensures.all_told c.if-branch.true ∙ sym (length-map c.advance.new.sources (sighted g.R.Read.remaining)) in
-    let tells = subst (λ (f : Form). TellsText (summary_line_in f c.advance.new.standing.told.counts) mid after c.tell_summary.result) c.style_of.ensures
-    c.tell_summary.ensures in
+    let counts = c.advance.new.standing.told.counts in
+    let tells = subst (λ (f : Form). TellsText (summary_line_in f (options_in terms) counts) mid after c.tell_summary.result) c.style_of.ensures
+    (subst (λ (o : Options). TellsText (summary_line_in c.style_of.result.form o counts) mid after c.tell_summary.result) c.options.ensures c.tell_summary.ensures) in
     (summary_done terms form old now before mid after c.advance.new.standing.underway c.advance.new.standing.told all st c.tell_summary.result tells).0
 
 pub returns-then-branch-clause-stopped : goal.returns-then-branch-clause-stopped
@@ -44,6 +46,7 @@ returns-then-branch-clause-stopped g c =
     let after = seen_by g.W.Write.contents c.tell_summary.new.writer in
     let st = c.in_ok-advance.ensures.stands old before c.steps.invariant in
     let all = c.in_ok-advance.ensures.all_told c.if-branch.true ∙ sym (length-map c.advance.new.sources (sighted g.R.Read.remaining)) in
-    let tells = subst (λ (f : Form). TellsText (summary_line_in f c.advance.new.standing.told.counts) mid after c.tell_summary.result) c.style_of.ensures
-    c.tell_summary.ensures in
+    let counts = c.advance.new.standing.told.counts in
+    let tells = subst (λ (f : Form). TellsText (summary_line_in f (options_in terms) counts) mid after c.tell_summary.result) c.style_of.ensures
+    (subst (λ (o : Options). TellsText (summary_line_in c.style_of.result.form o counts) mid after c.tell_summary.result) c.options.ensures c.tell_summary.ensures) in
     (summary_done terms form old now before mid after c.advance.new.standing.underway c.advance.new.standing.told all st c.tell_summary.result tells).1

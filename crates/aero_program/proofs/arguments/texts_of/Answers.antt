@@ -1,4 +1,4 @@
-use Rattle.std.proofs.Common.{◌≡◌, ◌∙◌, List, ℕ, Result, Err, Global, subst}
+use Rattle.std.proofs.Common.{List, ℕ, Err, Global, subst}
 use Rattle.std.specs.Prelude.{string_bytes}
 use Rattle.aero_program.specs.Arguments.{IsWordOf}
 use Rattle.aero_program.proofs.Wording.{stopped_at}

@@ -3,8 +3,10 @@ use Rattle.std.specs.Io.KnownBytes.{Consumes}
 use Rattle.std.specs.List.{count_by}
 use Rattle.std.proofs.KnownBytes.{Consumes-trans}
 use Rattle.std.proofs.lemmas.List.Sums.{sum_by-append}
-use Rattle.aero_program.specs.Inputs.{bytes_left, standing_of}
+use Rattle.std.specs.IoError.{raw_os_error}
+use Rattle.aero_program.specs.Inputs.{bytes_left, reason_of, standing_of}
 use Rattle.aero_program.specs.Listing.{is_name_end}
+use Rattle.aero_program.proofs.Gathering.{reason_stays}
 use Rattle.aero_program.proofs.Names.{names_ended}
 use Rattle.aero_program.proofs.listing.gather.Goals as goal
 
@@ -26,4 +28,18 @@ returns-then-ends-gt-MOST_FILES-clause-fault g c = λ none.
           (Consumes-trans (bytes_left (standing_of known c.args.input.now)) (bytes_left (standing_of known c.loop.input)) (bytes_left (standing_of known c.read.new.self)) c.loop.list.items piece
           c.loop.invariant.came c.in-Ok.ensures.bytes.0);
       many = omega (arith, both, ended, more);
+    }
+
+pub loop-preserved : goal.loop-preserved
+loop-preserved g c =
+    let known = g.S.Read.remaining in
+    let piece = take c.in-Ok.count c.read.new.buf in
+    record {
+      came = subst (Consumes (bytes_left (standing_of known c.args.input.now)) (bytes_left (standing_of known c.read.new.self))) (sym c.in_ok-extend_from_slice.ensures.items)
+          (Consumes-trans (bytes_left (standing_of known c.args.input.now)) (bytes_left (standing_of known c.loop.input)) (bytes_left (standing_of known c.read.new.self)) c.loop.list.items piece
+          c.loop.invariant.came c.in-Ok.ensures.bytes.0);
+      reason = c.in-Ok.ensures.reason ∙ reason_stays raw_os_error (reason_of c.loop.input) c.in-Ok.count ∙ c.loop.invariant.reason;
+      ends = ap₂ (λ (a b : ℕ). a + b) c.loop.invariant.ends c.count_ends-ends.ensures
+          ∙ sym (ap (count_by is_name_end) c.in_ok-extend_from_slice.ensures.items ∙ sum_by-append (λ b. cond (is_name_end b) 1 0) c.loop.list.items piece);
+      few = let no_more = c.if-ends-gt-MOST_FILES.false in omega (arith, no_more);
     }

@@ -1,4 +1,4 @@
-use Rattle.std.proofs.Common.{[], ◌∷◌, ◌++◌, codes, ap}
+use Rattle.std.proofs.Common.{[], ◌∷◌, ◌++◌, codes, ap₂}
 use Rattle.std.proofs.lemmas.Result.{IfOk-equal}
 use Rattle.aero_report.specs.Json.{count, word}
 use Rattle.aero_report.specs.Members.{all_members_tokens}
@@ -10,4 +10,5 @@ returns-in-Serializable c = rw c.in-Serializable.is c.write_sizes.ensures
 pub returns-in-IllFormed : goal.returns-in-IllFormed
 returns-in-IllFormed c =
     rw c.in-IllFormed.is (IfOk-equal _ _ _ _ c.write_fault-in-IllFormed.ensures
-    (ap (λ fault. c.args.out.now ++ all_members_tokens (word (codes "verdict") (codes "ill-formed") ∷ count (codes "line") c.in-IllFormed.line ∷ word (codes "fault") fault ∷ [])) c.shape_fault_name.ensures))
+    (ap₂ (λ fault words. c.args.out.now ++ all_members_tokens (word (codes "verdict") (codes "ill-formed") ∷ count (codes "line") c.in-IllFormed.line ∷ word (codes "fault") fault ∷ word (codes "note") words ∷ []))
+    c.shape_fault_name-name.ensures c.shape_words.ensures))

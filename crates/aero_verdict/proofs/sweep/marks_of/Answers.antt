@@ -16,6 +16,6 @@ loop-i-preserved c =
     record {
       leasts = c.in_ok-mark.ensures.leasts;
       marks = subst (AreMarks rows (take (i + 1) events) c.args.places.now) (sym c.in_ok-push.ensures.items)
-          (marks_next rows events c.args.places.now c.loop-i.marks.items i (get_or events i none) c.in_ok-mark.mark c.place_at-place.result
-          (slice_get-get_or events i none c.loop-i-test.true) c.place_at-place.ensures c.in_ok-mark.ensures.mark c.loop-i.invariant.marks);
+          (marks_next rows events c.args.places.now c.loop-i.marks.items i (get_or events i none) c.in_ok-mark.mark c.item_at-place.result
+          (slice_get-get_or events i none c.loop-i-test.true) c.item_at-place.ensures c.in_ok-mark.ensures.mark c.loop-i.invariant.marks);
     }

@@ -1,0 +1,206 @@
+//! The labels of `--only` and `--except` that begin no block of any source, as a run tells them.
+ghost use Rattle.std.specs.Prelude.{◌≡◌, ◌++◌, [], if◌then◌else◌, true, map, vec_len, IfOk, OnOk};
+ghost use Rattle.std.specs.List.{filter, list_all, list_any};
+ghost use Rattle.std.specs.Prelude.{bytes_eq};
+ghost use Rattle.aero_batch.specs.Founds.{sighted};
+ghost use Rattle.aero_model.specs.CallCounts.{inner_of};
+ghost use Rattle.aero_program.specs.Inputs.{bytes_left, standing_of};
+ghost use Rattle.aero_program.specs.Labels.{labels_of, missing_of, watched_in};
+ghost use Rattle.aero_program.specs.Notes.{all_read, is_whole, label_line, label_lines, missing_in_each, named_input, said_on};
+ghost use Rattle.aero_program.specs.Sightings.{resighted};
+ghost use Rattle.aero_watch.specs.Watches.{at_places};
+
+use crate::files::Opener;
+use crate::input::Input;
+use aero_batch::outcome::Cause;
+use aero_batch::source::Source;
+use aero_model::counting::Counting;
+use aero_model::except::SharedExcept;
+use aero_model::name::Name;
+use aero_model::verdict::Ending;
+use aero_shown::append_text;
+use aero_watch::watch::Watch;
+use std::alloc::{AllocError, Global};
+use std::io::Read;
+
+/// The same sources, none of which was read yet, each with a watch for the labels of the list, where it has any.
+///
+/// # Errors
+///
+/// `AllocError` where memory is refused.
+pub fn watched<S: Read + Drop, F: Opener + Drop>(
+    alloc: Global,
+    sources: Vec<Source<Input<S, F>>>,
+    except: &SharedExcept,
+) -> Result<Vec<Source<Input<S, F>>>, AllocError>
+    ensures sighted { IfOk result (λ r. map (sighted (λ input. bytes_left (standing_of S.remaining input))) r.items ≡ map resighted (map (sighted (λ input. bytes_left (standing_of S.remaining input))) sources.items)) }
+    ensures few { IfOk result (λ r. vec_len r ≡ vec_len sources) }
+    ensures watched { IfOk result (λ r. map labels_of r.items ≡ map (λ _. except.now.labels) sources.items) }
+{
+    let mut made = Vec::new(alloc);
+    for source in sources {
+        let Source {
+            name,
+            reader,
+            may_wait,
+        } = source;
+        let watch = watch_for(alloc, except)?;
+        let reader = Counting::new(reader.into_inner().watched_by(watch));
+        made.push(Source {
+            name,
+            reader,
+            may_wait,
+        })?;
+    }
+    Ok(made)
+}
+
+// A watch for the labels of the list, if it has any.
+fn watch_for(alloc: Global, except: &SharedExcept) -> Result<Option<Watch>, AllocError>
+    ensures { IfOk result (λ watch. watched_in watch ≡ except.now.labels) }
+{
+    if except.get().labels().is_empty() {
+        return Ok(None);
+    }
+    Watch::new(alloc, except).map(Some)
+}
+
+/// The lines on those of these labels with which no block of any source begins, in order, and the sources again. A
+/// terminal is shown no control characters of them.
+///
+/// # Errors
+///
+/// `AllocError` where memory is refused now, or was to a watch.
+pub fn label_notes<S: Read + Drop, F: Opener + Drop>(
+    alloc: Global,
+    sources: Vec<Source<Input<S, F>>>,
+    labels: &[Name],
+    on_terminal: bool,
+) -> Result<(Vec<u8>, Vec<Source<Input<S, F>>>), AllocError>
+    ensures lines { IfOk result (λ r. r.0.items ≡ label_lines on_terminal (missing_in_each (map (λ s. missing_of (inner_of s.reader)) sources.items) labels.now)) }
+    ensures kept { IfOk result (λ r. map named_input r.1.items ≡ map named_input sources.items) }
+{
+    if are_none(labels) {
+        return Ok((Vec::new(alloc), sources));
+    }
+    let all = all_labels(alloc, labels)?;
+    let (missing, kept) = missing_of_all(alloc, sources, all)?;
+    let text = lines_on(alloc, &missing, on_terminal)?;
+    Ok((text, kept))
+}
+
+fn are_none(labels: &[Name]) -> bool
+    ensures { result ≡ true → labels.now ≡ [] }
+{
+    labels.is_empty()
+}
+
+// Those of the labels that each source lacks, and the sources again.
+fn missing_of_all<'a, S: Read + Drop, F: Opener + Drop>(
+    alloc: Global,
+    sources: Vec<Source<Input<S, F>>>,
+    labels: Vec<&'a Name>,
+) -> Result<(Vec<&'a Name>, Vec<Source<Input<S, F>>>), AllocError>
+    ensures missing { IfOk result (λ r. map (λ label. label.now) r.0.items ≡ missing_in_each (map (λ s. missing_of (inner_of s.reader)) sources.items) (map (λ label. label.now) labels.entry.items)) }
+    ensures kept { IfOk result (λ r. map named_input r.1.items ≡ map named_input sources.items) }
+{
+    let mut missing = labels;
+    let mut kept = Vec::new(alloc);
+    for source in sources {
+        let Source {
+            name,
+            reader,
+            may_wait,
+        } = source;
+        let input = reader.into_inner();
+        missing = lacking(alloc, &missing, &input)?;
+        let reader = Counting::new(input);
+        kept.push(Source {
+            name,
+            reader,
+            may_wait,
+        })?;
+    }
+    Ok((missing, kept))
+}
+
+fn all_labels<'a>(alloc: Global, labels: &'a [Name]) -> Result<Vec<&'a Name>, AllocError>
+    ensures { IfOk result (λ all. map (λ label. label.now) all.items ≡ labels.now) }
+{
+    let mut all = Vec::new(alloc);
+    for label in labels {
+        all.push(label)?;
+    }
+    Ok(all)
+}
+
+// Those of the labels that an input lacks.
+fn lacking<'a, S: Read + Drop, F: Opener + Drop>(
+    alloc: Global,
+    labels: &[&'a Name],
+    input: &Input<S, F>,
+) -> Result<Vec<&'a Name>, AllocError>
+    ensures { IfOk result (λ left. map (λ label. label.now) left.items ≡ filter (λ label. list_any (bytes_eq label) (missing_of input.now)) (map (λ label. label.now) labels.now)) }
+{
+    let mut left = Vec::new(alloc);
+    for label in labels {
+        if input.lacks(label.bytes())? {
+            left.push(*label)?;
+        }
+    }
+    Ok(left)
+}
+
+// The lines on these labels.
+fn lines_on(alloc: Global, labels: &[&Name], on_terminal: bool) -> Result<Vec<u8>, AllocError>
+    ensures { IfOk result (λ text. text.items ≡ label_lines on_terminal (map (λ label. label.now) labels.now)) }
+{
+    let mut text = Vec::new(alloc);
+    for label in labels {
+        append_line(&mut text, label.bytes(), on_terminal)?;
+    }
+    Ok(text)
+}
+
+// The line on a label.
+fn append_line(text: &mut Vec<u8>, label: &[u8], on_terminal: bool) -> Result<(), AllocError>
+    ensures { OnOk result (text.new.items ≡ text.old.items ++ label_line on_terminal label.now) }
+{
+    text.extend_from_slice(b"aerodrome: no block begins with begin(")?;
+    append_label(text, label, on_terminal)?;
+    text.extend_from_slice(b")")?;
+    text.extend_from_slice(b"\n")?;
+    Ok(())
+}
+
+fn append_label(text: &mut Vec<u8>, label: &[u8], on_terminal: bool) -> Result<(), AllocError>
+    ensures { OnOk result (text.new.items ≡ text.old.items ++ said_on on_terminal label.now) }
+{
+    if on_terminal {
+        append_text(text, label)
+    } else {
+        text.extend_from_slice(label)
+    }
+}
+
+/// Whether a run that stopped for this cause, or for none, read each source to its end.
+pub fn all_read(cause: Option<Cause>, endings: &[(u64, Ending)]) -> bool
+    ensures { result ≡ all_read cause endings.now }
+{
+    match cause {
+        None => are_whole(endings),
+        Some(_) => false,
+    }
+}
+
+fn are_whole(endings: &[(u64, Ending)]) -> bool
+    ensures { result ≡ list_all (λ ending. is_whole ending.1) endings.now }
+{
+    endings.iter().all(|ending| is_whole(ending.1))
+}
+
+fn is_whole(ending: Ending) -> bool
+    ensures { result ≡ is_whole ending }
+{
+    matches!(ending, Ending::Whole)
+}

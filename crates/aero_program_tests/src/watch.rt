@@ -1,0 +1,140 @@
+// Which labels begin no block in a text, however it is cut.
+use aero_model::except::{Except, SharedExcept};
+use aero_model::name::Name;
+use aero_watch::watch::Watch;
+use std::alloc::{AllocError, Global};
+
+// One is the front of another, and one has more bytes than a name that needs no memory.
+const LABELS: [&[u8]; 4] = [b"a", b"ab", b"b", b"0123456789abcdefg"];
+
+// A watch for the labels.
+fn watch_of(alloc: Global) -> Option<Watch> {
+    let mut labels = Vec::new(alloc);
+    for label in LABELS {
+        labels.push(Name::read(alloc, label).ok()?).ok()?;
+    }
+    let shared = SharedExcept::new(alloc, Except::new(labels)?).ok()?;
+    Watch::new(alloc, &shared).ok()
+}
+
+// A text, and which of the labels begin no block in it.
+type Row = (&'static [u8], [bool; 4]);
+
+static ROWS: [Row; 13] = [
+    (b"", [true, true, true, true]),
+    (b"T|begin(a)", [false, true, true, true]),
+    (b"T|begin(a)\n", [false, true, true, true]),
+    (b"T|begin(a)\r\n", [false, true, true, true]),
+    (b"T|begin(a)\r", [false, true, true, true]),
+    (b"T|begin(a)\r\r\n", [true, true, true, true]),
+    (b"T|begin(ab)|7\nT|w(a)\n", [true, false, true, true]),
+    (b" T |\tbegin(b) \nT|begin", [true, true, false, true]),
+    (
+        b"T|begin(a\n|begin(a)\nT|Begin(a)\nbegin(a)\nT||begin(a)\n",
+        [true, true, true, true],
+    ),
+    (
+        b"T|begin(a)x\nT|begin(b)\x01\nT|begin (b)\n",
+        [true, true, true, true],
+    ),
+    (
+        b"T|end(a)\n\nT|begin(0123456789abcdefg)",
+        [true, true, true, false],
+    ),
+    (
+        b"T|begin(b)\nT|begin(a)\nT|begin(b)\n",
+        [false, true, false, true],
+    ),
+    (
+        b"T|begin(ab)\nT|begin(0123456789abcdefg)\nT|begin(b)\nT|begin(a)\nT|begin(c)",
+        [false, false, false, false],
+    ),
+];
+
+#[test]
+fn a_label_is_found_wherever_a_text_is_cut(rt: HostRuntime) {
+    assert_eq!(rt; first_wrong(rt.alloc(), &ROWS), None);
+}
+
+// The first row that isn't so, cut at one of its bytes, or at each.
+fn first_wrong(alloc: Global, rows: &[Row]) -> Option<usize> {
+    for (row, (text, wanted)) in rows.iter().enumerate() {
+        if !is_so_at_each_cut(alloc, text, *wanted) || !is_so_by_bytes(alloc, text, *wanted) {
+            return Some(row);
+        }
+    }
+    None
+}
+
+fn is_so_at_each_cut(alloc: Global, text: &[u8], wanted: [bool; 4]) -> bool {
+    let mut so = true;
+    for cut in 0..=text.len() {
+        so &= is_so_cut_at(alloc, text, cut, wanted);
+    }
+    so
+}
+
+fn is_so_cut_at(alloc: Global, text: &[u8], cut: usize, wanted: [bool; 4]) -> bool {
+    let Some(mut watch) = watch_of(alloc) else {
+        return false;
+    };
+    let (front, back) = text.split_at(cut.min(text.len()));
+    watch.feed(front);
+    watch.feed(back);
+    lacks_so(&watch, wanted)
+}
+
+fn is_so_by_bytes(alloc: Global, text: &[u8], wanted: [bool; 4]) -> bool {
+    let Some(mut watch) = watch_of(alloc) else {
+        return false;
+    };
+    for byte in text {
+        watch.feed(&[*byte]);
+    }
+    lacks_so(&watch, wanted)
+}
+
+fn lacks_so(watch: &Watch, wanted: [bool; 4]) -> bool {
+    let mut so = true;
+    for (label, lacks) in LABELS.iter().zip(wanted) {
+        so &= is_answer(watch.lacks(label), lacks);
+    }
+    so
+}
+
+fn is_answer(answer: Result<bool, AllocError>, wanted: bool) -> bool {
+    match answer {
+        Ok(lacks) => lacks == wanted,
+        Err(_) => false,
+    }
+}
+
+// A line of 4,096 bytes begins a block, and one of 4,097 doesn't, wherever they are cut; the next line does.
+#[test]
+fn a_line_that_is_too_long_begins_no_block(rt: HostRuntime) {
+    let alloc = rt.alloc();
+    assert!(rt;
+        are_so_long(alloc, 4_096, false)
+            && are_so_long(alloc, 4_097, true)
+            && are_so_long(alloc, 9_000, true)
+    );
+}
+
+fn are_so_long(alloc: Global, bytes: usize, lacks: bool) -> bool {
+    let Some(text) = long_line(alloc, bytes) else {
+        return false;
+    };
+    let mut so = true;
+    for cut in [0, 1, 10, 4_095, 4_096, 4_097, 4_098, 8_999, 9_001, 9_006] {
+        so &= is_so_cut_at(alloc, &text, cut, [lacks, true, false, true]);
+    }
+    so
+}
+
+// A line of so many bytes that begins a block with the first label but for its length, and one with the third.
+fn long_line(alloc: Global, bytes: usize) -> Option<Vec<u8>> {
+    let mut text = Vec::from_slice(alloc, b"T|begin(a)|").ok()?;
+    text.resize(bytes, b'x').ok()?;
+    text.extend_from_slice(b"\nT|begin(b)").ok()?;
+    Some(text)
+}

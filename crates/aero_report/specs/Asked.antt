@@ -1,0 +1,6 @@
+-- How the sources of a report were judged, as the code hands it on.
+use Rattle.aero_report.specs.declared.options.Options as declared
+use Rattle.aero_report.specs.Options.{Options}
+
+abbrev pub options_of : declared.Options → Options
+options_of o = record { limits = o.limits.now; labels = o.except.now; order = o.order; explain = o.explain }

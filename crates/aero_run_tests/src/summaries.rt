@@ -1,0 +1,198 @@
+// What no clause says of summaries as JSON: texts known from elsewhere.
+use crate::objects::is_line;
+use aero_model::except::Except;
+use aero_model::limits::Limits;
+use aero_model::name::Name;
+use aero_model::verdict::{Counts, Finding};
+use aero_report::{Form, Options, source_text, totals_text};
+use std::alloc::Global;
+
+// The helpers below say that a row doesn't hold where memory is refused.
+
+// Four counts, and what the object of them begins with.
+type Counted = ([u64; 4], &'static str);
+
+// How sources were judged: whether their order was asked for, and an explanation, labels, whether just these count, and
+// what the object of the summary ends with.
+#[derive(Clone, Copy)]
+struct Asked {
+    order: bool,
+    explain: bool,
+    labels: &'static [&'static [u8]],
+    only: bool,
+    end: &'static str,
+}
+
+static ASKED: [Asked; 4] = [
+    Asked {
+        order: false,
+        explain: false,
+        labels: &[],
+        only: false,
+        end: r#","version":"0.1.0","order":false,"explain":false,"limits":{"bytes":1073741824,"lines":268435456,"threads":65536,"names":67108864},"except":[]}"#,
+    },
+    Asked {
+        order: true,
+        explain: false,
+        labels: &[b"f", b"g\"h"],
+        only: false,
+        end: r#","version":"0.1.0","order":true,"explain":false,"limits":{"bytes":1073741824,"lines":268435456,"threads":65536,"names":67108864},"except":["f","g\"h"]}"#,
+    },
+    Asked {
+        order: false,
+        explain: true,
+        labels: &[b"\xff", b"f"],
+        only: true,
+        end: r#","version":"0.1.0","order":false,"explain":true,"limits":{"bytes":1073741824,"lines":268435456,"threads":65536,"names":67108864},"only":[{"bytes":"/w=="},"f"]}"#,
+    },
+    Asked {
+        order: true,
+        explain: true,
+        labels: &[],
+        only: true,
+        end: r#","version":"0.1.0","order":true,"explain":true,"limits":{"bytes":1073741824,"lines":268435456,"threads":65536,"names":67108864},"only":[]}"#,
+    },
+];
+
+fn push_label(alloc: Global, labels: &mut Vec<Name>, label: &[u8]) -> bool {
+    match Name::read(alloc, label) {
+        Ok(label) => labels.push(label).is_ok(),
+        Err(_) => false,
+    }
+}
+
+fn push_labels(alloc: Global, names: &mut Vec<Name>, labels: &[&[u8]]) -> bool {
+    let mut fits = true;
+    for i in 0..labels.len() {
+        fits &= push_label(alloc, names, labels[i]);
+    }
+    fits
+}
+
+fn except_of(alloc: Global, asked: &Asked) -> Option<Except> {
+    let mut labels = Vec::new(alloc);
+    if !push_labels(alloc, &mut labels, asked.labels) {
+        return None;
+    }
+    if asked.only {
+        Except::all_but(labels)
+    } else {
+        Except::new(labels)
+    }
+}
+
+// Whether the line is these two parts.
+fn is_joined(text: &[u8], front: &str, end: &str) -> bool {
+    match text.strip_prefix(front.as_bytes()) {
+        Some(rest) => is_line(rest, end),
+        None => false,
+    }
+}
+
+fn is_summed_so(alloc: Global, row: &Counted, asked: &Asked) -> bool {
+    let ([serializable, pending, violations, faults], front) = *row;
+    let counts = Counts {
+        serializable,
+        pending,
+        violations,
+        faults,
+    };
+    let Some(except) = except_of(alloc, asked) else {
+        return false;
+    };
+    let limits = Limits::greatest();
+    let options = Options {
+        limits: &limits,
+        except: &except,
+        order: asked.order,
+        explain: asked.explain,
+    };
+    match totals_text(alloc, Form::Json, options, &counts) {
+        Ok(text) => is_joined(&text, front, asked.end),
+        Err(_) => false,
+    }
+}
+
+// The first counts whose object doesn't hold.
+fn first_missummed(alloc: Global, rows: &[Counted]) -> Option<usize> {
+    for i in 0..rows.len() {
+        if !is_summed_so(alloc, &rows[i], &ASKED[0]) {
+            return Some(i);
+        }
+    }
+    None
+}
+
+static SUMMARIES: [Counted; 3] = [
+    (
+        [0, 0, 0, 0],
+        r#"{"traces":0,"serializable":0,"open":0,"violations":0,"faults":0"#,
+    ),
+    (
+        [1, 0, 1, 1],
+        r#"{"traces":3,"serializable":1,"open":0,"violations":1,"faults":1"#,
+    ),
+    (
+        [1, u64::MAX, 0, 0],
+        r#"{"traces":18446744073709551616,"serializable":1,"open":18446744073709551615,"violations":0,"faults":0"#,
+    ),
+];
+
+#[test]
+fn the_object_of_the_summary_counts_what_was_found(rt: HostRuntime) {
+    assert_eq!(rt; first_missummed(rt.alloc(), &SUMMARIES), None);
+}
+
+// The first options whose object doesn't hold.
+fn first_misasked(alloc: Global, rows: &[Asked]) -> Option<usize> {
+    for i in 0..rows.len() {
+        if !is_summed_so(alloc, &SUMMARIES[1], &rows[i]) {
+            return Some(i);
+        }
+    }
+    None
+}
+
+#[test]
+fn the_object_of_the_summary_tells_how_sources_were_judged(rt: HostRuntime) {
+    assert_eq!(rt; first_misasked(rt.alloc(), &ASKED), None);
+}
+
+// Whether the line of a source for people is that of `trace_text`.
+fn has_source_text(alloc: Global) -> bool {
+    match source_text(alloc, Form::Text, b"n", &Finding::Broken(20)) {
+        Ok(text) => text.as_slice() == b"n: broken after 20 bytes\n".as_slice(),
+        Err(_) => false,
+    }
+}
+
+// Whether the summary for people is that of `summary_text`.
+fn has_totals_text(alloc: Global) -> bool {
+    let counts = Counts {
+        serializable: 0,
+        pending: 0,
+        violations: 0,
+        faults: 1,
+    };
+    let line = "traces 1: serializable 0, open 0, violations 0, faults 1";
+    let Some(except) = except_of(alloc, &ASKED[2]) else {
+        return false;
+    };
+    let limits = Limits::long();
+    let options = Options {
+        limits: &limits,
+        except: &except,
+        order: true,
+        explain: true,
+    };
+    match totals_text(alloc, Form::Text, options, &counts) {
+        Ok(text) => is_line(text.as_slice(), line),
+        Err(_) => false,
+    }
+}
+
+#[test]
+fn the_form_for_people_has_the_lines_of_the_report(rt: HostRuntime) {
+    let alloc = rt.alloc();
+    assert!(rt; has_source_text(alloc) && has_totals_text(alloc));
+}
