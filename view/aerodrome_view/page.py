@@ -70,7 +70,7 @@ class Page:
     rows: IO[str]
     articles: IO[str]
     sources: Sources
-    tally: Tally
+    report: Report
     pictures: int = 0
     listed: int = 0
     blamed: Counter[bytes] = field(default_factory=Counter)
@@ -97,8 +97,13 @@ class Page:
         line = look(finding, self.asked.folder).lines.get(finding.counts["line"])
         return f"<br /><code>{bare(line[:MOST_FAULTY], MOST_FAULTY)}</code>" if line else ""
 
+    def unused(self) -> str:
+        """The labels that are perhaps mistyped, if there are any."""
+        labels = self.report.unused()
+        return f"<p>{words.unused(labels, code)}</p>\n" if labels else ""
+
     def write(self, out: IO[str]) -> None:
-        title, style = headline(self.tally), (Path(__file__).parent / "page.css").read_text("utf-8")
+        tally, title, style = self.report.tally, headline(self.report.tally), (Path(__file__).parent / "page.css").read_text("utf-8")
         out.write(
             f'<!DOCTYPE html>\n<html lang="en">\n<head>\n<meta charset="utf-8" />\n'
             f'<meta http-equiv="Content-Security-Policy" content="{POLICY}" />\n'
@@ -107,18 +112,18 @@ class Page:
             f'<a class="skip" href="#traces">To the traces</a>\n'
             f'<svg class="heads" aria-hidden="true"><defs>{HEADS}</defs></svg>\n'
             f'<header>\n<h1>{title}</h1>\n<p class="dim">Does each atomic block behave as if it had run alone? '
-            f"This is what <code>aerodrome</code> found.</p>\n</header>\n<main>\n{tiles(self.tally)}{blames(self.blamed)}"
+            f"This is what <code>aerodrome</code> found.</p>\n</header>\n<main>\n{tiles(tally)}{self.unused()}{blames(self.blamed)}"
             '<table class="traces" id="traces"><caption>Traces</caption><thead><tr><th scope="col">Trace</th>'
             '<th scope="col">Verdict</th><th scope="col">What it says</th></tr></thead>\n<tbody>\n'
         )
         pour(self.rows, out)
-        left_out = self.tally.of["serializable"] - self.listed
+        left_out = tally.of["serializable"] - self.listed
         if left_out:
             further = counted(left_out, "further trace")
             out.write(row("serializables", further, "serializable", "Not listed here (--rows)."))
         out.write("</tbody></table>\n")
         pour(self.articles, out)
-        without = self.tally.of["violations"] - self.pictures
+        without = tally.of["violations"] - self.pictures
         if without:
             out.write(f"<p>{counted(without, 'further violation')}: in the table alone (--pictures).</p>\n")
         out.write(f"</main>\n<footer>{FOOTER}</footer>\n</body>\n</html>\n")
@@ -176,7 +181,7 @@ def blames(labels: Counter[bytes]) -> str:
 
 def make(asked: Asked, report: Report, whole: IO[str]) -> None:
     with unnamed() as rows, unnamed() as articles:
-        page = Page(asked, rows, articles, Sources(asked.root), report.tally)
+        page = Page(asked, rows, articles, Sources(asked.root), report)
         for finding, options in report.findings():
             page.add(finding, options)
         page.write(whole)

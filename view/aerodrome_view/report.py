@@ -48,10 +48,11 @@ class Finding:
 @dataclass(frozen=True)
 class Options:
     """What a run was told, as its summary has it: which blocks are no transactions (those of `excepted`, or all but those of
-    `only`), and how many bytes a source may have."""
+    `only`), with which of these labels no block began, and how many bytes a source may have."""
 
     excepted: tuple[bytes, ...] = ()
     only: tuple[bytes, ...] = ()
+    unused: tuple[bytes, ...] = ()
     most_bytes: int = MOST_BYTES
 
     @property
@@ -94,6 +95,12 @@ class Report:
         if since.of["traces"] or not self.options:
             raise NoReport(f"no summary behind line {at}: is the report whole, and of --format json?")
 
+    def unused(self) -> list[bytes]:
+        """The labels that runs were given, and with which no block began in any of these."""
+        given = [(label, label in options.unused) for options in self.options for label in options.excepted + options.only]
+        used = {label for label, is_unused in given if not is_unused}
+        return list(dict.fromkeys(label for label, _ in given if label not in used))
+
     def findings(self) -> Iterator[tuple[Finding, Options]]:
         """The findings, each with the options of its run."""
         self.kept.seek(0)
@@ -135,7 +142,7 @@ def _summary(of: Json) -> Summary:
         raise ValueError("no object limits")
     if excepted and only or len(excepted + only) > MOST_LABELS:
         raise ValueError("labels of except and only that no run takes")
-    return Summary({key: number(of, key) for key in SUMMARY}, Options(excepted, only, number(limits, "bytes", 1)))
+    return Summary({key: number(of, key) for key in SUMMARY}, Options(excepted, only, names(of, "unused"), number(limits, "bytes", 1)))
 
 
 def _finding(of: Json) -> Finding:

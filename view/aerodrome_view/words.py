@@ -10,6 +10,8 @@ from .report import Finding, Options
 
 Dress = Callable[[bytes], str]
 
+MOST_LABELS = 8  # of those with which no block begins
+
 KINDS = {  # of conflicts, each with its name
     "write-read": "write, then read",
     "read-write": "read, then write",
@@ -40,6 +42,15 @@ class Arrow:
     before: Event
     after: Event
     kind: str
+
+
+def unused(labels: list[bytes], dress: Dress) -> str:
+    """That no block begins with these labels."""
+    said = ", ".join(dress(b"begin(" + label + b")") for label in labels[:MOST_LABELS])
+    left = len(labels) - MOST_LABELS
+    more = f" and {counted(left, 'further label')}" if left > 0 else ""
+    ask = "Is the label" if len(labels) == 1 else "Are the labels"
+    return f"No block begins with {said}{more}. {ask} spelt as in the log?"
 
 
 def arrows_of(cycle: tuple[Event, ...]) -> list[Arrow]:

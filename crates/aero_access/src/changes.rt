@@ -161,7 +161,7 @@ pub(crate) fn begin(
 }
 
 /// Joins the clock of the slot with this number with the clock of thread `t`. Where the slot is a
-/// thread in a block that the clock closes, that thread is answered, and no clock is joined.
+/// thread in a block that the clock closes, that thread is returned, and no clock is joined.
 pub(crate) fn absorb(
     threads: &mut [Thread],
     table: &mut Table,

@@ -1,5 +1,5 @@
 //! The clock rules: what one event does to the clocks of threads and of the table. Each function
-//! answers whether the event closes a telling cycle through the open block of its thread; then it
+//! returns whether the event closes a telling cycle through the open block of its thread; then it
 //! leaves the blocks as they were. Of the index they touch the labels of slots that are kept anew.
 ghost use Rattle.std.specs.Prelude.{◌≡◌, ◌≢◌, ◌<◌, ◌≤◌, ◌+◌, ◌↔◌, ◌-◌, ◌^◌, ℕ, true, false, None, Some, length, slice_get, IsTrue, IfOk, OnOk, OnErr, is_some};
 ghost use Rattle.aero_clock.specs.Numbers.{number_at};
@@ -178,7 +178,7 @@ pub(crate) fn leads(threads: &[Thread], table: &Table, t: u32, slot: usize) -> b
 }
 
 /// Joins the clock of the slot with this number with the clock of thread `t`. Where the slot is a
-/// thread in a block that the clock closes, that thread is answered, and no clock is joined.
+/// thread in a block that the clock closes, that thread is returned, and no clock is joined.
 pub(crate) fn absorb(
     threads: &mut [Thread],
     table: &mut Table,

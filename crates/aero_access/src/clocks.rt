@@ -19,11 +19,11 @@ use std::alloc::Global;
 
 /// The clocks of the events so far. Threads, variables and locks go by numbers from 0.
 ///
-/// A call for an event answers the thread whose open block closes a telling cycle with it, if there
+/// A call for an event returns the thread whose open block closes a telling cycle with it, if there
 /// is one: a cycle in which each block but the first has ended, or is left by no earlier event than it
-/// was entered by. Then `closed` answers that thread, and no further event may be given. Where memory
-/// is refused a call answers `Spent`; then `in_block`, `begins`, `acted` and `closed` answer as
-/// before that call.
+/// was entered by. Then `closed` returns that thread, and no further event may be given. Where memory
+/// is refused a call returns `Spent`; then `in_block`, `begins`, `acted` and `closed` return what
+/// they did before that call.
 #[derive(Drop)]
 pub struct Clocks {
     threads: Vec<Thread>,
@@ -84,7 +84,7 @@ impl Clocks {
         }
     }
 
-    /// The thread that an earlier call answered, if one did.
+    /// The thread that an earlier call returned, if one did.
     pub fn closed(&self) -> Option<u32>
         ensures { result ≡ closed_by self.now }
     {
@@ -227,7 +227,7 @@ impl Clocks {
     }
 
     /// How many slots have a clock that is at least the begin clock of thread `t`, which is in a
-    /// block, in every place. Once memory was refused the answer is 0.
+    /// block, in every place. Once memory was refused it returns 0.
     pub fn led(&self, t: u32) -> usize
         requires { in_block_at self.now t ≡ true }
         ensures count { result ≡ length (led_of self.now t) }
@@ -250,7 +250,7 @@ impl Clocks {
 
     /// Joins the clock of the slot with this number with the clock of thread `t`, which is in a
     /// block. Where the slot is a thread in a block whose begin clock the clock of `t` is at least
-    /// in every place, that thread is answered, as for an event.
+    /// in every place, that thread is returned, as for an event.
     pub fn absorb(&mut self, t: u32, slot: usize) -> Result<Option<u32>, Spent>
         requires closed { closed_by self.old ≡ None }
         requires inside { in_block_at self.old t ≡ true }

@@ -21,7 +21,7 @@ impl Kept {
     ghost use Rattle.aero_access.specs.Heeds.{Heeds};
 
     /// Thread `t` takes the clock, unless the event is its own, or the clock closes a telling cycle:
-    /// then the answer is true.
+    /// then it returns true.
     pub(crate) fn give(&self, thread: &mut Thread, t: u32) -> Result<bool, AllocError>
         requires { CountIsTest thread.old t (number_at self.now.clock) }
         ensures closing { IfOk result (λ closes. IsTrue closes ↔ ((self.now.thread ≢ t) × IsClosedBy thread.old.begin (number_at self.now.clock))) }

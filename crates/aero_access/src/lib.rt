@@ -4,7 +4,7 @@
 //! events one by one, threads, variables and locks by their numbers. For each thread, each last
 //! write, read and release it keeps a clock: how many blocks of each thread lead there. An event
 //! takes the clocks of what it conflicts with. Where one of them counts the open block of the
-//! event's own thread, there is a telling cycle through that block, and the thread is answered.
+//! event's own thread, there is a telling cycle through that block, and the thread is returned.
 //!
 //! A cycle of blocks is a telling one where each of them but the first has ended, or is left by no
 //! earlier event than it was entered by. A cycle that isn't is told when enough of its blocks have
@@ -13,8 +13,8 @@
 //! `led` and `led_slot` list what an open block leads to: the slots whose clocks count it. The lists
 //! are kept while events come, so that the end of a block has to look at nothing else.
 //!
-//! The contracts speak of the trace of the events so far: what is answered is what is to be told,
-//! so `None` is answered exactly where the trace has no telling cycle. `aero_engine::laws` has the laws of
+//! The contracts speak of the trace of the events so far: what is returned is what is to be told,
+//! so `None` is returned exactly where the trace has no telling cycle. `aero_engine::laws` has the laws of
 //! such clocks, whatever keeps them.
 //!
 //! ```text
@@ -32,15 +32,15 @@
 //! All is said of each well-formed trace for which the clocks stand. New ones stand for no event: `Clocks::new`,
 //! `stands`.
 //!
-//! - After an event a thread is answered exactly where the event closes the first telling cycle, and it is the opener.
-//!   Where none is answered, the clocks stand for the longer trace. So of every event but an outermost end: `follows`
+//! - After an event a thread is returned exactly where the event closes the first telling cycle, and it is the opener.
+//!   Where none is returned, the clocks stand for the longer trace. So of every event but an outermost end: `follows`
 //!   of `read`, `write`, `acquire`, `release`, `fork`, `join`, `begin` and `plain`.
-//! - After a thread was answered, and after a refused call, the tests `in_block`, `begins` and `acted` answer as
-//!   before. After a refusal each later call refuses: `answers` of the same calls.
+//! - After a thread was returned, and after a refused call, the tests `in_block`, `begins` and `acted` return what they
+//!   did before. After a refusal each later call refuses: `answers` of the same calls.
 //! - While no memory was refused, the slots whose clocks count an open block are listed, each once, the threads first
 //!   and rising: `led`, `led_slot`.
 //! - For the end of a block: a slot takes the clock of the block's thread, or the thread whose block closes is
-//!   answered, and the block is closed. By `absorb`, `told` and `absorbed`; `close_block`, `closes`.
+//!   returned, and the block is closed. By `absorb`, `told` and `absorbed`; `close_block`, `closes`.
 #![tactic(auto)]
 
 mod changes;

@@ -54,8 +54,8 @@ impl Readers {
         }
     }
 
-    /// Thread `t` takes the clocks of the others, up to one that closes a telling cycle: then the
-    /// answer is true.
+    /// Thread `t` takes the clocks of the others, up to one that closes a telling cycle: then it
+    /// returns true.
     pub(crate) fn give(&self, thread: &mut Thread, t: u32) -> Result<bool, AllocError>
         requires { (i : ℕ) (k : Kept) → slice_get self.now.kept.items i ≡ Some k → CountIsTest thread.old t (number_at k.clock) }
         ensures closing { IfOk result (λ closes. closes ≡ true → ClosesOne thread.old.begin t self.now.kept.items) }

@@ -44,8 +44,8 @@ impl Thread {
         self.begin.is_some() && self.begins <= clock.get(t)
     }
 
-    /// Thread `t`, which this is, takes the clock, unless it closes a telling cycle: then the answer
-    /// is true.
+    /// Thread `t`, which this is, takes the clock, unless it closes a telling cycle: then it returns
+    /// true.
     pub(crate) fn take(&mut self, t: u32, clock: &Clock) -> Result<bool, AllocError>
         requires { CountIsTest self.old t (number_at clock.now) }
         ensures closing { IfOk result (λ closes. IsTrue closes ↔ IsClosedBy self.old.begin (number_at clock.now)) }

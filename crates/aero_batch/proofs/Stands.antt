@@ -8,29 +8,30 @@ use Rattle.std.proofs.lemmas.List.{append-nil, length-map, map-append, length_pu
 use Rattle.std.proofs.lemmas.Grind.{flat_map-append}
 use Rattle.std.proofs.lemmas.List.Sums.{fold-append}
 use Rattle.std.proofs.lemmas.Option.{slice_get_within}
+use Rattle.aero_model.specs.declared.verdict.Counts.{Counts}
 use Rattle.aero_model.specs.declared.verdict.Ending.{Ending}
 use Rattle.aero_model.specs.declared.verdict.Finding.{Finding}
 use Rattle.aero_model.specs.CallCounts.{Seen}
 use Rattle.aero_report.specs.Texts.{counts_of, counted, no_counts}
 use Rattle.aero_report.specs.declared.form.Form.{Form}
-use Rattle.aero_intake.specs.PlanTerms.{options_in}
-use Rattle.aero_report.specs.Forms.{source_line_in, source_lines_in, summary_line_in}
+use Rattle.aero_report.specs.Forms.{source_line_in, source_lines_in}
 use Rattle.aero_batch.specs.declared.outcome.Cause.{Cause}
 use Rattle.aero_batch.specs.declared.outcome.Cause.TheVariants.{Memory, Write}
+use Rattle.aero_batch.specs.declared.outcome.FaultyLine.{FaultyLine}
 use Rattle.aero_batch.specs.declared.underway.Underway.{Underway}
 use Rattle.aero_batch.specs.declared.told.Told.{Told}
 use Rattle.aero_intake.specs.declared.track.Track.{Track}
 use Rattle.aero_intake.specs.declared.track.Track.TheVariants as tracks
 use Rattle.aero_batch.specs.Faults.{fault_of}
 use Rattle.aero_batch.specs.Founds.{Sighted, Found, IsFoundAt, AreOfTheFirst, told, ending_of, faulty_line, lines_of_all, counts_of_all, Took, IsNextText}
-use Rattle.aero_batch.specs.Founds.{WasCutOff, IsWritten, WasRun}
+use Rattle.aero_batch.specs.Founds.{WasCutOff, IsWritten, WasRunTo, WasTold, no_text}
 use Rattle.aero_batch.specs.Holding.{Holds, HasComeFrom, Counted, AreTold, Tells, Stands, HasNumbers, IsBegun, nothing_known}
 use Rattle.aero_batch.specs.Inquiries.{Inquired, AreApart, all_open, open_count}
 use Rattle.aero_intake.specs.Held.{nothing_read}
 use Rattle.aero_intake.specs.Intake.{Taking, IsTaken, HaveCome}
 use Rattle.aero_intake.specs.Source.{WasRead}
 use Rattle.aero_batch.specs.Steps.{IsStart, Steps, ReadsOn}
-use Rattle.aero_batch.specs.Telling.{WasCut, TellsText, TellsNext, IsOneMore, cause_of, total}
+use Rattle.aero_batch.specs.Telling.{SumsUp, WasCut, TellsNext, IsOneMore, total}
 use Rattle.aero_intake.specs.Stories.{Story, IsTracked}
 use Rattle.aero_batch.proofs.Apart.{nothing_apart}
 use Rattle.aero_batch.proofs.Readings.{taking_holds, noting_holds, cutting_holds, passing_over_holds, passing_holds}
@@ -178,7 +179,7 @@ told_stands terms form old now before mid after p a b bytes ending finding name 
 stopped : (terms : Terms) (form : Form) (old now now' : List Sighted) (before mid after : Seen) (p : Underway) (a : Told)
     (st : Stands terms form old now before mid p a) (cause : Option Cause) →
     ((s : ℕ) → s < p.read → slice_get now' s ≡ slice_get now s) → map (λ x. x.name) now' ≡ map (λ x. x.name) now →
-    IsWritten terms form old now' st.founds before after cause → WasRun terms form old now' before after a.endings.items a.faults.items a.counts cause
+    IsWritten terms form no_text old now' st.founds before after cause → WasTold terms form old now' before after a.endings.items a.faults.items a.counts cause
 stopped terms form old now now' before mid after p a st cause same names written = record {
   founds = st.founds;
   found = λ place f at.
@@ -196,15 +197,15 @@ stopped terms form old now now' before mid after p a st cause same names written
 pub memory_stops : (terms : Terms) (form : Form) (old now now' : List Sighted) (before mid after : Seen) (p : Underway) (a : Told) →
     Stands terms form old now before mid p a →
     ((s : ℕ) → s < p.read → slice_get now' s ≡ slice_get now s) → map (λ x. x.name) now' ≡ map (λ x. x.name) now → Took mid after [] →
-    WasRun terms form old now' before after a.endings.items a.faults.items a.counts (Some Memory)
+    WasTold terms form old now' before after a.endings.items a.faults.items a.counts (Some Memory)
 memory_stops terms form old now now' before mid after p a st same names took =
     stopped terms form old now now' before mid after p a st (Some Memory) same names
     (took_nothing before mid after (lines_of_all form st.founds) st.are_told.took took)
 
-cut_off : (terms : Terms) (form : Form) (old now : List Sighted) (before mid after : Seen) (founds : List Found) (text : List ℕ) →
-    IsNextText terms form old now founds text → Took before mid (lines_of_all form founds) → WasCut mid after text →
-    WasCutOff terms form old now founds before after
-cut_off terms form old now before mid after founds text next took cut = record {
+cut_off : (terms : Terms) (form : Form) (last : Counts → List ℕ) (old now : List Sighted) (before mid after : Seen) (founds : List Found) (text : List ℕ) →
+    IsNextText terms form last old now founds text → Took before mid (lines_of_all form founds) → WasCut mid after text →
+    WasCutOff terms form last old now founds before after
+cut_off terms form last old now before mid after founds text next took cut = record {
   text = text;
   next = next;
   written = cut.written;
@@ -219,7 +220,7 @@ pub line_stops : (terms : Terms) (form : Form) (old now : List Sighted) (before 
     vec_len a.endings < p.checked → slice_get p.tracks.items (vec_len a.endings) ≡ Some (tracks.Found bytes ending finding) →
     ((x : Sighted) → slice_get now (vec_len a.endings) ≡ Some x → x.name ≡ name) → WasCut mid after (source_line_in form name finding) →
     Stands terms form old now before mid p a →
-    WasRun terms form old now before after a.endings.items a.faults.items a.counts (Some Write)
+    WasTold terms form old now before after a.endings.items a.faults.items a.counts (Some Write)
 line_stops terms form old now before mid after p a bytes ending finding name below at named cut st =
     let t = st.are_told in
     let place = vec_len a.endings in
@@ -243,38 +244,8 @@ line_stops terms form old now before mid after p a bytes ending finding name bel
       };
     } in
     stopped terms form old now now before mid after p a st (Some Write) (λ s less. refl) refl
-    (cut_off terms form old now before mid after st.founds (source_line_in form name finding)
+    (cut_off terms form no_text old now before mid after st.founds (source_line_in form name finding)
     (inl (f, subst (λ n. IsFoundAt terms old now n f) same_place is, refl)) t.took cut)
-
-pub findings_told : (founds : List Found) → map (λ s. s.1) (map told founds) ≡ map (λ f. f.finding) founds
-findings_told [] = refl
-findings_told (f ∷ founds) = ap (λ fs. f.finding ∷ fs) (findings_told founds)
-
--- all sources are told, and the summary is written, or not
-pub summary_stops : (terms : Terms) (form : Form) (old now : List Sighted) (before mid after : Seen) (p : Underway) (a : Told) →
-    vec_len a.endings ≡ length old → Stands terms form old now before mid p a →
-    (r : Result Unit Cause) → TellsText (summary_line_in form (options_in terms) a.counts) mid after r → (cause : Option Cause) → cause ≡ cause_of r →
-    WasRun terms form old now before after a.endings.items a.faults.items a.counts cause
-summary_stops terms form old now before mid after p a all st r tells cause is = go r tells cause is
-  where
-    told_all : length st.founds ≡ length old
-    told_all = sym (a.endings.ok.0 ∙ (ap length st.are_told.endings ∙ length-map st.founds ending_of)) ∙ all
-
-    go : (r : Result Unit Cause) → TellsText (summary_line_in form (options_in terms) a.counts) mid after r → (cause : Option Cause) → cause ≡ cause_of r →
-        WasRun terms form old now before after a.endings.items a.faults.items a.counts cause
-    go (Ok u) tells cause is = subst (λ c. WasRun terms form old now before after a.endings.items a.faults.items a.counts c) (sym is)
-        (stopped terms form old now now before mid after p a st None (λ s less. refl) refl (
-          told_all,
-          subst (λ c. Took before after (lines_of_all form st.founds ++ summary_line_in form (options_in terms) c))
-              (st.are_told.counts ∙ sym (ap counts_of (findings_told st.founds)))
-              (took_more before mid after (lines_of_all form st.founds) (summary_line_in form (options_in terms) a.counts) st.are_told.took tells),
-        ))
-    go (Err Memory) tells cause is = subst (λ c. WasRun terms form old now before after a.endings.items a.faults.items a.counts c) (sym is)
-        (memory_stops terms form old now now before mid after p a st (λ s less. refl) refl tells)
-    go (Err Write) tells cause is = subst (λ c. WasRun terms form old now before after a.endings.items a.faults.items a.counts c) (sym is)
-        (stopped terms form old now now before mid after p a st (Some Write) (λ s less. refl) refl
-        (cut_off terms form old now before mid after st.founds (summary_line_in form (options_in terms) (counts_of_all st.founds)) (inr (told_all, refl)) st.are_told.took
-        (subst (λ c. WasCut mid after (summary_line_in form (options_in terms) c)) st.are_told.counts tells)))
 
 -- what is told stays true where another source's story goes on
 still_told : (terms : Terms) (form : Form) (old : List Sighted) (before mid : Seen) (p q : Underway) (a : Told) (tale new : ℕ → Story) (founds : List Found) →
@@ -403,7 +374,7 @@ module _ (terms : Terms) (form : Form) (now : List Sighted) (mid after : Seen) (
 
   abbrev Stops : Result Bool Cause → Type 0
   Stops r = IfErr r (λ cause. (old : List Sighted) (before : Seen) → Stands terms form old now before mid p a →
-      WasRun terms form old now before after b.endings.items b.faults.items b.counts (Some cause))
+      WasTold terms form old now before after b.endings.items b.faults.items b.counts (Some cause))
 
   abbrev Tellings : Result Bool Cause → Type 0
   Tellings r = KeepsStanding r × Untouched r × Stops r
@@ -423,13 +394,13 @@ module _ (terms : Terms) (form : Form) (now : List Sighted) (mid after : Seen) (
   found_told bytes ending finding (Err Memory) at tells = (
     tt,
     tt,
-    λ old before st. subst (λ (t : Told). WasRun terms form old now before after t.endings.items t.faults.items t.counts (Some Memory)) (sym tells.1)
+    λ old before st. subst (λ (t : Told). WasTold terms form old now before after t.endings.items t.faults.items t.counts (Some Memory)) (sym tells.1)
         (memory_stops terms form old now now before mid after p a st (λ s less. refl) refl tells.0),
   )
   found_told bytes ending finding (Err Write) at tells = (
     tt,
     tt,
-    λ old before st. subst (λ (t : Told). WasRun terms form old now before after t.endings.items t.faults.items t.counts (Some Write)) (sym tells.1)
+    λ old before st. subst (λ (t : Told). WasTold terms form old now before after t.endings.items t.faults.items t.counts (Some Write)) (sym tells.1)
         (line_stops terms form old now before mid after p a bytes ending finding name below at named tells.0 st),
   )
 
@@ -528,7 +499,7 @@ begun_stands terms form old before p a is = record {
 }
 
 -- memory was refused before the first step
-pub refused_at_once : (terms : Terms) (form : Form) (old : List Sighted) (before : Seen) → WasRun terms form old old before before [] [] no_counts (Some Memory)
+pub refused_at_once : (terms : Terms) (form : Form) (old : List Sighted) (before : Seen) → WasTold terms form old old before before [] [] no_counts (Some Memory)
 refused_at_once terms form old before = record {
   founds = [];
   found = λ place f at. cc (at);
@@ -539,20 +510,75 @@ refused_at_once terms form old before = record {
   written = record { went = Appends-nil before.bytes; faults = refl };
 }
 
--- at the end: all sources are told, and the summary is written, or not
-pub summary_done : (terms : Terms) (form : Form) (old now : List Sighted) (before mid after : Seen) (p : Underway) (a : Told) →
+-- at the end: all sources are told
+pub all_done : (terms : Terms) (form : Form) (old now : List Sighted) (before mid : Seen) (p : Underway) (a : Told) →
     vec_len a.endings ≡ length now → Stands terms form old now before mid p a →
-    (r : Result Unit Cause) → TellsText (summary_line_in form (options_in terms) a.counts) mid after r →
-    OnOk r (WasRun terms form old now before after a.endings.items a.faults.items a.counts None)
-    × IfErr r (λ cause. WasRun terms form old now before after a.endings.items a.faults.items a.counts (Some cause))
-summary_done terms form old now before mid after p a all st r tells = go r (summary_stops terms form old now before mid after p a told_all st r tells)
-  where
-    told_all : vec_len a.endings ≡ length old
-    told_all = all ∙ (sym (length-map now (λ x. x.name)) ∙ (ap length st.names ∙ length-map old (λ x. x.name)))
+    WasTold terms form old now before mid a.endings.items a.faults.items a.counts None
+all_done terms form old now before mid p a all st =
+    let told_all : length st.founds ≡ length old =
+    sym (a.endings.ok.0 ∙ (ap length st.are_told.endings ∙ length-map st.founds ending_of))
+    ∙ (all ∙ (sym (length-map now (λ x. x.name)) ∙ (ap length st.names ∙ length-map old (λ x. x.name)))) in
+    stopped terms form old now now before mid mid p a st None (λ s less. refl) refl
+    (told_all, subst (λ text. Took before mid text) (sym (append-nil (lines_of_all form st.founds))) st.are_told.took)
 
-    go : (r : Result Unit Cause) → ((cause : Option Cause) → cause ≡ cause_of r →
-        WasRun terms form old now before after a.endings.items a.faults.items a.counts cause) →
-        OnOk r (WasRun terms form old now before after a.endings.items a.faults.items a.counts None)
-        × IfErr r (λ cause. WasRun terms form old now before after a.endings.items a.faults.items a.counts (Some cause))
-    go (Ok u) all = (all None refl, tt)
-    go (Err cause) all = (tt, all (Some cause) refl)
+-- no text is cut off that has nothing
+no_part : (written : ℕ) (text : List ℕ) → text ≡ [] → written < length text → ⊥
+no_part written text none part = let nothing : length text ≡ 0 = ap length none in omega (arith, nothing, part)
+
+-- where the lines were cut off, what stands behind them doesn't count
+cut_before : (terms : Terms) (form : Form) (last : Counts → List ℕ) (old new : List Sighted) (founds : List Found) (before after : Seen) →
+    WasCutOff terms form no_text old new founds before after → WasCutOff terms form last old new founds before after
+cut_before terms form last old new founds before after cut = record {
+  text = cut.text;
+  next = elim cut.next [ inl is ↦ inl is | inr is ↦ absurd (no_part cut.written cut.text is.1 cut.part) ];
+  written = cut.written;
+  part = cut.part;
+  went = cut.went;
+  faults = cut.faults;
+}
+
+-- behind the lines stands the last text, or not
+pub summed : (terms : Terms) (form : Form) (last : Counts → List ℕ) (old new : List Sighted) (before mid after : Seen) (endings : List (ℕ × Ending))
+    (faults : List (Option FaultyLine)) (counts : Counts) (first cause : Option Cause) →
+    WasTold terms form old new before mid endings faults counts first → SumsUp (last counts) first mid after cause →
+    WasRunTo terms form last old new before after endings faults counts cause
+summed terms form last old new before mid after endings faults counts first cause was sums = record {
+  founds = was.founds;
+  found = was.found;
+  names = was.names;
+  ended = was.ended;
+  faulty = was.faulty;
+  counted = was.counted;
+  written = go first cause was.written sums;
+}
+  where
+    alone : Took before mid (lines_of_all form was.founds ++ []) → Took before mid (lines_of_all form was.founds)
+    alone took = subst (λ text. Took before mid text) (append-nil (lines_of_all form was.founds)) took
+
+    go : (first cause : Option Cause) → IsWritten terms form no_text old new was.founds before mid first → SumsUp (last counts) first mid after cause →
+        IsWritten terms form last old new was.founds before after cause
+    go (Some Memory) cause written sums = subst (λ c. IsWritten terms form last old new was.founds before after c) (sym sums.1)
+        (subst (λ (s : Seen). Took before s (lines_of_all form was.founds)) (sym sums.0) written)
+    go (Some Write) cause written sums = subst (λ c. IsWritten terms form last old new was.founds before after c) (sym sums.1)
+        (subst (λ (s : Seen). WasCutOff terms form last old new was.founds before s) (sym sums.0)
+        (cut_before terms form last old new was.founds before mid written))
+    go None None written sums = (
+      written.0,
+      subst (λ c. Took before after (lines_of_all form was.founds ++ last c)) was.counted
+          (took_more before mid after (lines_of_all form was.founds) (last counts) (alone written.1) sums),
+    )
+    go None (Some Memory) written sums = took_nothing before mid after (lines_of_all form was.founds) (alone written.1) sums
+    go None (Some Write) written sums =
+        cut_off terms form last old new before mid after was.founds (last (counts_of_all was.founds)) (inr (written.0, refl)) (alone written.1)
+        (subst (λ c. WasCut mid after (last c)) was.counted sums)
+
+-- the same by lists and counts that are the same
+pub summed_so : (terms : Terms) (form : Form) (last : Counts → List ℕ) (old new : List Sighted) (before mid after : Seen) (es endings : List (ℕ × Ending))
+    (fs faults : List (Option FaultyLine)) (cs counts : Counts) (first cause : Option Cause) → endings ≡ es → faults ≡ fs → counts ≡ cs →
+    WasTold terms form old new before mid es fs cs first → SumsUp (last cs) first mid after cause →
+    WasRunTo terms form last old new before after endings faults counts cause
+summed_so terms form last old new before mid after es endings fs faults cs counts first cause same_endings same_faults same_counts was sums =
+    subst (λ x. WasRunTo terms form last old new before after x faults counts cause) (sym same_endings)
+    (subst (λ x. WasRunTo terms form last old new before after es x counts cause) (sym same_faults)
+    (subst (λ (x : Counts). WasRunTo terms form last old new before after es fs x cause) (sym same_counts)
+    (summed terms form last old new before mid after es fs cs first cause was sums)))

@@ -1,12 +1,12 @@
 -- What a run found of its sources.
-use Rattle.std.specs.Prelude.{◌≡◌, ℕ, ◌+◌, ◌<◌, ◌⊎◌, List, ◌++◌, map, length, take, slice_get, Option, Some, None}
+use Rattle.std.specs.Prelude.{◌≡◌, ℕ, ◌+◌, ◌<◌, ◌⊎◌, List, [], ◌++◌, map, length, take, slice_get, Option, Some, None}
 use Rattle.std.specs.Io.KnownBytes.{Appends}
 use Rattle.aero_model.specs.declared.verdict.Counts.{Counts}
 use Rattle.aero_model.specs.declared.verdict.Ending.{Ending}
 use Rattle.aero_model.specs.declared.verdict.Finding.{Finding}
 use Rattle.aero_model.specs.CallCounts.{Seen, seen_by}
 use Rattle.aero_report.specs.declared.form.Form.{Form}
-use Rattle.aero_report.specs.Forms.{source_line_in, source_lines_in, summary_line_in, report_in}
+use Rattle.aero_report.specs.Forms.{source_line_in, source_lines_in, summary_line_in}
 use Rattle.aero_report.specs.Texts.{counts_of}
 use Rattle.aero_batch.specs.Faults.{fault_of}
 use Rattle.aero_batch.specs.declared.outcome.Cause.{Cause}
@@ -74,31 +74,31 @@ pub record Took (before after : Seen) (text : List ℕ) : Type 0 where
   pub went : Appends before.bytes after.bytes text
   pub faults : after.faults ≡ before.faults
 
--- the text that comes after those of the founds: that of the next source, or the summary where there is none
-abbrev pub IsNextText : Terms → Form → List Sighted → List Sighted → List Found → List ℕ → Type 0
-IsNextText terms form old new founds text =
+-- the text that comes after those of the founds: that of the next source, or the last one, which their counts make, where there is none
+abbrev pub IsNextText : Terms → Form → (last : Counts → List ℕ) → List Sighted → List Sighted → List Found → List ℕ → Type 0
+IsNextText terms form last old new founds text =
     ((found : Found) × IsFoundAt terms old new (length founds) found × (text ≡ source_line_in form found.name found.finding))
-    ⊎ ((length founds ≡ length old) × (text ≡ summary_line_in form (options_in terms) (counts_of_all founds)))
+    ⊎ ((length founds ≡ length old) × (text ≡ last (counts_of_all founds)))
 
 -- what the writer took is these lines and then a part of the next text, at which a write failed
-pub record WasCutOff (terms : Terms) (form : Form) (old new : List Sighted) (founds : List Found) (before after : Seen) : Type 0 where
+pub record WasCutOff (terms : Terms) (form : Form) (last : Counts → List ℕ) (old new : List Sighted) (founds : List Found) (before after : Seen) : Type 0 where
   pub text : List ℕ
-  pub next : IsNextText terms form old new founds text
+  pub next : IsNextText terms form last old new founds text
   pub written : ℕ
   pub part : written < length text
   pub went : Appends before.bytes after.bytes (lines_of_all form founds ++ take written text)
   pub faults : after.faults ≡ before.faults + 1
 
--- What was written. Without a refusal it is the report on all sources. Where memory was refused it is the lines of the founds alone, and
--- where a write failed a part of the next text follows them.
-abbrev pub IsWritten : Terms → Form → List Sighted → List Sighted → List Found → Seen → Seen → Option Cause → Type 0
-IsWritten terms form old new founds before after None = (length founds ≡ length old) × Took before after (report_in form (options_in terms) (map told founds))
-IsWritten terms form old new founds before after (Some Memory) = Took before after (lines_of_all form founds)
-IsWritten terms form old new founds before after (Some Write) = WasCutOff terms form old new founds before after
+-- What was written. Without a refusal it is the lines of all sources and the last text. Where memory was refused it is the lines of the
+-- founds alone, and where a write failed a part of the next text follows them.
+abbrev pub IsWritten : Terms → Form → (last : Counts → List ℕ) → List Sighted → List Sighted → List Found → Seen → Seen → Option Cause → Type 0
+IsWritten terms form last old new founds before after None = (length founds ≡ length old) × Took before after (lines_of_all form founds ++ last (counts_of_all founds))
+IsWritten terms form last old new founds before after (Some Memory) = Took before after (lines_of_all form founds)
+IsWritten terms form last old new founds before after (Some Write) = WasCutOff terms form last old new founds before after
 
--- A run over these sources. It tells how many bytes came of each of the first ones, how they ended, which line is told to be faulty, and
--- how many were found to be what, and wrote of these what is said of them.
-pub record WasRun (terms : Terms) (form : Form) (old new : List Sighted) (before after : Seen) (endings : List (ℕ × Ending))
+-- A run over these sources, behind whose lines stands a last text. It tells how many bytes came of each of the first ones, how they ended,
+-- which line is told to be faulty, and how many were found to be what, and wrote of these what is said of them.
+pub record WasRunTo (terms : Terms) (form : Form) (last : Counts → List ℕ) (old new : List Sighted) (before after : Seen) (endings : List (ℕ × Ending))
     (faults : List (Option FaultyLine)) (counts : Counts) (cause : Option Cause) : Type 0 where
   pub founds : List Found
   pub found : AreOfTheFirst terms old new founds
@@ -106,4 +106,16 @@ pub record WasRun (terms : Terms) (form : Form) (old new : List Sighted) (before
   pub ended : endings ≡ map ending_of founds
   pub faulty : faults ≡ map faulty_line founds
   pub counted : counts ≡ counts_of_all founds
-  pub written : IsWritten terms form old new founds before after cause
+  pub written : IsWritten terms form last old new founds before after cause
+
+-- a run that writes the report: the lines, and behind them the summary
+abbrev pub WasRun : Terms → Form → List Sighted → List Sighted → Seen → Seen → List (ℕ × Ending) → List (Option FaultyLine) → Counts → Option Cause → Type 0
+WasRun terms form old new before after endings faults counts cause = WasRunTo terms form (summary_line_in form (options_in terms)) old new before after endings faults counts cause
+
+-- where nothing stands behind the lines
+abbrev pub no_text : Counts → List ℕ
+no_text counts = []
+
+-- a run that writes the lines alone
+abbrev pub WasTold : Terms → Form → List Sighted → List Sighted → Seen → Seen → List (ℕ × Ending) → List (Option FaultyLine) → Counts → Option Cause → Type 0
+WasTold terms form old new before after endings faults counts cause = WasRunTo terms form no_text old new before after endings faults counts cause

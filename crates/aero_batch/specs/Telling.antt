@@ -39,6 +39,12 @@ TellsText text before after (Ok u) = Took before after text
 TellsText text before after (Err Memory) = Took before after []
 TellsText text before after (Err Write) = WasCut before after text
 
+-- Behind the lines of a run that stopped for this cause, or for none, the text goes out where it stopped for none. The run stops so then.
+abbrev pub SumsUp : List ℕ → (stopped : Option Cause) → Seen → Seen → Option Cause → Type 0
+SumsUp text (Some why) before after cause = (after ≡ before) × (cause ≡ Some why)
+SumsUp text None before after None = Took before after text
+SumsUp text None before after (Some why) = TellsText text before after (Err why)
+
 -- One more source is told.
 pub record IsOneMore (old new : Told) (bytes : ℕ) (ending : Ending) (finding : Finding) : Type 0 where
   pub endings : new.endings.items ≡ old.endings.items ++ (bytes, ending) ∷ []

@@ -5,7 +5,8 @@
 //! report stand in the order of the sources, and each says what the definitions say of the bytes that were
 //! read, whatever the pieces, the number of workers and the order of their answers: `specs/Founds.antt` has
 //! it in full.
-//! `run_over` is the same with any helpers, of whom nothing is promised but how many they are.
+//! `run_over` is the same with any helpers, of whom nothing is promised but how many they are. `run_lines` and
+//! `run_lines_over` write the lines alone, and `told::sum_up` a summary behind them.
 //!
 //! How a source is read, and what is known of it, is aero_intake's: its `plan` and its `source` are
 //! those of a run.

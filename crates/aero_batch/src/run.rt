@@ -1,19 +1,21 @@
 //! A run over many sources.
 ghost use Rattle.std.specs.Prelude.{◌≡◌, ◌≤◌, ◌+◌, None, Some, true, false, length, map, vec_len, [], IfOk, IfErr, OnOk};
+ghost use Rattle.aero_report.specs.Forms.{summary_line_in};
 ghost use Rattle.aero_report.specs.Texts.{no_counts};
 ghost use Rattle.aero_model.specs.CallCounts.{seen_by};
-ghost use Rattle.aero_intake.specs.PlanTerms.{terms_of};
-ghost use Rattle.aero_batch.specs.Founds.{sighted, WasRun};
+ghost use Rattle.aero_intake.specs.PlanTerms.{options_in, terms_of};
+ghost use Rattle.aero_batch.specs.Founds.{sighted, WasRun, WasTold};
 ghost use Rattle.aero_batch.specs.Inquiries.{open_count};
 ghost use Rattle.aero_batch.specs.Holding.{HasNumbers, IsBegun};
 ghost use Rattle.aero_batch.specs.Runs.{HasRun, KeepsStanding, StopsRun};
+ghost use Rattle.aero_batch.specs.Telling.{SumsUp};
 
 use crate::helpers::{Helpers, Nobody};
 use crate::outcome::{Cause, Outcome};
 use crate::setting::Setting;
 use crate::standing::Standing;
 use crate::step::step;
-use crate::told::{Style, Told, nothing_counted, tell_next, tell_summary};
+use crate::told::{Style, Told, nothing_counted, sum_up, tell_next};
 use crate::underway::Underway;
 use aero_gather::gather::Tally;
 use aero_intake::plan::Plan;
@@ -49,12 +51,13 @@ pub fn run<R: Read, W: Write, G: Gate + Drop + 'static, T: Threads + Wait + Copy
     ensures tallied { result.tally.kept + result.tally.done_here ≤ result.tally.asked }
     ensures workers { result.workers ≤ plan.now.workers }
 {
-    let Ok(mut crew) = Crew::start(rt, alloc, plan.workers, gate) else {
-        return run_over(&rt, alloc, sources, writer, plan, &mut Nobody);
+    let setting = Setting {
+        rt: &rt,
+        alloc,
+        plan,
     };
-    let outcome = run_over(&rt, alloc, sources, writer, plan, &mut crew);
-    crew.close(&rt);
-    outcome
+    let outcome = run_lines(&setting, sources, writer, gate);
+    with_summary(alloc, plan, writer, outcome)
 }
 
 /// The same with helpers of the caller's own, of whom nothing is promised: whatever they reply, in
@@ -74,15 +77,90 @@ pub fn run_over<R: Read, W: Write, H: Helpers, T: Wait>(
     ensures tallied { result.tally.kept + result.tally.done_here ≤ result.tally.asked }
     ensures workers { result.workers ≡ H.count helpers.old }
 {
-    let workers = helpers.workers();
-    let Ok(mut standing) = begin(alloc, plan, sources.len(), workers == 0) else {
-        return refused(alloc, workers);
-    };
     let setting = Setting { rt, alloc, plan };
-    match run_on(&setting, sources, writer, helpers, &mut standing) {
+    let outcome = run_lines_over(&setting, sources, writer, helpers);
+    with_summary(alloc, plan, writer, outcome)
+}
+
+/// A run as by `run` that writes the lines alone. The summary is left to the caller, who may write another than the plan's:
+/// `told::sum_up` does.
+pub fn run_lines<
+    R: Read,
+    W: Write,
+    G: Gate + Drop + 'static,
+    T: Threads + Wait + Copy + Send + 'static,
+>(
+    setting: &Setting<'_, T>,
+    sources: &mut [Source<R>],
+    writer: &mut Counting<W>,
+    gate: Arc<G>,
+) -> Outcome
+    requires { length sources.old ≤ 65536 }
+    ensures told { WasTold (terms_of setting.now.plan.now) setting.now.plan.now.form (map (sighted R.remaining) sources.old) (map (sighted R.remaining) sources.new)
+        (seen_by W.contents writer.old) (seen_by W.contents writer.new) result.endings.items result.faults.items result.counts result.cause }
+    ensures all_settled { result.cause ≡ None → result.tally.asked ≡ result.tally.kept + result.tally.done_here }
+    ensures tallied { result.tally.kept + result.tally.done_here ≤ result.tally.asked }
+    ensures workers { result.workers ≤ setting.now.plan.now.workers }
+{
+    let rt = *setting.rt;
+    let Ok(mut crew) = Crew::start(rt, setting.alloc, setting.plan.workers, gate) else {
+        return run_lines_over(setting, sources, writer, &mut Nobody);
+    };
+    let outcome = run_lines_over(setting, sources, writer, &mut crew);
+    crew.close(&rt);
+    outcome
+}
+
+/// The same with helpers of the caller's own, as by `run_over`.
+pub fn run_lines_over<R: Read, W: Write, H: Helpers, T: Wait>(
+    setting: &Setting<'_, T>,
+    sources: &mut [Source<R>],
+    writer: &mut Counting<W>,
+    helpers: &mut H,
+) -> Outcome
+    requires { length sources.old ≤ 65536 }
+    ensures told { WasTold (terms_of setting.now.plan.now) setting.now.plan.now.form (map (sighted R.remaining) sources.old) (map (sighted R.remaining) sources.new)
+        (seen_by W.contents writer.old) (seen_by W.contents writer.new) result.endings.items result.faults.items result.counts result.cause }
+    ensures all_settled { result.cause ≡ None → result.tally.asked ≡ result.tally.kept + result.tally.done_here }
+    ensures tallied { result.tally.kept + result.tally.done_here ≤ result.tally.asked }
+    ensures workers { result.workers ≡ H.count helpers.old }
+{
+    let workers = helpers.workers();
+    let Ok(mut standing) = begin(setting.alloc, setting.plan, sources.len(), workers == 0) else {
+        return refused(setting.alloc, workers);
+    };
+    match run_on(setting, sources, writer, helpers, &mut standing) {
         Ok(()) => outcome_of(standing, None, workers),
         Err(cause) => outcome_of(standing, Some(cause), workers),
     }
+}
+
+// The outcome of these lines once the summary stands behind them, where they are all written.
+fn with_summary<W: Write>(
+    alloc: Global,
+    plan: &Plan,
+    writer: &mut Counting<W>,
+    outcome: Outcome,
+) -> Outcome
+    ensures endings { result.endings ≡ outcome.endings }
+    ensures faults { result.faults ≡ outcome.faults }
+    ensures counts { result.counts ≡ outcome.counts }
+    ensures tally { result.tally ≡ outcome.tally }
+    ensures workers { result.workers ≡ outcome.workers }
+    ensures summed { SumsUp (summary_line_in plan.now.form (options_in (terms_of plan.now)) outcome.counts) outcome.cause
+        (seen_by W.contents writer.old) (seen_by W.contents writer.new) result.cause }
+    ensures whole { result.cause ≡ None → outcome.cause ≡ None }
+{
+    let mut outcome = outcome;
+    let style = style_of(alloc, plan);
+    outcome.cause = sum_up(
+        style,
+        plan.options(),
+        &outcome.counts,
+        outcome.cause,
+        writer,
+    );
+    outcome
 }
 
 // What stands before the first step, over so many sources.
@@ -146,7 +224,7 @@ fn outcome_of(standing: Standing, cause: Option<Cause>, workers: u32) -> Outcome
     }
 }
 
-// All steps, and the summary.
+// All steps.
 fn run_on<R: Read, W: Write, H: Helpers, T: Wait>(
     setting: &Setting<'_, T>,
     sources: &mut [Source<R>],
@@ -163,19 +241,13 @@ fn run_on<R: Read, W: Write, H: Helpers, T: Wait>(
 {
     'steps: for _ in setting.rt.forever() {
         if advance(setting, sources, writer, helpers, standing)? {
-            return tell_summary(
-                style_of(setting.alloc, setting.plan),
-                setting.plan.options(),
-                &standing.told.counts,
-                writer,
-            );
+            return Ok(());
         }
     }
     unreachable!()
 }
 
-// The next line is written, or else one step is done. The answer says whether all is done but for
-// the summary.
+// The next line is written, or else one step is done. The answer says whether all is done.
 fn advance<R: Read, W: Write, H: Helpers, T: Wait>(
     setting: &Setting<'_, T>,
     sources: &mut [Source<R>],

@@ -1,11 +1,11 @@
 //! What was told so far of the sources, and telling it.
-ghost use Rattle.std.specs.Prelude.{◌≡◌, ◌<◌, ◌≤◌, ◌+◌, ◌++◌, ◌∷◌, [], vec_len, vec_capacity, Ok, Err, IfOk, IfErr, OnOk};
+ghost use Rattle.std.specs.Prelude.{◌≡◌, ◌<◌, ◌≤◌, ◌+◌, ◌++◌, ◌∷◌, [], vec_len, vec_capacity, Ok, Err, None, IfOk, IfErr, OnOk};
 ghost use Rattle.aero_model.specs.CallCounts.{seen_by};
 ghost use Rattle.aero_report.specs.Asked.{options_of};
 ghost use Rattle.aero_report.specs.Forms.{summary_line_in};
 ghost use Rattle.aero_report.specs.Texts.{no_counts, counted, verdict_counted};
 ghost use Rattle.aero_batch.specs.Faults.{fault_of as fault_in, verdict_fault as verdict_fault_in};
-ghost use Rattle.aero_batch.specs.Telling.{TellsNext, TellsText, HasRoom, total};
+ghost use Rattle.aero_batch.specs.Telling.{SumsUp, TellsNext, TellsText, HasRoom, total};
 
 use crate::outcome::{Cause, Fault, FaultyLine};
 use aero_intake::track::Track;
@@ -128,6 +128,27 @@ pub fn tell_summary<W: Write>(
 {
     let text = totals_text(style.alloc, style.form, options, counts).map_err(|_| Cause::Memory)?;
     tell(writer, &text)
+}
+
+/// The same behind the lines of a run that stopped for this cause, or for none: where it stopped, nothing is written. The
+/// answer says why the run stops, if it does.
+pub fn sum_up<W: Write>(
+    style: Style,
+    options: Options<'_>,
+    counts: &Counts,
+    stopped: Option<Cause>,
+    writer: &mut Counting<W>,
+) -> Option<Cause>
+    ensures summed { SumsUp (summary_line_in style.form (options_of options.entry) counts.now) stopped (seen_by W.contents writer.old) (seen_by W.contents writer.new) result }
+    ensures whole { result ≡ None → stopped ≡ None }
+{
+    match stopped {
+        Some(why) => Some(why),
+        None => match tell_summary(style, options, counts, writer) {
+            Ok(()) => None,
+            Err(cause) => Some(cause),
+        },
+    }
 }
 
 // Writes a text.

@@ -13,7 +13,7 @@ use crate::status::{DONE, MANY_LABELS, UNHELD};
 use aero_model::except::Except;
 use std::alloc::Global;
 
-/// Begins a trace under the ordinary limits, or those of a long source. Answers `IN_USE` where the monitor has one, and
+/// Begins a trace under the ordinary limits, or those of a long source. Returns `IN_USE` where the monitor has one, and
 /// `NO_MEMORY`: it has what it had then.
 #[unsafe(no_mangle)]
 pub extern "C" fn aerodrome_held_begin(alloc: Global, monitor: &mut Monitor, is_long: bool) -> u32
@@ -28,7 +28,7 @@ pub extern "C" fn aerodrome_held_begin(alloc: Global, monitor: &mut Monitor, is_
 /// Begins a trace as `aerodrome_held_begin` does, with labels of which each is ended by a byte 10. With `is_only` they are
 /// those of the only blocks that are transactions, and else those of blocks that are none.
 ///
-/// Answers also `NO_NAME`, where one is no name or the last has no byte 10, and else `MANY_LABELS`, where there are more than
+/// Returns also `NO_NAME`, where one is no name or the last has no byte 10, and else `MANY_LABELS`, where there are more than
 /// 64: the monitor has what it had then.
 #[unsafe(no_mangle)]
 pub extern "C" fn aerodrome_held_begin_labelled(
@@ -64,7 +64,7 @@ pub extern "C" fn aerodrome_held_begin_explained(
     }
 }
 
-/// Takes the next piece of the trace, of any length: lines may be cut anywhere. Answers `UNHELD` where there is no trace,
+/// Takes the next piece of the trace, of any length: lines may be cut anywhere. Returns `UNHELD` where there is no trace,
 /// and `NO_MEMORY`, as each call for the trace does from then on.
 #[unsafe(no_mangle)]
 pub extern "C" fn aerodrome_held_feed(alloc: Global, monitor: &mut Monitor, piece: &[u8]) -> u32
@@ -78,7 +78,7 @@ pub extern "C" fn aerodrome_held_feed(alloc: Global, monitor: &mut Monitor, piec
     status
 }
 
-/// Judges the lines that came so far, and writes whether the verdict is certain, whatever bytes come: 1, or else 0. Answers
+/// Judges the lines that came so far, and writes whether the verdict is certain, whatever bytes come: 1, or else 0. Returns
 /// `UNHELD` and `NO_MEMORY` as `aerodrome_held_feed` does.
 #[unsafe(no_mangle)]
 pub extern "C" fn aerodrome_held_certain(
@@ -97,7 +97,7 @@ pub extern "C" fn aerodrome_held_certain(
 }
 
 /// Judges the lines that came so far, and writes how many bytes the lines have that show the violation, if one is certain by
-/// then and is to be shown, and else 0; and these lines if the buffer has room, or else answers `SHORT`. Answers `UNHELD` and
+/// then and is to be shown, and else 0; and these lines if the buffer has room, or else returns `SHORT`. Returns `UNHELD` and
 /// `NO_MEMORY` as `aerodrome_held_feed` does.
 #[unsafe(no_mangle)]
 pub extern "C" fn aerodrome_held_cycle(
@@ -117,7 +117,7 @@ pub extern "C" fn aerodrome_held_cycle(
 }
 
 /// Judges the trace and lets it go. Writes the verdict as numbers, how many bytes its line in the report has behind the
-/// source's name, with the byte 10 that ends it, and these bytes if the buffer has room, or else answers `SHORT`. Answers
+/// source's name, with the byte 10 that ends it, and these bytes if the buffer has room, or else returns `SHORT`. Returns
 /// `UNHELD` where there is no trace, and `NO_MEMORY`: what was written says nothing then.
 #[unsafe(no_mangle)]
 pub extern "C" fn aerodrome_held_verdict(
@@ -136,7 +136,7 @@ pub extern "C" fn aerodrome_held_verdict(
     }
 }
 
-/// Lets the trace go. Answers `UNHELD` where there is none.
+/// Lets the trace go. Returns `UNHELD` where there is none.
 #[unsafe(no_mangle)]
 pub extern "C" fn aerodrome_held_free(alloc: Global, monitor: &mut Monitor) -> u32
     ensures none { monitor.new.pointer.held ≡ None }

@@ -1,4 +1,4 @@
-//! What an export answers.
+//! What an export returns.
 
 // It was done.
 pub(crate) const DONE: u32 = 0;

@@ -18,7 +18,7 @@
 //! What contracts see of a clock is its number at each thread.
 //!
 //! - A new clock has 0 at each thread, and `get` gives the number at one: `Clock::new`, `get`.
-//! - `at_most` answers whether no number is greater than the other clock's at the same thread.
+//! - `at_most` returns whether no number is greater than the other clock's at the same thread.
 //! - `join` takes the greater number at each thread, and `raise` adds 1 at one thread. A refused call changes no
 //!   number. Neither is refused where it makes no thread's 0 a greater number: `ok`, `err`, `room`.
 //! - `copy` and `copy_from` give a clock with the same numbers.

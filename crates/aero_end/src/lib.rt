@@ -4,7 +4,7 @@
 //! leads to comes after all that leads to the block: each thread, and each last write, read and
 //! release, whose clock counts the block takes the clock of the block's thread. Where another
 //! thread's clock counts it, and that thread has an open block that leads back to the block that
-//! ends, there is a telling cycle through the open block, and its thread is answered. Where there are
+//! ends, there is a telling cycle through the open block, and its thread is returned. Where there are
 //! several, the least is.
 //!
 //! ```text
@@ -20,10 +20,10 @@
 //!
 //! # What is proved
 //!
-//! - After an outermost end a thread is answered exactly where the end closes the first telling cycle. It is the
-//!   opener: of several such threads the least. Where none is answered, the clocks stand for the longer trace: `end`,
+//! - After an outermost end a thread is returned exactly where the end closes the first telling cycle. It is the
+//!   opener: of several such threads the least. Where none is returned, the clocks stand for the longer trace: `end`,
 //!   `follows`.
-//! - After a thread was answered, and after a refused call, the tests of the clocks answer as before. After a refusal
+//! - After a thread was returned, and after a refused call, the tests of the clocks return what they did. After a refusal
 //!   each later call refuses: `end`, `answers`.
 //! - What the block leads to takes the clock of its thread, the threads first, up to one whose block closes: `spread`
 //!   (private), `named` and `spreads`.
@@ -43,14 +43,14 @@ pub mod ending_clocks;
 use aero_access::clocks::Clocks;
 use aero_engine::spent::Spent;
 
-/// Ends the outermost block of thread `t`, which is in a block. Answers the least thread whose
+/// Ends the outermost block of thread `t`, which is in a block. Returns the least thread whose
 /// open block closes a telling cycle through the block that ends, and `None` where there is none:
 /// then thread `t` is in no block any more. A cycle is a telling one where each of its blocks but the
 /// first has ended, or is left by no earlier event than it was entered by; so `None` doesn't say that
 /// there is no cycle.
 ///
-/// Answers `Spent` where memory was refused, now or before, and each later call that can does so
-/// too. After that, and after a thread was answered, the tests answer as before the call.
+/// Returns `Spent` where memory was refused, now or before, and each later call that can does so
+/// too. After that, and after a thread was returned, the tests return what they did before the call.
 pub fn end(clocks: &mut Clocks, t: u32) -> Result<Option<u32>, Spent>
     requires inside { in_block_at clocks.old t ≡ true }
     requires closed { closed_by clocks.old ≡ None }
@@ -71,7 +71,7 @@ pub fn end(clocks: &mut Clocks, t: u32) -> Result<Option<u32>, Spent>
 }
 
 // Each slot whose clock is at least the begin clock of thread `t` takes the clock of `t`, threads
-// first and in order of number, up to a thread whose open block closes: that one is answered. The
+// first and in order of number, up to a thread whose open block closes: that one is returned. The
 // slots are listed, and the list stays while they take the clock.
 fn spread(clocks: &mut Clocks, t: u32) -> Result<Option<u32>, Spent>
     requires inside { in_block_at clocks.old t ≡ true }

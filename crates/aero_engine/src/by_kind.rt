@@ -16,7 +16,7 @@ use aero_shape::admission::Admitted;
 ///
 /// It stands for a list of events as `Engine` says, and between two calls it shows whether a thread is in a
 /// block, how many outermost begins it has made, whether it has made an event, and what it has told. Each
-/// call takes the next event, and answers the least thread whose open block closes a telling cycle with it,
+/// call takes the next event, and returns the least thread whose open block closes a telling cycle with it,
 /// or `None` where there is no telling cycle. `Spent` says that memory was refused.
 pub trait ByKind {
     ghost use Rattle.std.specs.Prelude.{◌≡◌, ◌≢◌, ◌<◌, ◌-◌, ◌^◌, ◌++◌, ◌∷◌, [], ℕ, true, false, List, length, None, IfOk, OnOk};

@@ -7,10 +7,10 @@ use std::alloc::Global;
 /// What tells, event by event, whose open block closes a telling cycle.
 ///
 /// An engine stands for a list of events as they are judged: for none at first, and after an event to
-/// which it answers `None` for what that is judged as too. What it tells is said by the list alone, so
-/// two engines that are given the same events answer the same, but where memory is refused.
+/// which it returns `None` for what that is judged as too. What it tells is said by the list alone, so
+/// two engines that are given the same events tell the same, but where memory is refused.
 ///
-/// It may keep something of each event that it is given, also of the one at which it answers a thread. What
+/// It may keep something of each event that it is given, also of the one at which it returns a thread. What
 /// that is its ghost member `keeps` says, of the events as they were given.
 pub trait Engine: Drop {
     ghost use Rattle.std.specs.Prelude.{◌++◌, ◌∷◌, [], ℕ, Bool, List, length, Option, option_copied, IfOk, OnOk};

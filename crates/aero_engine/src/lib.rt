@@ -1,4 +1,4 @@
-//! What judges a trace event by event, and what it may answer.
+//! What judges a trace event by event, and what it may tell.
 //!
 //! `Engine` is what a checker asks. An engine that has a call for each kind of event is `ByKind`, and
 //! `judge` makes the call that an admitted event asks for.

@@ -1,7 +1,7 @@
-//! What an engine answers once memory was refused.
+//! What an engine returns once memory was refused.
 use std::alloc::AllocError;
 
-/// Memory was refused. From then on each call that can answer this does.
+/// Memory was refused. From then on each call that can return this does.
 #[derive(Clone, Copy, Debug, PartialEq, Eq)]
 pub struct Spent;
 

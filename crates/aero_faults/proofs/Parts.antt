@@ -9,9 +9,9 @@ use Rattle.aero_model.specs.declared.verdict.ShapeFault.{ShapeFault}
 use Rattle.aero_model.specs.declared.verdict.ShapeFault.TheVariants.{ThreadJoined}
 use Rattle.aero_model.specs.Named.{Named}
 use Rattle.std.specs.Str.Lines.{strip_carriage_return}
-use Rattle.aero_shown.specs.Shown.{shown_byte}
+use Rattle.aero_report.specs.Shown.{shown_byte}
 use Rattle.aero_faults.specs.Texts.{shown, line_text, hindrance_text, deed_text}
-use Rattle.aero_report.specs.Words.{line_words}
+use Rattle.aero_model.specs.Words.{line_words}
 use Rattle.aero_faults.specs.declared.hindrance.Hindrance.TheVariants.{Joined}
 
 pub two_parts : (old one two first second : List ℕ) → first ≡ old ++ one → second ≡ first ++ two → second ≡ old ++ (one ++ two)

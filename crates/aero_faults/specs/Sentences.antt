@@ -3,7 +3,7 @@ use Rattle.std.specs.Prelude.{ℕ, List}
 use Rattle.aero_model.specs.declared.verdict.LineFault.{LineFault}
 use Rattle.aero_model.specs.declared.verdict.ShapeFault.{ShapeFault}
 use Rattle.aero_faults.specs.Texts.{line_text, hindrance_text}
-use Rattle.aero_report.specs.Words.{line_words, shape_words}
+use Rattle.aero_model.specs.Words.{line_words, shape_words}
 use Rattle.aero_faults.specs.declared.look.Look.{Look}
 use Rattle.aero_faults.specs.declared.look.Look.TheVariants.{Line, Event}
 

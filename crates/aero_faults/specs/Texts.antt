@@ -2,7 +2,7 @@
 use Rattle.std.specs.Prelude.{ℕ, ◌+◌, nat_lt, if◌then◌else◌, List, [], ◌++◌, flat_map, length, take, codes, decimal}
 use Rattle.std.specs.List.{position_or_len}
 use Rattle.std.specs.Str.Lines.{strip_carriage_return}
-use Rattle.aero_shown.specs.Shown.{shown_byte}
+use Rattle.aero_report.specs.Shown.{shown_byte}
 use Rattle.aero_model.specs.declared.event.Op.{Op}
 use Rattle.aero_model.specs.declared.event.Op.TheVariants.{Read, Write, Acquire, Release, Fork, Join, Begin, End}
 use Rattle.aero_model.specs.declared.verdict.LineFault.{LineFault}
@@ -13,7 +13,7 @@ use Rattle.aero_model.specs.Named.{Named}
 use Rattle.aero_model.specs.Names.{is_bad_byte}
 use Rattle.aero_grammar.specs.Meaning.{operation_field, operation_word}
 use Rattle.aero_faults.specs.Searches.{target_of}
-use Rattle.aero_report.specs.Words.{line_words}
+use Rattle.aero_model.specs.Words.{line_words}
 use Rattle.aero_faults.specs.declared.hindrance.Hindrance.{Hindrance}
 use Rattle.aero_faults.specs.declared.hindrance.Hindrance.TheVariants.{Held, Free, Acted, Forked, Joined, Itself, NoneOpen}
 

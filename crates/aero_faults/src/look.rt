@@ -6,7 +6,7 @@ use crate::hindrance::Hindrance;
 use crate::texts::{append_hindrance, append_line};
 use aero_model::event::Event;
 use aero_model::verdict::{LineFault, ShapeFault};
-use aero_report::words::{line_words, shape_words};
+use aero_model::words::{line_words, shape_words};
 use std::alloc::AllocError;
 
 /// What a second look at a faulty line found.

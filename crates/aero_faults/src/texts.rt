@@ -1,7 +1,7 @@
 //! What is told of a faulty line that was looked at again.
 ghost use Rattle.std.specs.Prelude.{◌≡◌, ◌++◌, ◌<◌, ◌≤◌, codes, decimal, take, length, nat_lt, if◌then◌else◌, [], ◌∷◌, OnOk};
 ghost use Rattle.std.specs.Str.Lines.{strip_carriage_return};
-ghost use Rattle.aero_report.specs.Words.{line_words as line_words_of};
+ghost use Rattle.aero_model.specs.Words.{line_words as line_words_of};
 ghost use Rattle.aero_faults.specs.Texts.{bad_place as bad_place_in, deed_text, hindrance_text, line_text, shown, verb as verb_of};
 
 use crate::fields::{bad_place, operation_word, without_return};
@@ -9,8 +9,8 @@ use crate::hindrance::Hindrance;
 use crate::search::target_of;
 use aero_model::event::{Event, Op};
 use aero_model::verdict::{LineFault, ShapeFault};
-use aero_report::words::line_words;
-use aero_shown::append_bytes;
+use aero_model::words::line_words;
+use aero_report::shown::append_bytes;
 use itoa::Buffer;
 use std::alloc::AllocError;
 

@@ -1,11 +1,11 @@
 -- Where a text is cut, and what a text that ends a line leaves uncut.
-use Rattle.std.proofs.Common.{◌≡◌, ◌<◌, ◌+◌, ℕ, zero, suc, Bool, true, false, List, [], ◌∷◌, ◌++◌, length, take, drop, get_or, refl, sym, ◌∙◌, ap, subst, true≢false, ◌⊎◌, inl, inr, arith, append_assoc, length-append}
+use Rattle.std.proofs.Common.{◌≡◌, ◌<◌, ◌+◌, ℕ, suc, Bool, true, false, List, [], ◌∷◌, ◌++◌, length, take, drop, get_or, refl, sym, ◌∙◌, ap, subst, true≢false, ◌⊎◌, inl, inr, arith, append_assoc, length-append}
 use Rattle.std.proofs.lemmas.Bool.{cases_Bool, or_from}
 use Rattle.std.proofs.lemmas.List.{take-append-drop}
 use Rattle.std.specs.Prelude.{◌||◌}
 use Rattle.std.specs.List.{list_any}
 use Rattle.aero_model.specs.Lines.{is_line_end, EndsLine}
-use Rattle.aero_lines.specs.Cutting.{Cutting, has_too_long, IsOpenLine, fed}
+use Rattle.aero_lines.specs.Cutting.{Cutting, has_too_long, fed}
 use Rattle.aero_lines.proofs.Steps.{HasNoEnd, step_shut, fed-at, step_held, step_cut}
 use Rattle.aero_feed.specs.Reads.{EndsIn}
 

@@ -1,5 +1,5 @@
 -- What is kept of a text that comes piece by piece.
-use Rattle.std.proofs.Common.{◌≡◌, ◌+◌, ℕ, suc, Bool, true, false, cond, List, [], ◌∷◌, ◌++◌, length, map, Option, Some, None, refl, sym, ◌∙◌, ap, subst, true≢false, ◌⊎◌, inl, inr, arith, append_assoc}
+use Rattle.std.proofs.Common.{◌≡◌, ◌+◌, ℕ, suc, Bool, true, false, cond, List, [], ◌∷◌, ◌++◌, map, Option, Some, None, refl, sym, ◌∙◌, ap, subst, true≢false, ◌⊎◌, inl, inr, arith, append_assoc}
 use Rattle.std.proofs.lemmas.Bool.{cases_Bool, ltb-true}
 use Rattle.std.proofs.lemmas.List.{append-nil, map-append}
 use Rattle.std.specs.Prelude.{option_to_list, option_map, is_some, nat_lt, Result, Ok, Err, IfSome, IfOk, OnOk}
@@ -10,7 +10,6 @@ use Rattle.aero_model.specs.declared.verdict.Verdict.{Verdict}
 use Rattle.aero_model.specs.declared.verdict.Verdict.TheVariants.{Serializable, Pending, Violation, Malformed, IllFormed}
 use Rattle.aero_model.specs.declared.verdict.LineFault.TheVariants.{TooManyLines}
 use Rattle.aero_model.specs.Lines.{EndsLine}
-use Rattle.aero_model.specs.Verdicts.{HasOwnFault}
 use Rattle.aero_grammar.specs.Reading.{Reading, reading_of, whole_reading}
 use Rattle.aero_lines.specs.Cutting.{Cutting, nothing_yet, unless_empty, fed, block_of, last_block, blocks_from}
 use Rattle.aero_lines.proofs.Steps.{last_block-shut, last_block-at}
@@ -20,7 +19,7 @@ use Rattle.aero_verdict.specs.Ordered.{is_faultless}
 use Rattle.aero_verdict.specs.Verdict.{Rules, IsVerdict}
 use Rattle.aero_verdict.proofs.OneVerdict.{one_verdict}
 use Rattle.aero_feed.specs.Feeding.{Feeding, nothing_fed, IsTextVerdict, IsCertainOf, IsOpenText, ShowsText}
-use Rattle.aero_feed.specs.Reads.{EndsIn, HasRead, GoesOn, IsSure, StandsAt, ShowsFed, IsJudgedOut}
+use Rattle.aero_feed.specs.Reads.{HasRead, GoesOn, IsSure, StandsAt, ShowsFed, IsJudgedOut}
 use Rattle.aero_feed.proofs.Ends.{ends_more, nothing_left}
 use Rattle.aero_feed.proofs.SameVerdict.{blocks_read, cycle_of_text, verdict_of_text, verdict_of_parts}
 

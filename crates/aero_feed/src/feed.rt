@@ -156,7 +156,7 @@ impl Feed {
         monitor.finish()
     }
 
-    /// Memory was refused to whoever brings the text, so that some of it is missing: each later call answers an
+    /// Memory was refused to whoever brings the text, so that some of it is missing: each later call returns an
     /// `AllocError`.
     pub fn spend(&mut self)
         ensures { self.new ≡ record self.old { is_spent = true } }

@@ -28,10 +28,10 @@
 //! - It is told that the verdict is certain only where it is, whatever bytes come, and stays so: `Feed::is_certain`,
 //!   `certain`, `stays`. Where the bytes end a line and it isn't told, nothing is wrong with them, but maybe that there
 //!   is one line too many: `going_on`.
-//! - Once memory was refused no call answers anything else: `spent`, `stays_spent`, `was_unspent` of each.
+//! - Once memory was refused no call returns anything else: `spent`, `stays_spent`, `was_unspent` of each.
 //! - What shows a violation that is certain is a shortest telling cycle of the text, as `check_trace_explained` tells it; of a
 //!   feed that isn't `explaining` nothing is shown: `Feed::explain`, `shown`.
-//! - The verdict is that of the text, as one part: `Feed::finish`. So it is what `check_trace` answers of it.
+//! - The verdict is that of the text, as one part: `Feed::finish`. So it is what `check_trace` returns of it.
 #![tactic(auto)]
 
 pub mod feed;

@@ -397,3 +397,62 @@ fn plainly_shown(alloc: Global) -> Option<String> {
     let feed = feed_of(alloc, "")?;
     shown_in_pieces(alloc, feed, b"T1|begin\nT1|r(x)\nT2|w(x)\nT1|w(x)\n", 1000)
 }
+
+// A thread reads what the one of this number wrote, and writes, in a block of its own.
+fn push_turn(alloc: Global, text: &mut Vec<u8>, before: u32) -> bool {
+    let thread = before.saturating_add(1);
+    match format!(in alloc;
+        "T{thread}|begin\nT{thread}|r(x{before})\nT{thread}|w(x{thread})\nT{thread}|end\n"
+    ) {
+        Ok(turn) => text.extend_from_slice(turn.as_bytes()).is_ok(),
+        Err(_) => false,
+    }
+}
+
+// The first thread reads what the last one wrote.
+fn push_closing(alloc: Global, text: &mut Vec<u8>, threads: u32) -> bool {
+    match format!(in alloc; "T1|r(x{threads})\n") {
+        Ok(closing) => text.extend_from_slice(closing.as_bytes()).is_ok(),
+        Err(_) => false,
+    }
+}
+
+// So many threads, each of which reads what the one before it wrote, and writes: the first, whose block stays open, what the last
+// one wrote.
+fn ring(alloc: Global, threads: u32) -> Option<Vec<u8>> {
+    let mut text = Vec::new(alloc);
+    let mut fits = text.extend_from_slice(b"T1|begin\nT1|w(x1)\n").is_ok();
+    for before in 1..threads {
+        fits &= push_turn(alloc, &mut text, before);
+    }
+    fits &= push_closing(alloc, &mut text, threads);
+    fits.then_some(text)
+}
+
+// How many events and transactions the cycle has that is shown, and the line of its last event.
+fn sizes_of(shown: &Option<Cycle>) -> Option<(usize, usize, u32)> {
+    let Some(cycle) = shown else {
+        return None;
+    };
+    let last = cycle.steps.as_slice().last()?;
+    Some((cycle.steps.len(), cycle.transactions.len(), last.line))
+}
+
+// What is shown of a text that comes as one piece.
+fn sizes_shown(feed: &mut Feed, text: &[u8]) -> Option<(usize, usize, u32)> {
+    feed.feed(text).ok()?;
+    sizes_of(&feed.explain().ok()?)
+}
+
+fn ring_shown(alloc: Global, threads: u32) -> Option<(usize, usize, u32)> {
+    let text = ring(alloc, threads)?;
+    let none = Except::new(Vec::new(alloc))?;
+    let mut feed = Feed::explaining(alloc, &Limits::greatest(), none).ok()?;
+    sizes_shown(&mut feed, &text)
+}
+
+// The cycle goes through all of the threads, by two events of each.
+#[test]
+fn a_cycle_of_two_thousand_visits_is_shown(rt: HostRuntime) {
+    assert!(rt; ring_shown(rt.alloc(), 2_000) == Some((4_000, 2_000, 7_999)));
+}

@@ -11,7 +11,7 @@
 //! `parse_block` gives of a text with one event a line.
 //!
 //! `specs/Meaning.antt` says what a line means and `specs/Reading.antt` what a text means, and the
-//! contracts say that just that is answered. Blocks of whole lines mean, one after the other, what
+//! contracts say that just that is returned. Blocks of whole lines mean, one after the other, what
 //! the text means that they make up.
 //!
 //! ```text
@@ -26,7 +26,7 @@
 //!
 //! # What is proved
 //!
-//! - A line's event is answered, or that the line is blank, or its first fault, and nothing else: `parse_line`.
+//! - A line's event is returned, or that the line is blank, or its first fault, and nothing else: `parse_line`.
 //! - A block is read as the definition says, up to its first fault, and is refused only where it has an event:
 //!   `parse_block`, `reading`, `lines`, `refused`.
 //! - Its tables have the names and labels in order of first appearance, none twice and none that no event has. Its

@@ -15,7 +15,8 @@ use Rattle.aero_verdict.proofs.Readings.{after_faulty, after_faultless}
 use Rattle.aero_verdict.specs.Verdict.{Rules}
 use Rattle.aero_intake.specs.Laws.{AreJudgedAlike, FirstBlocksDecide}
 use Rattle.aero_intake.specs.Tracks.{decides}
-use Rattle.aero_intake.proofs.Judged.{one_read, counted_alike}
+use Rattle.aero_intake.proofs.Judged.{counted_alike}
+use Rattle.aero_verdict.proofs.SameVerdict.{one_read}
 
 -- lines count from 1
 

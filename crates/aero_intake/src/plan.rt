@@ -4,6 +4,7 @@ ghost use Rattle.std.specs.Prelude.{◌≡◌, ◌<◌, ◌≤◌, ◌^◌, if�
 use crate::terms::Terms;
 use aero_model::except::SharedExcept;
 use aero_model::limits::Limits;
+use aero_model::name::Name;
 use aero_report::{Form, Options};
 use std::alloc::AllocError;
 
@@ -60,9 +61,9 @@ const KEEPING: Keeping = Keeping {
 };
 
 impl Plan {
-    ghost use Rattle.std.specs.Prelude.{◌≡◌, ◌<◌, ◌≤◌, ◌^◌, ◌↔◌, IsSome, IfSome, IfOk, true, false};
+    ghost use Rattle.std.specs.Prelude.{◌≡◌, ◌<◌, ◌≤◌, ◌^◌, ◌↔◌, IsSome, IfSome, IfOk, map, true, false};
     ghost use Rattle.aero_intake.specs.Plans.{IsPlan};
-    ghost use Rattle.aero_intake.specs.PlanTerms.{options_in, terms_of};
+    ghost use Rattle.aero_intake.specs.PlanTerms.{options_in, options_with, terms_of};
     ghost use Rattle.aero_report.specs.Asked.{options_of};
     ghost use Rattle.aero_report.specs.declared.form.Form.TheVariants.{Text};
     ghost use Rattle.aero_verdict.specs.Finding.{asking};
@@ -154,15 +155,24 @@ impl Plan {
         plan
     }
 
-    /// How the sources are judged, as the summary of a report tells it.
+    /// How the sources are judged, as the summary of a report tells it. No label is told as one with which no block
+    /// begins.
     pub fn options(&self) -> Options<'_>
         ensures { options_of result ≡ options_in (terms_of self.now) }
+    {
+        self.options_with(&[])
+    }
+
+    /// The same, with the labels with which no block begins.
+    pub fn options_with<'a>(&'a self, unused: &'a [&'a Name]) -> Options<'a>
+        ensures { options_of result ≡ options_with (terms_of self.now) (map (λ label. label.now) unused.now) }
     {
         Options {
             limits: &self.limits,
             except: self.except.get(),
             order: self.order,
             explain: self.explain,
+            unused,
         }
     }
 

@@ -1,4 +1,4 @@
--- Once all sources are back, what was told is a run's.
+-- Once all sources are back, what was told is what a run tells.
 use Rattle.std.proofs.Common.{◌≡◌, ℕ, zero, suc, ◌+◌, ◌<◌, ◌⊎◌, List, [], ◌∷◌, ◌++◌, map, length, slice_get, Option, Some, None, refl, sym, ◌∙◌, ap, ap₂, subst, append_assoc, inl, inr, arith}
 use Rattle.std.specs.Prelude.{option_map}
 use Rattle.std.proofs.lemmas.List.{append-nil, length-map, length_push}
@@ -8,7 +8,7 @@ use Rattle.aero_report.specs.declared.form.Form.{Form}
 use Rattle.aero_batch.specs.declared.outcome.Cause.{Cause}
 use Rattle.aero_batch.specs.declared.outcome.Cause.TheVariants.{Memory, Write}
 use Rattle.aero_batch.specs.declared.told.Told.{Told}
-use Rattle.aero_batch.specs.Founds.{Found, IsFoundAt, IsWritten, WasRun, sighted}
+use Rattle.aero_batch.specs.Founds.{Found, IsFoundAt, IsWritten, Took, WasTold, lines_of_all, no_text, sighted}
 use Rattle.aero_batch.proofs.Stands.{slice_get_some, the_some}
 use Rattle.aero_intake.specs.declared.source.Source.{Source}
 use Rattle.aero_lanes.specs.declared.seat.Seat.{Seat}
@@ -66,24 +66,24 @@ module _ {R : Type 0} (known : R → Option (List ℕ)) (terms : Terms) (form : 
           ap₂ (λ z zs. z ∷ zs) (same zero x y refl refl) (names_of xs ys rest (λ k a b at_a at_b. same (suc k) a b at_a at_b))
 
   written_of : (founds : List Found) (before after : Seen) (cause : Option Cause) → IsWrittenSo known terms form origin all founds before after cause →
-      IsWritten terms form (map (sighted known) origin) (map (sighted known) back) founds before after cause
-  written_of founds before after None is = (is.0 ∙ sym (length-map origin (sighted known)), is.1)
+      IsWritten terms form no_text (map (sighted known) origin) (map (sighted known) back) founds before after cause
+  written_of founds before after None is = (
+    is.0 ∙ sym (length-map origin (sighted known)),
+    subst (λ text. Took before after text) (sym (append-nil (lines_of_all form founds))) is.1,
+  )
   written_of founds before after (Some Memory) is = is
   written_of founds before after (Some Write) is = record {
     text = is.text;
-    next = elim is.next [
-      | inl next ↦ inl (next.0, found_at (length founds) next.0 next.1, next.2)
-      | inr next ↦ inr (next.0 ∙ sym (length-map origin (sighted known)), next.1)
-    ];
+    next = inl (is.next.0, found_at (length founds) is.next.0 is.next.1, is.next.2);
     written = is.written;
     part = is.part;
     went = is.went;
     faults = is.faults;
   }
 
-  pub was_run : (before after : Seen) (a : Told) (cause : Option Cause) → StopsSo known terms form origin before after all a cause →
-      WasRun terms form (map (sighted known) origin) (map (sighted known) back) before after a.endings.items a.faults.items a.counts cause
-  was_run before after a cause st = record {
+  pub was_told : (before after : Seen) (a : Told) (cause : Option Cause) → StopsSo known terms form origin before after all a cause →
+      WasTold terms form (map (sighted known) origin) (map (sighted known) back) before after a.endings.items a.faults.items a.counts cause
+  was_told before after a cause st = record {
     founds = st.founds;
     found = λ place f at. found_at place f (st.found place f at);
     names = names_back;

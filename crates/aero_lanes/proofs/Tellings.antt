@@ -10,16 +10,15 @@ use Rattle.aero_model.specs.declared.verdict.Finding.{Finding}
 use Rattle.aero_model.specs.CallCounts.{Seen}
 use Rattle.aero_report.specs.Texts.{counts_of, counted}
 use Rattle.aero_report.specs.declared.form.Form.{Form}
-use Rattle.aero_intake.specs.PlanTerms.{options_in}
-use Rattle.aero_report.specs.Forms.{source_line_in, summary_line_in}
+use Rattle.aero_report.specs.Forms.{source_line_in}
 use Rattle.aero_batch.specs.declared.outcome.Cause.{Cause}
 use Rattle.aero_batch.specs.declared.outcome.Cause.TheVariants.{Memory, Write}
 use Rattle.aero_batch.specs.declared.told.Told.{Told}
 use Rattle.aero_batch.specs.Alone.{TellsOf}
 use Rattle.aero_batch.specs.Faults.{fault_of}
 use Rattle.aero_batch.specs.Founds.{Sighted, Found, IsFoundOf, Took, sighted, ending_of, faulty_line, lines_of_all, counts_of_all}
-use Rattle.aero_batch.specs.Telling.{WasCut, TellsText, TellsNext, IsOneMore, cause_of, total}
-use Rattle.aero_batch.proofs.Stands.{get_push, lines_more, counts_more, took_more, took_nothing, findings_told, slice_get_some, the_some}
+use Rattle.aero_batch.specs.Telling.{WasCut, TellsNext, IsOneMore, total}
+use Rattle.aero_batch.proofs.Stands.{get_push, lines_more, counts_more, took_more, took_nothing, slice_get_some, the_some}
 use Rattle.aero_intake.specs.declared.source.Source.{Source}
 use Rattle.aero_batch.specs.declared.find.Judged.{Judged}
 use Rattle.aero_intake.specs.declared.track.Track.TheVariants as tracks
@@ -28,7 +27,7 @@ use Rattle.aero_lanes.specs.declared.seat.Seat.{Seat}
 use Rattle.aero_lanes.specs.declared.seat.Seat.TheVariants as seats
 use Rattle.aero_lanes.specs.Ends.{IsEndOf}
 use Rattle.aero_lanes.specs.Seats.{AreSeated, GoOn, IsFoundBy}
-use Rattle.aero_lanes.specs.Tellings.{StandsSo, StopsSo, WasCutSo, IsTextAfter, IsWrittenSo, TellsEnd, TellsSeat, TellsNextSeat, HasNumbersOf, IsBegunSo}
+use Rattle.aero_lanes.specs.Tellings.{StandsSo, StopsSo, WasCutSo, IsTextAfter, TellsEnd, TellsSeat, TellsNextSeat, HasNumbersOf, IsBegunSo}
 use Rattle.aero_verdict.specs.Finding.{Terms}
 
 -- before anything is told
@@ -180,7 +179,7 @@ module _ {R : Type 0} (known : R → Option (List ℕ)) (terms : Terms) (form : 
         faults = t.faults;
         counts = t.counts;
         written = cut_so origin before st.founds (source_line_in form end.source.name.items j.finding)
-            (inl (f, subst (λ n. IsFoundBy known terms origin all n f) same_place next.1, line)) t.took cut;
+            (f, subst (λ n. IsFoundBy known terms origin all n f) same_place next.1, line) t.took cut;
       })
 
   pub record Tellings (r : Result Bool Cause) : Type 0 where
@@ -226,33 +225,18 @@ module _ {R : Type 0} (known : R → Option (List ℕ)) (terms : Terms) (form : 
   pub telling : (r : Result Bool Cause) → TellsNextSeat form (slice_get all (vec_len a.endings)) mid after a b r → Tellings r
   telling r tells = telling_from (slice_get all (vec_len a.endings)) r refl tells
 
--- all sources are told, and the summary is written, or not
-pub summary_so : {R : Type 0} (known : R → Option (List ℕ)) (terms : Terms) (form : Form) (origin : List (Source R)) (all : List (Seat R)) (before mid after : Seen) (a : Told) →
-    vec_len a.endings ≡ length all → StandsSo known terms form origin before mid all a → (r : Result Unit Cause) → TellsText (summary_line_in form (options_in terms) a.counts) mid after r →
-    StopsSo known terms form origin before after all a (cause_of r)
-summary_so known terms form origin all before mid after a whole st r tells = record {
+-- all sources are told
+pub all_so : {R : Type 0} (known : R → Option (List ℕ)) (terms : Terms) (form : Form) (origin : List (Source R)) (all : List (Seat R)) (before after : Seen) (a : Told) →
+    vec_len a.endings ≡ length all → StandsSo known terms form origin before after all a → StopsSo known terms form origin before after all a None
+all_so known terms form origin all before after a whole st = record {
   seated = st.seated;
   founds = st.founds;
   found = st.told_so.found;
   endings = st.told_so.endings;
   faults = st.told_so.faults;
   counts = st.told_so.counts;
-  written = go r tells;
+  written = (sym (place_is known terms form all after after a a st.founds st.told_so.endings) ∙ (whole ∙ st.seated.count), st.told_so.took);
 }
-  where
-    told_all : length st.founds ≡ length origin
-    told_all = sym (place_is known terms form all mid after a a st.founds st.told_so.endings) ∙ (whole ∙ st.seated.count)
-
-    go : (r : Result Unit Cause) → TellsText (summary_line_in form (options_in terms) a.counts) mid after r → IsWrittenSo known terms form origin all st.founds before after (cause_of r)
-    go (Ok u) tells = (
-      told_all,
-      subst (λ c. Took before after (lines_of_all form st.founds ++ summary_line_in form (options_in terms) c))
-          (st.told_so.counts ∙ sym (ap counts_of (findings_told st.founds)))
-          (took_more before mid after (lines_of_all form st.founds) (summary_line_in form (options_in terms) a.counts) st.told_so.took tells),
-    )
-    go (Err Memory) tells = took_nothing before mid after (lines_of_all form st.founds) st.told_so.took tells
-    go (Err Write) tells = cut_so known terms form all mid after a a origin before st.founds (summary_line_in form (options_in terms) (counts_of_all st.founds)) (inr (told_all, refl)) st.told_so.took
-        (subst (λ c. WasCut mid after (summary_line_in form (options_in terms) c)) st.told_so.counts tells)
 
 -- the numbers once one more is told
 module _ (R : Type 0) (form : Form) (sources : ℕ) (mid after : Seen) (a b : Told) (numbers : HasNumbersOf sources a) where

@@ -2,7 +2,7 @@
 use Rattle.std.specs.Prelude.{◌≡◌, ℕ, ◌≤◌, List, [], map, vec_len, vec_capacity, Option}
 use Rattle.aero_model.specs.CallCounts.{Seen}
 use Rattle.aero_report.specs.declared.form.Form.{Form}
-use Rattle.aero_batch.specs.Founds.{WasRun, sighted}
+use Rattle.aero_batch.specs.Founds.{WasTold, sighted}
 use Rattle.aero_intake.specs.declared.source.Source.{Source}
 use Rattle.aero_lanes.specs.declared.room.Room.{Room}
 use Rattle.aero_lanes.specs.declared.run.Report.{Report}
@@ -18,8 +18,8 @@ pub record IsReady {R : Type 0} (all : Room R) : Type 0 where
   pub none : all.back.items ≡ []
   pub room : vec_capacity all.back ≡ vec_len all.seats
 
--- Whatever the sources on these seats were, it was a run over them, and these came back.
+-- Whatever the sources on these seats were, it was a run over them that wrote their lines, and these came back.
 pub record HasJudged {R : Type 0} (known : R → Option (List ℕ)) (terms : Terms) (form : Form) (seats : List (Seat R)) (before after : Seen) (report : Report)
     (back : List (Source R)) : Type 0 where
-  pub ran : (origin : List (Source R)) → AreSeated known terms origin seats →
-      WasRun terms form (map (sighted known) origin) (map (sighted known) back) before after report.endings.items report.faults.items report.counts report.cause
+  pub told : (origin : List (Source R)) → AreSeated known terms origin seats →
+      WasTold terms form (map (sighted known) origin) (map (sighted known) back) before after report.endings.items report.faults.items report.counts report.cause

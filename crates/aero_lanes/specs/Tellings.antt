@@ -1,18 +1,17 @@
 -- What is told of the sources whose lanes have ended.
-use Rattle.std.specs.Prelude.{◌≡◌, ℕ, ◌+◌, ◌<◌, ◌≤◌, ◌⊎◌, Bool, true, false, List, [], ◌++◌, map, length, take, slice_get, vec_len, vec_capacity, Option, Some, None}
+use Rattle.std.specs.Prelude.{◌≡◌, ℕ, ◌+◌, ◌<◌, ◌≤◌, Bool, true, false, List, [], ◌++◌, map, length, take, slice_get, vec_len, vec_capacity, Option, Some, None}
 use Rattle.std.specs.Prelude.{Result, Ok, Err}
 use Rattle.std.specs.Io.KnownBytes.{Appends}
 use Rattle.aero_model.specs.CallCounts.{Seen}
 use Rattle.aero_report.specs.declared.form.Form.{Form}
 use Rattle.aero_report.specs.Texts.{no_counts}
-use Rattle.aero_report.specs.Forms.{source_line_in, summary_line_in, report_in}
+use Rattle.aero_report.specs.Forms.{source_line_in}
 use Rattle.aero_batch.specs.declared.outcome.Cause.{Cause}
 use Rattle.aero_batch.specs.declared.outcome.Cause.TheVariants.{Memory, Write}
 use Rattle.aero_batch.specs.declared.told.Told.{Told}
-use Rattle.aero_batch.specs.Founds.{Found, Took, ending_of, faulty_line, lines_of_all, counts_of_all, told as told_of}
+use Rattle.aero_batch.specs.Founds.{Found, Took, ending_of, faulty_line, lines_of_all, counts_of_all}
 use Rattle.aero_batch.specs.Telling.{TellsNext, total}
 use Rattle.aero_intake.specs.declared.source.Source.{Source}
-use Rattle.aero_intake.specs.PlanTerms.{options_in}
 use Rattle.aero_intake.specs.declared.track.Track.TheVariants as tracks
 use Rattle.aero_batch.specs.declared.find.Judged.{Judged}
 use Rattle.aero_lanes.specs.declared.seat.Seat.{Seat}
@@ -56,8 +55,7 @@ pub record StandsSo {R : Type 0} (known : R → Option (List ℕ)) (terms : Term
 -- the text that comes after those of the founds
 abbrev pub IsTextAfter : {R : Type 0} → (R → Option (List ℕ)) → Terms → Form → List (Source R) → List (Seat R) → List Found → List ℕ → Type 0
 IsTextAfter known terms form origin seats founds text =
-    ((found : Found) × IsFoundBy known terms origin seats (length founds) found × (text ≡ source_line_in form found.name found.finding))
-    ⊎ ((length founds ≡ length origin) × (text ≡ summary_line_in form (options_in terms) (counts_of_all founds)))
+    (found : Found) × IsFoundBy known terms origin seats (length founds) found × (text ≡ source_line_in form found.name found.finding)
 
 -- a part of the next text was written, and then a write failed
 pub record WasCutSo {R : Type 0} (known : R → Option (List ℕ)) (terms : Terms) (form : Form) (origin : List (Source R)) (seats : List (Seat R)) (founds : List Found)
@@ -70,7 +68,7 @@ pub record WasCutSo {R : Type 0} (known : R → Option (List ℕ)) (terms : Term
   pub faults : after.faults ≡ before.faults + 1
 
 abbrev pub IsWrittenSo : {R : Type 0} → (R → Option (List ℕ)) → Terms → Form → List (Source R) → List (Seat R) → List Found → Seen → Seen → Option Cause → Type 0
-IsWrittenSo known terms form origin seats founds before after None = (length founds ≡ length origin) × Took before after (report_in form (options_in terms) (map told_of founds))
+IsWrittenSo known terms form origin seats founds before after None = (length founds ≡ length origin) × Took before after (lines_of_all form founds)
 IsWrittenSo known terms form origin seats founds before after (Some Memory) = Took before after (lines_of_all form founds)
 IsWrittenSo known terms form origin seats founds before after (Some Write) = WasCutSo known terms form origin seats founds before after
 

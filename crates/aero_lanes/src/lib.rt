@@ -2,8 +2,8 @@
 //!
 //! A lane is a thread that is given a source, reads and judges it as `aero_batch::find` does, and gives it back with what
 //! was found. As many lanes run at once as the plan has workers. The calling thread starts them in the order of the
-//! sources, and writes the line of each source once its lane has ended and all before it are told: so the report is that of
-//! `aero_batch::run`.
+//! sources, and writes the line of each source once its lane has ended and all before it are told: so the lines are those of
+//! `aero_batch::run_lines`. The summary is the caller's, by `aero_batch::told::sum_up`.
 #![tactic(auto)]
 
 mod lane;

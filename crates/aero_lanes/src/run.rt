@@ -1,6 +1,6 @@
 //! The run in lanes.
 ghost use Rattle.std.specs.Prelude.{◌≡◌, ◌≤◌, [], map, vec_len, Some};
-ghost use Rattle.aero_batch.specs.Founds.{sighted, WasRun};
+ghost use Rattle.aero_batch.specs.Founds.{sighted, WasTold};
 ghost use Rattle.aero_batch.specs.Telling.{cause_of};
 ghost use Rattle.aero_intake.specs.PlanTerms.{terms_of};
 ghost use Rattle.aero_lanes.specs.Judged.{HasJudged, IsReady};
@@ -12,7 +12,8 @@ use crate::room::{Room, all_back, room_for, seat_all};
 use crate::shared::Shared;
 use crate::steps::tell_all;
 use aero_batch::outcome::{Cause, FaultyLine, Outcome};
-use aero_batch::run::run;
+use aero_batch::run::run_lines;
+use aero_batch::setting::Setting;
 use aero_batch::told::{Told, nothing_counted};
 use aero_intake::plan::Plan;
 use aero_intake::source::Source;
@@ -35,12 +36,12 @@ pub struct Report {
     pub faults: Vec<Option<FaultyLine>>,
     /// How many of them were found to be what: 65,536 in all at most.
     pub counts: Counts,
-    /// `None` where all was written, and the summary too.
+    /// Why not all lines were written, if so.
     pub cause: Option<Cause>,
 }
 
-/// Reads and judges the sources, as many at once as the plan has workers, each in a lane of its own, and writes the report:
-/// the line of each source, in their order, and the summary. The report is that of `aero_batch::run`, and so is all that is
+/// Reads and judges the sources, as many at once as the plan has workers, each in a lane of its own, and writes the line of
+/// each source, in their order. No summary is written. The lines are those of `aero_batch::run_lines`, and so is all that is
 /// said there of how sources end. With one source, or one worker, it is that run.
 ///
 /// A lane is a thread. Where the system gives none, the calling thread does a lane's work. A source that may wait is begun
@@ -60,7 +61,7 @@ pub fn run_in_lanes<
     plan: &Plan,
 ) -> (Report, Vec<Source<R>>)
     requires { vec_len sources ≤ 65536 }
-    ensures ran { WasRun (terms_of plan.now) plan.now.form (map (sighted R.remaining) sources.items) (map (sighted R.remaining) result.1.items)
+    ensures told { WasTold (terms_of plan.now) plan.now.form (map (sighted R.remaining) sources.items) (map (sighted R.remaining) result.1.items)
         (seen_by W.contents writer.old) (seen_by W.contents writer.new) result.0.endings.items result.0.faults.items result.0.counts result.0.cause }
 {
     if sources.len() < 2 || plan.workers < 2 {
@@ -81,7 +82,7 @@ pub fn run_in_lanes<
     judge_all(shared, room, writer)
 }
 
-/// The same by `aero_batch::run`, which reads the sources one after the other, and whose workers serve the one that is read.
+/// The same by `aero_batch::run_lines`, which reads the sources one after the other, and whose workers serve the one that is read.
 /// For one source, and for small ones, it is faster.
 pub fn run_in_turn<R: Read, W: Write, T: Threads + Wait + Copy + Send + 'static>(
     rt: T,
@@ -91,11 +92,16 @@ pub fn run_in_turn<R: Read, W: Write, T: Threads + Wait + Copy + Send + 'static>
     plan: &Plan,
 ) -> (Report, Vec<Source<R>>)
     requires { vec_len sources ≤ 65536 }
-    ensures ran { WasRun (terms_of plan.now) plan.now.form (map (sighted R.remaining) sources.items) (map (sighted R.remaining) result.1.items)
+    ensures told { WasTold (terms_of plan.now) plan.now.form (map (sighted R.remaining) sources.items) (map (sighted R.remaining) result.1.items)
         (seen_by W.contents writer.old) (seen_by W.contents writer.new) result.0.endings.items result.0.faults.items result.0.counts result.0.cause }
 {
     let Ok(gate) = Arc::new(alloc, NoGate) else {
         return (refused(alloc), sources);
+    };
+    let setting = Setting {
+        rt: &rt,
+        alloc,
+        plan,
     };
     let Outcome {
         endings,
@@ -103,7 +109,7 @@ pub fn run_in_turn<R: Read, W: Write, T: Threads + Wait + Copy + Send + 'static>
         counts,
         cause,
         ..
-    } = run(rt, alloc, &mut sources, writer, plan, gate);
+    } = run_lines(&setting, &mut sources, writer, gate);
     let report = Report {
         endings,
         faults,
@@ -143,7 +149,7 @@ fn judge_all<R: Read + Drop + Send, W: Write, T: Threads + Wait + Copy + Sync>(
         shared.rt,
         move |scope| -> (Report, Vec<Source<R>>, &mut Counting<W>)
             requires { IsReady room }
-            ensures ran { HasJudged R.remaining (terms_of shared.entry.plan.now) shared.entry.plan.now.form room.seats.items (seen_by W.contents writer.entry.now)
+            ensures told { HasJudged R.remaining (terms_of shared.entry.plan.now) shared.entry.plan.now.form room.seats.items (seen_by W.contents writer.entry.now)
                 (seen_by W.contents result.2.now) result.0 result.1.items }
             ensures same { result.2.ghost_name ≡ writer.entry.ghost_name }
         {

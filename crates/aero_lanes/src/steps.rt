@@ -7,15 +7,15 @@ ghost use Rattle.aero_model.specs.CallCounts.{Seen, seen_by};
 
 use crate::lanes::{Lanes, move_on};
 use crate::shared::Shared;
-use crate::tell::{style_of, tell_ready};
+use crate::tell::tell_ready;
 use aero_batch::outcome::Cause;
-use aero_batch::told::{Told, tell_summary};
+use aero_batch::told::Told;
 use aero_model::counting::Counting;
 use std::io::{Read, Write};
 use std::sync::Wait;
 use std::thread::{Scope, Threads};
 
-// All steps, and the summary. Lanes may still run where it stops before its end.
+// All steps. Lanes may still run where it stops before its end.
 pub(crate) fn tell_all<
     's,
     E,
@@ -39,10 +39,7 @@ pub(crate) fn tell_all<
     'steps: for _ in shared.rt.forever() {
         match advance(scope, shared, lanes, writer, told) {
             Ok(false) => {}
-            Ok(true) => {
-                let options = shared.plan.options();
-                return tell_summary(style_of(shared), options, &told.counts, writer);
-            }
+            Ok(true) => return Ok(()),
             Err(cause) => return Err(cause),
         }
     }
@@ -50,7 +47,7 @@ pub(crate) fn tell_all<
 }
 
 // One step: the next line is written, or else the next lane is started, or else the end of a lane is awaited. The answer
-// says whether all is done but for the summary.
+// says whether all is done.
 fn advance<'s, E, R: Read + Drop + Send + 's, W: Write, T: Threads + Wait + Copy + Sync + 's>(
     scope: &Scope<'s, E>,
     shared: Shared<'s, T>,

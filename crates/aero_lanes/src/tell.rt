@@ -15,7 +15,7 @@ use aero_model::counting::Counting;
 use std::io::{Read, Write};
 
 // How the texts of the run are made.
-pub(crate) fn style_of<T: Copy>(shared: Shared<'_, T>) -> Style
+fn style_of<T: Copy>(shared: Shared<'_, T>) -> Style
     ensures { result.form ≡ shared.entry.plan.now.form }
 {
     Style {

@@ -1,4 +1,4 @@
-//! What is kept of a trace, and how each event changes it. A function for an event answers whether
+//! What is kept of a trace, and how each event changes it. A function for an event returns whether
 //! that closes a cycle through the open block of its thread; then it leaves the blocks as they were.
 ghost use Rattle.std.specs.Prelude.{◌≡◌, ◌≢◌, ◌<◌, ◌-◌, ◌^◌, ℕ, suc, [], true, false, IfOk, OnOk, OnErr, vec_len};
 ghost use Rattle.aero_model.specs.declared.numbered.What.TheVariants.{Read, Write, Acquire, Release, Fork, Join, Begin};

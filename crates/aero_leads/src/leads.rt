@@ -13,10 +13,10 @@ use std::alloc::Global;
 
 /// The first places of the events so far. Threads, variables and locks go by numbers from 0.
 ///
-/// A call for an event answers the thread whose open block closes a cycle with it, if there is
-/// one. Then `closed` answers that thread, and no further event may be given. Where memory is
-/// refused, or the event would be the 2^32nd, a call answers `Spent`, and so does each later call
-/// for an event; then `in_block`, `begins`, `acted` and `closed` answer as before the first of these.
+/// A call for an event returns the thread whose open block closes a cycle with it, if there is
+/// one. Then `closed` returns that thread, and no further event may be given. Where memory is
+/// refused, or the event would be the 2^32nd, a call returns `Spent`, and so does each later call
+/// for an event; then `in_block`, `begins`, `acted` and `closed` return what they did before the first of these.
 #[derive(Drop)]
 pub struct Leads {
     kept: Kept,
@@ -62,7 +62,7 @@ impl Leads {
         self.kept.acted(t)
     }
 
-    /// The thread that an earlier call answered, if one did.
+    /// The thread that an earlier call returned, if one did.
     pub fn closed(&self) -> Option<u32>
         ensures { result ≡ closed_by self.now }
     {
@@ -176,7 +176,7 @@ impl Leads {
         Ok(())
     }
 
-    /// Ends the outermost block of thread `t`, which is in a block. Answers the least thread whose
+    /// Ends the outermost block of thread `t`, which is in a block. Returns the least thread whose
     /// open block closes a cycle through the block that ends, and `None` where there is none: then
     /// thread `t` is in no block any more.
     pub fn end(&mut self, t: u32) -> Result<Option<u32>, Spent>

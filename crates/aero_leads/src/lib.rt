@@ -7,7 +7,7 @@
 //! Of each of these the thread that made it and its place are enough, and no clock is kept.
 //!
 //! `Leads` keeps that for each thread as a row, the open blocks that lead to the thread with the place
-//! from which on they do, and answers as `Clocks` and `end` do together: which open block closes a cycle
+//! from which on they do, and finds what `Clocks` and `end` find together: which open block closes a cycle
 //! with an event, if one does.
 //!
 //! - A thread that takes an event is closed where its own open block leads there. Else what leads to
@@ -36,11 +36,11 @@
 //!
 //! All is said of each well-formed trace for which `Leads` stands. A new one stands for no event: `Leads::new`.
 //!
-//! - After an event a thread is answered exactly where the event closes the first telling cycle, and it is the opener,
-//!   at an end the least. Where none is answered, `Leads` stands for the longer trace. So of every event, an outermost
+//! - After an event a thread is returned exactly where the event closes the first telling cycle, and it is the opener,
+//!   at an end the least. Where none is returned, `Leads` stands for the longer trace. So of every event, an outermost
 //!   end among them: `follows` of `read`, `write`, `acquire`, `release`, `fork`, `join`, `begin`, `plain` and `end`.
-//! - After a thread was answered, and after a refused call, the tests `in_block`, `begins` and `acted` answer as
-//!   before. After a refusal each later call refuses: `answers` of the same calls.
+//! - After a thread was returned, and after a refused call, the tests `in_block`, `begins` and `acted` return what they
+//!   did before. After a refusal each later call refuses: `answers` of the same calls.
 //! - The place of the first event of a thread to which an open block leads: `Leads::least_place`. That tells to which of the
 //!   thread's events one does: `laws`.
 #![tactic(auto)]

@@ -154,7 +154,7 @@ pub(crate) fn may_be_led(table: &Table, last: Last, t: u32) -> bool
 }
 
 /// Thread `t` takes what leads to the event, from this place on, unless the event is its own, or
-/// its own open block leads there: then the answer is true.
+/// its own open block leads there: then it returns true.
 #[inline(always)]
 pub(crate) fn take(table: &mut Table, t: u32, last: Last, place: u32) -> Result<bool, AllocError>
     requires { t < vec_len table.old.threads }

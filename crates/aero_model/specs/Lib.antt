@@ -1,7 +1,7 @@
 -- To be believed: Lines, Names, Named and Numbering say what texts, names and their numbers are. Blocks, Exempt,
 -- BlockCounts, Graph and Cycle speak of transactions, exempt blocks, conflicts and telling cycles. Shape has the rules
 -- of well-formed traces, and Serial the serial order. CallCounts speaks of readers and writers, Verdicts of the faults
--- of verdicts. Excepts and LimitNumbers have the greatest numbers of labels and of limits. Laws says what they imply.
+-- of verdicts, and Words has these in words. Excepts and LimitNumbers have the greatest numbers of labels and of limits. Laws says what they imply.
 -- For proofs alone: none.
 pub mod BlockCounts
 pub mod Blocks
@@ -19,3 +19,4 @@ pub mod Numbering
 pub mod Serial
 pub mod Shape
 pub mod Verdicts
+pub mod Words

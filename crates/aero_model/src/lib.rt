@@ -23,6 +23,7 @@
 //! - Of a `Counting` one number rises by 1 exactly where a read or a write failed. A write that takes none of some
 //!   bytes counts as failed. The other rises by 1 exactly where a read found the end. The bytes are those of what is
 //!   within, and a flush changes neither number: `read`, `write`, `flush`; `bytes`, `faults`, `ends`.
+//! - Each fault has its words: `line_words`, `shape_words`. Nothing is said of the texts that `Display` makes of them.
 //! - Laws on cycles. A telling cycle is a cycle, and it stays one. Where all transactions have ended each cycle shows
 //!   as a telling one, and a cycle that doesn't passes two open blocks. The first telling cycles begin in open blocks.
 //!   The open blocks are those of threads in a block, and where none is counted as open all have ended.
@@ -44,3 +45,4 @@ pub mod limits;
 pub mod name;
 pub mod numbered;
 pub mod verdict;
+pub mod words;

@@ -1,55 +1,38 @@
 //! Faults, verdicts and findings.
 use crate::event::Event;
 use crate::name::Name;
+use crate::words::{line_words, shape_words};
 use thiserror::Error;
 
 /// Why a line has no event, in the order of the checks.
 #[derive(Clone, Copy, Debug, PartialEq, Eq, Error)]
+#[error("{}", line_words(*self))]
 pub enum LineFault {
-    #[error("the line has more than 4096 bytes")]
     TooLong,
-    #[error("the line has a control byte")]
     BadByte,
-    #[error("the line has no `|`, and so no operation")]
     NoOperation,
-    #[error("the thread's field is empty")]
     EmptyThread,
-    #[error("the operation is not known")]
     UnknownOperation,
-    #[error("the operation has a `(` and does not end in `)`")]
     BadParenthesis,
-    #[error("the operation has no target")]
     MissingTarget,
-    #[error("a name has more than 255 bytes")]
     NameTooLong,
-    #[error("the source has too many lines")]
     TooManyLines,
-    #[error("out of memory")]
     Memory,
 }
 
 /// Why a trace isn't well-formed at an event, in the order of the checks.
 #[derive(Clone, Copy, Debug, PartialEq, Eq, Error)]
+#[error("{}", shape_words(*self))]
 pub enum ShapeFault {
-    #[error("the trace has too many threads")]
     TooManyThreads,
-    #[error("the trace has too many variables or locks")]
     TooManyNames,
-    #[error("the thread was joined before")]
     ThreadJoined,
-    #[error("another thread holds the lock")]
     LockHeldByOther,
-    #[error("the thread does not hold the lock")]
     LockNotHeld,
-    #[error("the thread forks itself")]
     ForkSelf,
-    #[error("the forked thread has started before")]
     ForkStarted,
-    #[error("the thread joins itself")]
     JoinSelf,
-    #[error("no block of the thread is open")]
     EndWithoutBegin,
-    #[error("out of memory")]
     Memory,
 }
 

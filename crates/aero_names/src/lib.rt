@@ -16,9 +16,9 @@
 //!
 //! - A name's number is its place in order of first appearance, and a new name comes last: `Names::number` and
 //!   `number_of_bytes`, `number`, `place`, `names`. A refused name changes nothing: `err`.
-//! - `Full` is answered exactly where the limit is met and the name is new, and a known name is never refused: `full`,
+//! - `Full` is returned exactly where the limit is met and the name is new, and a known name is never refused: `full`,
 //!   `known` of both. No name is listed twice, nor more than the limit: `listing`.
-//! - The list gives back its names and how many they are. Two lists have the same names exactly where that is answered:
+//! - The list gives back its names and how many they are. Two lists have the same names exactly where that is returned:
 //!   `Names::name`, `len`, `is_empty`, `into_list`, `has_same_names`.
 //! - A `NameList`, which keeps its names in one text, gives back each name. Two are the same exactly where their names
 //!   are: each call of `NameList`.

@@ -12,5 +12,6 @@ mod Parts
 mod Sizing
 mod Stamps
 mod Tells
+mod Unused
 mod Wording
 mod Sending

@@ -10,7 +10,6 @@ use Rattle.std.proofs.lemmas.List.{append-nil, map-append}
 use Rattle.std.proofs.lemmas.Grind.{flat_map-append}
 use Rattle.aero_model.specs.declared.verdict.Ending.{Ending}
 use Rattle.aero_model.specs.CallCounts.{inner_of}
-use Rattle.aero_batch.specs.declared.outcome.Cause.{Cause}
 use Rattle.aero_batch.specs.declared.outcome.FaultyLine.{FaultyLine}
 use Rattle.aero_intake.specs.declared.source.Source.{Source}
 use Rattle.aero_program.specs.declared.input.Input.{Input}
@@ -18,7 +17,7 @@ use Rattle.aero_program.specs.declared.notes.Naming.{Naming}
 use Rattle.aero_program.specs.declared.stamp.Stamp.{Stamp}
 use Rattle.aero_program.specs.Inputs.{opened_of, reason_of, start_of}
 use Rattle.aero_program.specs.Labels.{missing_of}
-use Rattle.aero_program.specs.Notes.{AreFaulty, AreNoted, AreNotes, AreShown, AreTold, GrowsBy, Noted, Remark, all_read, fault_told, label_lines, labels_told, missing_in_each, named_input, note, noted_of, noted_of_all, notes, was_too_large}
+use Rattle.aero_program.specs.Notes.{AreFaulty, AreNoted, AreNotes, AreShown, AreTold, GrowsBy, Noted, Remark, fault_told, label_lines, missing_in_each, named_input, note, noted_of, noted_of_all, notes, was_too_large}
 use Rattle.aero_program.specs.Looks.{ShowsAs}
 use Rattle.aero_faults.specs.declared.look.Look.TheVariants.{Nothing}
 
@@ -127,22 +126,6 @@ pub record ToldRemarks {T E : Type 0} (holds : List ℕ → Stamp → Option (Li
   pub shown : AreShown holds remarks
   pub told : IfOk result (λ text. items text ≡ notes remarks ++ lines)
 
-told_on : {T E : Type 0} (holds : List ℕ → Stamp → Option (List ℕ) → Type 0) (items : T → List ℕ) (noted : List Noted) (cause : Option Cause) (endings : List (ℕ × Ending)) (on_terminal : Bool) (labels : List (List ℕ)) (result : Result T E)
-    → IfOk result (λ text. AreTold holds noted cause endings on_terminal labels (items text)) → ToldRemarks holds items noted (label_lines on_terminal (labels_told cause endings noted labels)) result
-told_on holds items noted cause endings on_terminal labels (Ok text) h = record { remarks = h.remarks; are = h.are; shown = h.shown; told = h.told }
-told_on holds items noted cause endings on_terminal labels (Err e) h = record { remarks = map unseen noted; are = unseen_are noted; shown = unseen_shown holds noted; told = tt }
-
--- all lines, of sources that are named so, and of labels that are these
-pub told_as : {S O F T E : Type 0} (holds : List ℕ → Stamp → Option (List ℕ) → Type 0) (items : T → List ℕ) (is words : Naming) (sources : List (Source (Input S O F)))
-    (given : List (ℕ × Ending)) (faults : List (Option FaultyLine)) (cause : Option Cause) (endings : List (ℕ × Ending)) (on_terminal : Bool) (labels wanted : List (List ℕ))
-    → is ≡ words → labels ≡ wanted → (result : Result T E)
-    → IfOk result (λ text. AreTold holds (noted_of_all is sources given faults) cause endings on_terminal labels (items text))
-    → ToldRemarks holds items (noted_of_all words sources given faults) (label_lines on_terminal (labels_told cause endings (noted_of_all words sources given faults) wanted)) result
-told_as holds items is words sources given faults cause endings on_terminal labels wanted known same result h =
-    told_on holds items (noted_of_all words sources given faults) cause endings on_terminal wanted result
-    (subst (λ w. IfOk result (λ text. AreTold holds (noted_of_all w sources given faults) cause endings on_terminal wanted (items text))) known
-    (subst (λ ls. IfOk result (λ text. AreTold holds (noted_of_all is sources given faults) cause endings on_terminal ls (items text))) same h))
-
 -- what is noted is noted of names and inputs
 noted_pair : {S O F : Type 0} → Naming → List ℕ × Input S O F → Bool → Option FaultyLine → Noted
 noted_pair naming pair too_large fault = record {
@@ -178,7 +161,7 @@ noted_same : {S O F : Type 0} (naming : Naming) (kept sources : List (Source (In
 noted_same naming kept sources endings faults same =
     as_pairs naming kept endings faults ∙ ap (λ pairs. noted_pairs naming pairs endings faults) same ∙ sym (as_pairs naming sources endings faults)
 
-missing_noted : {S O F : Type 0} (words : Naming) (sources : List (Source (Input S O F))) (endings : List (ℕ × Ending)) (faults : List (Option FaultyLine))
+pub missing_noted : {S O F : Type 0} (words : Naming) (sources : List (Source (Input S O F))) (endings : List (ℕ × Ending)) (faults : List (Option FaultyLine))
     → map (λ n. n.missing) (noted_of_all words sources endings faults) ≡ map (λ s. missing_of (inner_of s.reader)) sources
 missing_noted words [] endings faults = refl
 missing_noted words (source ∷ more) [] [] = ap (λ l. missing_of (inner_of source.reader) ∷ l) (missing_noted words more [] [])
@@ -186,27 +169,21 @@ missing_noted words (source ∷ more) [] (fault ∷ faults) = ap (λ l. missing_
 missing_noted words (source ∷ more) (ending ∷ rest) [] = ap (λ l. missing_of (inner_of source.reader) ∷ l) (missing_noted words more rest [])
 missing_noted words (source ∷ more) (ending ∷ rest) (fault ∷ faults) = ap (λ l. missing_of (inner_of source.reader) ∷ l) (missing_noted words more rest faults)
 
-told_if : (read : Bool) (lists : List (List (List ℕ))) (labels : List (List ℕ)) → missing_in_each lists (if read then labels else []) ≡ (if read then missing_in_each lists labels else [])
-told_if true lists labels = refl
-told_if false lists labels = refl
+told_on : {T E : Type 0} (holds : List ℕ → Stamp → Option (List ℕ) → Type 0) (items : T → List ℕ) (noted : List Noted) (on_terminal : Bool) (labels : List (List ℕ)) (result : Result T E)
+    → IfOk result (λ text. AreTold holds noted on_terminal labels (items text)) → ToldRemarks holds items noted (label_lines on_terminal labels) result
+told_on holds items noted on_terminal labels (Ok text) h = record { remarks = h.remarks; are = h.are; shown = h.shown; told = h.told }
+told_on holds items noted on_terminal labels (Err e) h = record { remarks = map unseen noted; are = unseen_are noted; shown = unseen_shown holds noted; told = tt }
 
--- the lines on the sources, and then those on labels
-pub all_told : {S O F : Type 0} (holds : List ℕ → Stamp → Option (List ℕ) → Type 0) (naming : Naming) (kept sources : List (Source (Input S O F))) (given endings : List (ℕ × Ending)) (faults : List (Option FaultyLine)) (cause : Option Cause)
-    (labels told : List (List ℕ)) (read : Bool) (front lines text : List ℕ)
-    → map named_input kept ≡ map named_input sources → AreNotes holds (noted_of_all naming kept given faults) front → read ≡ all_read cause endings → told ≡ (if read then labels else [])
-    → lines ≡ label_lines naming.on_terminal (missing_in_each (map (λ s. missing_of (inner_of s.reader)) sources) told) → text ≡ front ++ lines
-    → AreTold holds (noted_of_all naming sources given faults) cause endings naming.on_terminal labels text
-all_told holds naming kept sources given endings faults cause labels told read front lines text same h is_read is_told is_lines is_text =
-    let lists : List (List (List ℕ)) = map (λ s. missing_of (inner_of s.reader)) sources in
-    let told_are : missing_in_each lists told ≡ labels_told cause endings (noted_of_all naming sources given faults) labels =
-    ap (missing_in_each lists) (is_told ∙ ap (λ b. if b then labels else []) is_read) ∙ told_if (all_read cause endings) lists labels
-    ∙ ap (λ ls. if all_read cause endings then missing_in_each ls labels else []) (sym (missing_noted naming sources given faults)) in
-    record {
-      remarks = h.remarks;
-      are = h.are ∙ noted_same naming kept sources given faults same;
-      shown = h.shown;
-      told = is_text ∙ ap (λ f. f ++ lines) h.told ∙ ap (λ l. notes h.remarks ++ l) (is_lines ∙ ap (label_lines naming.on_terminal) told_are);
-    }
+-- all lines, of sources that are named so, and whose names and inputs were kept, and of labels
+pub told_as : {S O F T E : Type 0} (holds : List ℕ → Stamp → Option (List ℕ) → Type 0) (items : T → List ℕ) (is words : Naming) (kept sources : List (Source (Input S O F)))
+    (given : List (ℕ × Ending)) (faults : List (Option FaultyLine)) (on_terminal : Bool) (labels : List (List ℕ))
+    → is ≡ words → map named_input kept ≡ map named_input sources → (result : Result T E)
+    → IfOk result (λ text. AreTold holds (noted_of_all is kept given faults) on_terminal labels (items text))
+    → ToldRemarks holds items (noted_of_all words sources given faults) (label_lines on_terminal labels) result
+told_as holds items is words kept sources given faults on_terminal labels known same result h =
+    told_on holds items (noted_of_all words sources given faults) on_terminal labels result
+    (subst (λ noted. IfOk result (λ text. AreTold holds noted on_terminal labels (items text))) (noted_same words kept sources given faults same)
+    (subst (λ w. IfOk result (λ text. AreTold holds (noted_of_all w kept given faults) on_terminal labels (items text))) known h))
 
 -- labels and lists of missing ones
 
@@ -217,8 +194,8 @@ filter_all f is (x ∷ xs) = ap (λ b. if b then x ∷ filter f xs else filter f
 pub missing_in_none : (labels : List (List ℕ)) → labels ≡ missing_in_each [] labels
 missing_in_none labels = sym (filter_all (λ label. true) (λ x. refl) labels)
 
-pub no_lines : (on_terminal : Bool) (lists : List (List (List ℕ))) (labels : List (List ℕ)) (text : List ℕ) → text ≡ [] → labels ≡ [] → text ≡ label_lines on_terminal (missing_in_each lists labels)
-no_lines on_terminal lists labels text empty none = empty ∙ ap (λ ls. label_lines on_terminal (missing_in_each lists ls)) (sym none)
+pub missing_of_none : (lists : List (List (List ℕ))) (labels names : List (List ℕ)) → names ≡ labels → labels ≡ [] → names ≡ missing_in_each lists labels
+missing_of_none lists labels names are none = are ∙ none ∙ ap (missing_in_each lists) (sym none)
 
 filter_both_step : (a b : Bool) (f : List ℕ → Bool) (x : List ℕ) (ys zs : List (List ℕ)) → f x ≡ b → filter f ys ≡ zs → filter f (if a then x ∷ ys else ys) ≡ (if a && b then x ∷ zs else zs)
 filter_both_step false b f x ys zs at later = later

@@ -1,14 +1,16 @@
 -- What the program does with what its words ask for: what goes out on standard output and standard error, and the exit status.
-use Rattle.std.specs.Prelude.{◌≡◌, ◌⊎◌, ℕ, Bool, if◌then◌else◌, List, [], ◌++◌, map, Option, Result, Ok, Err, string_bytes}
+use Rattle.std.specs.Prelude.{◌≡◌, ◌⊎◌, ℕ, Bool, if◌then◌else◌, List, [], ◌++◌, map, Option, None, Result, Ok, Err, string_bytes}
 use Rattle.std.specs.declared.io.ErrorKind.{ErrorKind}
 use Rattle.aero_model.specs.declared.limits.Limits.{Limits}
 use Rattle.aero_model.specs.declared.verdict.Counts.{Counts}
 use Rattle.aero_model.specs.declared.verdict.Ending.{Ending}
 use Rattle.aero_model.specs.CallCounts.{Seen}
-use Rattle.aero_verdict.specs.Finding.{asking}
+use Rattle.aero_intake.specs.PlanTerms.{options_with}
+use Rattle.aero_report.specs.Forms.{summary_line_in}
+use Rattle.aero_verdict.specs.Finding.{Terms, asking}
 use Rattle.aero_batch.specs.declared.outcome.Cause.{Cause}
 use Rattle.aero_batch.specs.declared.outcome.FaultyLine.{FaultyLine}
-use Rattle.aero_batch.specs.Founds.{Sighted, Took, WasRun}
+use Rattle.aero_batch.specs.Founds.{Sighted, Took, WasRunTo}
 use Rattle.aero_program.specs.declared.arguments.Unread.{Unread}
 use Rattle.aero_program.specs.declared.arguments.Unread.TheVariants as unread
 use Rattle.aero_program.specs.declared.command.Config.{Config}
@@ -88,7 +90,15 @@ Ends text (Ok wanted) told told_after status =
 Ends text (Err why) told told_after status =
     (IsTold told told_after (text ++ line_of why) × (status ≡ failure_status why)) ⊎ Fails why told told_after status
 
--- What the configuration asks for was judged: its sources, under the limits that it asks for, blocks that its labels leave out as no transactions. The report in its form went out on standard output, as every run's does, and a flush and the ends of the run decide. The lines on its labels stand behind those on the sources.
+-- the terms on which the configuration asks for sources to be judged
+abbrev pub terms_asked : Config → Limits → Terms
+terms_asked config limits = asking limits (listed_by config.except.items config.only.items) config.order config.explain
+
+-- of which of the configuration's labels it is told that no block begins with them, after a run that stopped for this cause, or for none
+abbrev pub unused_of : Config → Option Cause → List (ℕ × Ending) → List Noted → List (List ℕ)
+unused_of config cause endings noted = labels_told cause endings noted (listed_by config.except.items config.only.items).labels
+
+-- What the configuration asks for was judged: its sources, under the limits that it asks for, blocks that its labels leave out as no transactions. The report in its form went out on standard output, as every run's does, and a flush and the ends of the run decide. The labels with which no block begins stand in the summary, and lines on them behind those on the sources.
 pub record WasJudged (holds : List ℕ → Stamp → Option (List ℕ) → Type 0) (config : Config) (given : Option (List ℕ)) (shown shown_after : Shown) (told told_after : Seen) (status : ℕ) : Type 0 where
   pub limits : Limits
   pub limits_are : AreLimitsFor config.long limits
@@ -100,18 +110,20 @@ pub record WasJudged (holds : List ℕ → Stamp → Option (List ℕ) → Type 
   pub faults : List (Option FaultyLine)
   pub counts : Counts
   pub cause : Option Cause
-  pub ran : WasRun (asking limits (listed_by config.except.items config.only.items) config.order config.explain) (form_on config.terminals config.form) (source_sightings config.files given names) sources shown.writer between.writer endings faults counts cause
-  pub same : between.unflushed ≡ shown.unflushed
-  pub fault : Option ErrorKind
-  pub flushed : WasFlushed between shown_after fault
   pub noted : List Noted
   pub of_names : map (λ n. n.name) noted ≡ names
   pub are_noted : AreNoted (record { are_words = are_words config.files; on_terminal = config.terminals.errors }) (if config.long then [] else endings) noted
   pub are_faulty : AreFaulty faults noted
+  pub ran : WasRunTo (terms_asked config limits) (form_on config.terminals config.form)
+      (summary_line_in (form_on config.terminals config.form) (options_with (terms_asked config limits) (unused_of config None endings noted)))
+      (source_sightings config.files given names) sources shown.writer between.writer endings faults counts cause
+  pub same : between.unflushed ≡ shown.unflushed
+  pub fault : Option ErrorKind
+  pub flushed : WasFlushed between shown_after fault
   pub remarks : List Remark
   pub on_noted : map (λ r. r.noted) remarks ≡ noted
   pub are_shown : AreShown holds remarks
-  pub ends : Ends (notes remarks ++ label_lines config.terminals.errors (labels_told cause endings noted (listed_by config.except.items config.only.items).labels)) (end_of_run config.fail_open cause counts fault) told told_after status
+  pub ends : Ends (notes remarks ++ label_lines config.terminals.errors (unused_of config cause endings noted)) (end_of_run config.fail_open cause counts fault) told told_after status
 
 -- how it is told that there are no sources, since the list with their names, at this path, can't be had
 abbrev pub TellsUnlisted : (on_terminal : Bool) → (path : List ℕ) → Unlisted → Seen → Seen → ℕ → Type 0

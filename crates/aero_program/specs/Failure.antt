@@ -2,7 +2,7 @@
 use Rattle.std.specs.Prelude.{ℕ, List, [], ◌∷◌, ◌++◌, Option, Some, None, codes}
 use Rattle.std.specs.declared.io.ErrorKind.{ErrorKind}
 use Rattle.std.specs.declared.io.ErrorKind.TheVariants.{BrokenPipe}
-use Rattle.aero_shown.specs.Shown.{shown_text}
+use Rattle.aero_report.specs.Shown.{shown_text}
 use Rattle.aero_program.specs.declared.failure.Failure.{Failure}
 use Rattle.aero_program.specs.declared.failure.Failure.TheVariants.{Memory, Write, Closed, TooManyFiles, BadLabel, TooManyLabels, NotUtf8}
 
@@ -26,9 +26,13 @@ failure_status BadLabel = 3
 failure_status TooManyLabels = 3
 failure_status NotUtf8 = 3
 
--- the line on a word that isn't UTF-8
+-- the line that says how files are judged of which one has a name that isn't UTF-8
+abbrev pub way_line : List ℕ
+way_line = codes "aerodrome: if it names a file, aerodrome < FILE judges it; a list for --files0-from may have such names, and the others are judged" ++ 10 ∷ []
+
+-- the line on a word that isn't UTF-8, and the one behind it
 abbrev pub word_line : List ℕ → List ℕ
-word_line word = codes "aerodrome: a word is not UTF-8: " ++ (shown_text word ++ 10 ∷ [])
+word_line word = codes "aerodrome: a word is not UTF-8: " ++ (shown_text word ++ 10 ∷ way_line)
 
 -- a write or a flush that fails so stops the program so
 abbrev pub write_failure : ErrorKind → Failure

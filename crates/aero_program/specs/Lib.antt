@@ -1,10 +1,11 @@
 -- To be believed: Answers (what goes out, and the exit status), with Failure, Status, Streams, Faults, Notes and Looks. Also
--- Command (the limits and the line on progress), Inputs (files and standard input), Labels (what an input notes of labels), Sightings and Listing (the names of
+-- Command (the limits and the line on progress), Crews (how many workers there are), Inputs (files and standard input), Labels (what an input notes of labels), Sightings and Listing (the names of
 -- the sources), Arguments (the words), Retries and Calls (calls that were interrupted), Starts, Reasons and Sizes. Nothing here serves proofs alone.
 pub mod Answers
 pub mod Arguments
 pub mod Calls
 pub mod Command
+pub mod Crews
 pub mod Failure
 pub mod Faults
 pub mod Inputs

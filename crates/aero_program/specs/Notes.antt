@@ -11,7 +11,7 @@ use Rattle.aero_batch.specs.declared.outcome.FaultyLine.{FaultyLine}
 use Rattle.aero_faults.specs.declared.look.Look.{Look}
 use Rattle.aero_faults.specs.Sentences.{line_sentence, shape_sentence}
 use Rattle.aero_intake.specs.declared.source.Source.{Source}
-use Rattle.aero_shown.specs.Shown.{shown_text}
+use Rattle.aero_report.specs.Shown.{shown_text}
 use Rattle.aero_program.specs.declared.input.Input.{Input}
 use Rattle.aero_program.specs.declared.notes.Naming.{Naming}
 use Rattle.aero_program.specs.declared.reason.Reason.{Reason}
@@ -189,12 +189,12 @@ label_line on_terminal label = codes "aerodrome: no block begins with begin(" ++
 abbrev pub label_lines : (on_terminal : Bool) → List (List ℕ) → List ℕ
 label_lines on_terminal labels = flat_map (label_line on_terminal) labels
 
--- the text is the lines on sources of which this was noted, and then those on labels, after a run that stopped for this cause, or for none, and in which the readings of the sources ended so
-pub record AreTold (holds : List ℕ → Stamp → Option (List ℕ) → Type 0) (noted : List Noted) (cause : Option Cause) (endings : List (ℕ × Ending)) (on_terminal : Bool) (labels : List (List ℕ)) (text : List ℕ) : Type 0 where
+-- the text is the lines on sources of which this was noted, and then those on these labels
+pub record AreTold (holds : List ℕ → Stamp → Option (List ℕ) → Type 0) (noted : List Noted) (on_terminal : Bool) (labels : List (List ℕ)) (text : List ℕ) : Type 0 where
   pub remarks : List Remark
   pub are : map (λ r. r.noted) remarks ≡ noted
   pub shown : AreShown holds remarks
-  pub told : text ≡ notes remarks ++ label_lines on_terminal (labels_told cause endings noted labels)
+  pub told : text ≡ notes remarks ++ label_lines on_terminal labels
 
 -- a text that grew by the lines on a source of which this was noted
 pub record GrowsBy (holds : List ℕ → Stamp → Option (List ℕ) → Type 0) (old new : List ℕ) (noted : Noted) : Type 0 where

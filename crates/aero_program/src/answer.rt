@@ -1,21 +1,23 @@
 //! What the program does with what its words ask for.
-ghost use Rattle.std.specs.Prelude.{◌≡◌, ◌⊎◌, ◌≤◌, ℕ, List, [], if◌then◌else◌, map, vec_len, IfOk, OnOk, OnErr};
-ghost use Rattle.aero_model.specs.CallCounts.{seen_by};
-ghost use Rattle.aero_batch.specs.Founds.{sighted, Took, WasRun};
-ghost use Rattle.aero_intake.specs.PlanTerms.{terms_of};
+ghost use Rattle.std.specs.Prelude.{◌≡◌, ◌⊎◌, ◌≤◌, ℕ, List, [], if◌then◌else◌, map, vec_len, None, IfOk, IfSome, IsSome, OnOk, OnErr};
+ghost use Rattle.aero_model.specs.CallCounts.{Seen, seen_by};
+ghost use Rattle.aero_batch.specs.Founds.{sighted, Took, WasTold};
+ghost use Rattle.aero_batch.specs.Telling.{SumsUp};
+ghost use Rattle.aero_intake.specs.PlanTerms.{options_with, terms_of};
 ghost use Rattle.aero_program.specs.Answers.{AnswersTo, Ends, Fails, Helps, Judges, Stops, TellsNoWords, TellsUnlisted, TellsWord};
 ghost use Rattle.aero_program.specs.declared.failure.Failure.TheVariants.{Memory};
 ghost use Rattle.aero_program.specs.declared.listing.Unlisted.TheVariants.{Unread};
 ghost use Rattle.aero_program.specs.Notes.{AreTold, noted_of_all};
 ghost use Rattle.aero_program.specs.Retries.{tried_by};
 ghost use Rattle.aero_program.specs.Streams.{WasCut, shown_by};
+ghost use Rattle.aero_report.specs.Forms.{summary_line_in};
 
 use crate::arguments;
 use crate::command::{Config, Refused, Stop};
 use crate::failure::{Failure, odd_word_line};
 use crate::files::Opener;
 use crate::input::Input;
-use crate::labels::{all_read, label_notes, watched};
+use crate::labels::{all_read, lines_on, unused_labels, watched};
 use crate::lasting::flush_fault;
 use crate::listing::Unlisted;
 use crate::looker::Looker;
@@ -23,10 +25,12 @@ use crate::notes::{Naming, notes_of, reason_note};
 use crate::output::Output;
 use crate::reason::Reason;
 use crate::retrying::Retrying;
-use crate::sizes::{Sizes, are_worth_threads};
+use crate::sizes::{Sizes, are_worth_threads, tell_work};
 use crate::sources::sources_of;
 use crate::status::end_after;
+use aero_batch::outcome::Cause;
 use aero_batch::source::Source;
+use aero_batch::told::{Style, sum_up};
 use aero_intake::plan::Plan;
 use aero_lanes::{Report, run_in_lanes, run_in_turn};
 use aero_model::counting::Counting;
@@ -109,10 +113,17 @@ where
     let Ok(sources) = watched(alloc, sources, &plan.except) else {
         return fail(Failure::Memory, errors);
     };
+    tell_work(files, &asked, &sources);
     let in_lanes = are_worth_threads(files, &sources);
     let (report, sources) = run_all(host, in_lanes, sources, &mut output.writer, &plan);
+    let labels = told_of(
+        plan.except.get().labels(),
+        all_read(report.cause, &report.endings),
+    );
+    let (unused, sources) = unused_labels(alloc, sources, labels);
+    let cause = sum_up_with(alloc, &plan, &report, &unused, &mut output.writer);
     let flushed = output.flush();
-    let end = end_after(report.cause, &report.counts, &flushed, fail_open);
+    let end = end_after(cause, &report.counts, &flushed, fail_open);
     let looker = Looker::new(alloc, files);
     let telling = Telling {
         naming: Naming {
@@ -120,34 +131,90 @@ where
             on_terminal,
         },
         long,
-        labels: plan.except.get().labels(),
     };
-    let notes = all_notes(&looker, sources, &report, telling);
+    let told = told_after(&unused, cause);
+    let notes = all_notes(&looker, sources, &report, told, telling);
     finish(end, notes, errors)
 }
 
-// How the notes are told: how sources are named, whether they were long, and of which labels.
-#[derive(Clone, Copy)]
-struct Telling<'a> {
-    naming: Naming,
-    long: bool,
-    labels: &'a [Name],
+// Writes the summary behind the lines of a run, with the labels with which no block begins. Where memory was refused to
+// find these, the run stops for that. The answer says why it stops, if it does.
+fn sum_up_with<W: Write>(
+    alloc: Global,
+    plan: &Plan,
+    report: &Report,
+    unused: &Option<Vec<&Name>>,
+    writer: &mut Counting<W>,
+) -> Option<Cause>
+    ensures summed { (text : List ℕ) → IfSome unused.now (λ names. summary_line_in plan.now.form (options_with (terms_of plan.now) (map (λ label. label.now) names.items)) report.now.counts ≡ text)
+        → SumsUp text report.now.cause (seen_by W.contents writer.old) (seen_by W.contents writer.new) result }
+    ensures known { result ≡ None → IsSome unused.now }
+    ensures whole { result ≡ None → report.now.cause ≡ None }
+{
+    let Some(names) = unused else {
+        return refused_after(report.cause);
+    };
+    let style = Style {
+        alloc,
+        form: plan.form,
+    };
+    let options = plan.options_with(names.as_slice());
+    sum_up(style, options, &report.counts, report.cause, writer)
 }
 
-// The notes on the sources, and those on the labels, where each source was read to its end.
+// Why a run stops to which memory is refused behind its lines, where it may have stopped before.
+fn refused_after(stopped: Option<Cause>) -> Option<Cause>
+    ensures summed { (text : List ℕ) (at : Seen) → SumsUp text stopped at at result }
+    ensures stops { IsSome result }
+{
+    match stopped {
+        Some(why) => Some(why),
+        None => Some(Cause::Memory),
+    }
+}
+
+// The labels that are told beside the report: where the run stopped, none.
+fn told_after<'u, 'a>(unused: &'u Option<Vec<&'a Name>>, cause: Option<Cause>) -> &'u [&'a Name]
+    ensures whole { cause ≡ None → IfSome unused.now (λ names. result.now ≡ names.items) }
+    ensures stopped { IfSome cause (λ why. result.now ≡ []) }
+{
+    match cause {
+        Some(_) => &[],
+        None => found_in(unused),
+    }
+}
+
+// The labels that were found, where memory wasn't refused.
+fn found_in<'u, 'a>(unused: &'u Option<Vec<&'a Name>>) -> &'u [&'a Name]
+    ensures { IfSome unused.now (λ names. result.now ≡ names.items) }
+{
+    match unused {
+        Some(names) => names.as_slice(),
+        None => &[],
+    }
+}
+
+// How the notes are told: how sources are named, and whether they were long.
+#[derive(Clone, Copy)]
+struct Telling {
+    naming: Naming,
+    long: bool,
+}
+
+// The notes on the sources, and those on these labels.
 fn all_notes<S: Read + Drop, F: Opener + Drop, G: Opener>(
     looker: &Looker<'_, G>,
     sources: Vec<Source<Input<S, F>>>,
     report: &Report,
-    telling: Telling<'_>,
+    unused: &[&Name],
+    telling: Telling,
 ) -> Result<Vec<u8>, AllocError>
-    ensures { IfOk result (λ text. AreTold G.holds (noted_of_all telling.entry.naming sources.items (if telling.entry.long then [] else report.now.endings.items) report.now.faults.items)
-        report.now.cause report.now.endings.items telling.entry.naming.on_terminal telling.entry.labels.now text.items) }
+    ensures { IfOk result (λ text. AreTold G.holds (noted_of_all telling.naming sources.items (if telling.long then [] else report.now.endings.items) report.now.faults.items)
+        telling.naming.on_terminal (map (λ label. label.now) unused.now) text.items) }
 {
-    let labels = told_of(telling.labels, all_read(report.cause, &report.endings));
-    let (lines, sources) = label_notes(looker.alloc, sources, labels, telling.naming.on_terminal)?;
     let endings = noted(&report.endings, telling.long);
     let mut text = notes_of(looker, sources, endings, &report.faults, telling.naming)?;
+    let lines = lines_on(looker.alloc, unused, telling.naming.on_terminal)?;
     text.extend_from_slice(&lines)?;
     Ok(text)
 }
@@ -166,7 +233,7 @@ struct Host<T> {
     alloc: Global,
 }
 
-// Runs over the sources: by a thread for each, or in turn.
+// Writes the lines of the sources: by a thread for each, or in turn.
 fn run_all<R: Read + Drop + Send, W: Write, T: Threads + Wait + Copy + Send + Sync + 'static>(
     host: Host<T>,
     in_lanes: bool,
@@ -175,7 +242,7 @@ fn run_all<R: Read + Drop + Send, W: Write, T: Threads + Wait + Copy + Send + Sy
     plan: &Plan,
 ) -> (Report, Vec<Source<R>>)
     requires { vec_len sources ≤ 65536 }
-    ensures ran { WasRun (terms_of plan.now) plan.now.form (map (sighted R.remaining) sources.items) (map (sighted R.remaining) result.1.items)
+    ensures told { WasTold (terms_of plan.now) plan.now.form (map (sighted R.remaining) sources.items) (map (sighted R.remaining) result.1.items)
         (seen_by W.contents writer.old) (seen_by W.contents writer.new) result.0.endings.items result.0.faults.items result.0.counts result.0.cause }
 {
     if in_lanes {

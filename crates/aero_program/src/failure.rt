@@ -2,7 +2,7 @@
 ghost use Rattle.std.specs.Prelude.{◌≡◌, IfOk};
 ghost use Rattle.aero_program.specs.Failure.{cut_failure, failure_status, line_of, word_line, write_failure};
 
-use aero_shown::append_text;
+use aero_report::shown::append_text;
 use std::alloc::{AllocError, Global};
 use std::io::ErrorKind;
 
@@ -85,8 +85,13 @@ impl From<AllocError> for Failure {
     }
 }
 
-/// The line on a word of the command line that isn't UTF-8, with its line end: the word is shown without control
-/// characters, and each byte that is no character as `\xNN`.
+// What stands behind a word that isn't UTF-8. No file of such a name can be opened.
+const WAY_OUT: &[u8] =
+    b"\naerodrome: if it names a file, aerodrome < FILE judges it; a list for --files0-from may have such names, and the others are judged\n";
+
+/// The lines on a word of the command line that isn't UTF-8, with their line ends. The first has the word, which is shown
+/// without control characters, and each byte that is no character as `\xNN`. The second says how files are judged of which
+/// one has such a name.
 ///
 /// # Errors
 ///
@@ -96,6 +101,6 @@ pub fn odd_word_line(alloc: Global, word: &[u8]) -> Result<Vec<u8>, AllocError>
 {
     let mut line = Vec::from_slice(alloc, b"aerodrome: a word is not UTF-8: ")?;
     append_text(&mut line, word)?;
-    line.push(b'\n')?;
+    line.extend_from_slice(WAY_OUT)?;
     Ok(line)
 }

@@ -6,6 +6,7 @@ use crate::stamp::{Stamp, stamp_in, stamp_of};
 use aero_progress::gain::gain_of_failure;
 use aero_progress::meter::Meter;
 use aero_progress::metered::Metered;
+use aero_progress::reached::Work;
 use std::fs::File;
 use std::io::Read;
 use std::path::Path;
@@ -43,6 +44,9 @@ pub trait Opener {
 
     /// The stamp that a plain file at the path has now, if there is one and it can be told.
     fn stamp_at(&self, path: &str) -> Option<Stamp>;
+
+    /// Hears how much there is to do, once a list of names has been read. It is for a meter alone, if there is one.
+    fn begin(&self, _work: Work) {}
 }
 
 impl<O: Opener> Opener for &O {
@@ -66,6 +70,10 @@ impl<O: Opener> Opener for &O {
 
     fn stamp_at(&self, path: &str) -> Option<Stamp> {
         (**self).stamp_at(path)
+    }
+
+    fn begin(&self, work: Work) {
+        (**self).begin(work)
     }
 }
 
@@ -163,6 +171,12 @@ impl<'a, O: Opener> Opener for MeteredFiles<'a, O> {
 
     fn stamp_at(&self, path: &str) -> Option<Stamp> {
         self.opener.stamp_at(path)
+    }
+
+    fn begin(&self, work: Work) {
+        if let Some(meter) = self.meter {
+            meter.begin(work);
+        }
     }
 }
 

@@ -1,5 +1,5 @@
 //! The labels of `--only` and `--except` that begin no block of any source, as a run tells them.
-ghost use Rattle.std.specs.Prelude.{◌≡◌, ◌++◌, [], if◌then◌else◌, true, map, vec_len, IfOk, OnOk};
+ghost use Rattle.std.specs.Prelude.{◌≡◌, ◌++◌, ℕ, List, [], if◌then◌else◌, true, map, vec_len, IfOk, IfSome, OnOk};
 ghost use Rattle.std.specs.List.{filter, list_all, list_any};
 ghost use Rattle.std.specs.Prelude.{bytes_eq};
 ghost use Rattle.aero_batch.specs.Founds.{sighted};
@@ -18,7 +18,7 @@ use aero_model::counting::Counting;
 use aero_model::except::SharedExcept;
 use aero_model::name::Name;
 use aero_model::verdict::Ending;
-use aero_shown::append_text;
+use aero_report::shown::append_text;
 use aero_watch::watch::Watch;
 use std::alloc::{AllocError, Global};
 use std::io::Read;
@@ -65,28 +65,23 @@ fn watch_for(alloc: Global, except: &SharedExcept) -> Result<Option<Watch>, Allo
     Watch::new(alloc, except).map(Some)
 }
 
-/// The lines on those of these labels with which no block of any source begins, in order, and the sources again. A
-/// terminal is shown no control characters of them.
-///
-/// # Errors
-///
-/// `AllocError` where memory is refused now, or was to a watch.
-pub fn label_notes<S: Read + Drop, F: Opener + Drop>(
+/// Those of these labels with which no block of any source begins, in order, and the sources again. `None` in the place of
+/// the labels says that memory is refused now, or was to a watch.
+pub fn unused_labels<'a, S: Read + Drop, F: Opener + Drop>(
     alloc: Global,
     sources: Vec<Source<Input<S, F>>>,
-    labels: &[Name],
-    on_terminal: bool,
-) -> Result<(Vec<u8>, Vec<Source<Input<S, F>>>), AllocError>
-    ensures lines { IfOk result (λ r. r.0.items ≡ label_lines on_terminal (missing_in_each (map (λ s. missing_of (inner_of s.reader)) sources.items) labels.now)) }
-    ensures kept { IfOk result (λ r. map named_input r.1.items ≡ map named_input sources.items) }
+    labels: &'a [Name],
+) -> (Option<Vec<&'a Name>>, Vec<Source<Input<S, F>>>)
+    ensures unused { IfSome result.0 (λ unused. map (λ label. label.now) unused.items ≡ missing_in_each (map (λ s. missing_of (inner_of s.reader)) sources.items) labels.now) }
+    ensures kept { map named_input result.1.items ≡ map named_input sources.items }
 {
+    let Ok(all) = all_labels(alloc, labels) else {
+        return (None, sources);
+    };
     if are_none(labels) {
-        return Ok((Vec::new(alloc), sources));
+        return (Some(all), sources);
     }
-    let all = all_labels(alloc, labels)?;
-    let (missing, kept) = missing_of_all(alloc, sources, all)?;
-    let text = lines_on(alloc, &missing, on_terminal)?;
-    Ok((text, kept))
+    missing_of_all(alloc, sources, all)
 }
 
 fn are_none(labels: &[Name]) -> bool
@@ -100,12 +95,14 @@ fn missing_of_all<'a, S: Read + Drop, F: Opener + Drop>(
     alloc: Global,
     sources: Vec<Source<Input<S, F>>>,
     labels: Vec<&'a Name>,
-) -> Result<(Vec<&'a Name>, Vec<Source<Input<S, F>>>), AllocError>
-    ensures missing { IfOk result (λ r. map (λ label. label.now) r.0.items ≡ missing_in_each (map (λ s. missing_of (inner_of s.reader)) sources.items) (map (λ label. label.now) labels.entry.items)) }
-    ensures kept { IfOk result (λ r. map named_input r.1.items ≡ map named_input sources.items) }
+) -> (Option<Vec<&'a Name>>, Vec<Source<Input<S, F>>>)
+    ensures unused { IfSome result.0 (λ unused. map (λ label. label.now) unused.items ≡ missing_in_each (map (λ s. missing_of (inner_of s.reader)) sources.items) (map (λ label. label.now) labels.entry.items)) }
+    ensures kept { map named_input result.1.items ≡ map named_input sources.items }
 {
-    let mut missing = labels;
-    let mut kept = Vec::new(alloc);
+    let Ok(mut kept) = Vec::with_capacity(alloc, sources.len()) else {
+        return (None, sources);
+    };
+    let mut missing = Some(labels);
     for source in sources {
         let Source {
             name,
@@ -113,15 +110,33 @@ fn missing_of_all<'a, S: Read + Drop, F: Opener + Drop>(
             may_wait,
         } = source;
         let input = reader.into_inner();
-        missing = lacking(alloc, &missing, &input)?;
+        missing = still_missing(alloc, missing, &input);
         let reader = Counting::new(input);
-        kept.push(Source {
+        kept.push_reserved(Source {
             name,
             reader,
             may_wait,
-        })?;
+        });
     }
-    Ok((missing, kept))
+    (missing, kept)
+}
+
+// Those of the labels that an input lacks too, where memory wasn't refused before.
+fn still_missing<'a, S: Read + Drop, F: Opener + Drop>(
+    alloc: Global,
+    labels: Option<Vec<&'a Name>>,
+    input: &Input<S, F>,
+) -> Option<Vec<&'a Name>>
+    ensures { (names : List (List ℕ)) → IfSome labels.entry (λ was. map (λ label. label.now) was.items ≡ names)
+        → IfSome result (λ left. map (λ label. label.now) left.items ≡ filter (λ label. list_any (bytes_eq label) (missing_of input.now)) names) }
+{
+    match labels {
+        None => None,
+        Some(labels) => match lacking(alloc, &labels, input) {
+            Ok(left) => Some(left),
+            Err(_) => None,
+        },
+    }
 }
 
 fn all_labels<'a>(alloc: Global, labels: &'a [Name]) -> Result<Vec<&'a Name>, AllocError>
@@ -151,8 +166,12 @@ fn lacking<'a, S: Read + Drop, F: Opener + Drop>(
     Ok(left)
 }
 
-// The lines on these labels.
-fn lines_on(alloc: Global, labels: &[&Name], on_terminal: bool) -> Result<Vec<u8>, AllocError>
+/// The lines on these labels, in order. A terminal is shown no control characters of them.
+///
+/// # Errors
+///
+/// `AllocError` where memory is refused.
+pub fn lines_on(alloc: Global, labels: &[&Name], on_terminal: bool) -> Result<Vec<u8>, AllocError>
     ensures { IfOk result (λ text. text.items ≡ label_lines on_terminal (map (λ label. label.now) labels.now)) }
 {
     let mut text = Vec::new(alloc);

@@ -18,12 +18,13 @@
 //!   `answer`. No contract says that it returns.
 //! - The status after a run and a flush, or why the program fails: `status`, `status_after`. The line and the status of
 //!   each failure: `Failure::line`, `status`.
-//! - The texts of words, or the first that isn't UTF-8: `texts_of`. That the word of a refusal isn't: `words_of`. Its line:
+//! - The texts of words, or the first that isn't UTF-8: `texts_of`. That the word of a refusal isn't: `words_of`. Its lines:
 //!   `odd_word_line`.
 //! - A plan is what the command line asks for, with its labels. Its limits are the greatest, or those of long sources
 //!   where `Config.long` is set, and a text is one for a terminal where standard output is one: `Config::into_plan`, `limits`,
 //!   `form`, and a clause for each other field.
-//! - A `Config` lies within its ranges, and never has both `long` and `order`: `no_long_order`.
+//! - A `Config` lies within its ranges, and never has both `long` and `order`: `no_long_order`. It has as many workers as are
+//!   asked for, but no more than processors, where these are known, and one at least: `Config::within`, `workers`, `alike`.
 //! - There is a source for each word, named as it, whose reader stands unopened for that word's file, or for each name
 //!   in a list, or standard input under its name: `sources_of`, `names`, `readers`, `reasons`, `sighted`.
 //! - A list of names is read to its end, or it is said why not, and is cut at each byte 0: `read_list`, `first_name`.
@@ -51,7 +52,8 @@
 //! - An input notes the stamp of the file that its first read opens: `Input::read`, `opened`.
 //! - After how many milliseconds the line on progress is shown first, if ever: `Progress::first_after`.
 //!
-//! No contract says which words there are, or whether a stream is a terminal: `words_of` asks, and `Config::on` is told.
+//! No contract says which words there are, or whether a stream is a terminal: `words_of` asks, and `Config::on` is told. Nor does
+//! one say that files hear how much there is to do: `Opener::begin`.
 //! No contract says how often a stream is flushed: tests show that standard output is, once and behind all that it has.
 //! Which bytes a file with a stamp may have, an `Opener` says by its ghost member `holds`. Of the files of `FilesOf` nothing is
 //! known, and those of `MeteredFiles` have the bytes of the files within.
@@ -60,6 +62,7 @@
 pub mod answer;
 pub mod arguments;
 pub mod command;
+pub mod crew;
 pub mod failure;
 pub mod files;
 pub mod input;

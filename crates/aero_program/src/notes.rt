@@ -12,7 +12,7 @@ use aero_batch::outcome::{Fault, FaultyLine};
 use aero_batch::source::Source;
 use aero_faults::look::{Look, append_ill_formed, append_malformed};
 use aero_model::verdict::Ending;
-use aero_shown::append_text;
+use aero_report::shown::append_text;
 use itoa::Buffer;
 use std::alloc::{AllocError, Global};
 use std::io::Read;

@@ -1,9 +1,11 @@
 //! How many bytes the files of a run have together.
-ghost use Rattle.std.specs.Prelude.{ℕ, List, IfSome, map, string_bytes, ⊤};
+ghost use Rattle.std.specs.Prelude.{◌≡◌, ℕ, List, IfSome, map, string_bytes, ⊤};
 ghost use Rattle.aero_program.specs.Sizes.{AreSizes};
 
+use crate::command::Sources;
 use crate::files::{FilesOf, MeteredFiles, Opener};
 use aero_batch::source::Source;
+use aero_progress::reached::Work;
 use std::rt::Files;
 use std::{fs, str};
 
@@ -48,19 +50,46 @@ pub(crate) fn are_worth_threads<R, Z: Sizes>(files: &Z, sources: &[Source<R>]) -
     let mut whole: u64 = 0;
     let mut largest: u64 = 0;
     for source in sources {
-        let size = size_of(files, source);
+        let size = size_of(files, source).unwrap_or(0);
         whole = whole.saturating_add(size);
         largest = largest.max(size);
     }
     largest.saturating_mul(7) <= whole.saturating_mul(4) && whole / LARGE >= sources.len() as u64
 }
 
-// How many bytes the plain file has that the source is named as. What is none counts for nothing.
-fn size_of<R, Z: Sizes>(files: &Z, source: &Source<R>) -> u64 {
+// How many bytes the plain file has that the source is named as, if it is named as one.
+fn size_of<R, Z: Sizes>(files: &Z, source: &Source<R>) -> Option<u64>
+    ensures { IfSome result (λ bytes. Z.has_size source.now.name.items bytes) }
+{
     match str::from_utf8(&source.name) {
-        Ok(path) => files.size(path).unwrap_or(0),
-        Err(_) => 0,
+        Ok(path) => files.size(path),
+        Err(_) => None,
     }
+}
+
+/// Has the files hear how many sources there are, where this wasn't known before a list was read, and how many bytes they
+/// have together.
+pub(crate) fn tell_work<R, Z: Opener + Sizes>(files: &Z, asked: &Sources, sources: &[Source<R>]) {
+    if asked.are_counted() {
+        return;
+    }
+    files.begin(Work {
+        sources: sources.len() as u64,
+        size: listed_size(files, sources),
+    });
+}
+
+// How many bytes the files have together that the sources are named as. `None` where one is named as no plain file, or where
+// there are 2^64 bytes or more.
+fn listed_size<R, Z: Sizes>(files: &Z, sources: &[Source<R>]) -> Option<u64>
+    ensures { IfSome result (λ whole. AreSizes Z.has_size (map (λ s. s.name.items) sources.now) whole) }
+{
+    let mut whole: u64 = 0;
+    for source in sources {
+        let size = size_of(files, source)?;
+        whole = whole.checked_add(size)?;
+    }
+    Some(whole)
 }
 
 /// How many bytes the files that the words name have together. `None` where there are no words, where one names no

@@ -171,7 +171,7 @@ fn one_file(alloc: Global, file: &str) -> Result<Vec<String>, AllocError>
     Ok(files)
 }
 
-fn config_for(alloc: Global, sources: Sources, order: bool, fail_open: bool) -> Config
+pub(crate) fn config_for(alloc: Global, sources: Sources, order: bool, fail_open: bool) -> Config
     requires { count_named sources ≤ 2 ^ 16 }
 {
     Config {
@@ -524,7 +524,8 @@ fn what_is_not_judged_is_told(rt: HostRuntime) -> Result<(), Fail> {
             SOUND,
             (
                 b"",
-                b"aerodrome: a word is not UTF-8: caf\\xe9\\x0a\xc3\xa9\n",
+                b"aerodrome: a word is not UTF-8: caf\\xe9\\x0a\xc3\xa9\n\
+                    aerodrome: if it names a file, aerodrome < FILE judges it; a list for --files0-from may have such names, and the others are judged\n",
                 3,
             ),
         ),

@@ -1,5 +1,6 @@
-use crate::program::streams::{Interrupted, Narrow, Shelf, Text};
-use aero_program::command::{Progress, TICK};
+use crate::program::streams::{Drawer, Interrupted, Narrow, Shelf, Text};
+use crate::program::{SOUND, Wanted, config_for, is_answered};
+use aero_program::command::{Progress, Sources, TICK};
 use aero_program::files::{MeteredFiles, Opener};
 use aero_progress::beside::Beside;
 use aero_progress::course::Course;
@@ -139,7 +140,7 @@ fn read_and_write(meter: &Meter, alloc: Global) -> io::Result<()> {
 // What stands on a screen once the line was shown twice, by a clock that reads 1,700 milliseconds more each time.
 fn shown_twice(alloc: Global, screen: &mut Narrow, sources: u64) -> io::Result<()> {
     let clock = stepping_by(1_700, false);
-    let course = Course::begin(&clock, work(sources, Some(3)))?;
+    let course = Course::begin(&clock, Some(work(sources, Some(3))))?;
     let mut line = Line::new(screen, Surface::Other);
     course.show(&clock, alloc, &mut line)?;
     read_and_write(course.meter(), alloc)?;
@@ -167,10 +168,114 @@ fn the_line_tells_the_course_of_a_run(rt: HostRuntime) -> Result<(), Fail> {
     Ok(())
 }
 
+// Shows the line before and after the meter is told that there are two sources, once a list has been read.
+fn shown_of_a_list(alloc: Global, screen: &mut Narrow) -> io::Result<()> {
+    let clock = stepping_by(1_700, false);
+    let course = Course::begin(&clock, None)?;
+    let mut line = Line::new(screen, Surface::Other);
+    course.show(&clock, alloc, &mut line)?;
+    course.meter().add(LIST_READ);
+    course.show(&clock, alloc, &mut line)?;
+    course.meter().begin(work(2, Some(3_145_728)));
+    course.show(&clock, alloc, &mut line)?;
+    read_and_write(course.meter(), alloc)?;
+    course.show(&clock, alloc, &mut line)
+}
+
+// What the reads of a list add.
+const LIST_READ: Gain = Gain {
+    bytes: 1_048_576,
+    ends: true,
+};
+
+// Where it isn't known how much there is to do, no line comes before that is told, and what was read until then is of no
+// source.
+#[test]
+fn the_line_waits_for_a_list(rt: HostRuntime) -> Result<(), Fail> {
+    let mut screen = narrow(rt.alloc(), 200, 0);
+    shown_of_a_list(rt.alloc(), &mut screen)?;
+    let expected: &'static [u8] =
+        b"\raerodrome: 0 of 2 sources, 0 of 3 MiB read, 0 judged, 1 s\raerodrome: 1 of 2 sources, 0 of 3 MiB read, 2 judged, 3 s";
+    assert!(rt; screen.taken.as_slice() == expected);
+    Ok(())
+}
+
+// A list of files, how much there is to do of it, where a plain file has as many bytes as its name, how many files and bytes are
+// read, and what is answered.
+type Begun = (&'static [u8], Option<Work>, u64, u64, Wanted);
+
+const TWO_FILES: Begun = (
+    b"p1\0p22\0",
+    Some(Work {
+        sources: 2,
+        size: Some(5),
+    }),
+    2,
+    16,
+    (
+        b"p1: serializable (1 events, 0 blocks)\np22: serializable (1 events, 0 blocks)\n\
+            traces 2: serializable 2, open 0, violations 0, faults 0\n",
+        b"",
+        0,
+    ),
+);
+
+const A_PIPE_TOO: Begun = (
+    b"p1\0q\0",
+    Some(Work {
+        sources: 2,
+        size: None,
+    }),
+    2,
+    16,
+    (
+        b"p1: serializable (1 events, 0 blocks)\nq: serializable (1 events, 0 blocks)\n\
+            traces 2: serializable 2, open 0, violations 0, faults 0\n",
+        b"",
+        0,
+    ),
+);
+
+const NO_FILE: Begun = (
+    b"",
+    None,
+    0,
+    0,
+    (
+        b"traces 0: serializable 0, open 0, violations 0, faults 0\n",
+        b"",
+        0,
+    ),
+);
+
+// Whether the meter is told so of the files of a list in standard input, and counts what is read of them alone.
+fn is_begun<R: AllocGlobal + Threads + Wait + Copy + Drop + Send + Sync + 'static>(
+    rt: R,
+    row: &Begun,
+) -> bool {
+    let meter = Meter::new();
+    meter.add(LIST_READ);
+    let files = MeteredFiles::new(Drawer { text: b"T1|w(x)\n" }, Some(&meter));
+    let Ok(path) = String::from_str(rt.alloc(), "-") else {
+        return false;
+    };
+    let config = config_for(rt.alloc(), Sources::Listed(path), false, false);
+    is_answered(rt, &files, Ok(config), row.0, &SOUND, row.4)
+        && meter.work() == row.1
+        && meter.ended() == row.2
+        && meter.bytes() == row.3
+}
+
+// The meter hears of a list how many files it has, and how many bytes these have, where each is a plain file.
+#[test]
+fn a_meter_hears_of_a_list(rt: HostRuntime) {
+    assert!(rt; is_begun(rt, &TWO_FILES) && is_begun(rt, &A_PIPE_TOO) && is_begun(rt, &NO_FILE));
+}
+
 // Where the clock fails there is no course.
 #[test]
 fn no_run_begins_without_a_clock(rt: HostRuntime) {
-    assert!(rt; Course::begin(&stepping_by(1, true), work(1, None)).is_err());
+    assert!(rt; Course::begin(&stepping_by(1, true), Some(work(1, None))).is_err());
 }
 
 #[test]
@@ -419,7 +524,7 @@ fn written_until<R: Threads + Wait + Clock + Copy + Send + 'static>(
         taken: Arc::try_clone(taken)?,
     };
     let line = Line::new(tape, Surface::Other);
-    let Some(ticker) = Ticker::start(rt, alloc, line, work(sources, None), pace) else {
+    let Some(ticker) = Ticker::start(rt, alloc, line, Some(work(sources, None)), pace) else {
         return Err(Fail::from("no ticker"));
     };
     let have_come = await_bytes(&rt, taken, least);

@@ -138,3 +138,33 @@ fn long_line(alloc: Global, bytes: usize) -> Option<Vec<u8>> {
     text.extend_from_slice(b"\nT|begin(b)").ok()?;
     Some(text)
 }
+
+// A text of 1,120,000 bytes.
+fn reads(alloc: Global) -> Option<Vec<u8>> {
+    let mut text = Vec::new(alloc);
+    let mut fits = true;
+    for _ in 0..140_000 {
+        fits &= text.extend_from_slice(b"T1|r(x)\n").is_ok();
+    }
+    fits.then_some(text)
+}
+
+fn feed_eight(watch: &mut Watch, piece: &[u8]) {
+    for _ in 0..8 {
+        watch.feed(piece);
+    }
+}
+
+// Over a million lines, in pieces of over a mebibyte, and then a begin with the third label.
+fn is_long_text_so(alloc: Global) -> Option<bool> {
+    let piece = reads(alloc)?;
+    let mut watch = watch_of(alloc)?;
+    feed_eight(&mut watch, &piece);
+    watch.feed(b"T|begin(b)\n");
+    Some(lacks_so(&watch, [true, true, false, true]))
+}
+
+#[test]
+fn a_label_is_found_far_down(rt: HostRuntime) {
+    assert!(rt; is_long_text_so(rt.alloc()) == Some(true));
+}

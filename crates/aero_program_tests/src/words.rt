@@ -73,6 +73,42 @@ fn the_words_that_are_taken(rt: HostRuntime) {
     assert_eq!(rt; first_mistaken(rt.alloc(), &TAKEN), None);
 }
 
+// Words, how many processors there are, where it is known, and how many workers there are then.
+type Crew = (Words, Option<usize>, u32);
+
+fn is_crew(alloc: Global, row: &Crew) -> bool {
+    match settled(alloc, row.0) {
+        Ok(config) => config.within(row.1).workers == row.2,
+        Err(_) => false,
+    }
+}
+
+// The first row that doesn't hold.
+fn first_overstaffed(alloc: Global, rows: &[Crew]) -> Option<usize> {
+    for i in 0..rows.len() {
+        if !is_crew(alloc, &rows[i]) {
+            return Some(i);
+        }
+    }
+    None
+}
+
+static CREWS: [Crew; 8] = [
+    (&[], None, 4),
+    (&[], Some(1), 1),
+    (&[], Some(2), 2),
+    (&[], Some(4), 4),
+    (&["--workers", "16"], Some(usize::MAX), 16),
+    (&["--workers", "16"], Some(5), 5),
+    (&["--workers", "1"], Some(8), 1),
+    (&["--workers", "2"], Some(0), 1),
+];
+
+#[test]
+fn no_more_workers_than_processors(rt: HostRuntime) {
+    assert_eq!(rt; first_overstaffed(rt.alloc(), &CREWS), None);
+}
+
 // Words, what is judged, by which text, and whether open blocks make the status 1.
 type Sourced = (Words, &'static str, Words, bool);
 

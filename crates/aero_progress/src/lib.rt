@@ -9,7 +9,7 @@
 //!
 //! ```text
 //! let line = Line::new(rt.stderr(), Surface::Terminal);
-//! let work = Work { sources: 1, size: None };
+//! let work = Some(Work { sources: 1, size: None });
 //! let ticker = Ticker::start(rt, rt.alloc(), line, work, Pace { first_after: 2_000, tick: 200 });
 //! let input = Metered::new(rt.stdin(), ticker.as_ref().map(Ticker::meter));
 //! ..
@@ -24,7 +24,8 @@
 //!   `gain_of`, `bytes`, `ends`, `fails`; `gain_of_failure`.
 //! - A write ends a text exactly where it takes all that it was handed: `ends_text`.
 //! - The text of the line is byte by byte as defined, on a terminal and elsewhere: `text_of`. What is shown of a run is such
-//!   a text, of which at most as many sources are judged as there are: `Course::show`, `reached`.
+//!   a text, of which at most as many sources are judged as there are, of the work that was known from the start, if it was:
+//!   `Course::show`, `work`, `reached`.
 //! - A line that is shown stands, and its text went out whole where the call succeeds. Once it is over none is shown:
 //!   `Line::show`, `shown`, `stands`, `over`.
 //! - What clears it goes out only where it stands: `Line::clear`, `cleared`, `untouched`. `end` clears it too, and then

@@ -33,13 +33,13 @@ struct Shared<W> {
 }
 
 impl<W: Write + Drop + Send + 'static> Ticker<W> {
-    /// Starts the thread, which shows on the line how far this work has come since now. `None` where memory,
-    /// the thread or the time is refused.
+    /// Starts the thread, which shows on the line how far this work has come since now, or, where it isn't known yet, that
+    /// of which the meter is told. `None` where memory, the thread or the time is refused.
     pub fn start<R: Threads + Wait + Clock + Copy + Send + 'static>(
         rt: R,
         alloc: Global,
         line: Line<W>,
-        work: Work,
+        work: Option<Work>,
         pace: Pace,
     ) -> Option<Ticker<W>> {
         let shared = Shared {

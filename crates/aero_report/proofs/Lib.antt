@@ -1,4 +1,5 @@
 pub mod Appended
+mod Cuts
 pub mod Names
 pub mod Numbers
 pub mod Readable

@@ -19,7 +19,7 @@ use Rattle.aero_model.specs.declared.verdict.Finding.{Finding}
 use Rattle.aero_model.specs.declared.verdict.Finding.TheVariants.{Judged, Ordered, Explained, Broken, TooLarge}
 use Rattle.aero_model.specs.Named.{Named}
 use Rattle.aero_report.specs.Options.{Options}
-use Rattle.aero_report.specs.Json.{Member, members_of, items_of, object_of, bytes_value, name_value, verdict_members, step_value, target_members, event_members, cycle_step_value, label_members, end_members, extent_members, transaction_value, list, cycle_members, finding_members, source_value, count_members, listed_member, option_members, summary_value, ReadsBack}
+use Rattle.aero_report.specs.Json.{Member, members_of, items_of, bytes_value, name_value, verdict_members, step_value, target_members, event_members, cycle_step_value, label_members, end_members, extent_members, transaction_value, finding_members, source_value, count_members, option_members, summary_value, unused_members, ReadsBack}
 
 pub reads_back : {T E : Type 0} (r : Result T E) (ts : List Token) (j : Json) → depth j ≤ max_depth → ts ≡ json_tokens j → OnOk r (tokens (print ts) ≡ ts) → OnOk r (ReadsBack j)
 reads_back (Ok x) ts j shallow is h =
@@ -89,8 +89,12 @@ source_depth bytes f = omega (arith, name_depth bytes, finding_depth f)
 labels_depth : (labels : List (List ℕ)) → items_depth (items_of (map name_value labels)) ≤ 2
 labels_depth labels = list_depth name_value (λ l. omega (arith, name_depth l)) labels
 
+unused_depth : (labels : List (List ℕ)) → members_depth (members_of (unused_members labels)) ≤ 3
+unused_depth [] = omega arith
+unused_depth (label ∷ more) = omega (arith, labels_depth (label ∷ more))
+
 option_depth : (o : Options) → members_depth (members_of (option_members o)) ≤ 3
-option_depth o = omega (arith, labels_depth o.labels.labels)
+option_depth o = omega (arith, labels_depth o.labels.labels, unused_depth o.unused)
 
 pub summary_depth : (o : Options) (counts : Counts) → depth (summary_value o counts) ≤ max_depth
 summary_depth o counts = omega (arith, both_depth 3 (count_members counts) (option_members o) (omega arith) (option_depth o))

@@ -1,9 +1,9 @@
 -- The tokens of an object and of an array, by those of their parts.
-use Rattle.std.proofs.Common.{◌≡◌, List, [], ◌∷◌, ◌++◌, map, flat_map, refl, ap, ◌∙◌, append_assoc}
+use Rattle.std.proofs.Common.{◌≡◌, ℕ, List, [], ◌∷◌, ◌++◌, false, eqb, length, map, flat_map, codes, refl, ap, sym, ◌∙◌, append_assoc, append-nil}
 use Rattle.json.specs.Token as token
 use Rattle.json.specs.Json.{Json}
 use Rattle.json.specs.Tree.{json_tokens, items_tokens, members_tokens}
-use Rattle.aero_report.specs.Json.{Member, members_of, items_of}
+use Rattle.aero_report.specs.Json.{Member, members_of, items_of, name_value, unused_members}
 use Rattle.aero_report.specs.Members.{member_tokens, all_members_tokens}
 
 pub members_tokens_of : (ms : List Member) → all_members_tokens ms ++ token.end_object ∷ [] ≡ members_tokens (members_of ms)
@@ -13,3 +13,11 @@ members_tokens_of (m ∷ ms) = append_assoc (member_tokens m) (all_members_token
 pub items_tokens_of : {A : Type 0} (f : A → Json) (xs : List A) → flat_map (λ x. json_tokens (f x)) xs ++ token.end_array ∷ [] ≡ items_tokens (items_of (map f xs))
 items_tokens_of f [] = refl
 items_tokens_of f (x ∷ xs) = append_assoc (json_tokens (f x)) (flat_map (λ y. json_tokens (f y)) xs) _ ∙ ap (λ ts. json_tokens (f x) ++ ts) (items_tokens_of f xs)
+
+-- the labels with which no block begins, where there are any
+pub unused_tokens : {A : Type 0} (f : A → List ℕ) (xs : List A) → eqb (length xs) 0 ≡ false →
+    (token.key (codes "unused") ∷ token.begin_array ∷ []) ++ (flat_map (λ l. json_tokens (name_value l)) (map f xs) ++ token.end_array ∷ []) ≡ all_members_tokens (unused_members (map f xs))
+unused_tokens f [] some = cc (some)
+unused_tokens f (x ∷ xs) some =
+    ap (λ ts. token.key (codes "unused") ∷ token.begin_array ∷ ts)
+    (items_tokens_of name_value (map f (x ∷ xs)) ∙ sym (append-nil (items_tokens (items_of (map name_value (map f (x ∷ xs)))))))

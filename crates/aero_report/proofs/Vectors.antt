@@ -1,7 +1,7 @@
 -- The definitions at values that are known from elsewhere.
 use Rattle.std.proofs.Common.{◌≡◌, [], ◌∷◌, ◌++◌, refl, ap, ap₂, lit<, lit≤}
 use Rattle.std.specs.Fmt.{digits}
-use Rattle.std.specs.Prelude.{codes, flat_map, Vec, Some, None, true, false, ◌^◌}
+use Rattle.std.specs.Prelude.{codes, flat_map, Vec, Some, None, true, false}
 use Rattle.std.specs.Global.{Global}
 use Rattle.aero_model.specs.declared.verdict.Step.{Step}
 use Rattle.aero_model.specs.declared.verdict.Cycle.{Cycle}
@@ -110,11 +110,15 @@ few = record {
 }
 
 abbrev options : Options
-options = record { limits = few; labels = all_but (codes "f" ∷ codes "g" ∷ []); order = false; explain = true }
+options = record { limits = few; labels = all_but (codes "f" ∷ codes "g" ∷ []); order = false; explain = true; unused = [] }
 
 summary_object : summary_line_in Json options (counts_of (Broken 20 ∷ [])) ≡ codes "{\"traces\":1,\"serializable\":0,\"open\":0,\"violations\":0,\"faults\":1,\"version\":\"0.1.0\",\"order\":false,\"explain\":true,\"limits\":{\"bytes\":20,\"lines\":4,\"threads\":3,\"names\":2},\"only\":[\"f\",\"g\"]}" ++ 10 ∷ []
 unfolding digits json_on_literals chars is_utf8
 summary_object = refl
+
+unused_object : summary_line_in Json (record options { unused = codes "g" ∷ [] }) (counts_of (Broken 20 ∷ [])) ≡ codes "{\"traces\":1,\"serializable\":0,\"open\":0,\"violations\":0,\"faults\":1,\"version\":\"0.1.0\",\"order\":false,\"explain\":true,\"limits\":{\"bytes\":20,\"lines\":4,\"threads\":3,\"names\":2},\"only\":[\"f\",\"g\"],\"unused\":[\"g\"]}" ++ 10 ∷ []
+unfolding digits json_on_literals chars is_utf8
+unused_object = refl
 
 block_object : json_text (transaction_value (record { first = 5; thread = codes "T2"; extent = Block (Some (codes "f")) (Some 8) })) ≡ codes "{\"first\":5,\"thread\":\"T2\",\"block\":true,\"label\":\"f\",\"end\":8}"
 unfolding digits json_on_literals chars is_utf8

@@ -1,12 +1,12 @@
 -- The report in each of its forms.
-use Rattle.std.specs.Prelude.{ℕ, List, [], ◌++◌, map, flat_map, ⊤}
+use Rattle.std.specs.Prelude.{ℕ, List, [], ◌++◌, flat_map, ⊤}
 use Rattle.json.specs.Json as value
-use Rattle.aero_shown.specs.Shown.{shown_text, shown_lines}
+use Rattle.aero_report.specs.Shown.{shown_text, shown_lines}
 use Rattle.aero_model.specs.declared.verdict.Finding.{Finding}
 use Rattle.aero_model.specs.declared.verdict.Counts.{Counts}
 use Rattle.aero_report.specs.declared.form.Form.{Form}
 use Rattle.aero_report.specs.declared.form.Form.TheVariants.{Text, Terminal, Json}
-use Rattle.aero_report.specs.Texts.{source_line, summary_line, counts_of}
+use Rattle.aero_report.specs.Texts.{source_line, summary_line}
 use Rattle.aero_report.specs.Options.{Options}
 use Rattle.aero_report.specs.Json.{json_line, source_value, summary_value, ReadsBack}
 
@@ -35,7 +35,3 @@ IsReadable Json value = ReadsBack value
 -- the lines of sources with these names and findings, in order
 abbrev pub source_lines_in : Form → List (List ℕ × Finding) → List ℕ
 source_lines_in form sources = flat_map (λ s. source_line_in form s.0 s.1) sources
-
--- the report on them: their lines in order, then the summary
-abbrev pub report_in : Form → Options → List (List ℕ × Finding) → List ℕ
-report_in form options sources = source_lines_in form sources ++ summary_line_in form options (counts_of (map (λ s. s.1) sources))

@@ -22,7 +22,7 @@ use Rattle.aero_model.specs.Exempt.{Listed}
 use Rattle.aero_model.specs.Named.{Named}
 use Rattle.aero_report.specs.Options.{Options}
 use Rattle.aero_report.specs.Texts.{line_fault_name, shape_fault_name, op_name}
-use Rattle.aero_report.specs.Words.{line_words, shape_words}
+use Rattle.aero_model.specs.Words.{line_words, shape_words}
 
 -- a member of an object: its key and its value
 abbrev pub Member : Type 0
@@ -140,6 +140,11 @@ limits_value limits =
 abbrev pub listed_member : Listed → Member
 listed_member listed = list (if listed.only then codes "only" else codes "except") (map name_value listed.labels)
 
+-- the labels with which no block begins, where there are any, in their order
+abbrev pub unused_members : List (List ℕ) → List Member
+unused_members [] = []
+unused_members (label ∷ more) = list (codes "unused") (map name_value (label ∷ more)) ∷ []
+
 -- the program's version, and how the sources were judged
 abbrev pub option_members : Options → List Member
 option_members options =
@@ -148,7 +153,7 @@ option_members options =
     ∷ flag (codes "explain") options.explain
     ∷ (codes "limits", limits_value options.limits)
     ∷ listed_member options.labels
-    ∷ []
+    ∷ unused_members options.unused
 
 -- the data of the summary
 abbrev pub summary_value : Options → Counts → Json

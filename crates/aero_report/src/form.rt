@@ -6,10 +6,10 @@ ghost use Rattle.aero_report.specs.Json.{source_value, summary_value};
 
 use crate::objects::source_object;
 use crate::options::{Options, summary_object};
+use crate::shown::{append_lines, append_text};
 use crate::summary::summary_text;
 use crate::texts::trace_text;
 use aero_model::verdict::{Counts, Finding};
-use aero_shown::{append_lines, append_text};
 use std::alloc::{AllocError, Global};
 
 /// The form of a report.

@@ -7,9 +7,9 @@
 //! to a counting writer, and says how many bytes went out where a write failed. The lines stand byte
 //! by byte in `specs/Texts.antt`.
 //!
-//! `source_text` and `totals_text` make the same in the `Form` that is asked for. For a terminal names are shown
-//! without control characters, by `aero_shown`. As JSON a source is an object
-//! on a line, and so is the summary. Their members stand in order in `specs/Json.antt`.
+//! `source_text` and `totals_text` make the same in the `Form` that is asked for. As JSON a source is an object
+//! on a line, and so is the summary. Their members stand in order in `specs/Json.antt`. For a terminal names are shown
+//! without control characters, by `shown`, which does so for all that the program says there.
 //!
 //! ```text
 //! let finding = Finding::Judged(Verdict::Malformed { line: 2, fault: LineFault::BadParenthesis });
@@ -33,6 +33,7 @@
 //! - So is the summary of what was counted: `summary_text`.
 //! - In each form both are as defined, for a terminal too: `source_text`, `totals_text`. A line of JSON is a document by
 //!   the grammar of the `json` crate, and means the value that is defined: `readable`.
+//! - What `shown` adds stands byte by byte as defined: `append_bytes`, `append_text`, `append_lines`.
 //! - All bytes go out, or exactly the prefix that is told, and then a write failed: `put`, `all_written`, `no_fault`;
 //!   `cut_written`, `cut_short`, `cut_at_fault`.
 #![tactic(auto)]
@@ -43,9 +44,9 @@ mod line;
 mod objects;
 mod options;
 mod output;
+pub mod shown;
 mod summary;
 mod texts;
-pub mod words;
 
 pub use form::{Form, source_text, totals_text};
 pub use options::{Options, VERSION};

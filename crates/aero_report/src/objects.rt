@@ -7,8 +7,8 @@ ghost use Rattle.aero_report.specs.Members.{member_tokens, all_members_tokens};
 use crate::cycles::write_cycle;
 use crate::line::Line;
 use crate::texts::{line_fault_name, shape_fault_name};
-use crate::words::{line_words, shape_words};
 use aero_model::verdict::{Finding, Step, Verdict};
+use aero_model::words::{line_words, shape_words};
 use std::alloc::{AllocError, Global};
 
 /// The line of a source as JSON, with a newline.

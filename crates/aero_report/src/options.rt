@@ -2,7 +2,7 @@
 ghost use Rattle.std.specs.Prelude.{◌≡◌, [], ◌++◌, codes, map, flat_map, if◌then◌else◌, IfOk, OnOk};
 ghost use Rattle.json.specs.Tree.{json_tokens};
 ghost use Rattle.aero_report.specs.Asked.{options_of};
-ghost use Rattle.aero_report.specs.Json.{count_members, json_line, limits_value, list, listed_member, name_value, option_members, summary_value, ReadsBack};
+ghost use Rattle.aero_report.specs.Json.{count_members, json_line, limits_value, list, listed_member, name_value, option_members, summary_value, unused_members, ReadsBack};
 ghost use Rattle.aero_report.specs.Members.{member_tokens, all_members_tokens};
 
 use crate::line::Line;
@@ -17,13 +17,15 @@ use std::alloc::{AllocError, Global};
 pub const VERSION: &str = "0.1.0";
 
 /// How the sources of a report were judged, as far as its summary tells it: the limits of a source, which of its blocks
-/// are no transactions, whether the serial order was asked for, and whether violations were to be explained.
+/// are no transactions, whether the serial order was asked for, whether violations were to be explained, and with which
+/// labels of the list no block begins.
 #[derive(Clone, Copy)]
 pub struct Options<'a> {
     pub limits: &'a Limits,
     pub except: &'a Except,
     pub order: bool,
     pub explain: bool,
+    pub unused: &'a [&'a Name],
 }
 
 /// The line of the summary as JSON, with a newline.
@@ -66,7 +68,8 @@ fn write_options(out: &mut Line, options: Options<'_>) -> Result<(), AllocError>
     out.flag("order", options.order)?;
     out.flag("explain", options.explain)?;
     write_limits(out, options.limits)?;
-    write_listed(out, options.except)
+    write_listed(out, options.except)?;
+    write_unused(out, options.unused)
 }
 
 fn write_limits(out: &mut Line, limits: &Limits) -> Result<(), AllocError>
@@ -97,6 +100,27 @@ fn list_key(only: bool) -> &'static str
 
 fn write_labels(out: &mut Line, labels: &[Name]) -> Result<(), AllocError>
     ensures { OnOk result (out.new ≡ out.old ++ flat_map (λ l. json_tokens (name_value l)) labels.now) }
+{
+    for label in labels {
+        out.name_alone(label.bytes())?;
+    }
+    Ok(())
+}
+
+// The labels with which no block begins, where there are any.
+fn write_unused(out: &mut Line, labels: &[&Name]) -> Result<(), AllocError>
+    ensures { OnOk result (out.new ≡ out.old ++ all_members_tokens (unused_members (map (λ label. label.now) labels.now))) }
+{
+    if labels.is_empty() {
+        return Ok(());
+    }
+    out.begin_array("unused")?;
+    write_unused_labels(out, labels)?;
+    out.end_array()
+}
+
+fn write_unused_labels(out: &mut Line, labels: &[&Name]) -> Result<(), AllocError>
+    ensures { OnOk result (out.new ≡ out.old ++ flat_map (λ l. json_tokens (name_value l)) (map (λ label. label.now) labels.now)) }
 {
     for label in labels {
         out.name_alone(label.bytes())?;

@@ -1,8 +1,8 @@
 // Bytes as a terminal is shown them, in a report too.
 use aero_model::name::Name;
 use aero_model::verdict::{Finding, Verdict};
+use aero_report::shown::{append_bytes, append_lines, append_text};
 use aero_report::{Form, source_text};
-use aero_shown::{append_bytes, append_lines, append_text};
 use std::alloc::Global;
 
 // The helpers below say that a row doesn't hold where memory is refused.

@@ -12,23 +12,25 @@ use std::alloc::Global;
 // Four counts, and what the object of them begins with.
 type Counted = ([u64; 4], &'static str);
 
-// How sources were judged: whether their order was asked for, and an explanation, labels, whether just these count, and
-// what the object of the summary ends with.
+// How sources were judged: whether their order was asked for, and an explanation, labels, whether just these count, whether
+// none of them begins a block, and what the object of the summary ends with.
 #[derive(Clone, Copy)]
 struct Asked {
     order: bool,
     explain: bool,
     labels: &'static [&'static [u8]],
     only: bool,
+    are_unused: bool,
     end: &'static str,
 }
 
-static ASKED: [Asked; 4] = [
+static ASKED: [Asked; 5] = [
     Asked {
         order: false,
         explain: false,
         labels: &[],
         only: false,
+        are_unused: false,
         end: r#","version":"0.1.0","order":false,"explain":false,"limits":{"bytes":1073741824,"lines":268435456,"threads":65536,"names":67108864},"except":[]}"#,
     },
     Asked {
@@ -36,6 +38,7 @@ static ASKED: [Asked; 4] = [
         explain: false,
         labels: &[b"f", b"g\"h"],
         only: false,
+        are_unused: false,
         end: r#","version":"0.1.0","order":true,"explain":false,"limits":{"bytes":1073741824,"lines":268435456,"threads":65536,"names":67108864},"except":["f","g\"h"]}"#,
     },
     Asked {
@@ -43,6 +46,7 @@ static ASKED: [Asked; 4] = [
         explain: true,
         labels: &[b"\xff", b"f"],
         only: true,
+        are_unused: false,
         end: r#","version":"0.1.0","order":false,"explain":true,"limits":{"bytes":1073741824,"lines":268435456,"threads":65536,"names":67108864},"only":[{"bytes":"/w=="},"f"]}"#,
     },
     Asked {
@@ -50,7 +54,16 @@ static ASKED: [Asked; 4] = [
         explain: true,
         labels: &[],
         only: true,
+        are_unused: false,
         end: r#","version":"0.1.0","order":true,"explain":true,"limits":{"bytes":1073741824,"lines":268435456,"threads":65536,"names":67108864},"only":[]}"#,
+    },
+    Asked {
+        order: false,
+        explain: false,
+        labels: &[b"g\"h", b"\xff"],
+        only: false,
+        are_unused: true,
+        end: r#","version":"0.1.0","order":false,"explain":false,"limits":{"bytes":1073741824,"lines":268435456,"threads":65536,"names":67108864},"except":["g\"h",{"bytes":"/w=="}],"unused":["g\"h",{"bytes":"/w=="}]}"#,
     },
 ];
 
@@ -81,6 +94,18 @@ fn except_of(alloc: Global, asked: &Asked) -> Option<Except> {
     }
 }
 
+// All labels, or none.
+fn labels_of(alloc: Global, labels: &[Name], all: bool) -> Option<Vec<&Name>> {
+    let mut found = Vec::new(alloc);
+    if !all {
+        return Some(found);
+    }
+    for label in labels {
+        found.push(label).ok()?;
+    }
+    Some(found)
+}
+
 // Whether the line is these two parts.
 fn is_joined(text: &[u8], front: &str, end: &str) -> bool {
     match text.strip_prefix(front.as_bytes()) {
@@ -100,12 +125,16 @@ fn is_summed_so(alloc: Global, row: &Counted, asked: &Asked) -> bool {
     let Some(except) = except_of(alloc, asked) else {
         return false;
     };
+    let Some(unused) = labels_of(alloc, except.labels(), asked.are_unused) else {
+        return false;
+    };
     let limits = Limits::greatest();
     let options = Options {
         limits: &limits,
         except: &except,
         order: asked.order,
         explain: asked.explain,
+        unused: &unused,
     };
     match totals_text(alloc, Form::Json, options, &counts) {
         Ok(text) => is_joined(&text, front, asked.end),
@@ -184,6 +213,7 @@ fn has_totals_text(alloc: Global) -> bool {
         except: &except,
         order: true,
         explain: true,
+        unused: &[],
     };
     match totals_text(alloc, Form::Text, options, &counts) {
         Ok(text) => is_line(text.as_slice(), line),

@@ -1,7 +1,9 @@
 use aero_model::name::Name;
+use aero_model::verdict::{LineFault, ShapeFault};
 use aero_names::list::NameList;
 use aero_names::names::{Names, NamesFault};
 use std::alloc::Global;
+use std::fmt::Display;
 
 // The helpers below say that a row doesn't hold where memory is refused.
 
@@ -315,7 +317,7 @@ fn a_list_has_its_names_in_order(rt: HostRuntime) {
     assert!(rt; is_in_order(rt.alloc(), "ab c ab", [b"ab", b"c", b"ab"]));
 }
 
-fn tells(alloc: Global, fault: NamesFault, wanted: &str) -> bool {
+fn tells<F: Display>(alloc: Global, fault: F, wanted: &str) -> bool {
     match fault.to_string(alloc) {
         Ok(text) => text.as_str() == wanted,
         Err(_) => false,
@@ -328,6 +330,12 @@ fn the_faults_tell_themselves(rt: HostRuntime) {
     assert!(rt;
         tells(alloc, NamesFault::Full, "too many different names")
             && tells(alloc, NamesFault::Memory, "out of memory")
+            && tells(alloc, LineFault::UnknownOperation, "no such operation")
+            && tells(
+                alloc,
+                ShapeFault::LockNotHeld,
+                "the thread doesn't hold the lock"
+            )
     );
 }
 

@@ -2,11 +2,11 @@
 use Rattle.std.proofs.Common.{◌≡◌, ◌⊎◌, ◌↔◌, ℕ, zero, suc, ◌<◌, ◌≤◌, Bool, true, List, [], ◌∷◌, ◌++◌, length, map, take, Option, Some, None, Result, Ok, Err, inl, inr, refl, sym, ◌∙◌, ap, subst, le_refl, arith}
 use Rattle.std.specs.Prelude.{slice_get, IfOk, OnOk}
 use Rattle.std.proofs.lemmas.List.{length_push, length-map, map-append}
-use Rattle.std.proofs.lemmas.Option.{same_Some, slice_get_within, slice_get-map}
+use Rattle.std.proofs.lemmas.Option.{same_Some, slice_get_within}
 use Rattle.aero_model.specs.declared.numbered.Numbered.{Numbered}
 use Rattle.aero_model.specs.Cycle.{HasTellingCycle}
 use Rattle.aero_model.specs.Exempt.{IsJudgedAs}
-use Rattle.aero_model.specs.Shape.{IsWellFormed, shape_fault}
+use Rattle.aero_model.specs.Shape.{shape_fault}
 use Rattle.aero_model.proofs.Telling.{event_at, telling_front}
 use Rattle.aero_model.proofs.WellFormed.{well_formed_front}
 use Rattle.aero_shape.proofs.Pushed.{take_front}
@@ -27,7 +27,7 @@ use Rattle.aero_witness.proofs.Enough.{enough_stays, led_is_enough}
 use Rattle.aero_witness.proofs.Pushed.{push_front, push_last, push_cases, nth_mark, marked_at, marked_same, marked_long}
 use Rattle.aero_witness.proofs.Trail.{led_back, led_on}
 use Rattle.aero_verdict.specs.declared.recorder.Recorder.{Recorder}
-use Rattle.aero_verdict.specs.Recorded.{recorded, IsSaidOf, HasStill, AreJudgedAs, IsNoted, AreNoted, HasRecordedAs, HasRecorded, IsNotedNext, AreMarks, SaysSame, IsMarked, IsSwept, IsAsBefore}
+use Rattle.aero_verdict.specs.Recorded.{recorded, IsSaidOf, AreJudgedAs, IsNoted, AreNoted, HasRecordedAs, HasRecorded, IsNotedNext, AreMarks, SaysSame, IsMarked, IsSwept, IsAsBefore}
 use Rattle.aero_verdict.proofs.Recording.{given_at, trail_of}
 use Rattle.aero_verdict.proofs.Said.{said_still}
 use Rattle.aero_verdict.proofs.Zipped.{zip_long, zip_beside}

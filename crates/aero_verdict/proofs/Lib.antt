@@ -12,6 +12,7 @@ pub mod Showing
 pub mod Rising
 pub mod Spanning
 pub mod Explaining
+pub mod SameVerdict
 pub mod Staying
 pub mod Steps
 pub mod Lines

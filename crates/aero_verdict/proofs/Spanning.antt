@@ -8,7 +8,7 @@ use Rattle.std.proofs.lemmas.Option.{same_Some, slice_get_within}
 use Rattle.aero_model.specs.declared.numbered.Numbered.{Numbered}
 use Rattle.aero_model.specs.Blocks.{transaction, HasEnded}
 use Rattle.aero_witness.specs.declared.visit.Visit.{Visit}
-use Rattle.aero_witness.specs.Parts.{IsFirst, AreFirstsTo}
+use Rattle.aero_witness.specs.Parts.{AreFirstsTo}
 use Rattle.aero_witness.proofs.Nests.{one_first, same_by_first}
 use Rattle.aero_verdict.specs.declared.spans.Span.{Span}
 use Rattle.aero_verdict.specs.Explained.{IsLastOf}

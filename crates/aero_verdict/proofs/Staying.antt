@@ -35,7 +35,7 @@ use Rattle.aero_names.proofs.Fronts.{Extends, tables_pushed, tables_extended, nu
 use Rattle.aero_witness.proofs.Nests.{opening_first}
 use Rattle.aero_engine.specs.Given.{Given}
 use Rattle.aero_verdict.specs.declared.checker.Checker.{Checker}
-use Rattle.aero_verdict.specs.Explained.{round_places, IsFirstOf, IsLastOf, IsEnd, IsExtent, IsCycleStep, IsCycleTransaction, IsExplained, IsCycleOf}
+use Rattle.aero_verdict.specs.Explained.{round_places, IsFirstOf, IsEnd, IsExtent, IsCycleStep, IsCycleTransaction, IsExplained, IsCycleOf}
 use Rattle.aero_verdict.specs.Fed.{IsCertain}
 use Rattle.aero_verdict.specs.Parts.{KeepsAt}
 use Rattle.aero_verdict.specs.Standing.{names_of, marked_in, AreGiven}

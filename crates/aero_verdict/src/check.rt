@@ -40,7 +40,7 @@ use std::alloc::{AllocError, Global};
 /// - `Serializable`: nothing is wrong, and no block is open.
 ///
 /// No fault of a verdict is `Memory`. An `AllocError` says that memory was refused: to the names, the
-/// states, the first places or the answer. It also says that the different names of the threads have
+/// states, the first places or the verdict's name. It also says that the different names of the threads have
 /// over 2^32 - 1 bytes in all, or those of the variables, or those of the locks.
 pub fn check_trace(
     alloc: Global,

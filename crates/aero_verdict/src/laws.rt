@@ -7,7 +7,7 @@ pub fn a_trace_has_a_verdict()
 {}
 
 /// Two verdicts on the same parts under the same limits are equal. So whoever judges a trace by the
-/// definitions, in whatever way, finds what `check_trace` answers.
+/// definitions, in whatever way, finds what `check_trace` returns.
 pub fn a_trace_has_one_verdict()
     ensures { OneVerdict }
 {}

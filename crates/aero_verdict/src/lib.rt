@@ -22,7 +22,7 @@
 //!   want of memory. By `check_trace`, and by any engine `check_trace_by`: `verdict`, `own_fault`.
 //! - The same of a trace that comes part by part. A `Monitor` has exactly the rules that it was made with and the parts
 //!   that it was fed, in that order: `Monitor::new`, `rules`, `none`; `feed`, `rules`, `fed`.
-//! - `feed` answers whether the verdict is certain: then something is wrong, and the verdict is this whatever follows, and
+//! - `feed` returns whether the verdict is certain: then something is wrong, and the verdict is this whatever follows, and
 //!   what shows a violation is the same.
 //!   It stays certain, also where memory is refused. Else nothing is wrong yet, but for one line too many at most:
 //!   `told`, `certain`, `going_on`, `stays`.
@@ -45,7 +45,7 @@
 //!   `Monitor::explain` of a violation that is certain, while the monitor goes on.
 //! - A monitor of `Full` gives at its end both, each with the verdict that it goes with: `Monitor::finish_in_full`.
 //!   `check_trace_in_full` gives the same of parts at once.
-//! - The actor of the event on a line is answered, whatever the limits, if there is one: `actor_at`.
+//! - The actor of the event on a line is returned, whatever the limits, if there is one: `actor_at`.
 //! - `InOrder`, first places with the transactions, `Recorder`, with the events, and `Full`, with both, are engines too: of
 //!   the events that each is given it tells what the definitions say. By `Engine::judge`, `told`.
 //! - They keep something of each event that they are given, also of the one that closes a cycle: `InOrder` the line and

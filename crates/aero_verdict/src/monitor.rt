@@ -5,7 +5,7 @@
 //! judged at a time, and nothing is judged after an error:
 //!
 //! ```text
-//! // Hands what was gathered to the monitor, and begins to gather anew. The answer says whether the verdict is certain.
+//! // Hands what was gathered to the monitor, and begins to gather anew. Returns whether the verdict is certain.
 //! fn judge(
 //!     alloc: Global,
 //!     monitor: &mut Monitor<Leads>,
@@ -139,7 +139,7 @@ impl<E: Engine> Monitor<E> {
         }
     }
 
-    /// Judges the next part, with the same labels as at first. The answer says whether the verdict is certain,
+    /// Judges the next part, with the same labels as at first. Returns whether the verdict is certain,
     /// whatever parts come after it: there is an event that is ill-formed or closes a cycle, a malformed line, or
     /// two lines more than may be. Otherwise none of these is there. What is fed from then on is passed over.
     ///

@@ -15,7 +15,7 @@
 //!
 //! - Whatever its pieces were, a label is lacking just where no line of the text that came begins a block with it: `Watch::new`,
 //!   `feed`, `lacks`; `seen`, `whole`.
-//! - A watch that was refused memory says nothing, and neither does one that is refused it as it answers: `lacks`.
+//! - A watch that was refused memory says nothing, and neither does one that is refused it while it looks: `lacks`.
 #![tactic(auto)]
 
 mod line;

@@ -16,7 +16,7 @@
 //!
 //! # What is proved
 //!
-//! - The answer is true exactly where the visits are a telling cycle of all events, by the definition by which verdicts
+//! - It returns true exactly where the visits are a telling cycle of all events, by the definition by which verdicts
 //!   are judged: `is_telling_cycle`.
 //! - Where a telling cycle begins in a transaction, one is given that begins there, and none that does has fewer visits:
 //!   `shortest_cycle`, and with the transactions of the events `shortest_of`.

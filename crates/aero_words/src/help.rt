@@ -38,8 +38,8 @@ it as blocks of their own. Where few of a log's blocks are meant to be atomic,
 
 pub const WORKERS: &str = "How many threads work, 1 to 16";
 
-pub const LONG_WORKERS: &str = "How many threads work on the traces, 1 to 16. The report is the same
-for each";
+pub const LONG_WORKERS: &str = "How many threads work on the traces, 1 to 16, but no more than there
+are processors for the program. The report is the same for each";
 
 pub const PIECE: &str = "Bytes of one read, 1 to 1048576";
 
@@ -108,7 +108,8 @@ bytes came, written again in place five times a second, and is cleared
 before anything else is written there, and at the end. Without this
 option it is shown where standard error is a terminal and a run lasts
 over two seconds; with it on any standard error, from a fifth of a
-second on. The report is the same";
+second on. With --files0-from it comes once the list has been read.
+The report is the same";
 
 pub const QUIET: &str = "No line on progress, also where --progress is given";
 

@@ -23,7 +23,8 @@
 use aero_model::counting::Counting;
 use aero_program::answer::answer;
 use aero_program::arguments::words_of;
-use aero_program::command::{Config, Stop, TICK, Terminals};
+use aero_program::command::{Config, Sources, Stop, TICK, Terminals};
+use aero_program::crew::processors;
 use aero_program::files::{FilesOf, MeteredFiles};
 use aero_program::output::Output;
 use aero_program::retrying::Retrying;
@@ -79,15 +80,18 @@ fn keep_freed_memory(alloc: Global) {
     let _room: Result<Vec<u8>, AllocError> = Vec::with_capacity(alloc, ROOM);
 }
 
-// What the words of the command line ask for, on these terminals.
-fn asked_by<R: Runtime + AllocGlobal>(rt: &R, terminals: Terminals) -> Result<Config, Stop> {
+// What the words of the command line ask for, on these terminals and processors.
+fn asked_by<R: Runtime + AllocGlobal + Threads>(
+    rt: &R,
+    terminals: Terminals,
+) -> Result<Config, Stop> {
     let words = words_of(rt.alloc(), rt)?;
     let config = settle_words(rt.alloc(), &words)?;
-    Ok(config.on(terminals))
+    Ok(config.on(terminals).within(processors(rt)))
 }
 
-// What shows on the line how far the run has come, if that is asked for and can be had, and if it is known how many
-// sources there are.
+// What shows on the line how far the run has come, if that is asked for and can be had. Where the sources stand in a list,
+// it shows that once the list has been read.
 fn ticker_for<W, R>(
     rt: R,
     alloc: Global,
@@ -101,20 +105,24 @@ where
     let Ok(config) = asked else {
         return None;
     };
-    if !config.files.are_counted() {
-        return None;
-    }
     let is_terminal = line.surface() == Surface::Terminal;
     let pace = Pace {
         first_after: config.progress.first_after(is_terminal)?,
         tick: TICK,
     };
-    let named = config.files.named();
-    let work = Work {
+    Ticker::start(rt, alloc, line, work_of(rt, &config.files), pace)
+}
+
+// How much there is to do, where it is known before a list is read.
+fn work_of<R: Files + Drop>(rt: R, asked: &Sources) -> Option<Work> {
+    if !asked.are_counted() {
+        return None;
+    }
+    let named = asked.named();
+    Some(Work {
         sources: named.len().max(1) as u64,
         size: whole_size(&FilesOf::new(rt), named),
-    };
-    Ticker::start(rt, alloc, line, work, pace)
+    })
 }
 
 // The three standard streams.

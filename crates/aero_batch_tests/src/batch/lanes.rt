@@ -3,6 +3,7 @@ use crate::batch::runs::{Who, plan_by, run_planned};
 use crate::batch::streams::{BreaksOnce, Either, Later, Meets, TakesBytes, Tells};
 use crate::batch::{CROSSED, ONE_BLOCK, REPORT_OF_TWO, lines_of, source_of};
 use aero_batch::outcome::{Cause, Outcome};
+use aero_batch::told::{Style, sum_up};
 use aero_intake::plan::Plan;
 use aero_intake::source::Source;
 use aero_lanes::{Report, run_in_lanes};
@@ -166,7 +167,7 @@ fn names_of<R>(alloc: Global, sources: &[Source<R>]) -> Result<Vec<u8>, AllocErr
     Ok(names)
 }
 
-// Runs over at most 30 sources in lanes.
+// Runs over at most 30 sources in lanes, and writes the summary.
 fn run_few<
     R: Read + Drop + Send,
     W: Write,
@@ -180,7 +181,13 @@ fn run_few<
     if sources.len() > 30 {
         return Err("too many sources".into());
     }
-    Ok(run_in_lanes(*rt, rt.alloc(), sources, writer, plan))
+    let (mut report, sources) = run_in_lanes(*rt, rt.alloc(), sources, writer, plan);
+    let style = Style {
+        alloc: rt.alloc(),
+        form: plan.form,
+    };
+    report.cause = sum_up(style, plan.options(), &report.counts, report.cause, writer);
+    Ok((report, sources))
 }
 
 fn plan_with(alloc: Global, workers: u32) -> Result<Plan, Fail> {

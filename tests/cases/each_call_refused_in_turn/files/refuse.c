@@ -35,7 +35,14 @@ static int is_refused(const char *call, int error) {
     return 1;
 }
 
+/* The file that says how many processors there are, while it is open. Its calls aren't counted. */
+static int processors = -1;
+
 ssize_t read(int file, void *bytes, size_t size) {
+    if (file == processors) {
+        processors = -1;
+        return syscall(SYS_read, file, bytes, size);
+    }
     return is_refused("read", EIO) ? -1 : syscall(SYS_read, file, bytes, size);
 }
 
@@ -46,6 +53,8 @@ ssize_t write(int file, const void *bytes, size_t size) {
 }
 
 static int opened(int folder, const char *path, int flags, int mode) {
+    if (strncmp(path, "/sys/", 5) == 0)
+        return processors = (int)syscall(SYS_openat, folder, path, flags, mode);
     return is_refused("open", EACCES) ? -1 : (int)syscall(SYS_openat, folder, path, flags, mode);
 }
 

@@ -2,7 +2,7 @@ use Rattle.std.proofs.Common.{◌++◌, ◌∙◌, ap, ap₂, codes}
 use Rattle.std.proofs.lemmas.Result.{IfOk-equal}
 use Rattle.aero_grammar.specs.Meaning.{operation_field, operation_word}
 use Rattle.aero_faults.specs.Texts.{shown}
-use Rattle.aero_report.specs.Words.{line_words}
+use Rattle.aero_model.specs.Words.{line_words}
 use Rattle.aero_faults.proofs.Parts.{line_text_any}
 use Rattle.aero_faults.proofs.texts.append_line.Goals as goal
 

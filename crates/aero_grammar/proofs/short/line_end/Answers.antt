@@ -1,4 +1,4 @@
-use Rattle.std.proofs.Common.{◌≡◌, ◌<◌, take, length, arith}
+use Rattle.std.proofs.Common.{◌≡◌, take, length, arith}
 use Rattle.std.proofs.lemmas.List.{length-take}
 use Rattle.aero_grammar.proofs.Clean.{front_is_good}
 use Rattle.aero_grammar.proofs.LinesRead.{none_before, lines_cut}

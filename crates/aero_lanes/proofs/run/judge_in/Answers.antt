@@ -1,16 +1,16 @@
 use Rattle.std.proofs.Common.{Option, sym, subst}
 use Rattle.aero_batch.specs.declared.outcome.Cause.{Cause}
-use Rattle.aero_batch.specs.Founds.{WasRun, sighted}
+use Rattle.aero_batch.specs.Founds.{WasTold, sighted}
 use Rattle.std.proofs.Common.{map}
 use Rattle.aero_intake.specs.PlanTerms.{terms_of}
-use Rattle.aero_lanes.proofs.Backs.{was_run}
+use Rattle.aero_lanes.proofs.Backs.{was_told}
 use Rattle.aero_lanes.proofs.Tellings.{begun_so}
 use Rattle.aero_lanes.proofs.run.judge_in.Goals as goal
 use Rattle.aero_model.specs.CallCounts.{seen_by}
 
 pub returns : goal.returns
 returns g c = record {
-  ran = λ origin seated.
+  told = λ origin seated.
       let known = g.R.Read.remaining in
       let terms = terms_of c.args.shared.plan.now in
       let form = c.args.shared.plan.now.form in
@@ -22,7 +22,7 @@ returns g c = record {
       let st = begun_so known terms form origin before c.args.room.seats.items c.args.room.told seated c.args.room.seats.len c.requires.begun in
       let stop = c.tell_all-end.ensures.stopped origin st in
       let are_back = c.all_back-sources.ensures terms origin stop.seated in
-      subst (λ (o : Option Cause). WasRun terms form (map (sighted known) origin) (map (sighted known) back) before after told.endings.items told.faults.items told.counts o)
+      subst (λ (o : Option Cause). WasTold terms form (map (sighted known) origin) (map (sighted known) back) before after told.endings.items told.faults.items told.counts o)
       (sym c.cause_in-cause.ensures)
-      (was_run known terms form origin all back stop.seated are_back before after told _ stop);
+      (was_told known terms form origin all back stop.seated are_back before after told _ stop);
 }

@@ -1,17 +1,21 @@
-use Rattle.std.proofs.Common.{Bool, ◌≡◌, ◌≤◌, ◌^◌, ◌∙◌, ◌+◌, ap, sym, subst, inl, inr, map, refl, if◌then◌else◌, [], ◌++◌, List, ℕ}
+use Rattle.std.proofs.Common.{Bool, ◌≡◌, ◌≤◌, ◌^◌, ◌∙◌, ◌+◌, ap, sym, subst, inl, inr, map, refl, if◌then◌else◌, [], ◌++◌, List, ℕ, None}
 use Rattle.aero_model.specs.CallCounts.{seen_by}
 use Rattle.aero_model.specs.Exempt.{Listed}
 use Rattle.aero_model.specs.declared.verdict.Ending.{Ending}
 use Rattle.std.specs.IoError.{error_kind}
 use Rattle.aero_verdict.specs.Finding.{asking}
-use Rattle.aero_intake.specs.PlanTerms.{terms_of}
+use Rattle.aero_batch.specs.Founds.{sighted}
+use Rattle.aero_batch.proofs.Stands.{summed}
+use Rattle.aero_intake.specs.PlanTerms.{options_with, terms_of}
+use Rattle.aero_report.specs.Forms.{summary_line_in}
+use Rattle.aero_program.proofs.Unused.{found_labels, summed_labels, told_labels}
 use Rattle.aero_program.specs.declared.command.Sources.{Sources}
 use Rattle.aero_program.specs.declared.notes.Naming.{Naming}
-use Rattle.aero_program.specs.Answers.{TellsUnlisted}
+use Rattle.aero_program.specs.Answers.{Ends, TellsUnlisted}
 use Rattle.aero_program.specs.Command.{are_words, count_named, list_path, listed_by}
 use Rattle.aero_program.specs.Inputs.{bytes_left, standing_of}
 use Rattle.aero_program.specs.Sightings.{AreNames, AreUnlisted, bytes_known, resighted, source_sightings}
-use Rattle.aero_program.specs.Notes.{label_lines, labels_told, noted_of_all, notes}
+use Rattle.aero_program.specs.Notes.{all_read, label_lines, labels_told, noted_of_all, notes}
 use Rattle.aero_program.proofs.Noting.{told_as}
 use Rattle.aero_program.specs.Faults.{fault_of}
 use Rattle.aero_program.specs.Streams.{shown_by, written_by}
@@ -36,33 +40,51 @@ returns g c =
     ∙ resighted_sightings (bytes_known config.files given) names in
     let naming_of : Bool → Naming = λ words. record { are_words = words; on_terminal = config.terminals.errors } in
     let words_are = ap naming_of (c.are_words.ensures ∙ ap are_words asked_is) in
+    let words = naming_of (are_words config.files) in
+    let terms = terms_of c.in-Ok.plan in
+    let form = c.in-Ok.plan.form in
     let report = c.run_all-report.result.0 in
     let left = c.run_all-report.result.1.items in
+    let unused = c.unused_labels-unused.result.0 in
+    let cause = c.sum_up_with-cause.result in
+    let before = shown_by g.O.Write.contents c.args.output.now in
+    let mid = seen_by (λ w. g.O.Write.contents (written_by w)) c.run_all-report.new.writer in
+    let after = seen_by (λ w. g.O.Write.contents (written_by w)) c.sum_up_with-cause.new.writer in
     let noted_endings : List (ℕ × Ending) = if config.long then [] else report.endings.items in
+    let noted = noted_of_all words left noted_endings report.faults.items in
     let labels : List (List ℕ) = (listed_by config.except.items config.only.items).labels in
     let labels_are : c.labels.result.now ≡ labels = c.labels.ensures ∙ ap (λ (l : Listed). l.labels) (c.get.ensures ∙ c.in-Ok.ensures.except) in
-    let told = told_as g.F.Opener.holds (λ text. text.items) (naming_of c.are_words.result) (naming_of (are_words config.files)) left noted_endings report.faults.items report.cause report.endings.items config.terminals.errors
-    c.labels.result.now labels words_are labels_are c.all_notes-notes.result c.all_notes-notes.ensures in
-    let lines : List ℕ = label_lines config.terminals.errors (labels_told report.cause report.endings.items (noted_of_all (naming_of (are_words config.files)) left noted_endings report.faults.items) labels) in
+    let listed_are : c.told_of-labels.result.now ≡ (if all_read report.cause report.endings.items then labels else []) =
+    c.told_of-labels.ensures ∙ ap (λ b. if b then c.labels.result.now else []) (c.all_read.ensures ∙ ap (all_read report.cause) c.deref-3.ensures.value)
+    ∙ ap (λ ls. if all_read report.cause report.endings.items then ls else []) labels_are in
+    let found = found_labels unused (λ u. map (λ label. label.now) u.items) report.cause report.endings.items words left noted_endings report.faults.items c.told_of-labels.result.now labels
+    c.unused_labels-unused.ensures.unused listed_are in
+    let text : List (List ℕ) → List ℕ = λ ls. summary_line_in form (options_with terms ls) report.counts in
+    let sums = summed_labels unused (λ u. map (λ label. label.now) u.items) text (labels_told None report.endings.items noted labels) report.cause cause mid after found c.sum_up_with-cause.ensures.summed in
+    let run = summed terms form (summary_line_in form (options_with terms (labels_told None report.endings.items noted labels))) (map (sighted (λ input. bytes_left (standing_of g.S.Read.remaining input))) c.in-Ok-watched.sources.items) (map (sighted (λ input. bytes_left (standing_of g.S.Read.remaining input))) left)
+    before.writer mid after report.endings.items report.faults.items report.counts report.cause cause c.run_all-report.ensures.told sums in
+    let lines_are = told_labels unused (λ u. u.items) (λ label. label.now) c.told_after-told.result.now report.cause cause report.endings.items words left noted_endings report.faults.items labels
+    found c.sum_up_with-cause.ensures.known c.sum_up_with-cause.ensures.whole c.told_after-told.ensures.whole c.told_after-told.ensures.stopped in
+    let told = told_as g.F.Opener.holds (λ text. text.items) (naming_of c.are_words.result) words c.unused_labels-unused.result.1.items left noted_endings report.faults.items config.terminals.errors
+    (map (λ label. label.now) c.told_after-told.result.now) words_are c.unused_labels-unused.ensures.kept c.all_notes-notes.result c.all_notes-notes.ensures in
     inl (judged g.F.Opener.holds (λ input. bytes_left (standing_of g.S.Read.remaining input)) config given
     c.in-Ok.plan.limits names c.in-Ok-watched.sources.items c.in-Ok-watched.sources.items left
-    (shown_by g.O.Write.contents c.args.output.now)
-    (record {
-      writer = seen_by (λ w. g.O.Write.contents (written_by w)) c.run_all-report.new.writer;
-      unflushed = c.args.output.now.unflushed.number;
-    })
+    before
+    (record { writer = after; unflushed = c.args.output.now.unflushed.number })
     (shown_by g.O.Write.contents c.flush-flushed.new.self)
-    c.run_all-report.result.0.endings.items c.run_all-report.result.0.faults.items c.run_all-report.result.0.counts c.run_all-report.result.0.cause (fault_of error_kind c.flush-flushed.result) c.end_after-end.result _ _ c.finish.result (terms_of c.in-Ok.plan) c.in-Ok.plan.form
+    report.endings.items report.faults.items report.counts cause (fault_of error_kind c.flush-flushed.result) c.end_after-end.result _ _ c.finish.result terms form
     (λ i. asking c.in-Ok.plan.limits (c.in-Ok.ensures.except i) (c.in-Ok.ensures.order i) (c.in-Ok.ensures.explain i)) c.in-Ok.ensures.form c.in-Ok.ensures.limits
     named seen
     refl
-    c.run_all-report.ensures.ran refl
+    run refl
     (record {
       bytes = c.flush-flushed.ensures.bytes;
       faults = c.flush-flushed.ensures.faults;
       unflushed = c.flush-flushed.ensures.unflushed ∙ ap (λ b. c.args.output.now.unflushed.number + (if b then 1 else 0)) (is_fault error_kind c.flush-flushed.result);
     })
-    c.end_after-end.ensures told.remarks told.are told.shown (c.finish.ensures (notes told.remarks ++ lines) told.told))
+    c.end_after-end.ensures told.remarks told.are told.shown
+    (subst (λ ls. Ends (notes told.remarks ++ label_lines config.terminals.errors ls) c.end_after-end.result (seen_by g.E.Write.contents c.args.errors.now) (seen_by g.E.Write.contents c.finish.new.errors) c.finish.result)
+    lines_are (c.finish.ensures (notes told.remarks ++ label_lines config.terminals.errors (map (λ label. label.now) c.told_after-told.result.now)) told.told)))
 
 pub run_all-report-requires-after_bounds : goal.run_all-report-requires-after_bounds
 run_all-report-requires-after_bounds g c = λ κs within.

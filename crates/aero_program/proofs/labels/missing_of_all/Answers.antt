@@ -1,5 +1,5 @@
-use Rattle.std.proofs.Common.{◌≡◌, ◌∙◌, ◌∷◌, [], ap, sym, List, ℕ, arith, length, map, refl}
-use Rattle.std.specs.Prelude.{bytes_eq}
+use Rattle.std.proofs.Common.{rules, ◌≡◌, ◌∙◌, ◌∷◌, [], ap, sym, subst, List, ℕ, arith, length, map, refl}
+use Rattle.std.specs.Prelude.{bytes_eq, IfSome}
 use Rattle.std.specs.List.{filter, list_any}
 use Rattle.std.specs.Vec.Iter.{into_iter_len}
 use Rattle.std.proofs.lemmas.List.{map-append, map-id}
@@ -15,17 +15,18 @@ use Rattle.aero_program.proofs.labels.missing_of_all.Goals as goal
 pub loop-source-init : goal.loop-source-init
 loop-source-init g c = record {
   missing = missing_in_none (map (λ label. label.now) c.args.labels.items);
-  kept = ap (map named_input) c.new-kept.ensures.items;
+  kept = search rules;
+  room = search rules;
 }
 
-pub returns-clause-missing : goal.returns-clause-missing
-returns-clause-missing g c =
+pub returns-clause-unused : goal.returns-clause-unused
+returns-clause-unused g c =
     let gives = c.into_iter-source-iterator.ensures.into_iter_gives in
     let known = c.args.sources.ok.0 in
     let whole : into_iter_len c.into_iter-source-iterator.result ≡ length c.args.sources.items = omega (arith, gives.1, known) in
     let t = YieldsList-end (YieldsList-from_vec {s = c.into_iter-source-iterator.result} c.args.sources.items gives.0 whole) c.loop-source.yielded c.loop-source.source-iterator c.loop-source.yielded_by c.next.result c.next.new.self c.in-None.is c.next.ensures.steps in
-    c.loop-source.invariant.missing
-    ∙ ap (λ l. missing_in_each (map (λ s. missing_of (inner_of s.reader)) l) (map (λ label. label.now) c.args.labels.items)) (sym (map-id c.loop-source.yielded) ∙ t.0)
+    subst (λ l. IfSome c.loop-source.missing (λ m. map (λ label. label.now) m.items ≡ missing_in_each (map (λ s. missing_of (inner_of s.reader)) l) (map (λ label. label.now) c.args.labels.items)))
+    (sym (map-id c.loop-source.yielded) ∙ t.0) c.loop-source.invariant.missing
 
 pub returns-clause-kept : goal.returns-clause-kept
 returns-clause-kept g c =
@@ -42,13 +43,12 @@ loop-source-preserved g c =
     let lists : List (List (List ℕ)) = map (λ s. missing_of (inner_of s.reader)) c.loop-source.yielded in
     let m = missing_of (inner_of source.reader) in
     record {
-      missing =
-          c.in_ok-missing.ensures
-          ∙ ap (λ input. filter (λ label. list_any (bytes_eq label) (missing_of input)) (map (λ label. label.now) c.deref.result.now)) c.into_inner-input.ensures
-          ∙ ap (λ ls. filter (λ label. list_any (bytes_eq label) m) (map (λ label. label.now) ls)) c.deref.ensures.value
-          ∙ ap (filter (λ label. list_any (bytes_eq label) m)) c.loop-source.invariant.missing
+      missing = subst (λ l. IfSome c.still_missing-missing.result (λ m. map (λ label. label.now) m.items ≡ l))
+          (ap (λ input. filter (λ label. list_any (bytes_eq label) (missing_of input)) (missing_in_each lists labels)) c.into_inner-input.ensures
           ∙ missing_in_more lists m labels
-          ∙ ap (λ ls. missing_in_each ls labels) (sym (map-append (λ s. missing_of (inner_of s.reader)) c.loop-source.yielded (source ∷ [])));
-      kept = map_more named_input named_input c.loop-source.kept.items c.push.new.self.items c.loop-source.yielded _ source c.in_ok-push.ensures.items c.loop-source.invariant.kept
+          ∙ ap (λ ls. missing_in_each ls labels) (sym (map-append (λ s. missing_of (inner_of s.reader)) c.loop-source.yielded (source ∷ []))))
+          (c.still_missing-missing.ensures (missing_in_each lists labels) c.loop-source.invariant.missing);
+      kept = map_more named_input named_input c.loop-source.kept.items c.push_reserved.new.self.items c.loop-source.yielded _ source c.push_reserved.ensures.items c.loop-source.invariant.kept
           (named_again source (record { name = source.name; reader = c.new-reader.result; may_wait = source.may_wait }) refl (c.new-reader.ensures.inner ∙ c.into_inner-input.ensures));
+      room = search rules;
     }

@@ -1,4 +1,4 @@
-use Rattle.std.proofs.Common.{[], ◌∷◌, ◌++◌, codes, flat_map, if◌then◌else◌, ap, ap₂, ◌∙◌}
+use Rattle.std.proofs.Common.{[], ◌∷◌, ◌++◌, codes, flat_map, if◌then◌else◌, ap, ◌∙◌}
 use Rattle.std.proofs.lemmas.Result.{IfOk-equal}
 use Rattle.json.specs.Token as token
 use Rattle.json.specs.Tree.{json_tokens}

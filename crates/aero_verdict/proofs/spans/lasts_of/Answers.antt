@@ -1,7 +1,6 @@
-use Rattle.std.proofs.Common.{get_or, sym, subst, arith}
+use Rattle.std.proofs.Common.{get_or, arith}
 use Rattle.std.proofs.lemmas.Option.{slice_get-get_or}
-use Rattle.aero_verdict.specs.Spans.{AreLastsTo}
-use Rattle.aero_verdict.proofs.Spanning.{no_lasts, lasts_next}
+use Rattle.aero_verdict.proofs.Spanning.{lasts_next}
 use Rattle.aero_verdict.proofs.spans.lasts_of.Goals as goal
 
 pub put-requires : goal.put-requires

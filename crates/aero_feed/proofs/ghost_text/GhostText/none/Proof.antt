@@ -6,7 +6,6 @@ use types.Kit.{‵, ◌⊛◌, ◌$◌, ◌∵◌, !, qed, drop, suffices, group
 use types.Run.{no_more, returns, enter}
 use types.ByLocal.{alloc_all, pass_all, free_all, look_at, sets}
 use types.Part.{agg}
-use contract.Running.{tables}
 use denote.Shadow.{pure_i}
 use denote.Steps.{nothing}
 use denote.Triple.Walked.{walk_of, says, ends_at}

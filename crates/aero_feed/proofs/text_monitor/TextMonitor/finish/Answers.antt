@@ -1,7 +1,7 @@
-use Rattle.std.proofs.Common.{◌≡◌, subst}
-use Rattle.std.specs.Prelude.{IfOk, OnOk}
+use Rattle.std.proofs.Common.{subst}
+use Rattle.std.specs.Prelude.{IfOk}
 use Rattle.aero_feed.specs.Feeding.{Feeding, IsTextVerdict}
-use Rattle.aero_feed.specs.Reads.{fed_by, IsJudgedOut}
+use Rattle.aero_feed.specs.Reads.{fed_by}
 use Rattle.aero_feed.proofs.Texts.{judged_out, if_ok}
 use Rattle.aero_feed.proofs.text_monitor.TextMonitor.finish.Goals as goal
 

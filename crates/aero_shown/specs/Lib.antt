@@ -1,2 +1,0 @@
--- To be believed: Shown (bytes as a terminal is shown them).
-pub mod Shown
