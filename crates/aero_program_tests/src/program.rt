@@ -171,7 +171,7 @@ fn one_file(alloc: Global, file: &str) -> Result<Vec<String>, AllocError>
     Ok(files)
 }
 
-pub(crate) fn config_for(alloc: Global, sources: Sources, order: bool, fail_open: bool) -> Config
+fn config_for(alloc: Global, sources: Sources, order: bool, fail_open: bool) -> Config
     requires { count_named sources ≤ 2 ^ 16 }
 {
     Config {

@@ -1,6 +1,5 @@
-use crate::program::streams::{Drawer, Interrupted, Narrow, Shelf, Text};
-use crate::program::{SOUND, Wanted, config_for, is_answered};
-use aero_program::command::{Progress, Sources, TICK};
+use crate::program::streams::{Interrupted, Narrow, Shelf, Text};
+use aero_program::command::{Progress, TICK};
 use aero_program::files::{MeteredFiles, Opener};
 use aero_progress::beside::Beside;
 use aero_progress::course::Course;
@@ -198,78 +197,6 @@ fn the_line_waits_for_a_list(rt: HostRuntime) -> Result<(), Fail> {
         b"\raerodrome: 0 of 2 sources, 0 of 3 MiB read, 0 judged, 1 s\raerodrome: 1 of 2 sources, 0 of 3 MiB read, 2 judged, 3 s";
     assert!(rt; screen.taken.as_slice() == expected);
     Ok(())
-}
-
-// A list of files, how much there is to do of it, where a plain file has as many bytes as its name, how many files and bytes are
-// read, and what is answered.
-type Begun = (&'static [u8], Option<Work>, u64, u64, Wanted);
-
-const TWO_FILES: Begun = (
-    b"p1\0p22\0",
-    Some(Work {
-        sources: 2,
-        size: Some(5),
-    }),
-    2,
-    16,
-    (
-        b"p1: serializable (1 events, 0 blocks)\np22: serializable (1 events, 0 blocks)\n\
-            traces 2: serializable 2, open 0, violations 0, faults 0\n",
-        b"",
-        0,
-    ),
-);
-
-const A_PIPE_TOO: Begun = (
-    b"p1\0q\0",
-    Some(Work {
-        sources: 2,
-        size: None,
-    }),
-    2,
-    16,
-    (
-        b"p1: serializable (1 events, 0 blocks)\nq: serializable (1 events, 0 blocks)\n\
-            traces 2: serializable 2, open 0, violations 0, faults 0\n",
-        b"",
-        0,
-    ),
-);
-
-const NO_FILE: Begun = (
-    b"",
-    None,
-    0,
-    0,
-    (
-        b"traces 0: serializable 0, open 0, violations 0, faults 0\n",
-        b"",
-        0,
-    ),
-);
-
-// Whether the meter is told so of the files of a list in standard input, and counts what is read of them alone.
-fn is_begun<R: AllocGlobal + Threads + Wait + Copy + Drop + Send + Sync + 'static>(
-    rt: R,
-    row: &Begun,
-) -> bool {
-    let meter = Meter::new();
-    meter.add(LIST_READ);
-    let files = MeteredFiles::new(Drawer { text: b"T1|w(x)\n" }, Some(&meter));
-    let Ok(path) = String::from_str(rt.alloc(), "-") else {
-        return false;
-    };
-    let config = config_for(rt.alloc(), Sources::Listed(path), false, false);
-    is_answered(rt, &files, Ok(config), row.0, &SOUND, row.4)
-        && meter.work() == row.1
-        && meter.ended() == row.2
-        && meter.bytes() == row.3
-}
-
-// The meter hears of a list how many files it has, and how many bytes these have, where each is a plain file.
-#[test]
-fn a_meter_hears_of_a_list(rt: HostRuntime) {
-    assert!(rt; is_begun(rt, &TWO_FILES) && is_begun(rt, &A_PIPE_TOO) && is_begun(rt, &NO_FILE));
 }
 
 // Where the clock fails there is no course.
