@@ -2,11 +2,11 @@
 from __future__ import annotations
 
 import json
-from dataclasses import dataclass, field
+from dataclasses import dataclass, field, replace
 from typing import IO, Iterable, Iterator, Optional
 
 from .cycle import Closing, Event, Transaction, closing_of, events_of, transactions_of
-from .members import Json, line, name, names, number, word
+from .members import Json, line, name, names, number, parts, word
 
 COUNTS = {  # by verdict: the members that are numbers
     "serializable": ("events", "blocks"),
@@ -30,6 +30,15 @@ class NoReport(Exception):
 
 
 @dataclass(frozen=True)
+class OpenBlock:
+    """A block that has no end in the trace: the line of its begin, its thread, and its label, if it has one."""
+
+    line: int
+    thread: bytes
+    label: Optional[bytes] = None
+
+
+@dataclass(frozen=True)
 class Finding:
     """What the report says of one source. Of a cycle the transactions stand by their first lines, in the order of these."""
 
@@ -43,21 +52,29 @@ class Finding:
     cycle: tuple[Event, ...] = ()
     transactions: dict[int, Transaction] = field(default_factory=dict)
     closing: Optional[Closing] = None
+    opened: tuple[OpenBlock, ...] = ()
 
 
 @dataclass(frozen=True)
 class Options:
     """What a run was told, as its summary has it: which blocks are no transactions (those of `excepted`, or all but those of
-    `only`), with which of these labels no block began, and how many bytes a source may have."""
+    `only`), with which of these labels no block began, and how many bytes a source may have; and what it notes of lines, by
+    their sources and numbers."""
 
     excepted: tuple[bytes, ...] = ()
     only: tuple[bytes, ...] = ()
     unused: tuple[bytes, ...] = ()
     most_bytes: int = MOST_BYTES
+    notes: dict[tuple[bytes, int], bytes] = field(default_factory=dict)
 
     @property
     def is_long(self) -> bool:
         return self.most_bytes > MOST_BYTES
+
+    def noted(self, finding: Finding) -> Finding:
+        """The finding, where its fault's words are those of the summary's note on the line, if there is one: it says more."""
+        note = self.notes.get((finding.source, finding.counts.get("line", 0)))
+        return replace(finding, note=note) if note and finding.fault else finding
 
 
 @dataclass
@@ -108,7 +125,7 @@ class Report:
         for at, text in enumerate(self.kept, 1):
             told = _told(text, at)
             if isinstance(told, Finding):
-                yield told, self.options[report]
+                yield self.options[report].noted(told), self.options[report]
             else:
                 report += 1
 
@@ -142,7 +159,14 @@ def _summary(of: Json) -> Summary:
         raise ValueError("no object limits")
     if excepted and only or len(excepted + only) > MOST_LABELS:
         raise ValueError("labels of except and only that no run takes")
-    return Summary({key: number(of, key) for key in SUMMARY}, Options(excepted, only, names(of, "unused"), number(limits, "bytes", 1)))
+    options = Options(excepted, only, names(of, "unused"), number(limits, "bytes", 1), _notes(of))
+    return Summary({key: number(of, key) for key in SUMMARY}, options)
+
+
+def _notes(of: Json) -> dict[tuple[bytes, int], bytes]:
+    """The notes of a summary on lines; none where it has no notes."""
+    notes = parts(of, "notes") if "notes" in of else []
+    return {(name(note, "source"), line(note, "line")): name(note, "note") for note in notes if "line" in note}
 
 
 def _finding(of: Json) -> Finding:
@@ -162,7 +186,20 @@ def _finding(of: Json) -> Finding:
         cycle=cycle,
         transactions=transactions,
         closing=closing,
+        opened=_opened(of) if verdict == "open" and "opened" in of else (),
     )
+
+
+def _opened(of: Json) -> tuple[OpenBlock, ...]:
+    """The first open blocks, in the order of their begins, and no more than there are."""
+    blocks = tuple(_open_block(block) for block in parts(of, "opened"))
+    if len(blocks) > number(of, "open") or any(one.line >= next.line for one, next in zip(blocks, blocks[1:])):
+        raise ValueError("open blocks that don't stand in the order of their begins, or more than there are")
+    return blocks
+
+
+def _open_block(of: Json) -> OpenBlock:
+    return OpenBlock(line(of, "line"), name(of, "thread"), name(of, "label") if "label" in of else None)
 
 
 def _cycle(of: Json) -> tuple[tuple[Event, ...], dict[int, Transaction], Closing]:

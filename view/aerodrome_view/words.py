@@ -11,6 +11,7 @@ from .report import Finding, Options
 Dress = Callable[[bytes], str]
 
 MOST_LABELS = 8  # of those with which no block begins
+MOST_OPENED = 5  # of the blocks that didn't end
 
 KINDS = {  # of conflicts, each with its name
     "write-read": "write, then read",
@@ -169,8 +170,20 @@ def sentence(finding: Finding, options: Options, dress: Dress, quote: Dress = sh
         return f"It has more than {power(options.most_bytes)} bytes.{advice}"
     size = f"{counted(counts['events'], 'event')}, {counted(counts['blocks'], 'block')}"
     if verdict == "open":
-        return f"Nothing is wrong so far, but {counted(counts['open'], 'block')} of {counts['blocks']:,} didn't end ({size})."
+        told = still_open(finding, dress)
+        return f"Nothing is wrong so far, but {counted(counts['open'], 'block')} of {counts['blocks']:,} didn't end ({size}){told}."
     return f"Each block behaves as if it had run alone ({size})."
+
+
+def still_open(finding: Finding, dress: Dress) -> str:
+    """Which blocks didn't end, where the report has them: the first few."""
+    told = [
+        f"{'a block' if block.label is None else dress(block.label)} of {dress(block.thread)} from line {block.line}"
+        for block in finding.opened[:MOST_OPENED]
+    ]
+    left = finding.counts["open"] - len(told)
+    more = f" and {counted(left, 'further block')}" if left else ""
+    return f": {', '.join(told)}{more}" if told else ""
 
 
 def ending(finding: Finding, dress: Dress) -> str:

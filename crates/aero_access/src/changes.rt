@@ -17,7 +17,7 @@ use crate::clock_rules;
 use crate::index::Index;
 use crate::table::Table;
 use crate::thread::{self, Thread};
-use aero_engine::slot::Slot;
+use aero_engine::Slot;
 use std::alloc::AllocError;
 
 /// Makes room for thread `t`.

@@ -19,8 +19,8 @@ ghost use Rattle.aero_access.specs.StateWords.{clock_in, state_in, slot_in, Join
 use crate::index::Index;
 use crate::table::Table;
 use crate::thread::Thread;
-use aero_clock::clock::Clock;
-use aero_engine::slot::Slot;
+use aero_clock::Clock;
+use aero_engine::Slot;
 use std::alloc::AllocError;
 
 /// Thread `t` reads variable `x`.

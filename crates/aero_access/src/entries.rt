@@ -6,7 +6,7 @@ ghost use Rattle.aero_access.specs.LastClocks.{is_kept};
 use crate::kept::Kept;
 use crate::places::{kept_at, put, put_read};
 use crate::readers::Readers;
-use aero_engine::slot::Slot;
+use aero_engine::Slot;
 use std::alloc::{AllocError, Global};
 
 /// The lists of a `Table`, whose type keeps that they fit each other. Variables and locks are

@@ -3,7 +3,7 @@ ghost use Rattle.std.specs.Prelude.{◌≡◌, ◌≢◌, ◌<◌, ◌==◌, ◌
 ghost use Rattle.aero_clock.specs.Numbers.{number_at, IsZero, Lists};
 ghost use Rattle.aero_access.specs.Led.{leads, IsOfBegin, times, led_at, block_number, has_thread, places_in, slots_in, ListsSame, GainsThread, GainsLabel, DropsLabel, MovesLabel};
 
-use aero_clock::clock::Clock;
+use aero_clock::Clock;
 use std::alloc::{AllocError, Global};
 
 /// Of one thread: the number of its open block, 0 where it has none, and what that block leads to,

@@ -3,7 +3,7 @@ ghost use Rattle.std.specs.Prelude.{◌≡◌, ◌≢◌, ◌≤◌, ◌↔◌, 
 ghost use Rattle.aero_clock.specs.Numbers.{number_at};
 
 use crate::thread::Thread;
-use aero_clock::clock::Clock;
+use aero_clock::Clock;
 use std::alloc::AllocError;
 
 /// Who made the event, its clock, and the place of its slot's label.

@@ -55,3 +55,4 @@ mod table;
 mod thread;
 
 pub use aero_engine::slot;
+pub use clocks::Clocks;

@@ -8,8 +8,8 @@ ghost use Rattle.aero_access.specs.Table.{AreLabelled, ArePlaced, kept_in};
 use crate::entries::Entries;
 use crate::kept::Kept;
 use crate::readers::Readers;
-use aero_clock::clock::Clock;
-use aero_engine::slot::Slot;
+use aero_clock::Clock;
+use aero_engine::Slot;
 use std::alloc::{AllocError, Global};
 use std::mem;
 

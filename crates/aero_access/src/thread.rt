@@ -5,7 +5,7 @@ ghost use Rattle.aero_access.specs.Threads.{IsClosedBy, CountIsTest, HasSameBloc
 ghost use Rattle.aero_access.specs.States.{State};
 ghost use Rattle.aero_access.specs.Heeds.{Heeds};
 
-use aero_clock::clock::Clock;
+use aero_clock::Clock;
 use std::alloc::{AllocError, Global};
 
 /// The clock of a thread, the clock of its open block's begin, how many outermost begins it has

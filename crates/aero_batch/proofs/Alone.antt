@@ -1,15 +1,14 @@
 -- What is found of one source alone.
-use Rattle.std.proofs.Common.{◌≡◌, ℕ, ◌+◌, ◌<◌, ◌≤◌, ◌^◌, List, [], map, length, slice_get, Option, Some, refl, sym, ◌∙◌, ap, subst, arith}
+use Rattle.std.proofs.Common.{◌≡◌, ℕ, ◌<◌, ◌≤◌, ◌^◌, List, map, length, slice_get, Some, refl, sym, ◌∙◌, ap, subst}
 use Rattle.std.specs.List.{concat}
 use Rattle.aero_batch.specs.declared.underway.Underway.{Underway}
 use Rattle.aero_intake.specs.declared.track.Track.{Track}
 use Rattle.aero_intake.specs.declared.track.Track.TheVariants as tracks
 use Rattle.aero_batch.specs.Alone.{GoesOnAlone, IsFound, TellsOf}
 use Rattle.aero_batch.specs.Founds.{Sighted}
-use Rattle.aero_batch.specs.Holding.{Holds, nothing_known}
+use Rattle.aero_batch.specs.Holding.{nothing_known}
 use Rattle.aero_batch.specs.Steps.{IsStart, Steps}
 use Rattle.aero_intake.specs.Source.{WasRead}
-use Rattle.aero_intake.specs.Stories.{Story}
 use Rattle.aero_verdict.specs.Finding.{Terms}
 use Rattle.aero_batch.proofs.Stands.{begun_holds, begun_counted, step_goes}
 

@@ -1,7 +1,7 @@
 -- What holds between two steps is kept by each, and says what was written where the run stops.
 use Rattle.std.proofs.Common.{◌≡◌, ℕ, zero, suc, ◌+◌, ◌<◌, ◌≤◌, ◌^◌, Bool, true, false, List, [], ◌∷◌, ◌++◌, map, length, take, slice_get, Option, Some, None}
 use Rattle.std.proofs.Common.{Result, Ok, Err, refl, sym, ◌∙◌, ap, ap₂, subst, inl, inr, arith}
-use Rattle.std.specs.Prelude.{IfOk, IfErr, OnOk, replicate, ◌⊎◌, vec_len}
+use Rattle.std.specs.Prelude.{IfOk, IfErr, replicate, ◌⊎◌, vec_len}
 use Rattle.std.specs.List.{concat}
 use Rattle.std.proofs.KnownBytes.{Appends-nil, Appends-trans}
 use Rattle.std.proofs.lemmas.List.{append-nil, length-map, map-append, length_push, length-replicate}

@@ -1,5 +1,5 @@
 -- What is found of one source alone.
-use Rattle.std.specs.Prelude.{◌≡◌, ℕ, List, map, length, slice_get, Some, ⊤}
+use Rattle.std.specs.Prelude.{◌≡◌, ℕ, List, map, length, ⊤}
 use Rattle.aero_intake.specs.declared.track.Track.{Track}
 use Rattle.aero_intake.specs.declared.track.Track.TheVariants.{Arriving, Arrived, Checking, Found}
 use Rattle.aero_batch.specs.declared.underway.Underway.{Underway}

@@ -1,7 +1,7 @@
 -- The faulty line of a source, by what is said of it.
-use Rattle.std.specs.Prelude.{ℕ, Option, Some, None}
+use Rattle.std.specs.Prelude.{Option, Some, None}
 use Rattle.aero_model.specs.declared.verdict.Finding.{Finding}
-use Rattle.aero_model.specs.declared.verdict.Finding.TheVariants.{Judged, Ordered, Explained, Broken, TooLarge}
+use Rattle.aero_model.specs.declared.verdict.Finding.TheVariants.{Judged, Ordered, Explained, Opened, Broken, TooLarge}
 use Rattle.aero_model.specs.declared.verdict.Verdict.{Verdict}
 use Rattle.aero_model.specs.declared.verdict.Verdict.TheVariants as verdicts
 use Rattle.aero_batch.specs.declared.outcome.Fault.TheVariants.{Malformed, IllFormed}
@@ -16,5 +16,6 @@ abbrev pub fault_of : Finding → Option FaultyLine
 fault_of (Judged verdict) = verdict_fault verdict
 fault_of (Ordered verdict steps) = verdict_fault verdict
 fault_of (Explained verdict cycle) = verdict_fault verdict
+fault_of (Opened verdict blocks) = verdict_fault verdict
 fault_of (Broken bytes) = None
 fault_of TooLarge = None

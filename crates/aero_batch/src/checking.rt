@@ -12,10 +12,9 @@ use crate::inquiry::Inquiry;
 use crate::kind::Kind;
 use crate::setting::Setting;
 use crate::underway::Underway;
-use aero_intake::plan::Plan;
+use aero_intake::Plan;
 use aero_intake::track::{Track, take_parts, take_value};
-use aero_pieces::answer::Value;
-use aero_pieces::question::{Parts, Question};
+use aero_pieces::{Parts, Question, Value};
 use std::alloc::{AllocError, Global};
 use std::sync::{Arc, Wait};
 

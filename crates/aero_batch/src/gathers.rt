@@ -5,7 +5,7 @@ ghost use Rattle.aero_batch.specs.Replies.{of_kind};
 ghost use Rattle.aero_batch.specs.Lending.{LendsOfKind};
 
 use crate::kind::Kind;
-use aero_gather::gather::Gather;
+use aero_gather::Gather;
 
 /// The questions on blocks, and those on verdicts, each in the order in which they were asked. The verdict
 /// on a long source is worked out for long: meanwhile questions on later sources are settled.

@@ -1,5 +1,5 @@
 //! Those who may answer questions while the sources are read.
-use aero_pieces::question::Question;
+use aero_pieces::Question;
 use aero_stage::{Full, Job};
 pub use aero_worker::Helpers;
 use aero_worker::Reply;

@@ -1,6 +1,6 @@
 //! What a run comes to.
-use aero_gather::gather::Tally;
-use aero_model::verdict::{Counts, Ending, LineFault, ShapeFault};
+use aero_gather::Tally;
+use aero_model::{Counts, Ending, LineFault, ShapeFault};
 
 /// Why a run stopped before its end.
 #[derive(Clone, Copy, Debug, PartialEq, Eq)]

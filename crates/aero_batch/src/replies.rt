@@ -8,9 +8,8 @@ ghost use Rattle.aero_batch.specs.Replies.{AllStay, ChangesOne, Heeds, of_kind, 
 use crate::gathers::Gathers;
 use crate::helpers::Helpers;
 use crate::kind::Kind;
-use aero_gather::gather::{Accepted, Gather, Oldest, Ticket};
-use aero_pieces::answer::Answer;
-use aero_pieces::question::Question;
+use aero_gather::{Accepted, Gather, Oldest, Ticket};
+use aero_pieces::{Answer, Question};
 use aero_worker::Reply;
 use std::sync::Wait;
 

@@ -1,5 +1,5 @@
 //! What each step of a run is handed.
-use aero_intake::plan::Plan;
+use aero_intake::Plan;
 use std::alloc::Global;
 
 /// By which handle a run waits, where its memory comes from, and its plan.

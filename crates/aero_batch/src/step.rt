@@ -13,7 +13,7 @@ use crate::kind::Kind;
 use crate::reading::read_on;
 use crate::setting::Setting;
 use crate::underway::Underway;
-use aero_intake::source::Source;
+use aero_intake::Source;
 use aero_intake::track::is_ready;
 use std::alloc::AllocError;
 use std::io::Read;

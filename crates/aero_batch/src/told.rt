@@ -9,8 +9,7 @@ ghost use Rattle.aero_batch.specs.Telling.{SumsUp, TellsNext, TellsText, HasRoom
 
 use crate::outcome::{Cause, Fault, FaultyLine};
 use aero_intake::track::Track;
-use aero_model::counting::Counting;
-use aero_model::verdict::{Counts, Ending, Finding, Verdict};
+use aero_model::{Counting, Counts, Ending, Finding, Verdict};
 use aero_report::{Form, Options, put, source_text, totals_text};
 use std::alloc::{AllocError, Global};
 use std::io::Write;
@@ -169,6 +168,7 @@ fn fault_of(finding: &Finding) -> Option<FaultyLine>
         Finding::Judged(verdict) => verdict_fault(verdict),
         Finding::Ordered(verdict, _) => verdict_fault(verdict),
         Finding::Explained(verdict, _) => verdict_fault(verdict),
+        Finding::Opened(verdict, _) => verdict_fault(verdict),
         Finding::Broken(_) | Finding::TooLarge => None,
     }
 }
@@ -199,6 +199,7 @@ fn with_finding(counts: &Counts, finding: &Finding) -> Counts
         Finding::Judged(verdict) => with_verdict(counts, verdict),
         Finding::Ordered(verdict, _) => with_verdict(counts, verdict),
         Finding::Explained(verdict, _) => with_verdict(counts, verdict),
+        Finding::Opened(verdict, _) => with_verdict(counts, verdict),
         Finding::Broken(_) | Finding::TooLarge => Counts {
             faults: counts.faults + 1,
             ..*counts

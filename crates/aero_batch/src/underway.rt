@@ -5,10 +5,9 @@ ghost use Rattle.aero_intake.specs.PlanTerms.{terms_of};
 ghost use Rattle.aero_batch.specs.Steps.{IsStart};
 
 use crate::inquiry::Inquiry;
-use aero_intake::intake::Intake;
-use aero_intake::plan::Plan;
 use aero_intake::track::{Knowledge, Track};
-use aero_model::verdict::Ending;
+use aero_intake::{Intake, Plan};
+use aero_model::Ending;
 use std::alloc::{AllocError, Global};
 
 /// How far a run is. The sources are read one after the other, and their verdicts are asked for in

@@ -4,9 +4,8 @@ ghost use Rattle.aero_c.specs.Answers.{AreLimitsOf, Begins, IsBegun};
 
 use crate::monitor::{Monitor, put};
 use crate::status::{DONE, IN_USE, NO_MEMORY};
-use aero_feed::feed::Feed;
-use aero_model::except::Except;
-use aero_model::limits::Limits;
+use aero_feed::Feed;
+use aero_model::{Except, Limits};
 use std::alloc::{AllocError, Global};
 
 // Begins a trace with these labels, if the monitor has none. With `explains` its violation is to be shown.

@@ -10,7 +10,7 @@ use crate::labels::list;
 use crate::monitor::{Monitor, put, take};
 use crate::numbers::Numbers;
 use crate::status::{DONE, MANY_LABELS, UNHELD};
-use aero_model::except::Except;
+use aero_model::Except;
 use std::alloc::Global;
 
 /// Begins a trace under the ordinary limits, or those of a long source. Returns `IN_USE` where the monitor has one, and

@@ -5,8 +5,8 @@ ghost use Rattle.aero_c.specs.Answers.{Answered, IsAsked, Concludes, Shows, Tell
 
 use crate::numbers::{Numbers, in_numbers};
 use crate::status::{DONE, NO_MEMORY, SHORT};
-use aero_feed::feed::Feed;
-use aero_model::verdict::{Cycle, Finding, Verdict};
+use aero_feed::Feed;
+use aero_model::{Cycle, Finding, Verdict};
 use aero_report::{cycle_text, trace_text};
 use std::alloc::{AllocError, Global};
 

@@ -7,8 +7,7 @@ ghost use Rattle.aero_c.specs.Statuses.{many_labels, no_memory, no_name};
 ghost use Rattle.aero_c.specs.Labels.{IsListOf, is_ended as is_ended_text, is_no_name};
 
 use crate::status::{MANY_LABELS, NO_MEMORY, NO_NAME};
-use aero_model::except::Except;
-use aero_model::name::{Name, NameFault};
+use aero_model::{Except, Name, NameFault};
 use memchr::memchr;
 use std::alloc::Global;
 

@@ -3,7 +3,7 @@ ghost use Rattle.std.specs.Prelude.{◌≡◌, Some, None, is_some, option_map};
 
 use crate::loose::Loose;
 use crate::pointer::Pointer;
-use aero_feed::feed::Feed;
+use aero_feed::Feed;
 use std::alloc::Global;
 use std::mem;
 

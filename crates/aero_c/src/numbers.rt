@@ -2,7 +2,7 @@
 ghost use Rattle.std.specs.Prelude.{◌≡◌};
 ghost use Rattle.aero_c.specs.Numbers.{numbers_of};
 
-use aero_model::verdict::Verdict;
+use aero_model::Verdict;
 
 /// The kind of a verdict, from 0: serializable, blocks open, violation, malformed, ill-formed. Then its numbers, of
 /// which those are 0 that it doesn't have. Lines count from 1.

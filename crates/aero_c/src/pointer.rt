@@ -4,7 +4,7 @@ ghost use Rattle.aero_feed.specs.Feeding.{Feeding};
 ghost use Rattle.aero_c.specs.Held.{held_owns};
 
 use crate::loose::Loose;
-use aero_feed::feed::Feed;
+use aero_feed::Feed;
 use std::alloc::Global;
 use std::marker::Model;
 

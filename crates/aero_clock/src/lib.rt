@@ -27,3 +27,5 @@
 
 pub mod clock;
 mod pairs;
+
+pub use clock::Clock;

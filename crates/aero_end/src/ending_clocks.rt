@@ -1,11 +1,9 @@
 //! Clocks as an engine, with the rule of an outermost end.
 use crate::end;
-use aero_access::clocks::Clocks;
-use aero_engine::by_kind::{self, ByKind};
-use aero_engine::engine::Engine;
-use aero_engine::spent::Spent;
-use aero_model::numbered::Numbered;
-use aero_shape::admission::Admitted;
+use aero_access::Clocks;
+use aero_engine::{ByKind, Engine, Spent, by_kind};
+use aero_model::Numbered;
+use aero_shape::Admitted;
 use std::alloc::Global;
 
 /// The clocks of the events so far, whose blocks end by `end`.

@@ -40,8 +40,9 @@ ghost use Rattle.aero_end.specs.Ends.{IsFirst, SpreadsToAll, IsRefused};
 
 pub mod ending_clocks;
 
-use aero_access::clocks::Clocks;
-use aero_engine::spent::Spent;
+use aero_access::Clocks;
+use aero_engine::Spent;
+pub use ending_clocks::EndingClocks;
 
 /// Ends the outermost block of thread `t`, which is in a block. Returns the least thread whose
 /// open block closes a telling cycle through the block that ends, and `None` where there is none:

@@ -9,8 +9,8 @@ ghost use Rattle.aero_engine.specs.Events.{event, IsIdle};
 ghost use Rattle.aero_engine.specs.Judging.{IsAdmitted, IsToAct, ComesAfter, ActsAfter, Tells};
 
 use crate::spent::Spent;
-use aero_model::numbered::{Numbered, What};
-use aero_shape::admission::Admitted;
+use aero_model::{Numbered, What};
+use aero_shape::Admitted;
 
 /// What an engine does with each kind of event, threads, variables and locks by their numbers.
 ///

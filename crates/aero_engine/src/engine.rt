@@ -1,7 +1,7 @@
 //! What judges the events of a trace, one after another.
 use crate::spent::Spent;
-use aero_model::numbered::Numbered;
-use aero_shape::admission::Admitted;
+use aero_model::Numbered;
+use aero_shape::Admitted;
 use std::alloc::Global;
 
 /// What tells, event by event, whose open block closes a telling cycle.

@@ -25,3 +25,8 @@ pub mod engine;
 pub mod laws;
 pub mod slot;
 pub mod spent;
+
+pub use by_kind::ByKind;
+pub use engine::Engine;
+pub use slot::Slot;
+pub use spent::Spent;

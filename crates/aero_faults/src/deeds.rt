@@ -2,8 +2,7 @@
 ghost use Rattle.std.specs.Prelude.{◌≡◌};
 ghost use Rattle.aero_faults.specs.Before.{is_by as is_by_thread, is_target as is_its_target, is_acquire_of as is_acquire, is_release_of as is_release, is_fork_of as is_fork, is_join_of as is_join};
 
-use aero_model::event::{Event, Op};
-use aero_model::name::Name;
+use aero_model::{Event, Name, Op};
 
 /// Whether the thread made the event.
 pub fn is_by(event: &Event, thread: &[u8]) -> bool

@@ -5,8 +5,7 @@ ghost use Rattle.aero_faults.specs.Firsts.{deed_of as deed_in, is_sought as is_o
 
 use crate::deeds::{is_by, is_fork_of, is_join_of};
 use crate::holder::name_of;
-use aero_model::event::Event;
-use aero_model::name::Name;
+use aero_model::{Event, Name};
 use std::alloc::{AllocError, Global};
 
 /// Which events of a thread's are looked for.

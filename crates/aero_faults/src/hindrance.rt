@@ -1,5 +1,5 @@
 //! What stands in the way of an event.
-use aero_model::name::Name;
+use aero_model::Name;
 
 /// What stands in the way of an ill-formed event. Lines count from 1.
 #[derive(Drop)]

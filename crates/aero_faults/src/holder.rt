@@ -3,8 +3,7 @@ ghost use Rattle.std.specs.Prelude.{◌≡◌, ℕ, List, [], ◌∷◌, ◌++�
 ghost use Rattle.aero_model.specs.Named.{Named};
 
 use crate::deeds::{is_acquire_of, is_release_of};
-use aero_model::event::Event;
-use aero_model::name::Name;
+use aero_model::{Event, Name};
 use std::alloc::{AllocError, Global};
 
 /// Who holds a lock after some events.

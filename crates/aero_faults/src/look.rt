@@ -4,9 +4,8 @@ ghost use Rattle.aero_faults.specs.Sentences.{line_sentence, shape_sentence};
 
 use crate::hindrance::Hindrance;
 use crate::texts::{append_hindrance, append_line};
-use aero_model::event::Event;
-use aero_model::verdict::{LineFault, ShapeFault};
 use aero_model::words::{line_words, shape_words};
+use aero_model::{Event, LineFault, ShapeFault};
 use std::alloc::AllocError;
 
 /// What a second look at a faulty line found.

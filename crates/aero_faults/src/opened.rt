@@ -4,7 +4,7 @@ ghost use Rattle.aero_model.specs.Named.{Named};
 ghost use Rattle.aero_faults.specs.Opened.{AreOpen};
 
 use crate::deeds::is_by;
-use aero_model::event::{Event, Op};
+use aero_model::{Event, Op};
 use std::alloc::AllocError;
 
 /// How many blocks of the thread are open, after one more event, on this line. `None` says that one

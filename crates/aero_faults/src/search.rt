@@ -9,8 +9,7 @@ use crate::first::{Deed, First, Sought, first_after};
 use crate::hindrance::Hindrance;
 use crate::holder::{Holder, Holding};
 use crate::opened::opened_after;
-use aero_model::event::{Event, Op};
-use aero_model::verdict::ShapeFault;
+use aero_model::{Event, Op, ShapeFault};
 use std::alloc::{AllocError, Global};
 
 /// A search for what stands in the way of an event that has this fault. It is handed the events

@@ -7,9 +7,8 @@ ghost use Rattle.aero_faults.specs.Texts.{bad_place as bad_place_in, deed_text, 
 use crate::fields::{bad_place, operation_word, without_return};
 use crate::hindrance::Hindrance;
 use crate::search::target_of;
-use aero_model::event::{Event, Op};
-use aero_model::verdict::{LineFault, ShapeFault};
 use aero_model::words::line_words;
+use aero_model::{Event, LineFault, Op, ShapeFault};
 use aero_report::shown::append_bytes;
 use itoa::Buffer;
 use std::alloc::AllocError;

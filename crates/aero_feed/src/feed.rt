@@ -8,9 +8,7 @@ ghost use Rattle.aero_feed.specs.Reads.{fed_by, explains_in};
 
 use crate::judge::Judge;
 use crate::text_monitor::TextMonitor;
-use aero_model::except::Except;
-use aero_model::limits::Limits;
-use aero_model::verdict::{Cycle, Verdict};
+use aero_model::{Cycle, Except, Limits, Verdict};
 use std::alloc::{AllocError, Global};
 use std::marker::Model;
 

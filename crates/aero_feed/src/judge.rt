@@ -5,13 +5,10 @@ ghost use Rattle.aero_verdict.specs.Fed.{IsCertain, IsOpen};
 ghost use Rattle.aero_verdict.specs.Verdict.{under, IsVerdict};
 ghost use Rattle.aero_feed.specs.Reads.{fed_by, explains_in, IsUnfed, ShowsFed};
 
-use aero_grammar::parsed::Parsed;
-use aero_leads::leads::Leads;
-use aero_model::except::Except;
-use aero_model::limits::Limits;
-use aero_model::verdict::{Cycle, Verdict};
-use aero_verdict::monitor::Monitor;
-use aero_verdict::recorder::Recorder;
+use aero_grammar::Parsed;
+use aero_leads::Leads;
+use aero_model::{Cycle, Except, Limits, Verdict};
+use aero_verdict::{Monitor, Recorder};
 use std::alloc::{AllocError, Global};
 
 /// A monitor of the parts that a text is cut into.

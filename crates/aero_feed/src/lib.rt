@@ -38,3 +38,5 @@ pub mod feed;
 mod ghost_text;
 mod judge;
 mod text_monitor;
+
+pub use feed::Feed;

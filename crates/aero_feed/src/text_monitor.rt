@@ -10,10 +10,9 @@ ghost use Rattle.aero_feed.specs.Reads.{fed_by, explains_in, IsJudgedOut};
 
 use crate::ghost_text::GhostText;
 use crate::judge::Judge;
-use aero_grammar::block::parse_block;
-use aero_lines::cutter::Cutter;
-use aero_model::except::Except;
-use aero_model::verdict::{Cycle, Verdict};
+use aero_grammar::parse_block;
+use aero_lines::Cutter;
+use aero_model::{Cycle, Except, Verdict};
 use std::alloc::{AllocError, Global};
 use std::marker::Model;
 

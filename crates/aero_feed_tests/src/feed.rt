@@ -1,11 +1,8 @@
 //! Texts that are fed in pieces.
 ghost use Rattle.std.specs.Prelude.{◌<◌};
 
-use aero_feed::feed::Feed;
-use aero_model::except::Except;
-use aero_model::limits::Limits;
-use aero_model::name::Name;
-use aero_model::verdict::{Cycle, Verdict};
+use aero_feed::Feed;
+use aero_model::{Cycle, Except, Limits, Name, Verdict};
 use std::alloc::Global;
 
 // The helpers below say that a row doesn't hold where memory is refused.

@@ -7,8 +7,7 @@ ghost use Rattle.aero_gather.specs.Given.{value_of};
 use crate::slot::{
     Slot, has_question, miss, oldest_waiting, question_alone, state, with_its_value,
 };
-use aero_pieces::answer::{Answer, Value};
-use aero_pieces::question::Question;
+use aero_pieces::{Answer, Question, Value};
 use std::alloc::{AllocError, Global};
 use std::marker::Model;
 use std::sync::Arc;

@@ -35,3 +35,5 @@
 pub mod gather;
 pub mod laws;
 mod slot;
+
+pub use gather::{Accepted, Gather, Oldest, Settled, Tally, Ticket, WindowFull};

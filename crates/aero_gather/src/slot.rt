@@ -5,9 +5,7 @@ ghost use Rattle.aero_pieces.specs.Schedule.{NoneWaits};
 ghost use Rattle.aero_gather.specs.Gathered.{IsOldestWaiting, IsOpenQuestion, state_of};
 
 use crate::gather::{Oldest, Settled};
-use aero_pieces::answer::Value;
-use aero_pieces::question::Question;
-use aero_pieces::same;
+use aero_pieces::{Question, Value, same};
 use std::alloc::Global;
 use std::marker::Model;
 use std::mem;

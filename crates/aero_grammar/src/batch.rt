@@ -12,8 +12,8 @@ use crate::names::is_long_name;
 use crate::parsed::Parsed;
 use crate::tables::Tables;
 use crate::words::Words;
+use aero_model::Event;
 use aero_model::bytes::is_bad_byte;
-use aero_model::event::Event;
 use std::alloc::{AllocError, Global};
 use std::marker::Model;
 

@@ -16,7 +16,7 @@ use crate::parsed::Parsed;
 use crate::short::{ShortLine, short_line};
 use crate::tables::Tables;
 use crate::words::Words;
-use aero_model::verdict::LineFault;
+use aero_model::LineFault;
 use memchr::memchr;
 use std::alloc::{AllocError, Global};
 
@@ -105,7 +105,7 @@ struct LineRead<'a> {
     words: Result<Option<Words<'a>>, LineFault>,
 }
 
-// Reads the text's first line, at once where it has the common shape.
+// Reads the text's first line, at once where it is empty or has the common shape.
 #[inline(always)]
 fn read_line(text: &[u8], is_clean: bool) -> LineRead<'_>
     requires some { 0 < length text.now }
@@ -115,6 +115,13 @@ fn read_line(text: &[u8], is_clean: bool) -> LineRead<'_>
     ensures fit { is_clean ≡ true → list_any is_unfit result.behind.now ≡ false }
     ensures meaning { ReadsMeaning result.words (meaning result.line.now) }
 {
+    if let [b'\n', behind @ ..] = text {
+        return LineRead {
+            line: &[],
+            behind,
+            words: Ok(None),
+        };
+    }
     if is_clean && let Some(short) = short_line(text) {
         let ShortLine {
             line,

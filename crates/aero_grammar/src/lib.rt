@@ -52,3 +52,9 @@ pub mod parsed;
 mod short;
 mod tables;
 mod words;
+
+pub use batch::Batch;
+pub use block::parse_block;
+pub use line::parse_line;
+pub use line_event::LineEvent;
+pub use parsed::Parsed;

@@ -9,8 +9,7 @@ use crate::bytes::{fields, is_all_blank, is_bad_text, without_return};
 use crate::operation::parse_operation;
 use crate::words::{Words, event_of};
 use aero_model::bytes::MOST_LINE_BYTES;
-use aero_model::event::Event;
-use aero_model::verdict::LineFault;
+use aero_model::{Event, LineFault};
 use std::alloc::Global;
 
 /// The event of one line, which comes without the byte 10 that ends it, or `None` for a blank

@@ -2,7 +2,7 @@
 ghost use Rattle.std.specs.Prelude.{◌≡◌};
 ghost use Rattle.aero_grammar.specs.Packing.{kind_of, target_of, what_of};
 
-use aero_model::numbered::{Numbered, What};
+use aero_model::{Numbered, What};
 use std::marker::Model;
 
 // What an event does, without its target. A begin's label counts as its target.

@@ -3,7 +3,8 @@ ghost use Rattle.std.specs.Prelude.{◌≡◌, ◌<◌, length, None, IfOk, OnEr
 ghost use Rattle.aero_model.specs.Names.{name_fault, most_inline_bytes};
 ghost use Rattle.aero_grammar.specs.Meaning.{is_long_name as is_long};
 
-use aero_model::name::{MOST_NAME_BYTES, Name, NameFault};
+use aero_model::name::MOST_NAME_BYTES;
+use aero_model::{Name, NameFault};
 use std::alloc::{AllocError, Global};
 
 #[inline(always)]

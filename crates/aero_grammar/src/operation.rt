@@ -9,8 +9,7 @@ ghost use Rattle.aero_grammar.specs.Words.{ReadsEvent};
 use crate::bytes::place_of;
 use crate::names::is_long_name;
 use crate::words::Words;
-use aero_model::event::Op;
-use aero_model::verdict::LineFault;
+use aero_model::{LineFault, Op};
 
 // The words of a thread's event, by what its operation's field says.
 #[inline(always)]

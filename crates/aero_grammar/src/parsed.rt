@@ -1,7 +1,7 @@
 //! What was read of a block: its tables of names, its events, and its first fault.
 use crate::line_event::LineEvent;
-use aero_model::verdict::LineFault;
-use aero_names::list::NameList;
+use aero_model::LineFault;
+use aero_names::NameList;
 use std::marker::Model;
 
 /// What a block of lines says, up to its first fault.

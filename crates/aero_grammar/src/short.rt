@@ -14,8 +14,8 @@ ghost use Rattle.aero_grammar.specs.Short.{IsShort, IsSign, word_of};
 
 use crate::bytes::is_blank;
 use crate::words::Words;
+use aero_model::Op;
 use aero_model::bytes::MOST_LINE_BYTES;
-use aero_model::event::Op;
 use memchr::memchr;
 use std::simd::prelude::*;
 

@@ -5,9 +5,8 @@ ghost use Rattle.aero_model.specs.Numbering.{Tables as Lists, with_name, what_of
 ghost use Rattle.aero_names.specs.Additions.{number_after};
 
 use crate::words::Words;
-use aero_model::event::Op;
-use aero_model::numbered::{Numbered, What};
-use aero_names::names::{Names, NamesFault};
+use aero_model::{Numbered, Op, What};
+use aero_names::{Names, NamesFault};
 use std::alloc::{AllocError, Global};
 
 #[derive(Drop)]

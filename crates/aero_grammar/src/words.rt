@@ -4,8 +4,7 @@ ghost use Rattle.aero_grammar.specs.Meaning.{TellsLineEvent, Means};
 ghost use Rattle.aero_grammar.specs.Words.{named_of, IsEvent};
 
 use crate::names::read_name;
-use aero_model::event::{Event, Op};
-use aero_model::verdict::LineFault;
+use aero_model::{Event, LineFault, Op};
 use std::alloc::Global;
 
 /// The words of an event's line. The target of a begin is its label, if it has one, an end has no

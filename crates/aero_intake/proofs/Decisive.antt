@@ -4,13 +4,14 @@ use Rattle.std.specs.Prelude.{IfSome, is_some}
 use Rattle.std.proofs.lemmas.List.{append-nil, map-append}
 use Rattle.aero_model.specs.declared.verdict.Cycle.{Cycle}
 use Rattle.aero_model.specs.declared.verdict.Finding.{Finding}
-use Rattle.aero_model.specs.declared.verdict.Finding.TheVariants.{Judged, Ordered, Explained, Broken, TooLarge}
+use Rattle.aero_model.specs.declared.verdict.Finding.TheVariants.{Judged, Ordered, Explained, Opened, Broken, TooLarge}
 use Rattle.aero_model.specs.declared.verdict.Verdict.{Verdict}
 use Rattle.aero_model.specs.declared.verdict.Verdict.TheVariants.{Serializable, Pending, Violation, Malformed, IllFormed}
 use Rattle.aero_grammar.specs.Reading.{Reading, reading_of}
 use Rattle.aero_verdict.specs.Explained.{IsCycleOf}
 use Rattle.aero_verdict.specs.Fed.{IsCertain}
 use Rattle.aero_verdict.specs.Finding.{Terms, IsTraceFinding}
+use Rattle.aero_verdict.specs.Opened.{has_blocks}
 use Rattle.aero_verdict.specs.Ordered.{has_order, is_faultless}
 use Rattle.aero_verdict.specs.Verdict.{Rules, IsVerdict}
 use Rattle.aero_verdict.proofs.OneVerdict.{one_verdict}
@@ -35,6 +36,14 @@ ordered_faultless order (Violation line thread begun) is = cc (is)
 ordered_faultless order (Malformed line fault) is = cc (is)
 ordered_faultless order (IllFormed line fault) is = cc (is)
 
+-- nor do open blocks
+opened_faultless : (explain : Bool) (v : Verdict) → has_blocks explain v ≡ true → is_faultless v ≡ true
+opened_faultless explain (Serializable events blocks) is = refl
+opened_faultless explain (Pending events blocks pending) is = refl
+opened_faultless explain (Violation line thread begun) is = cc (is)
+opened_faultless explain (Malformed line fault) is = cc (is)
+opened_faultless explain (IllFormed line fault) is = cc (is)
+
 not_both : (b : Bool) → b ≡ true → b ≡ false → ⊥
 not_both b is_true is_false = cc (is_true, is_false)
 
@@ -54,6 +63,9 @@ found_wrong terms here there v at_here at_there wrong shows (Explained w cycle) 
       is.1,
       subst (λ u. IsCycleOf there terms.rules u cycle) same (shows cycle (subst (λ u. IsCycleOf here terms.rules u cycle) (sym same) is.2)),
     )
+found_wrong terms here there v at_here at_there wrong shows (Opened w blocks) is =
+    let same : v ≡ w = one_verdict here terms.rules v w at_here is.0 in
+    absurd (not_both (is_faultless w) (opened_faultless terms.explain w is.1) (sym (ap is_faultless same) ∙ wrong))
 found_wrong terms here there v at_here at_there wrong shows (Broken bytes) is = absurd is
 found_wrong terms here there v at_here at_there wrong shows TooLarge is = absurd is
 

@@ -3,7 +3,7 @@ use Rattle.std.proofs.Common.{◌≡◌, ℕ, List, [], ◌∷◌, sym, ◌∙�
 use Rattle.std.specs.Prelude.{map}
 use Rattle.std.specs.List.{concat}
 use Rattle.aero_model.specs.declared.verdict.Finding.{Finding}
-use Rattle.aero_model.specs.declared.verdict.Finding.TheVariants.{Judged, Ordered, Explained, Broken, TooLarge}
+use Rattle.aero_model.specs.declared.verdict.Finding.TheVariants.{Judged, Ordered, Explained, Opened, Broken, TooLarge}
 use Rattle.aero_grammar.specs.Reading.{Reading, reading_of, whole_reading, events_within, malformed_line}
 use Rattle.aero_grammar.proofs.Joined.{reading_of-cap, reading_of-concat}
 use Rattle.aero_lines.specs.Cutting.{nothing_yet, blocks_from}
@@ -11,7 +11,7 @@ use Rattle.aero_lines.proofs.Runs.{blocks_are_the_text}
 use Rattle.aero_verdict.specs.Finding.{Terms, IsTraceFinding}
 use Rattle.aero_verdict.specs.Verdict.{Rules}
 use Rattle.aero_intake.specs.Laws.{AreJudgedAlike, BlocksJudgeAsTheText}
-use Rattle.aero_verdict.proofs.SameVerdict.{one_read, same_verdict, same_order, same_cycle}
+use Rattle.aero_verdict.proofs.SameVerdict.{one_read, same_verdict, same_order, same_cycle, same_blocks}
 
 -- what the blocks say, one after the other, is what the text says
 pub blocks_read : (pieces : List (List ℕ)) → whole_reading (map reading_of (blocks_from nothing_yet pieces)) ≡ reading_of (concat pieces)
@@ -30,6 +30,7 @@ counted_alike rules parts others same same_fault =
         same_cycle rules parts others same same_fault verdict cycle,
         same_cycle rules others parts (sym same) (sym same_fault) verdict cycle,
       );
+      opened = λ blocks. (same_blocks rules parts others same same_fault blocks, same_blocks rules others parts (sym same) (sym same_fault) blocks);
     }
 
 pub alike_back : (rules : Rules) (parts others : List Reading) → AreJudgedAlike parts others rules → AreJudgedAlike others parts rules
@@ -38,6 +39,7 @@ alike_back rules parts others alike =
       verdicts = λ verdict. ((alike.verdicts verdict).1, (alike.verdicts verdict).0);
       orders = λ steps. ((alike.orders steps).1, (alike.orders steps).0);
       cycles = λ verdict cycle. ((alike.cycles verdict cycle).1, (alike.cycles verdict cycle).0);
+      opened = λ blocks. ((alike.opened blocks).1, (alike.opened blocks).0);
     }
 
 -- what is judged alike has the same findings
@@ -46,6 +48,7 @@ pub same_finding : (terms : Terms) (parts others : List Reading) (f : Finding) �
 same_finding terms parts others (Judged verdict) alike is = ((alike.verdicts verdict).0 is.0, is.1, is.2)
 same_finding terms parts others (Ordered verdict steps) alike is = ((alike.verdicts verdict).0 is.0, is.1, (alike.orders steps.items).0 is.2)
 same_finding terms parts others (Explained verdict cycle) alike is = ((alike.verdicts verdict).0 is.0, is.1, (alike.cycles verdict cycle).0 is.2)
+same_finding terms parts others (Opened verdict blocks) alike is = ((alike.verdicts verdict).0 is.0, is.1, (alike.opened blocks.items).0 is.2)
 same_finding terms parts others (Broken bytes) alike is = absurd is
 same_finding terms parts others TooLarge alike is = absurd is
 

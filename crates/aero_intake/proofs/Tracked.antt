@@ -18,7 +18,7 @@ use Rattle.aero_lines.specs.Cutting.{nothing_yet, blocks_from}
 use Rattle.aero_pieces.specs.declared.question.Question.{Question}
 use Rattle.aero_pieces.specs.declared.question.Question.TheVariants.{Parse, Check}
 use Rattle.aero_pieces.specs.declared.answer.Value.{Value}
-use Rattle.aero_pieces.specs.declared.answer.Value.TheVariants.{Parsed, Judged, Ordered, Explained}
+use Rattle.aero_pieces.specs.declared.answer.Value.TheVariants.{Parsed, Judged, Ordered, Explained, Opened}
 use Rattle.aero_pieces.specs.Values.{IsValueOf}
 use Rattle.aero_verdict.specs.Finding.{Terms, asking, IsFinding, IsTraceFinding}
 use Rattle.aero_intake.specs.Held.{Known, with_next, IsDecisive}
@@ -29,7 +29,7 @@ use Rattle.aero_intake.specs.Stories.{IsTracked, AreTracked, changed, trace_of}
 use Rattle.aero_intake.specs.Tracks.{with_finding, with_value}
 use Rattle.aero_intake.proofs.Decisive.{more_decide}
 use Rattle.aero_intake.proofs.Judged.{judged_alike, same_finding}
-use Rattle.aero_intake.proofs.Values.{parsed_value, not_judged, not_ordered, not_explained, not_parsed}
+use Rattle.aero_intake.proofs.Values.{parsed_value, not_judged, not_ordered, not_explained, not_opened, not_parsed}
 
 -- what is asked of the sources
 
@@ -206,6 +206,8 @@ settled_own terms (Parse trace number bytes) rest s most certain story t (Judged
 settled_own terms (Parse trace number bytes) rest s most certain story t (Ordered w steps) same known is = absurd (not_ordered trace number bytes w steps known)
 settled_own terms (Parse trace number bytes) rest s most certain story t (Explained w steps) same known is =
     absurd (not_explained trace number bytes w steps known)
+settled_own terms (Parse trace number bytes) rest s most certain story t (Opened w blocks) same known is =
+    absurd (not_opened trace number bytes w blocks known)
 settled_own terms (Check trace parts limits labels order explain) rest s most certain story t (Parsed r) same known is =
     absurd (not_parsed trace parts limits labels order explain r known)
 settled_own terms (Check trace parts limits labels order explain) rest s most certain story t (Judged w) same known is =
@@ -214,6 +216,8 @@ settled_own terms (Check trace parts limits labels order explain) rest s most ce
     settled_check terms trace parts limits labels order explain rest s story t (findings.Ordered w steps) same known is
 settled_own terms (Check trace parts limits labels order explain) rest s most certain story t (Explained w steps) same known is =
     settled_check terms trace parts limits labels order explain rest s story t (findings.Explained w steps) same known is
+settled_own terms (Check trace parts limits labels order explain) rest s most certain story t (Opened w blocks) same known is =
+    settled_check terms trace parts limits labels order explain rest s story t (findings.Opened w blocks) same known is
 
 pub value_goes : (terms : Terms) (tale : ℕ → Story) (q : Question) (rest : List Question) (v : Value) (most : ℕ) (certain : Bool) (tracks : List Track) →
     IsValueOf q v →

@@ -5,12 +5,13 @@ use Rattle.std.proofs.Math.Logic.{∥∥₁_elim}
 use Rattle.std.specs.Coded.{Coded, Coded-set, codes}
 use Rattle.aero_model.specs.declared.limits.Limits.{Limits}
 use Rattle.aero_model.specs.declared.verdict.Cycle.{Cycle}
+use Rattle.aero_model.specs.declared.verdict.OpenBlock.{OpenBlock}
 use Rattle.aero_model.specs.declared.verdict.Step.{Step}
 use Rattle.aero_model.specs.declared.verdict.Verdict.{Verdict}
 use Rattle.aero_model.specs.Exempt.{Listed}
 use Rattle.aero_grammar.specs.Reading.{Reading, reading_of}
 use Rattle.aero_pieces.specs.declared.question.Question.TheVariants.{Parse, Check}
-use Rattle.aero_pieces.specs.declared.answer.Value.TheVariants.{Parsed, Judged, Ordered, Explained}
+use Rattle.aero_pieces.specs.declared.answer.Value.TheVariants.{Parsed, Judged, Ordered, Explained, Opened}
 use Rattle.aero_pieces.specs.Values.{IsValueOf}
 
 reading_code : Coded Reading
@@ -28,6 +29,9 @@ not_ordered trace number bytes verdict steps is = ∥∥₁_elim is (λ x y. abs
 
 pub not_explained : (trace number : ℕ) (bytes : List ℕ) (verdict : Verdict) (cycle : Cycle) → IsValueOf (Parse trace number bytes) (Explained verdict cycle) → ⊥
 not_explained trace number bytes verdict cycle is = ∥∥₁_elim is (λ x y. absurd x) (λ e. e)
+
+pub not_opened : (trace number : ℕ) (bytes : List ℕ) (verdict : Verdict) (blocks : Vec OpenBlock) → IsValueOf (Parse trace number bytes) (Opened verdict blocks) → ⊥
+not_opened trace number bytes verdict blocks is = ∥∥₁_elim is (λ x y. absurd x) (λ e. e)
 
 -- and the question on a trace by a verdict
 pub not_parsed : (trace : ℕ) (parts : List Reading) (limits : Limits) (labels : Listed) (order explain : Bool) (parsed : Reading) →

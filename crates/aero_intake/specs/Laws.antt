@@ -2,20 +2,23 @@
 use Rattle.std.specs.Prelude.{◌≡◌, ◌↔◌, ℕ, true, List, [], ◌∷◌, ◌++◌, map}
 use Rattle.std.specs.List.{concat}
 use Rattle.aero_model.specs.declared.verdict.Cycle.{Cycle}
+use Rattle.aero_model.specs.declared.verdict.OpenBlock.{OpenBlock}
 use Rattle.aero_model.specs.declared.verdict.Step.{Step}
 use Rattle.aero_model.specs.declared.verdict.Verdict.{Verdict}
 use Rattle.aero_grammar.specs.Reading.{Reading, reading_of}
 use Rattle.aero_lines.specs.Cutting.{nothing_yet, blocks_from}
 use Rattle.aero_intake.specs.Tracks.{decides}
 use Rattle.aero_verdict.specs.Explained.{IsCycleOf}
+use Rattle.aero_verdict.specs.Opened.{AreOpenBlocks}
 use Rattle.aero_verdict.specs.Ordered.{AreStepsInOrder}
 use Rattle.aero_verdict.specs.Verdict.{Rules, IsVerdict}
 
--- Both have the same verdicts, their transactions the same serial order, and their violations the same telling cycles.
+-- Both have the same verdicts, their transactions the same serial order, their violations the same telling cycles, and the same blocks are open.
 pub record AreJudgedAlike (parts others : List Reading) (rules : Rules) : Type 0 where
   pub verdicts : (verdict : Verdict) → IsVerdict parts rules verdict ↔ IsVerdict others rules verdict
   pub orders : (steps : List Step) → AreStepsInOrder parts rules steps ↔ AreStepsInOrder others rules steps
   pub cycles : (verdict : Verdict) (cycle : Cycle) → IsCycleOf parts rules verdict cycle ↔ IsCycleOf others rules verdict cycle
+  pub opened : (blocks : List OpenBlock) → AreOpenBlocks parts rules blocks ↔ AreOpenBlocks others rules blocks
 
 -- What the blocks say, one after the other, is judged as the joined pieces are as one text.
 abbrev pub BlocksJudgeAsTheText : Type 0

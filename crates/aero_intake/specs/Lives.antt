@@ -1,5 +1,5 @@
 -- A source that is judged as it comes.
-use Rattle.std.specs.Prelude.{ℕ, Bool, true, false, List, Option}
+use Rattle.std.specs.Prelude.{ℕ, true, false, List, Option}
 use Rattle.aero_model.specs.declared.verdict.Verdict.{Verdict}
 use Rattle.aero_grammar.specs.Reading.{Reading}
 use Rattle.aero_verdict.specs.Finding.{Terms, on}

@@ -7,7 +7,7 @@ use Rattle.aero_model.specs.declared.verdict.Finding.TheVariants as findings
 use Rattle.aero_grammar.specs.Reading.{Reading, whole_reading, malformed_line}
 use Rattle.aero_verdict.specs.Finding.{IsTraceFinding}
 use Rattle.aero_pieces.specs.declared.answer.Value.{Value}
-use Rattle.aero_pieces.specs.declared.answer.Value.TheVariants.{Parsed, Judged, Ordered, Explained}
+use Rattle.aero_pieces.specs.declared.answer.Value.TheVariants.{Parsed, Judged, Ordered, Explained, Opened}
 use Rattle.aero_intake.specs.Held.{Known, with_next, IsDecisive}
 use Rattle.aero_intake.specs.declared.track.Track.{Track}
 use Rattle.aero_intake.specs.declared.track.Track.TheVariants.{Arriving, Arrived, Checking, Found}
@@ -56,6 +56,7 @@ with_value most certain track (Parsed r) = with_part most certain track r
 with_value most certain track (Judged verdict) = with_finding track (findings.Judged verdict)
 with_value most certain track (Ordered verdict steps) = with_finding track (findings.Ordered verdict steps)
 with_value most certain track (Explained verdict cycle) = with_finding track (findings.Explained verdict cycle)
+with_value most certain track (Opened verdict blocks) = with_finding track (findings.Opened verdict blocks)
 
 -- the track of a source that came whole
 abbrev pub with_arrival : Track → ℕ → ℕ → Track

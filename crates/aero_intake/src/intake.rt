@@ -5,9 +5,8 @@ ghost use Rattle.aero_model.specs.Lines.{most_line_bytes};
 ghost use Rattle.aero_lines.specs.Cutting.{block_of, last_block};
 ghost use Rattle.aero_intake.specs.Intake.{Takes, Fills, nothing_taken, with_cut, with_passing};
 
-use aero_lines::cutter::{Block, Cutter};
-use aero_model::counting::Counting;
-use aero_model::verdict::Ending;
+use aero_lines::{Block, Cutter};
+use aero_model::{Counting, Ending};
 use std::alloc::{AllocError, Global};
 use std::io::Read;
 use std::marker::Model;

@@ -4,16 +4,11 @@ ghost use Rattle.aero_verdict.specs.Fed.{IsCertain, IsOpen};
 ghost use Rattle.aero_verdict.specs.Finding.{IsTraceFinding, asking, on};
 ghost use Rattle.aero_intake.specs.Lives.{watched_by};
 
-use aero_grammar::parsed::Parsed;
-use aero_leads::leads::Leads;
-use aero_model::except::Except;
-use aero_model::limits::Limits;
-use aero_model::verdict::Finding;
+use aero_grammar::Parsed;
+use aero_leads::Leads;
+use aero_model::{Except, Finding, Limits};
 use aero_verdict::engine::Engine;
-use aero_verdict::full::Full;
-use aero_verdict::in_order::InOrder;
-use aero_verdict::monitor::{Monitor, feed_all};
-use aero_verdict::recorder::Recorder;
+use aero_verdict::{Full, InOrder, Monitor, Recorder, feed_all};
 use std::alloc::{AllocError, Global};
 
 /// What judges the blocks of a source one after another, and needs none of them again.
@@ -105,7 +100,7 @@ impl Judge {
         match self {
             Judge::Plain(monitor) => judged(Box::into_inner(monitor)),
             Judge::InOrder(monitor) => ordered(Box::into_inner(monitor)),
-            Judge::Explaining(monitor) => explained(Box::into_inner(monitor)),
+            Judge::Explaining(monitor) => Box::into_inner(monitor).finish_to_explain(),
             Judge::InFull(monitor) => Box::into_inner(monitor).finish_in_full(),
         }
     }
@@ -172,17 +167,6 @@ fn ordered(monitor: Monitor<InOrder>) -> Result<Finding, AllocError>
     let (verdict, steps) = monitor.finish_in_order()?;
     match steps {
         Some(steps) => Ok(Finding::Ordered(verdict, steps)),
-        None => Ok(Finding::Judged(verdict)),
-    }
-}
-
-// The verdict on what a monitor was fed, with what shows it where it is a violation.
-fn explained(monitor: Monitor<Recorder>) -> Result<Finding, AllocError>
-    ensures { IfOk result (IsTraceFinding monitor.parts (on monitor.rules false true)) }
-{
-    let (verdict, cycle) = monitor.finish_explained()?;
-    match cycle {
-        Some(cycle) => Ok(Finding::Explained(verdict, cycle)),
         None => Ok(Finding::Judged(verdict)),
     }
 }

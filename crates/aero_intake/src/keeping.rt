@@ -5,9 +5,9 @@ ghost use Rattle.aero_verdict.specs.Finding.{Terms as Asked, IsTraceFinding};
 
 use crate::live::Live;
 use crate::terms::Terms;
-use aero_grammar::parsed::Parsed;
-use aero_model::verdict::Finding;
-use aero_pieces::question::Parts;
+use aero_grammar::Parsed;
+use aero_model::Finding;
+use aero_pieces::Parts;
 use std::alloc::{AllocError, Global};
 use std::mem;
 

@@ -52,3 +52,7 @@ pub mod plan;
 pub mod source;
 pub mod terms;
 pub mod track;
+
+pub use intake::{Intake, Taken};
+pub use plan::{Keeping, Plan};
+pub use source::Source;

@@ -6,9 +6,8 @@ ghost use Rattle.aero_intake.specs.Lives.{watched_by};
 
 use crate::judge::Judge;
 use crate::terms::Terms;
-use aero_grammar::parsed::Parsed;
-use aero_model::except::Except;
-use aero_model::verdict::Finding;
+use aero_grammar::Parsed;
+use aero_model::{Except, Finding};
 use std::alloc::{AllocError, Global};
 use std::collections::VecDeque;
 use std::marker::Model;

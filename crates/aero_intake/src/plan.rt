@@ -2,10 +2,8 @@
 ghost use Rattle.std.specs.Prelude.{◌≡◌, ◌<◌, ◌≤◌, ◌^◌, if◌then◌else◌};
 
 use crate::terms::Terms;
-use aero_model::except::SharedExcept;
-use aero_model::limits::Limits;
-use aero_model::name::Name;
-use aero_report::{Form, Options};
+use aero_model::{Limits, Name, SharedExcept};
+use aero_report::{Form, Note, Options};
 use std::alloc::AllocError;
 
 /// How many events of a source are kept at most until it is judged. Once more have come its blocks are judged as they
@@ -64,7 +62,7 @@ impl Plan {
     ghost use Rattle.std.specs.Prelude.{◌≡◌, ◌<◌, ◌≤◌, ◌^◌, ◌↔◌, IsSome, IfSome, IfOk, map, true, false};
     ghost use Rattle.aero_intake.specs.Plans.{IsPlan};
     ghost use Rattle.aero_intake.specs.PlanTerms.{options_in, options_with, terms_of};
-    ghost use Rattle.aero_report.specs.Asked.{options_of};
+    ghost use Rattle.aero_report.specs.Asked.{note_of, options_of};
     ghost use Rattle.aero_report.specs.declared.form.Form.TheVariants.{Text};
     ghost use Rattle.aero_verdict.specs.Finding.{asking};
 
@@ -156,16 +154,16 @@ impl Plan {
     }
 
     /// How the sources are judged, as the summary of a report tells it. No label is told as one with which no block
-    /// begins.
+    /// begins, and no note on a source.
     pub fn options(&self) -> Options<'_>
         ensures { options_of result ≡ options_in (terms_of self.now) }
     {
-        self.options_with(&[])
+        self.options_with(&[], &[])
     }
 
-    /// The same, with the labels with which no block begins.
-    pub fn options_with<'a>(&'a self, unused: &'a [&'a Name]) -> Options<'a>
-        ensures { options_of result ≡ options_with (terms_of self.now) (map (λ label. label.now) unused.now) }
+    /// The same, with the labels with which no block begins, and the notes on sources.
+    pub fn options_with<'a>(&'a self, unused: &'a [&'a Name], notes: &'a [Note]) -> Options<'a>
+        ensures { options_of result ≡ options_with (terms_of self.now) (map (λ label. label.now) unused.now) (map note_of notes.now) }
     {
         Options {
             limits: &self.limits,
@@ -173,6 +171,7 @@ impl Plan {
             order: self.order,
             explain: self.explain,
             unused,
+            notes,
         }
     }
 

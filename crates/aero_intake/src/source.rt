@@ -1,5 +1,5 @@
 //! What is read.
-use aero_model::counting::Counting;
+use aero_model::Counting;
 
 /// A source: the name that it has in the report, whatever its bytes, and the reader of its text.
 #[derive(Drop)]

@@ -2,8 +2,7 @@
 ghost use Rattle.std.specs.Prelude.{◌≡◌};
 ghost use Rattle.aero_verdict.specs.Finding.{asking};
 
-use aero_model::except::{Except, SharedExcept};
-use aero_model::limits::Limits;
+use aero_model::{Except, Limits, SharedExcept};
 use std::marker::Model;
 
 /// The limits of a source, the labels of its blocks that are no transactions, whether its serial order is asked for,

@@ -6,10 +6,9 @@ ghost use Rattle.aero_intake.specs.Tracks.{TakesKnown, GivesParts};
 
 use crate::keeping::{Basis, Held, add_to, basis_of, held_count, is_certain, nothing_held};
 use crate::terms::Terms;
-use aero_grammar::parsed::Parsed;
-use aero_model::verdict::{Ending, Finding};
-use aero_pieces::answer::Value;
-use aero_pieces::question::Parts;
+use aero_grammar::Parsed;
+use aero_model::{Ending, Finding};
+use aero_pieces::{Parts, Value};
 use std::alloc::{AllocError, Global};
 use std::marker::Model;
 use std::mem;
@@ -154,6 +153,10 @@ pub fn take_value(
         }
         Value::Explained(verdict, cycle) => {
             take_finding(track, Finding::Explained(verdict, cycle));
+            Ok(())
+        }
+        Value::Opened(verdict, blocks) => {
+            take_finding(track, Finding::Opened(verdict, blocks));
             Ok(())
         }
     }

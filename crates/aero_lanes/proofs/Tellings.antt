@@ -8,7 +8,7 @@ use Rattle.std.proofs.lemmas.Option.{slice_get_within}
 use Rattle.aero_model.specs.declared.verdict.Ending.{Ending}
 use Rattle.aero_model.specs.declared.verdict.Finding.{Finding}
 use Rattle.aero_model.specs.CallCounts.{Seen}
-use Rattle.aero_report.specs.Texts.{counts_of, counted}
+use Rattle.aero_report.specs.Texts.{counted}
 use Rattle.aero_report.specs.declared.form.Form.{Form}
 use Rattle.aero_report.specs.Forms.{source_line_in}
 use Rattle.aero_batch.specs.declared.outcome.Cause.{Cause}
@@ -16,7 +16,7 @@ use Rattle.aero_batch.specs.declared.outcome.Cause.TheVariants.{Memory, Write}
 use Rattle.aero_batch.specs.declared.told.Told.{Told}
 use Rattle.aero_batch.specs.Alone.{TellsOf}
 use Rattle.aero_batch.specs.Faults.{fault_of}
-use Rattle.aero_batch.specs.Founds.{Sighted, Found, IsFoundOf, Took, sighted, ending_of, faulty_line, lines_of_all, counts_of_all}
+use Rattle.aero_batch.specs.Founds.{Sighted, Found, IsFoundOf, Took, sighted, ending_of, faulty_line, lines_of_all}
 use Rattle.aero_batch.specs.Telling.{WasCut, TellsNext, IsOneMore, total}
 use Rattle.aero_batch.proofs.Stands.{get_push, lines_more, counts_more, took_more, took_nothing, slice_get_some, the_some}
 use Rattle.aero_intake.specs.declared.source.Source.{Source}

@@ -6,7 +6,7 @@ ghost use Rattle.aero_verdict.specs.Finding.{Terms};
 
 use crate::seat::{Seat, end, is_running, may_wait, start};
 use crate::shared::Shared;
-use aero_intake::plan::Plan;
+use aero_intake::Plan;
 use crossbeam_channel::Receiver;
 use std::io::Read;
 use std::sync::Wait;

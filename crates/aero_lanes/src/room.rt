@@ -6,7 +6,7 @@ ghost use Rattle.aero_verdict.specs.Finding.{Terms};
 
 use crate::seat::{Seat, source_of};
 use aero_batch::told::Told;
-use aero_intake::source::Source;
+use aero_intake::Source;
 use crossbeam_channel::{Receiver, Sender};
 use std::alloc::{AllocError, Global};
 use std::io::Read;

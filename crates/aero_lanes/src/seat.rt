@@ -7,7 +7,7 @@ ghost use Rattle.aero_verdict.specs.Finding.{Terms};
 
 use crate::lane::{Ended, Finds, work};
 use crate::shared::Shared;
-use aero_intake::source::Source;
+use aero_intake::Source;
 use std::io::Read;
 use std::mem;
 use std::snapshot::Snapshot;

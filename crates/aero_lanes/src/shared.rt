@@ -1,5 +1,5 @@
 //! What the calling thread and all lanes are handed.
-use aero_intake::plan::Plan;
+use aero_intake::Plan;
 use crossbeam_channel::Sender;
 use std::alloc::Global;
 use std::sync::atomic::AtomicBool;

@@ -8,10 +8,10 @@ ghost use Rattle.aero_model.specs.CallCounts.{Seen, seen_by};
 use crate::lanes::Lanes;
 use crate::seat::Seat;
 use crate::shared::Shared;
+use aero_batch::Cause;
 use aero_batch::find::Judged;
-use aero_batch::outcome::Cause;
 use aero_batch::told::{Said, Style, Told, tell_found};
-use aero_model::counting::Counting;
+use aero_model::Counting;
 use std::io::{Read, Write};
 
 // How the texts of the run are made.

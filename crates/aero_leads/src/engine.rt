@@ -1,10 +1,8 @@
 //! First places as an engine.
 use crate::leads::Leads;
-use aero_engine::by_kind::{self, ByKind};
-use aero_engine::engine::Engine;
-use aero_engine::spent::Spent;
-use aero_model::numbered::Numbered;
-use aero_shape::admission::Admitted;
+use aero_engine::{ByKind, Engine, Spent, by_kind};
+use aero_model::Numbered;
+use aero_shape::Admitted;
 use std::alloc::Global;
 
 impl ByKind for Leads {

@@ -8,7 +8,7 @@ ghost use Rattle.aero_model.specs.Shape.{IsWellFormed};
 ghost use Rattle.aero_engine.specs.Events.{event, IsIdle};
 
 use crate::kept::Kept;
-use aero_engine::spent::Spent;
+use aero_engine::Spent;
 use std::alloc::Global;
 
 /// The first places of the events so far. Threads, variables and locks go by numbers from 0.

@@ -60,3 +60,5 @@ mod seen;
 mod table;
 mod thread;
 mod variable;
+
+pub use leads::Leads;

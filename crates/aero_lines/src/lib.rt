@@ -27,3 +27,5 @@
 pub mod cutter;
 pub mod laws;
 mod scan;
+
+pub use cutter::{Block, Cutter};

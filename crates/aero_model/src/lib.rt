@@ -46,3 +46,14 @@ pub mod name;
 pub mod numbered;
 pub mod verdict;
 pub mod words;
+
+pub use counting::Counting;
+pub use event::{Event, Op};
+pub use except::{Except, SharedExcept};
+pub use limits::Limits;
+pub use name::{Name, NameFault};
+pub use numbered::{Numbered, What};
+pub use verdict::{
+    Counts, Cycle, CycleStep, CycleTransaction, Ending, Extent, Finding, LineFault, OpenBlock,
+    ShapeFault, Step, Verdict,
+};

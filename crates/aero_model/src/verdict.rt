@@ -117,6 +117,15 @@ pub struct Cycle {
     pub closing: Event,
 }
 
+/// A block that is open at the end of a trace: the line of its outermost begin, from 1, its thread, and its label, if it
+/// has one.
+#[derive(Drop)]
+pub struct OpenBlock {
+    pub line: u32,
+    pub thread: Name,
+    pub label: Option<Name>,
+}
+
 /// How the reading of a source ended.
 #[derive(Clone, Copy, Debug, PartialEq, Eq)]
 pub enum Ending {
@@ -134,6 +143,8 @@ pub enum Finding {
     Ordered(Verdict, Vec<Step>),
     /// The verdict, which is `Violation`, and a telling cycle.
     Explained(Verdict, Cycle),
+    /// The verdict, which is `Pending`, and the open blocks in the order of their lines, of over 64 the first 64.
+    Opened(Verdict, Vec<OpenBlock>),
     Broken(u64),
     TooLarge,
 }

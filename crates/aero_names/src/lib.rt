@@ -34,3 +34,6 @@ pub mod laws;
 pub mod list;
 pub mod names;
 mod print;
+
+pub use list::NameList;
+pub use names::{Names, NamesFault};

@@ -3,7 +3,7 @@ use crate::index::{find, found_at_head, grow, make_room, spread};
 use crate::key::{Key, kept_key};
 use crate::latest::{Latest, Way};
 use crate::list::NameList;
-use aero_model::name::Name;
+use aero_model::Name;
 use std::alloc::{AllocError, Global};
 use std::marker::Model;
 use thiserror::Error;

@@ -32,3 +32,6 @@ mod lookup;
 mod marks;
 pub mod order;
 pub mod transactions;
+
+pub use order::least_order;
+pub use transactions::Transactions;

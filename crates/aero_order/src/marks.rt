@@ -8,7 +8,7 @@ ghost use Rattle.aero_model.specs.Shape.{is_release_of};
 ghost use Rattle.aero_order.specs.LastNumbers.{AreReadersWith, AreReadsAfter, AreLinked};
 ghost use Rattle.aero_order.specs.MarkWords.{mark_at, reads_at};
 
-use aero_model::numbered::{Numbered, What};
+use aero_model::{Numbered, What};
 use std::alloc::{AllocError, Global};
 
 /// The numbers of the transactions that read a variable since its last write.

@@ -12,7 +12,7 @@ use crate::first::First;
 use crate::lookup::look_up;
 use crate::marks::Marks;
 use crate::order::least_order;
-use aero_model::numbered::Numbered;
+use aero_model::Numbered;
 use std::alloc::{AllocError, Global};
 
 /// The transactions of the events so far, by numbers in the order of their first events.

@@ -4,7 +4,7 @@ use Rattle.aero_model.specs.declared.verdict.Finding.TheVariants as findings
 use Rattle.aero_pieces.specs.declared.question.Question.{Question}
 use Rattle.aero_pieces.specs.declared.question.Question.TheVariants.{Parse, Check}
 use Rattle.aero_pieces.specs.declared.answer.Value.{Value}
-use Rattle.aero_pieces.specs.declared.answer.Value.TheVariants.{Parsed, Judged, Ordered, Explained}
+use Rattle.aero_pieces.specs.declared.answer.Value.TheVariants.{Parsed, Judged, Ordered, Explained, Opened}
 use Rattle.aero_grammar.specs.Reading.{reading_of}
 use Rattle.aero_verdict.specs.Finding.{asking, IsTraceFinding}
 
@@ -16,6 +16,8 @@ ValueFits (Check trace parts limits labels order explain) (Ordered verdict steps
     IsTraceFinding parts (asking limits labels order explain) (findings.Ordered verdict steps)
 ValueFits (Check trace parts limits labels order explain) (Explained verdict cycle) =
     IsTraceFinding parts (asking limits labels order explain) (findings.Explained verdict cycle)
+ValueFits (Check trace parts limits labels order explain) (Opened verdict blocks) =
+    IsTraceFinding parts (asking limits labels order explain) (findings.Opened verdict blocks)
 ValueFits _ _ = ⊥
 
 -- the same as a mere fact: what shows the verdict isn't kept

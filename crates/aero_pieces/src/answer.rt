@@ -1,17 +1,16 @@
 //! Answers, each with its question.
-ghost use Rattle.std.specs.Prelude.{◌≡◌, ℕ, Bool, true, false, IfOk};
+ghost use Rattle.std.specs.Prelude.{◌≡◌, ℕ, Bool, true, false, List, IfOk};
 ghost use Rattle.std.specs.Arc.{arc_value};
-ghost use Rattle.aero_verdict.specs.Ordered.{has_order};
-ghost use Rattle.aero_verdict.specs.Verdict.{under, IsVerdict};
+ghost use Rattle.aero_model.specs.declared.limits.Limits.{Limits};
+ghost use Rattle.aero_model.specs.Exempt.{Listed};
+ghost use Rattle.aero_grammar.specs.Reading.{Reading};
+ghost use Rattle.aero_verdict.specs.Finding.{asking, IsTraceFinding, Terms};
 ghost use Rattle.aero_pieces.specs.Values.{IsValueOf};
 
 use crate::question::Question;
-use aero_grammar::block::parse_block;
-use aero_grammar::parsed::Parsed;
-use aero_model::except::Except;
-use aero_model::limits::Limits;
-use aero_model::verdict::{Cycle, Finding, Step, Verdict};
-use aero_verdict::{check_trace, check_trace_explained, check_trace_in_full, check_trace_in_order};
+use aero_grammar::{Parsed, parse_block};
+use aero_model::{Cycle, Except, Finding, Limits, OpenBlock, Step, Verdict};
+use aero_verdict::{check_trace, check_trace_in_full, check_trace_in_order, explain_trace};
 use std::alloc::{AllocError, Global};
 use std::marker::Model;
 use std::sync::Arc;
@@ -29,6 +28,9 @@ pub enum Value {
     /// The verdict, which is `Violation`, and a telling cycle with the label of the block in which it begins. It
     /// is given exactly where a violation is to be explained and the verdict is one.
     Explained(Verdict, Cycle),
+    /// The verdict, which is `Pending`, and the first of the open blocks. It is given exactly where what is found is to
+    /// be explained and the verdict is one.
+    Opened(Verdict, Vec<OpenBlock>),
 }
 
 /// A question with its value. `Question::answer` alone makes one.
@@ -125,16 +127,11 @@ fn find(
 ) -> Result<Value, AllocError>
     ensures { IfOk result (λ value. (trace : ℕ) → IsValueOf (Question.Check trace parts.now limits.now except.now true true) value) }
 {
-    match check_trace_in_full(alloc, parts, limits, except)? {
-        Finding::Judged(verdict) => Ok(Value::Judged(verdict)),
-        Finding::Ordered(verdict, steps) => Ok(Value::Ordered(verdict, steps)),
-        Finding::Explained(verdict, cycle) => Ok(Value::Explained(verdict, cycle)),
-        Finding::Broken(_) | Finding::TooLarge => unreachable!(),
-    }
+    let finding = check_trace_in_full(alloc, parts, limits, except)?;
+    Ok(value_of(finding))
 }
 
-// The verdict on the trace that the parts hold, and, where `explain` is true and it is a violation, the events of a
-// telling cycle. It is the value of each question on them for which no order goes with the verdict.
+// The verdict on the trace that the parts hold, and what shows it, where `explain` is true and that goes with it.
 fn judge(
     alloc: Global,
     parts: &[Parsed],
@@ -142,18 +139,28 @@ fn judge(
     except: &Except,
     explain: bool,
 ) -> Result<Value, AllocError>
-    ensures { IfOk result (λ value. (trace : ℕ) (order : Bool) →
-        ((verdict : Verdict) → IsVerdict parts.now (under limits.now except.now) verdict → has_order order verdict ≡ false) →
-        IsValueOf (Question.Check trace parts.now limits.now except.now order explain) value) }
+    ensures { IfOk result (λ value. (trace : ℕ) → IsValueOf (Question.Check trace parts.now limits.now except.now false explain) value) }
 {
     if !explain {
         let verdict = check_trace(alloc, parts, limits, except)?;
         return Ok(Value::Judged(verdict));
     }
-    let (verdict, cycle) = check_trace_explained(alloc, parts, limits, except)?;
-    match cycle {
-        Some(cycle) => Ok(Value::Explained(verdict, cycle)),
-        None => Ok(Value::Judged(verdict)),
+    let finding = explain_trace(alloc, parts, limits, except)?;
+    Ok(value_of(finding))
+}
+
+// What is found of a trace, as the value of the question on it.
+fn value_of(finding: Finding) -> Value
+    requires { (parts : List Reading) × (terms : Terms) × IsTraceFinding parts terms finding }
+    ensures { (trace : ℕ) (parts : List Reading) (limits : Limits) (labels : Listed) (order explain : Bool) →
+        IsTraceFinding parts (asking limits labels order explain) finding → IsValueOf (Question.Check trace parts limits labels order explain) result }
+{
+    match finding {
+        Finding::Judged(verdict) => Value::Judged(verdict),
+        Finding::Ordered(verdict, steps) => Value::Ordered(verdict, steps),
+        Finding::Explained(verdict, cycle) => Value::Explained(verdict, cycle),
+        Finding::Opened(verdict, blocks) => Value::Opened(verdict, blocks),
+        Finding::Broken(_) | Finding::TooLarge => unreachable!(),
     }
 }
 

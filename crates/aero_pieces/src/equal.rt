@@ -2,9 +2,8 @@
 ghost use Rattle.std.specs.Prelude.{◌≡◌, ◌↔◌, IsTrue};
 
 use crate::question::Question;
-use aero_grammar::line_event::LineEvent;
-use aero_grammar::parsed::Parsed;
-use aero_model::limits::Limits;
+use aero_grammar::{LineEvent, Parsed};
+use aero_model::Limits;
 
 /// Whether the questions have the same content. The numbers and lengths are compared first, and the
 /// bytes, or the names and events, only where those agree.

@@ -32,4 +32,6 @@ mod equal;
 pub mod laws;
 pub mod question;
 
+pub use answer::{Answer, Value};
 pub use equal::same;
+pub use question::{Bytes, Parts, Question};

@@ -3,9 +3,8 @@ ghost use Rattle.std.specs.Prelude.{◌≡◌, ◌<◌, ◌≤◌, ◌^◌, ◌�
 ghost use Rattle.std.specs.Arc.{arc_value};
 ghost use Rattle.std.specs.Vec.{vec_len};
 
-use aero_grammar::parsed::Parsed;
-use aero_model::except::SharedExcept;
-use aero_model::limits::Limits;
+use aero_grammar::Parsed;
+use aero_model::{Limits, SharedExcept};
 use std::alloc::{AllocError, Global};
 use std::marker::Model;
 use std::sync::Arc;

@@ -1,8 +1,8 @@
 -- What was noted of the sources, one after another.
-use Rattle.std.proofs.Common.{◌≡◌, ◌∙◌, ◌&&◌, ℕ, zero, suc, Bool, true, false, if◌then◌else◌, List, [], ◌∷◌, ◌++◌, length, get_or, nat_lt, Option, None, Some, Result, Ok, Err, map, append_assoc, inl, inr, ap, sym, subst, refl}
+use Rattle.std.proofs.Common.{◌≡◌, ◌∙◌, ◌&&◌, ℕ, zero, suc, Bool, true, false, if◌then◌else◌, List, [], ◌∷◌, ◌++◌, length, get_or, nat_lt, Option, None, Some, map, append_assoc, inl, inr, ap, sym, subst, refl}
 use Rattle.std.specs.Borrow.{Bor}
 use Rattle.std.specs.Option.{option_copied}
-use Rattle.std.specs.Prelude.{bytes_eq, slice_get, is_some, IfSome, IfOk}
+use Rattle.std.specs.Prelude.{bytes_eq, slice_get, is_some, IfSome}
 use Rattle.std.specs.List.{filter, list_all, list_any}
 use Rattle.std.proofs.lemmas.Bool.{cases_lt, lt-ltb, ltb-true}
 use Rattle.std.proofs.lemmas.Option.{slice_get_past, slice_get_read}
@@ -12,16 +12,16 @@ use Rattle.aero_model.specs.declared.verdict.Ending.{Ending}
 use Rattle.aero_model.specs.CallCounts.{inner_of}
 use Rattle.aero_batch.specs.declared.outcome.FaultyLine.{FaultyLine}
 use Rattle.aero_intake.specs.declared.source.Source.{Source}
+use Rattle.aero_report.specs.Options.{Note}
 use Rattle.aero_program.specs.declared.input.Input.{Input}
-use Rattle.aero_program.specs.declared.notes.Naming.{Naming}
 use Rattle.aero_program.specs.declared.stamp.Stamp.{Stamp}
 use Rattle.aero_program.specs.Inputs.{opened_of, reason_of, start_of}
 use Rattle.aero_program.specs.Labels.{missing_of}
-use Rattle.aero_program.specs.Notes.{AreFaulty, AreNoted, AreNotes, AreShown, AreTold, GrowsBy, Noted, Remark, fault_told, label_lines, missing_in_each, named_input, note, noted_of, noted_of_all, notes, was_too_large}
+use Rattle.aero_program.specs.Notes.{AreFaulty, AreNoted, AreNotes, AreShown, GrowsBy, Noted, Remark, fault_told, missing_in_each, named_input, note_items, noted_of, noted_of_all, notes_on, was_too_large}
 use Rattle.aero_program.specs.Looks.{ShowsAs}
 use Rattle.aero_faults.specs.declared.look.Look.TheVariants.{Nothing}
 
-pub one_more : {S O F : Type 0} (words : Naming) (sources : List (Source (Input S O F))) (source : Source (Input S O F)) (endings : List (ℕ × Ending)) (faults : List (Option FaultyLine))
+pub one_more : {S O F : Type 0} (words : Bool) (sources : List (Source (Input S O F))) (source : Source (Input S O F)) (endings : List (ℕ × Ending)) (faults : List (Option FaultyLine))
     → noted_of_all words (sources ++ source ∷ []) endings faults
     ≡ noted_of_all words sources endings faults ++ noted_of words source (was_too_large (slice_get endings (length sources))) (fault_told (slice_get faults (length sources))) ∷ []
 one_more words [] source [] [] = refl
@@ -41,20 +41,20 @@ shown_more : (holds : List ℕ → Stamp → Option (List ℕ) → Type 0) (rema
 shown_more holds [] remark all last = (last, tt)
 shown_more holds (first ∷ more) remark all last = (all.0, shown_more holds more remark all.1 last)
 
--- the lines on one source more
-pub notes_grown : (holds : List ℕ → Stamp → Option (List ℕ) → Type 0) (noted : List Noted) (n : Noted) (old new : List ℕ) → AreNotes holds noted old → GrowsBy holds old new n → AreNotes holds (noted ++ n ∷ []) new
+-- the notes on one source more
+pub notes_grown : (holds : List ℕ → Stamp → Option (List ℕ) → Type 0) (noted : List Noted) (n : Noted) (old new : List Note) → AreNotes holds noted old → GrowsBy holds old new n → AreNotes holds (noted ++ n ∷ []) new
 notes_grown holds noted n old new before grows =
     let last : Remark = record { noted = n; look = grows.look } in
     record {
       remarks = before.remarks ++ last ∷ [];
       are = map-append (λ r. r.noted) before.remarks (last ∷ []) ∙ ap (λ l. l ++ n ∷ []) before.are;
       shown = shown_more holds before.remarks last before.shown grows.shown;
-      told = grows.grown ∙ ap (λ l. l ++ note last) before.told
-          ∙ sym (flat_map-append note before.remarks (last ∷ []) ∙ ap (λ l. notes before.remarks ++ l) (append-nil (note last)));
+      told = grows.grown ∙ ap (λ l. l ++ note_items last) before.told
+          ∙ sym (flat_map-append note_items before.remarks (last ∷ []) ∙ ap (λ l. notes_on before.remarks ++ l) (append-nil (note_items last)));
     }
 
--- the parts of the lines on a source
-pub four_parts : (old a b c d one two three four : List ℕ) → one ≡ old ++ a → two ≡ one ++ b → three ≡ two ++ c → four ≡ three ++ d → four ≡ old ++ (a ++ (b ++ (c ++ d)))
+-- the notes on a source
+pub four_parts : (old a b c d one two three four : List Note) → one ≡ old ++ a → two ≡ one ++ b → three ≡ two ++ c → four ≡ three ++ d → four ≡ old ++ (a ++ (b ++ (c ++ d)))
 four_parts old a b c d one two three four p q r s =
     s ∙ ap (λ l. l ++ d) (r ∙ ap (λ l. l ++ c) (q ∙ ap (λ l. l ++ b) p)) ∙ append_assoc ((old ++ a) ++ b) c d ∙ append_assoc (old ++ a) b (c ++ d) ∙ append_assoc old a (b ++ (c ++ d))
 
@@ -62,31 +62,27 @@ abbrev large_in : Option Noted → Bool
 large_in None = false
 large_in (Some noted) = noted.too_large
 
-abbrev word_in : Naming → Option Noted → Bool
-word_in words None = words.are_words
+abbrev word_in : Bool → Option Noted → Bool
+word_in words None = words
 word_in words (Some noted) = noted.is_word
-
-abbrev terminal_in : Naming → Option Noted → Bool
-terminal_in words None = words.on_terminal
-terminal_in words (Some noted) = noted.on_terminal
 
 abbrev fault_in : Option Noted → Option FaultyLine
 fault_in None = None
 fault_in (Some noted) = noted.fault
 
-pub are_noted : {S O F : Type 0} (words : Naming) (sources : List (Source (Input S O F))) (endings : List (ℕ × Ending)) (faults : List (Option FaultyLine))
+pub are_noted : {S O F : Type 0} (words : Bool) (sources : List (Source (Input S O F))) (endings : List (ℕ × Ending)) (faults : List (Option FaultyLine))
     → AreNoted words endings (noted_of_all words sources endings faults)
 are_noted words [] endings faults at n is = absurd (cc)
-are_noted words (source ∷ more) [] [] zero n is = (sym (ap large_in is), sym (ap (word_in words) is), sym (ap (terminal_in words) is))
+are_noted words (source ∷ more) [] [] zero n is = (sym (ap large_in is), sym (ap (word_in words) is))
 are_noted words (source ∷ more) [] [] (suc at) n is = are_noted words more [] [] at n is
-are_noted words (source ∷ more) [] (fault ∷ faults) zero n is = (sym (ap large_in is), sym (ap (word_in words) is), sym (ap (terminal_in words) is))
+are_noted words (source ∷ more) [] (fault ∷ faults) zero n is = (sym (ap large_in is), sym (ap (word_in words) is))
 are_noted words (source ∷ more) [] (fault ∷ faults) (suc at) n is = are_noted words more [] faults at n is
-are_noted words (source ∷ more) (ending ∷ rest) [] zero n is = (sym (ap large_in is), sym (ap (word_in words) is), sym (ap (terminal_in words) is))
+are_noted words (source ∷ more) (ending ∷ rest) [] zero n is = (sym (ap large_in is), sym (ap (word_in words) is))
 are_noted words (source ∷ more) (ending ∷ rest) [] (suc at) n is = are_noted words more rest [] at n is
-are_noted words (source ∷ more) (ending ∷ rest) (fault ∷ faults) zero n is = (sym (ap large_in is), sym (ap (word_in words) is), sym (ap (terminal_in words) is))
+are_noted words (source ∷ more) (ending ∷ rest) (fault ∷ faults) zero n is = (sym (ap large_in is), sym (ap (word_in words) is))
 are_noted words (source ∷ more) (ending ∷ rest) (fault ∷ faults) (suc at) n is = are_noted words more rest faults at n is
 
-pub are_faulty : {S O F : Type 0} (words : Naming) (sources : List (Source (Input S O F))) (endings : List (ℕ × Ending)) (faults : List (Option FaultyLine))
+pub are_faulty : {S O F : Type 0} (words : Bool) (sources : List (Source (Input S O F))) (endings : List (ℕ × Ending)) (faults : List (Option FaultyLine))
     → AreFaulty faults (noted_of_all words sources endings faults)
 are_faulty words [] endings faults at n is = absurd (cc)
 are_faulty words (source ∷ more) [] [] zero n is = sym (ap fault_in is)
@@ -119,19 +115,18 @@ unfolding unseen
 unseen_shown holds [] = tt
 unseen_shown holds (n ∷ more) = (tt, unseen_shown holds more)
 
--- what was noted, with what second looks showed, and lines behind those on the sources
-pub record ToldRemarks {T E : Type 0} (holds : List ℕ → Stamp → Option (List ℕ) → Type 0) (items : T → List ℕ) (noted : List Noted) (lines : List ℕ) (result : Result T E) : Type 0 where
+-- what was noted, with what second looks showed, and the notes of it, where there are any
+pub record ToldRemarks {V : Type 0} (holds : List ℕ → Stamp → Option (List ℕ) → Type 0) (items : V → List Note) (noted : List Noted) (notes : Option V) : Type 0 where
   pub remarks : List Remark
   pub are : map (λ r. r.noted) remarks ≡ noted
   pub shown : AreShown holds remarks
-  pub told : IfOk result (λ text. items text ≡ notes remarks ++ lines)
+  pub told : IfSome notes (λ n. items n ≡ notes_on remarks)
 
 -- what is noted is noted of names and inputs
-noted_pair : {S O F : Type 0} → Naming → List ℕ × Input S O F → Bool → Option FaultyLine → Noted
-noted_pair naming pair too_large fault = record {
+noted_pair : {S O F : Type 0} → Bool → List ℕ × Input S O F → Bool → Option FaultyLine → Noted
+noted_pair words pair too_large fault = record {
   name = pair.0;
-  is_word = naming.are_words;
-  on_terminal = naming.on_terminal;
+  is_word = words;
   start = start_of pair.1;
   reason = reason_of pair.1;
   too_large = too_large;
@@ -140,28 +135,28 @@ noted_pair naming pair too_large fault = record {
   missing = missing_of pair.1;
 }
 
-noted_pairs : {S O F : Type 0} → Naming → List (List ℕ × Input S O F) → List (ℕ × Ending) → List (Option FaultyLine) → List Noted
-noted_pairs naming [] endings faults = []
-noted_pairs naming (pair ∷ more) [] [] = noted_pair naming pair false None ∷ noted_pairs naming more [] []
-noted_pairs naming (pair ∷ more) [] (fault ∷ faults) = noted_pair naming pair false fault ∷ noted_pairs naming more [] faults
-noted_pairs naming (pair ∷ more) (ending ∷ rest) [] = noted_pair naming pair (was_too_large (Some ending)) None ∷ noted_pairs naming more rest []
-noted_pairs naming (pair ∷ more) (ending ∷ rest) (fault ∷ faults) = noted_pair naming pair (was_too_large (Some ending)) fault ∷ noted_pairs naming more rest faults
+noted_pairs : {S O F : Type 0} → Bool → List (List ℕ × Input S O F) → List (ℕ × Ending) → List (Option FaultyLine) → List Noted
+noted_pairs words [] endings faults = []
+noted_pairs words (pair ∷ more) [] [] = noted_pair words pair false None ∷ noted_pairs words more [] []
+noted_pairs words (pair ∷ more) [] (fault ∷ faults) = noted_pair words pair false fault ∷ noted_pairs words more [] faults
+noted_pairs words (pair ∷ more) (ending ∷ rest) [] = noted_pair words pair (was_too_large (Some ending)) None ∷ noted_pairs words more rest []
+noted_pairs words (pair ∷ more) (ending ∷ rest) (fault ∷ faults) = noted_pair words pair (was_too_large (Some ending)) fault ∷ noted_pairs words more rest faults
 
-as_pairs : {S O F : Type 0} (naming : Naming) (sources : List (Source (Input S O F))) (endings : List (ℕ × Ending)) (faults : List (Option FaultyLine))
-    → noted_of_all naming sources endings faults ≡ noted_pairs naming (map named_input sources) endings faults
+as_pairs : {S O F : Type 0} (words : Bool) (sources : List (Source (Input S O F))) (endings : List (ℕ × Ending)) (faults : List (Option FaultyLine))
+    → noted_of_all words sources endings faults ≡ noted_pairs words (map named_input sources) endings faults
 unfolding noted_pair noted_pairs
-as_pairs naming [] endings faults = refl
-as_pairs naming (source ∷ more) [] [] = ap (λ l. noted_of naming source false None ∷ l) (as_pairs naming more [] [])
-as_pairs naming (source ∷ more) [] (fault ∷ faults) = ap (λ l. noted_of naming source false fault ∷ l) (as_pairs naming more [] faults)
-as_pairs naming (source ∷ more) (ending ∷ rest) [] = ap (λ l. noted_of naming source (was_too_large (Some ending)) None ∷ l) (as_pairs naming more rest [])
-as_pairs naming (source ∷ more) (ending ∷ rest) (fault ∷ faults) = ap (λ l. noted_of naming source (was_too_large (Some ending)) fault ∷ l) (as_pairs naming more rest faults)
+as_pairs words [] endings faults = refl
+as_pairs words (source ∷ more) [] [] = ap (λ l. noted_of words source false None ∷ l) (as_pairs words more [] [])
+as_pairs words (source ∷ more) [] (fault ∷ faults) = ap (λ l. noted_of words source false fault ∷ l) (as_pairs words more [] faults)
+as_pairs words (source ∷ more) (ending ∷ rest) [] = ap (λ l. noted_of words source (was_too_large (Some ending)) None ∷ l) (as_pairs words more rest [])
+as_pairs words (source ∷ more) (ending ∷ rest) (fault ∷ faults) = ap (λ l. noted_of words source (was_too_large (Some ending)) fault ∷ l) (as_pairs words more rest faults)
 
-noted_same : {S O F : Type 0} (naming : Naming) (kept sources : List (Source (Input S O F))) (endings : List (ℕ × Ending)) (faults : List (Option FaultyLine)) → map named_input kept ≡ map named_input sources
-    → noted_of_all naming kept endings faults ≡ noted_of_all naming sources endings faults
-noted_same naming kept sources endings faults same =
-    as_pairs naming kept endings faults ∙ ap (λ pairs. noted_pairs naming pairs endings faults) same ∙ sym (as_pairs naming sources endings faults)
+noted_same : {S O F : Type 0} (words : Bool) (kept sources : List (Source (Input S O F))) (endings : List (ℕ × Ending)) (faults : List (Option FaultyLine)) → map named_input kept ≡ map named_input sources
+    → noted_of_all words kept endings faults ≡ noted_of_all words sources endings faults
+noted_same words kept sources endings faults same =
+    as_pairs words kept endings faults ∙ ap (λ pairs. noted_pairs words pairs endings faults) same ∙ sym (as_pairs words sources endings faults)
 
-pub missing_noted : {S O F : Type 0} (words : Naming) (sources : List (Source (Input S O F))) (endings : List (ℕ × Ending)) (faults : List (Option FaultyLine))
+pub missing_noted : {S O F : Type 0} (words : Bool) (sources : List (Source (Input S O F))) (endings : List (ℕ × Ending)) (faults : List (Option FaultyLine))
     → map (λ n. n.missing) (noted_of_all words sources endings faults) ≡ map (λ s. missing_of (inner_of s.reader)) sources
 missing_noted words [] endings faults = refl
 missing_noted words (source ∷ more) [] [] = ap (λ l. missing_of (inner_of source.reader) ∷ l) (missing_noted words more [] [])
@@ -169,21 +164,21 @@ missing_noted words (source ∷ more) [] (fault ∷ faults) = ap (λ l. missing_
 missing_noted words (source ∷ more) (ending ∷ rest) [] = ap (λ l. missing_of (inner_of source.reader) ∷ l) (missing_noted words more rest [])
 missing_noted words (source ∷ more) (ending ∷ rest) (fault ∷ faults) = ap (λ l. missing_of (inner_of source.reader) ∷ l) (missing_noted words more rest faults)
 
-told_on : {T E : Type 0} (holds : List ℕ → Stamp → Option (List ℕ) → Type 0) (items : T → List ℕ) (noted : List Noted) (on_terminal : Bool) (labels : List (List ℕ)) (result : Result T E)
-    → IfOk result (λ text. AreTold holds noted on_terminal labels (items text)) → ToldRemarks holds items noted (label_lines on_terminal labels) result
-told_on holds items noted on_terminal labels (Ok text) h = record { remarks = h.remarks; are = h.are; shown = h.shown; told = h.told }
-told_on holds items noted on_terminal labels (Err e) h = record { remarks = map unseen noted; are = unseen_are noted; shown = unseen_shown holds noted; told = tt }
+told_on : {V : Type 0} (holds : List ℕ → Stamp → Option (List ℕ) → Type 0) (items : V → List Note) (noted : List Noted) (notes : Option V)
+    → IfSome notes (λ n. AreNotes holds noted (items n)) → ToldRemarks holds items noted notes
+told_on holds items noted (Some n) h = record { remarks = h.remarks; are = h.are; shown = h.shown; told = h.told }
+told_on holds items noted None h = record { remarks = map unseen noted; are = unseen_are noted; shown = unseen_shown holds noted; told = tt }
 
--- all lines, of sources that are named so, and whose names and inputs were kept, and of labels
-pub told_as : {S O F T E : Type 0} (holds : List ℕ → Stamp → Option (List ℕ) → Type 0) (items : T → List ℕ) (is words : Naming) (kept sources : List (Source (Input S O F)))
-    (given : List (ℕ × Ending)) (faults : List (Option FaultyLine)) (on_terminal : Bool) (labels : List (List ℕ))
-    → is ≡ words → map named_input kept ≡ map named_input sources → (result : Result T E)
-    → IfOk result (λ text. AreTold holds (noted_of_all is kept given faults) on_terminal labels (items text))
-    → ToldRemarks holds items (noted_of_all words sources given faults) (label_lines on_terminal labels) result
-told_as holds items is words kept sources given faults on_terminal labels known same result h =
-    told_on holds items (noted_of_all words sources given faults) on_terminal labels result
-    (subst (λ noted. IfOk result (λ text. AreTold holds noted on_terminal labels (items text))) (noted_same words kept sources given faults same)
-    (subst (λ w. IfOk result (λ text. AreTold holds (noted_of_all w kept given faults) on_terminal labels (items text))) known h))
+-- the notes on sources that are named so, and whose names and inputs were kept
+pub told_as : {S O F V : Type 0} (holds : List ℕ → Stamp → Option (List ℕ) → Type 0) (items : V → List Note) (is words : Bool) (kept sources : List (Source (Input S O F)))
+    (given : List (ℕ × Ending)) (faults : List (Option FaultyLine))
+    → is ≡ words → map named_input kept ≡ map named_input sources → (notes : Option V)
+    → IfSome notes (λ n. AreNotes holds (noted_of_all is kept given faults) (items n))
+    → ToldRemarks holds items (noted_of_all words sources given faults) notes
+told_as holds items is words kept sources given faults known same notes h =
+    told_on holds items (noted_of_all words sources given faults) notes
+    (subst (λ noted. IfSome notes (λ n. AreNotes holds noted (items n))) (noted_same words kept sources given faults same)
+    (subst (λ w. IfSome notes (λ n. AreNotes holds (noted_of_all w kept given faults) (items n))) known h))
 
 -- labels and lists of missing ones
 

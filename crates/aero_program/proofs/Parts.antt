@@ -9,7 +9,7 @@ pub four_parts_of_a_line : (old one two three four first second third fourth : L
 four_parts_of_a_line old one two three four first second third fourth p q r s =
     two_parts old (one ++ two ++ three) four third fourth (two_parts old (one ++ two) three second third (two_parts old one two first second p q) r) s
 
-pub five_parts : (old one two three four five first second third fourth fifth : List ℕ) → first ≡ old ++ one → second ≡ first ++ two
+five_parts : (old one two three four five first second third fourth fifth : List ℕ) → first ≡ old ++ one → second ≡ first ++ two
     → third ≡ second ++ three → fourth ≡ third ++ four → fifth ≡ fourth ++ five
     → fifth ≡ old ++ (one ++ two ++ three ++ four ++ five)
 five_parts old one two three four five first second third fourth fifth p q r s t =
@@ -17,9 +17,8 @@ five_parts old one two three four five first second third fourth fifth p q r s t
     (two_parts old (one ++ two ++ three) four third fourth
     (two_parts old (one ++ two) three second third (two_parts old one two first second p q) r) s) t
 
-pub seven_parts : (old one two three four five six seven first second third fourth fifth sixth seventh : List ℕ) → first ≡ old ++ one → second ≡ first ++ two
-    → third ≡ second ++ three → fourth ≡ third ++ four → fifth ≡ fourth ++ five → sixth ≡ fifth ++ six → seventh ≡ sixth ++ seven
-    → seventh ≡ old ++ (one ++ two ++ three ++ four ++ five ++ six ++ seven)
-seven_parts old one two three four five six seven first second third fourth fifth sixth seventh p q r s t u v =
-    two_parts old (one ++ two ++ three ++ four ++ five ++ six) seven sixth seventh
-    (two_parts old (one ++ two ++ three ++ four ++ five) six fifth sixth (five_parts old one two three four five first second third fourth fifth p q r s t) u) v
+pub six_parts : (old one two three four five six first second third fourth fifth sixth : List ℕ) → first ≡ old ++ one → second ≡ first ++ two
+    → third ≡ second ++ three → fourth ≡ third ++ four → fifth ≡ fourth ++ five → sixth ≡ fifth ++ six
+    → sixth ≡ old ++ (one ++ two ++ three ++ four ++ five ++ six)
+six_parts old one two three four five six first second third fourth fifth sixth p q r s t u =
+    two_parts old (one ++ two ++ three ++ four ++ five) six fifth sixth (five_parts old one two three four five first second third fourth fifth p q r s t) u

@@ -1,7 +1,7 @@
--- The labels with which no block begins, in the summary and beside the report.
-use Rattle.std.proofs.Common.{◌≡◌, ◌∙◌, ℕ, Bool, true, false, true≢false, if◌then◌else◌, List, [], map, Option, None, Some, ap, sym, subst, refl}
+-- The labels with which no block begins, and the notes on sources, in the summary and beside the report.
+use Rattle.std.proofs.Common.{◌≡◌, ◌∙◌, ℕ, Bool, true, false, true≢false, if◌then◌else◌, List, [], map, Option, None, Some, Result, Ok, Err, ap, ap₂, sym, subst, refl}
 use Rattle.std.proofs.KnownBytes.{Appends-nil}
-use Rattle.std.specs.Prelude.{IfSome, IsSome}
+use Rattle.std.specs.Prelude.{IfOk, IfSome, IsSome}
 use Rattle.aero_model.specs.declared.verdict.Ending.{Ending}
 use Rattle.aero_model.specs.CallCounts.{Seen, inner_of}
 use Rattle.aero_batch.specs.declared.outcome.Cause.{Cause}
@@ -9,8 +9,8 @@ use Rattle.aero_batch.specs.declared.outcome.FaultyLine.{FaultyLine}
 use Rattle.aero_batch.specs.Founds.{Took}
 use Rattle.aero_batch.specs.Telling.{SumsUp}
 use Rattle.aero_intake.specs.declared.source.Source.{Source}
+use Rattle.aero_report.specs.Options.{Note}
 use Rattle.aero_program.specs.declared.input.Input.{Input}
-use Rattle.aero_program.specs.declared.notes.Naming.{Naming}
 use Rattle.aero_program.specs.Labels.{missing_of}
 use Rattle.aero_program.specs.Notes.{all_read, labels_told, missing_in_each, noted_of_all}
 use Rattle.aero_program.proofs.Noting.{missing_noted}
@@ -24,36 +24,47 @@ told_if true lists labels = refl
 told_if false lists labels = refl
 
 -- what is found where nothing stopped the run
-pub found_labels : {S O F V : Type 0} (unused : Option V) (names : V → List (List ℕ)) (stopped : Option Cause) (endings : List (ℕ × Ending)) (naming : Naming) (sources : List (Source (Input S O F)))
+pub found_labels : {S O F V : Type 0} (unused : Option V) (names : V → List (List ℕ)) (stopped : Option Cause) (endings : List (ℕ × Ending)) (words : Bool) (sources : List (Source (Input S O F)))
     (given : List (ℕ × Ending)) (faults : List (Option FaultyLine)) (listed labels : List (List ℕ))
     → IfSome unused (λ u. names u ≡ missing_in_each (map (λ s. missing_of (inner_of s.reader)) sources) listed) → listed ≡ (if all_read stopped endings then labels else [])
-    → stopped ≡ None → IfSome unused (λ u. names u ≡ labels_told None endings (noted_of_all naming sources given faults) labels)
-found_labels None names stopped endings naming sources given faults listed labels found are none = tt
-found_labels (Some u) names stopped endings naming sources given faults listed labels found are none =
+    → stopped ≡ None → IfSome unused (λ u. names u ≡ labels_told None endings (noted_of_all words sources given faults) labels)
+found_labels None names stopped endings words sources given faults listed labels found are none = tt
+found_labels (Some u) names stopped endings words sources given faults listed labels found are none =
     let lists : List (List (List ℕ)) = map (λ s. missing_of (inner_of s.reader)) sources in
     found ∙ ap (missing_in_each lists) (are ∙ ap (λ o. if all_read o endings then labels else []) none)
     ∙ told_if (all_read None endings) lists labels
-    ∙ ap (λ ls. if all_read None endings then missing_in_each ls labels else []) (sym (missing_noted naming sources given faults))
+    ∙ ap (λ ls. if all_read None endings then missing_in_each ls labels else []) (sym (missing_noted words sources given faults))
 
 -- where the run stopped before, no text goes out
 any_text : (text other : List ℕ) (stopped cause : Option Cause) (a b : Seen) → (stopped ≡ None → text ≡ other) → SumsUp text stopped a b cause → SumsUp other stopped a b cause
 any_text text other None cause a b same sums = subst (λ t. SumsUp t None a b cause) (same refl) sums
 any_text text other (Some why) cause a b same sums = sums
 
--- the summary has the labels that were wanted
-pub summed_labels : {V : Type 0} (unused : Option V) (names : V → List (List ℕ)) (text_of : List (List ℕ) → List ℕ) (wanted : List (List ℕ)) (stopped cause : Option Cause) (a b : Seen)
-    → (stopped ≡ None → IfSome unused (λ u. names u ≡ wanted)) → ((text : List ℕ) → IfSome unused (λ u. text_of (names u) ≡ text) → SumsUp text stopped a b cause)
-    → SumsUp (text_of wanted) stopped a b cause
-summed_labels None names text_of wanted stopped cause a b are sums = sums (text_of wanted) tt
-summed_labels (Some u) names text_of wanted stopped cause a b are sums =
-    any_text (text_of (names u)) (text_of wanted) stopped cause a b (λ none. ap text_of (are none)) (sums (text_of (names u)) refl)
+-- the summary has the labels and the notes that were wanted
+pub summed_beside : {V N : Type 0} (unused : Option V) (names : V → List (List ℕ)) (told : Option N) (items : N → List Note) (text_of : List (List ℕ) → List Note → List ℕ)
+    (wanted : List (List ℕ)) (notes : List Note) (stopped cause : Option Cause) (a b : Seen)
+    → (stopped ≡ None → IfSome unused (λ u. names u ≡ wanted)) → IfSome told (λ n. items n ≡ notes)
+    → ((text : List ℕ) → IfSome unused (λ u. IfSome told (λ n. text_of (names u) (items n) ≡ text)) → SumsUp text stopped a b cause)
+    → SumsUp (text_of wanted notes) stopped a b cause
+summed_beside None names told items text_of wanted notes stopped cause a b are known sums = sums (text_of wanted notes) tt
+summed_beside (Some u) names None items text_of wanted notes stopped cause a b are known sums = sums (text_of wanted notes) tt
+summed_beside (Some u) names (Some n) items text_of wanted notes stopped cause a b are known sums =
+    any_text (text_of (names u) (items n)) (text_of wanted notes) stopped cause a b (λ none. ap₂ text_of (are none) known) (sums (text_of (names u) (items n)) refl)
+
+-- the lines on sources and on labels are those of the notes that were wanted
+pub lines_told : {T E N : Type 0} (result : Result T E) (text : T → List ℕ) (told : Option N) (items : N → List Note) (lines_of : List Note → List ℕ) (notes : List Note)
+    → IfOk result (λ t. IsSome told) → IfOk result (λ t. IfSome told (λ n. text t ≡ lines_of (items n))) → IfSome told (λ n. items n ≡ notes)
+    → IfOk result (λ t. text t ≡ lines_of notes)
+lines_told (Err e) text told items lines_of notes some lines known = tt
+lines_told (Ok t) text None items lines_of notes some lines known = absurd (true≢false (sym some))
+lines_told (Ok t) text (Some n) items lines_of notes some lines known = lines ∙ ap lines_of known
 
 -- and so have the lines beside the report, where nothing stopped it
-pub told_labels : {S O F V N : Type 0} (unused : Option V) (items : V → List N) (name : N → List ℕ) (told : List N) (stopped cause : Option Cause) (endings : List (ℕ × Ending)) (naming : Naming)
+pub told_labels : {S O F V N : Type 0} (unused : Option V) (items : V → List N) (name : N → List ℕ) (told : List N) (stopped cause : Option Cause) (endings : List (ℕ × Ending)) (words : Bool)
     (sources : List (Source (Input S O F))) (given : List (ℕ × Ending)) (faults : List (Option FaultyLine)) (labels : List (List ℕ))
-    → (stopped ≡ None → IfSome unused (λ u. map name (items u) ≡ labels_told None endings (noted_of_all naming sources given faults) labels))
+    → (stopped ≡ None → IfSome unused (λ u. map name (items u) ≡ labels_told None endings (noted_of_all words sources given faults) labels))
     → (cause ≡ None → IsSome unused) → (cause ≡ None → stopped ≡ None) → (cause ≡ None → IfSome unused (λ u. told ≡ items u)) → IfSome cause (λ why. told ≡ [])
-    → map name told ≡ labels_told cause endings (noted_of_all naming sources given faults) labels
-told_labels unused items name told stopped (Some why) endings naming sources given faults labels found known whole are none = ap (map name) none
-told_labels None items name told stopped None endings naming sources given faults labels found known whole are none = absurd (true≢false (sym (known refl)))
-told_labels (Some u) items name told stopped None endings naming sources given faults labels found known whole are none = ap (map name) (are refl) ∙ found (whole refl)
+    → map name told ≡ labels_told cause endings (noted_of_all words sources given faults) labels
+told_labels unused items name told stopped (Some why) endings words sources given faults labels found known whole are none = ap (map name) none
+told_labels None items name told stopped None endings words sources given faults labels found known whole are none = absurd (true≢false (sym (known refl)))
+told_labels (Some u) items name told stopped None endings words sources given faults labels found known whole are none = ap (map name) (are refl) ∙ found (whole refl)

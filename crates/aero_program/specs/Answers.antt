@@ -24,7 +24,7 @@ use Rattle.aero_program.specs.declared.listing.Unlisted.TheVariants as unlisted
 use Rattle.aero_program.specs.declared.stamp.Stamp.{Stamp}
 use Rattle.aero_program.specs.Command.{AreLimitsFor, are_words, form_on, list_path, listed_by}
 use Rattle.aero_program.specs.Failure.{cut_failure, failure_status, line_of, word_line}
-use Rattle.aero_program.specs.Notes.{AreFaulty, AreNoted, AreShown, Noted, Remark, label_lines, labels_told, note_line, notes, said_on}
+use Rattle.aero_program.specs.Notes.{AreFaulty, AreNoted, AreShown, Noted, Remark, label_lines, labels_told, note_at, note_text, note_texts, notes_on}
 use Rattle.aero_program.specs.Reasons.{reason_words}
 use Rattle.aero_program.specs.Sightings.{AreNames, AreUnlisted, source_sightings}
 use Rattle.aero_program.specs.Status.{end_of_help, end_of_run}
@@ -98,7 +98,7 @@ terms_asked config limits = asking limits (listed_by config.except.items config.
 abbrev pub unused_of : Config → Option Cause → List (ℕ × Ending) → List Noted → List (List ℕ)
 unused_of config cause endings noted = labels_told cause endings noted (listed_by config.except.items config.only.items).labels
 
--- What the configuration asks for was judged: its sources, under the limits that it asks for, blocks that its labels leave out as no transactions. The report in its form went out on standard output, as every run's does, and a flush and the ends of the run decide. The labels with which no block begins stand in the summary, and lines on them behind those on the sources.
+-- What the configuration asks for was judged: its sources, under the limits that it asks for, blocks that its labels leave out as no transactions. The report in its form went out on standard output, as every run's does, and a flush and the ends of the run decide. The notes on the sources and the labels with which no block begins stand in the summary, and their lines go out on standard error.
 pub record WasJudged (holds : List ℕ → Stamp → Option (List ℕ) → Type 0) (config : Config) (given : Option (List ℕ)) (shown shown_after : Shown) (told told_after : Seen) (status : ℕ) : Type 0 where
   pub limits : Limits
   pub limits_are : AreLimitsFor config.long limits
@@ -112,22 +112,22 @@ pub record WasJudged (holds : List ℕ → Stamp → Option (List ℕ) → Type 
   pub cause : Option Cause
   pub noted : List Noted
   pub of_names : map (λ n. n.name) noted ≡ names
-  pub are_noted : AreNoted (record { are_words = are_words config.files; on_terminal = config.terminals.errors }) (if config.long then [] else endings) noted
+  pub are_noted : AreNoted (are_words config.files) (if config.long then [] else endings) noted
   pub are_faulty : AreFaulty faults noted
+  pub remarks : List Remark
+  pub on_noted : map (λ r. r.noted) remarks ≡ noted
+  pub are_shown : AreShown holds remarks
   pub ran : WasRunTo (terms_asked config limits) (form_on config.terminals config.form)
-      (summary_line_in (form_on config.terminals config.form) (options_with (terms_asked config limits) (unused_of config None endings noted)))
+      (summary_line_in (form_on config.terminals config.form) (options_with (terms_asked config limits) (unused_of config None endings noted) (notes_on remarks)))
       (source_sightings config.files given names) sources shown.writer between.writer endings faults counts cause
   pub same : between.unflushed ≡ shown.unflushed
   pub fault : Option ErrorKind
   pub flushed : WasFlushed between shown_after fault
-  pub remarks : List Remark
-  pub on_noted : map (λ r. r.noted) remarks ≡ noted
-  pub are_shown : AreShown holds remarks
-  pub ends : Ends (notes remarks ++ label_lines config.terminals.errors (unused_of config cause endings noted)) (end_of_run config.fail_open cause counts fault) told told_after status
+  pub ends : Ends (note_texts config.terminals.errors (notes_on remarks) ++ label_lines config.terminals.errors (unused_of config cause endings noted)) (end_of_run config.fail_open cause counts fault) told told_after status
 
 -- how it is told that there are no sources, since the list with their names, at this path, can't be had
 abbrev pub TellsUnlisted : (on_terminal : Bool) → (path : List ℕ) → Unlisted → Seen → Seen → ℕ → Type 0
-TellsUnlisted on_terminal path (unlisted.Unread reason) told told_after status = IsTold told told_after (note_line (said_on on_terminal path) (reason_words reason)) × (status ≡ 3)
+TellsUnlisted on_terminal path (unlisted.Unread reason) told told_after status = IsTold told told_after (note_text on_terminal (note_at path None (reason_words reason))) × (status ≡ 3)
 TellsUnlisted on_terminal path unlisted.TooMany told told_after status = Fails failure.TooManyFiles told told_after status
 TellsUnlisted on_terminal path unlisted.Memory told told_after status = Fails failure.Memory told told_after status
 

@@ -1,4 +1,4 @@
--- The lines on the sources on standard error, each with the byte 10 that ends it.
+-- What is told of the sources beside their lines, and the lines of it on standard error, each with the byte 10 that ends it.
 use Rattle.std.specs.Prelude.{◌≡◌, ◌==◌, ◌&&◌, ℕ, Bool, true, false, List, [], ◌∷◌, ◌++◌, Option, None, Some, codes, decimal, bytes_eq, flat_map, map, take, ⊤, if◌then◌else◌, slice_get}
 use Rattle.std.specs.List.{filter, list_all, list_any}
 use Rattle.aero_model.specs.CallCounts.{inner_of}
@@ -11,9 +11,9 @@ use Rattle.aero_batch.specs.declared.outcome.FaultyLine.{FaultyLine}
 use Rattle.aero_faults.specs.declared.look.Look.{Look}
 use Rattle.aero_faults.specs.Sentences.{line_sentence, shape_sentence}
 use Rattle.aero_intake.specs.declared.source.Source.{Source}
+use Rattle.aero_report.specs.Options.{Note}
 use Rattle.aero_report.specs.Shown.{shown_text}
 use Rattle.aero_program.specs.declared.input.Input.{Input}
-use Rattle.aero_program.specs.declared.notes.Naming.{Naming}
 use Rattle.aero_program.specs.declared.reason.Reason.{Reason}
 use Rattle.aero_program.specs.declared.reason.Reason.TheVariants.{System, Unnumbered, NotUtf8}
 use Rattle.aero_program.specs.declared.stamp.Stamp.{Stamp}
@@ -23,11 +23,10 @@ use Rattle.aero_program.specs.Looks.{ShowsAs}
 use Rattle.aero_program.specs.Reasons.{reason_words}
 use Rattle.aero_program.specs.Starts.{byte_order_mark, gzip_mark}
 
--- what was noted of a source: its name, whether that is a FILE word, whether a terminal is told of it, the first three bytes that came, why the first read that failed did, whether it had more bytes than a source may have that isn't long, its faulty line, the stamp that its file had when it was opened, and the labels that it was watched for and with which no line that came begins a block
+-- what was noted of a source: its name, whether that is a FILE word, the first three bytes that came, why the first read that failed did, whether it had more bytes than a source may have that isn't long, its faulty line, the stamp that its file had when it was opened, and the labels that it was watched for and with which no line that came begins a block
 pub record Noted : Type 0 where
   pub name : List ℕ
   pub is_word : Bool
-  pub on_terminal : Bool
   pub start : List ℕ
   pub reason : Option Reason
   pub too_large : Bool
@@ -45,11 +44,10 @@ abbrev pub fault_told : Option (Option FaultyLine) → Option FaultyLine
 fault_told None = None
 fault_told (Some fault) = fault
 
-abbrev pub noted_of : {S O F : Type 0} → Naming → Source (Input S O F) → (too_large : Bool) → Option FaultyLine → Noted
-noted_of naming source too_large fault = record {
+abbrev pub noted_of : {S O F : Type 0} → (are_words : Bool) → Source (Input S O F) → (too_large : Bool) → Option FaultyLine → Noted
+noted_of are_words source too_large fault = record {
   name = source.name.items;
-  is_word = naming.are_words;
-  on_terminal = naming.on_terminal;
+  is_word = are_words;
   start = start_of (inner_of source.reader);
   reason = reason_of (inner_of source.reader);
   too_large = too_large;
@@ -58,19 +56,19 @@ noted_of naming source too_large fault = record {
   missing = missing_of (inner_of source.reader);
 }
 
--- what was noted of the sources, whose names are to be told so, whose readings ended so, and of which these faulty lines were told, as far as the run came
-abbrev pub noted_of_all : {S O F : Type 0} → Naming → List (Source (Input S O F)) → List (ℕ × Ending) → List (Option FaultyLine) → List Noted
-noted_of_all naming [] endings faults = []
-noted_of_all naming (source ∷ more) [] [] = noted_of naming source false None ∷ noted_of_all naming more [] []
-noted_of_all naming (source ∷ more) [] (fault ∷ faults) = noted_of naming source false fault ∷ noted_of_all naming more [] faults
-noted_of_all naming (source ∷ more) (ending ∷ rest) [] = noted_of naming source (was_too_large (Some ending)) None ∷ noted_of_all naming more rest []
-noted_of_all naming (source ∷ more) (ending ∷ rest) (fault ∷ faults) = noted_of naming source (was_too_large (Some ending)) fault ∷ noted_of_all naming more rest faults
+-- what was noted of the sources, whose names are FILE words, or none is, whose readings ended so, and of which these faulty lines were told, as far as the run came
+abbrev pub noted_of_all : {S O F : Type 0} → (are_words : Bool) → List (Source (Input S O F)) → List (ℕ × Ending) → List (Option FaultyLine) → List Noted
+noted_of_all are_words [] endings faults = []
+noted_of_all are_words (source ∷ more) [] [] = noted_of are_words source false None ∷ noted_of_all are_words more [] []
+noted_of_all are_words (source ∷ more) [] (fault ∷ faults) = noted_of are_words source false fault ∷ noted_of_all are_words more [] faults
+noted_of_all are_words (source ∷ more) (ending ∷ rest) [] = noted_of are_words source (was_too_large (Some ending)) None ∷ noted_of_all are_words more rest []
+noted_of_all are_words (source ∷ more) (ending ∷ rest) (fault ∷ faults) = noted_of are_words source (was_too_large (Some ending)) fault ∷ noted_of_all are_words more rest faults
 
--- the sources were noted as too large whose readings ended so, all as FILE words, or none, and all for a terminal, or none
-abbrev pub AreNoted : Naming → List (ℕ × Ending) → List Noted → Type 0
-AreNoted naming endings noted =
+-- the sources were noted as too large whose readings ended so, and all as FILE words, or none
+abbrev pub AreNoted : (are_words : Bool) → List (ℕ × Ending) → List Noted → Type 0
+AreNoted are_words endings noted =
     (at : ℕ) (n : Noted) → slice_get noted at ≡ Some n
-    → (n.too_large ≡ was_too_large (slice_get endings at)) × (n.is_word ≡ naming.are_words) × (n.on_terminal ≡ naming.on_terminal)
+    → (n.too_large ≡ was_too_large (slice_get endings at)) × (n.is_word ≡ are_words)
 
 -- the sources were noted with the faulty lines that were told
 abbrev pub AreFaulty : List (Option FaultyLine) → List Noted → Type 0
@@ -80,12 +78,13 @@ AreFaulty faults noted = (at : ℕ) (n : Noted) → slice_get noted at ≡ Some 
 abbrev pub said_on : (terminal : Bool) → List ℕ → List ℕ
 said_on terminal bytes = if terminal then shown_text bytes else bytes
 
-abbrev pub note_line : List ℕ → List ℕ → List ℕ
-note_line name words = codes "aerodrome: " ++ name ++ codes ": " ++ words ++ 10 ∷ []
+-- a note on the source of this name, or on a line of it
+abbrev pub note_at : (name : List ℕ) → (line : Option ℕ) → List ℕ → Note
+note_at name line words = record { source = name; line = line; text = words }
 
-abbrev pub mark_line : List ℕ → Bool → List ℕ
-mark_line name true = note_line name (codes "starts with a byte order mark, which counts as part of the first thread's name")
-mark_line name false = []
+abbrev pub mark_notes : List ℕ → Bool → List Note
+mark_notes name true = note_at name None (codes "starts with a byte order mark, which counts as part of the first thread's name") ∷ []
+mark_notes name false = []
 
 -- whether there is no such file
 abbrev pub is_missing : Reason → Bool
@@ -100,23 +99,19 @@ reason_text is_word name reason =
     then codes "No such file or directory (standard input is read where no FILE is given)"
     else reason_words reason
 
-abbrev pub reason_line : (is_word : Bool) → List ℕ → Option Reason → List ℕ
-reason_line is_word name None = []
-reason_line is_word name (Some reason) = note_line name (reason_text is_word name reason)
+abbrev pub reason_notes : (is_word : Bool) → List ℕ → Option Reason → List Note
+reason_notes is_word name None = []
+reason_notes is_word name (Some reason) = note_at name None (reason_text is_word name reason) ∷ []
 
 -- how a source that is too large is judged all the same
-abbrev pub size_line : List ℕ → (too_large : Bool) → List ℕ
-size_line name true = note_line name (codes "over 1073741824 bytes: --long judges sources of any size")
-size_line name false = []
+abbrev pub size_notes : List ℕ → (too_large : Bool) → List Note
+size_notes name true = note_at name None (codes "over 1073741824 bytes: --long judges sources of any size") ∷ []
+size_notes name false = []
 
 -- what is told of a faulty line, by what a second look showed
 abbrev pub sentence_of : Fault → Look → List ℕ
 sentence_of (Malformed fault) look = line_sentence fault look
 sentence_of (IllFormed fault) look = shape_sentence fault look
-
--- a line on a line of a source
-abbrev pub line_note : List ℕ → (line : ℕ) → List ℕ → List ℕ
-line_note name line words = codes "aerodrome: " ++ name ++ codes ":" ++ decimal line ++ codes ": " ++ words ++ 10 ∷ []
 
 -- the same of a source that may have none; of one that begins as all that gzip makes it is said how to judge what is in it
 abbrev pub sentence_on : (is_gzip : Bool) → Option FaultyLine → Look → List ℕ
@@ -126,9 +121,9 @@ sentence_on is_gzip (Some faulty) look = if is_gzip
     else sentence_of faulty.fault look
 
 -- what is wrong with the source's faulty line, in this sentence
-abbrev pub fault_line : List ℕ → Option FaultyLine → List ℕ → List ℕ
-fault_line name None sentence = []
-fault_line name (Some faulty) sentence = line_note name faulty.line sentence
+abbrev pub fault_notes : List ℕ → Option FaultyLine → List ℕ → List Note
+fault_notes name None sentence = []
+fault_notes name (Some faulty) sentence = note_at name (Some faulty.line) sentence ∷ []
 
 -- what was noted of a source, and what a second look at its faulty line showed
 pub record Remark : Type 0 where
@@ -140,25 +135,38 @@ abbrev pub AreShown : (holds : List ℕ → Stamp → Option (List ℕ) → Type
 AreShown holds [] = ⊤
 AreShown holds (remark ∷ more) = ShowsAs holds remark.noted.name remark.noted.opened remark.noted.fault remark.look × AreShown holds more
 
--- the lines on a source
-abbrev pub note : Remark → List ℕ
-note remark =
+-- the notes on a source
+abbrev pub note_items : Remark → List Note
+note_items remark =
     let noted = remark.noted in
-    let name = said_on noted.on_terminal noted.name in
-    let sentence = said_on noted.on_terminal (sentence_on (bytes_eq (take 2 noted.start) gzip_mark) noted.fault remark.look) in
-    mark_line name (bytes_eq noted.start byte_order_mark)
-    ++ (reason_line noted.is_word name noted.reason ++ (size_line name noted.too_large ++ fault_line name noted.fault sentence))
+    let sentence = sentence_on (bytes_eq (take 2 noted.start) gzip_mark) noted.fault remark.look in
+    mark_notes noted.name (bytes_eq noted.start byte_order_mark)
+    ++ (reason_notes noted.is_word noted.name noted.reason ++ (size_notes noted.name noted.too_large ++ fault_notes noted.name noted.fault sentence))
 
--- the lines on all sources, in order
-abbrev pub notes : List Remark → List ℕ
-notes all = flat_map note all
+-- the notes on all sources, in order
+abbrev pub notes_on : List Remark → List Note
+notes_on remarks = flat_map note_items remarks
 
--- the text is the lines on sources of which this was noted
-pub record AreNotes (holds : List ℕ → Stamp → Option (List ℕ) → Type 0) (noted : List Noted) (text : List ℕ) : Type 0 where
+-- these are the notes on sources of which this was noted
+pub record AreNotes (holds : List ℕ → Stamp → Option (List ℕ) → Type 0) (noted : List Noted) (notes : List Note) : Type 0 where
   pub remarks : List Remark
   pub are : map (λ r. r.noted) remarks ≡ noted
   pub shown : AreShown holds remarks
-  pub told : text ≡ notes remarks
+  pub told : notes ≡ notes_on remarks
+
+-- the line of a source on which a note is, if it is on one
+abbrev pub place_text : Option ℕ → List ℕ
+place_text None = []
+place_text (Some line) = codes ":" ++ decimal line
+
+-- the line of a note
+abbrev pub note_text : (on_terminal : Bool) → Note → List ℕ
+note_text on_terminal note =
+    codes "aerodrome: " ++ said_on on_terminal note.source ++ place_text note.line ++ codes ": " ++ said_on on_terminal note.text ++ 10 ∷ []
+
+-- the lines of notes, in order
+abbrev pub note_texts : (on_terminal : Bool) → List Note → List ℕ
+note_texts on_terminal notes = flat_map (note_text on_terminal) notes
 
 -- what a source is named as, and how its input stands
 abbrev pub named_input : {S O F : Type 0} → Source (Input S O F) → List ℕ × Input S O F
@@ -189,15 +197,8 @@ label_line on_terminal label = codes "aerodrome: no block begins with begin(" ++
 abbrev pub label_lines : (on_terminal : Bool) → List (List ℕ) → List ℕ
 label_lines on_terminal labels = flat_map (label_line on_terminal) labels
 
--- the text is the lines on sources of which this was noted, and then those on these labels
-pub record AreTold (holds : List ℕ → Stamp → Option (List ℕ) → Type 0) (noted : List Noted) (on_terminal : Bool) (labels : List (List ℕ)) (text : List ℕ) : Type 0 where
-  pub remarks : List Remark
-  pub are : map (λ r. r.noted) remarks ≡ noted
-  pub shown : AreShown holds remarks
-  pub told : text ≡ notes remarks ++ label_lines on_terminal labels
-
--- a text that grew by the lines on a source of which this was noted
-pub record GrowsBy (holds : List ℕ → Stamp → Option (List ℕ) → Type 0) (old new : List ℕ) (noted : Noted) : Type 0 where
+-- notes to which those on a source were added of which this was noted
+pub record GrowsBy (holds : List ℕ → Stamp → Option (List ℕ) → Type 0) (old new : List Note) (noted : Noted) : Type 0 where
   pub look : Look
   pub shown : ShowsAs holds noted.name noted.opened noted.fault look
-  pub grown : new ≡ old ++ note (record { noted = noted; look = look })
+  pub grown : new ≡ old ++ note_items (record { noted = noted; look = look })

@@ -1,5 +1,5 @@
 //! What the program does with what its words ask for.
-ghost use Rattle.std.specs.Prelude.{◌≡◌, ◌⊎◌, ◌≤◌, ℕ, List, [], if◌then◌else◌, map, vec_len, None, IfOk, IfSome, IsSome, OnOk, OnErr};
+ghost use Rattle.std.specs.Prelude.{◌≡◌, ◌⊎◌, ◌≤◌, ◌++◌, ℕ, List, [], if◌then◌else◌, map, vec_len, None, IfOk, IfSome, IsSome, OnOk, OnErr};
 ghost use Rattle.aero_model.specs.CallCounts.{Seen, seen_by};
 ghost use Rattle.aero_batch.specs.Founds.{sighted, Took, WasTold};
 ghost use Rattle.aero_batch.specs.Telling.{SumsUp};
@@ -7,9 +7,10 @@ ghost use Rattle.aero_intake.specs.PlanTerms.{options_with, terms_of};
 ghost use Rattle.aero_program.specs.Answers.{AnswersTo, Ends, Fails, Helps, Judges, Stops, TellsNoWords, TellsUnlisted, TellsWord};
 ghost use Rattle.aero_program.specs.declared.failure.Failure.TheVariants.{Memory};
 ghost use Rattle.aero_program.specs.declared.listing.Unlisted.TheVariants.{Unread};
-ghost use Rattle.aero_program.specs.Notes.{AreTold, noted_of_all};
+ghost use Rattle.aero_program.specs.Notes.{AreNotes, label_lines, note_texts, noted_of_all};
 ghost use Rattle.aero_program.specs.Retries.{tried_by};
 ghost use Rattle.aero_program.specs.Streams.{WasCut, shown_by};
+ghost use Rattle.aero_report.specs.Asked.{note_of};
 ghost use Rattle.aero_report.specs.Forms.{summary_line_in};
 
 use crate::arguments;
@@ -21,22 +22,20 @@ use crate::labels::{all_read, lines_on, unused_labels, watched};
 use crate::lasting::flush_fault;
 use crate::listing::Unlisted;
 use crate::looker::Looker;
-use crate::notes::{Naming, notes_of, reason_note};
+use crate::notes::{note_texts, notes_of, reason_note};
 use crate::output::Output;
 use crate::reason::Reason;
 use crate::retrying::Retrying;
 use crate::sizes::{Sizes, are_worth_threads, tell_work};
 use crate::sources::sources_of;
 use crate::status::end_after;
-use aero_batch::outcome::Cause;
 use aero_batch::source::Source;
-use aero_batch::told::{Style, sum_up};
-use aero_intake::plan::Plan;
+use aero_batch::told::Style;
+use aero_batch::{Cause, sum_up};
+use aero_intake::Plan;
 use aero_lanes::{Report, run_in_lanes, run_in_turn};
-use aero_model::counting::Counting;
-use aero_model::name::Name;
-use aero_model::verdict::Ending;
-use aero_report::{Cut, put};
+use aero_model::{Counting, Ending, Name};
+use aero_report::{Cut, Note, put};
 use std::alloc::{AllocError, Global};
 use std::io::{Read, Write};
 use std::sync::Wait;
@@ -47,7 +46,8 @@ use std::thread::Threads;
 /// Where they ask for traces to be judged, it judges the files, or standard input where there are
 /// none, in which blocks with the labels that they give are no transactions, writes the report, with
 /// the serial orders and the events of cycles where they ask for those, to standard output and
-/// flushes it, and then writes the notes on the sources and on labels to standard error. Where the files stand in a
+/// flushes it, and then writes the notes on the sources and on labels, which the summary as JSON has too, to standard
+/// error. Where the files stand in a
 /// list that can't be had, it says why, and judges nothing. Help goes to standard
 /// output, which is flushed; why there is nothing to judge, and why the program fails, goes to
 /// standard error. Where standard error takes nothing, the status still tells. A read, a write or a
@@ -121,44 +121,51 @@ where
         all_read(report.cause, &report.endings),
     );
     let (unused, sources) = unused_labels(alloc, sources, labels);
-    let cause = sum_up_with(alloc, &plan, &report, &unused, &mut output.writer);
+    let looker = Looker::new(alloc, files);
+    let notes = all_notes(&looker, sources, &report, long, asked.are_words());
+    let beside = Beside { unused, notes };
+    let cause = sum_up_with(alloc, &plan, &report, &beside, &mut output.writer);
     let flushed = output.flush();
     let end = end_after(cause, &report.counts, &flushed, fail_open);
-    let looker = Looker::new(alloc, files);
-    let telling = Telling {
-        naming: Naming {
-            are_words: asked.are_words(),
-            on_terminal,
-        },
-        long,
-    };
-    let told = told_after(&unused, cause);
-    let notes = all_notes(&looker, sources, &report, told, telling);
-    finish(end, notes, errors)
+    let told = told_after(&beside.unused, cause);
+    let lines = all_lines(alloc, &beside.notes, told, on_terminal);
+    finish(end, lines, errors)
 }
 
-// Writes the summary behind the lines of a run, with the labels with which no block begins. Where memory was refused to
-// find these, the run stops for that. The answer says why it stops, if it does.
+// What is told beside the lines of the sources: the labels with which no block begins, and the notes on the sources.
+// `None` says that memory was refused for them.
+#[derive(Drop)]
+struct Beside<'a> {
+    unused: Option<Vec<&'a Name>>,
+    notes: Option<Vec<Note>>,
+}
+
+// Writes the summary behind the lines of a run, with what is told beside these. Where memory was refused for that, the
+// run stops for it. The answer says why it stops, if it does.
 fn sum_up_with<W: Write>(
     alloc: Global,
     plan: &Plan,
     report: &Report,
-    unused: &Option<Vec<&Name>>,
+    beside: &Beside<'_>,
     writer: &mut Counting<W>,
 ) -> Option<Cause>
-    ensures summed { (text : List ℕ) → IfSome unused.now (λ names. summary_line_in plan.now.form (options_with (terms_of plan.now) (map (λ label. label.now) names.items)) report.now.counts ≡ text)
+    ensures summed { (text : List ℕ) → IfSome beside.now.unused (λ names. IfSome beside.now.notes (λ notes.
+        summary_line_in plan.now.form (options_with (terms_of plan.now) (map (λ label. label.now) names.items) (map note_of notes.items)) report.now.counts ≡ text))
         → SumsUp text report.now.cause (seen_by W.contents writer.old) (seen_by W.contents writer.new) result }
-    ensures known { result ≡ None → IsSome unused.now }
+    ensures known { result ≡ None → IsSome beside.now.unused }
     ensures whole { result ≡ None → report.now.cause ≡ None }
 {
-    let Some(names) = unused else {
+    let Some(names) = &beside.unused else {
+        return refused_after(report.cause);
+    };
+    let Some(notes) = &beside.notes else {
         return refused_after(report.cause);
     };
     let style = Style {
         alloc,
         form: plan.form,
     };
-    let options = plan.options_with(names.as_slice());
+    let options = plan.options_with(names.as_slice(), notes.as_slice());
     sum_up(style, options, &report.counts, report.cause, writer)
 }
 
@@ -194,27 +201,38 @@ fn found_in<'u, 'a>(unused: &'u Option<Vec<&'a Name>>) -> &'u [&'a Name]
     }
 }
 
-// How the notes are told: how sources are named, and whether they were long.
-#[derive(Clone, Copy)]
-struct Telling {
-    naming: Naming,
-    long: bool,
-}
-
-// The notes on the sources, and those on these labels.
+// The notes on the sources of a run, where memory isn't refused for them.
 fn all_notes<S: Read + Drop, F: Opener + Drop, G: Opener>(
     looker: &Looker<'_, G>,
     sources: Vec<Source<Input<S, F>>>,
     report: &Report,
-    unused: &[&Name],
-    telling: Telling,
-) -> Result<Vec<u8>, AllocError>
-    ensures { IfOk result (λ text. AreTold G.holds (noted_of_all telling.naming sources.items (if telling.long then [] else report.now.endings.items) report.now.faults.items)
-        telling.naming.on_terminal (map (λ label. label.now) unused.now) text.items) }
+    long: bool,
+    are_words: bool,
+) -> Option<Vec<Note>>
+    ensures { IfSome result (λ notes. AreNotes G.holds (noted_of_all are_words sources.items (if long then [] else report.now.endings.items) report.now.faults.items) (map note_of notes.items)) }
 {
-    let endings = noted(&report.endings, telling.long);
-    let mut text = notes_of(looker, sources, endings, &report.faults, telling.naming)?;
-    let lines = lines_on(looker.alloc, unused, telling.naming.on_terminal)?;
+    let endings = noted(&report.endings, long);
+    match notes_of(looker, sources, endings, &report.faults, are_words) {
+        Ok(notes) => Some(notes),
+        Err(_) => None,
+    }
+}
+
+// The lines of notes on sources, where memory wasn't refused for these, and those on labels.
+fn all_lines(
+    alloc: Global,
+    notes: &Option<Vec<Note>>,
+    unused: &[&Name],
+    on_terminal: bool,
+) -> Result<Vec<u8>, AllocError>
+    ensures known { IfOk result (λ text. IsSome notes.now) }
+    ensures lines { IfOk result (λ text. IfSome notes.now (λ notes. text.items ≡ note_texts on_terminal (map note_of notes.items) ++ label_lines on_terminal (map (λ label. label.now) unused.now))) }
+{
+    let Some(notes) = notes else {
+        return Err(AllocError);
+    };
+    let mut text = note_texts(alloc, notes, on_terminal)?;
+    let lines = lines_on(alloc, unused, on_terminal)?;
     text.extend_from_slice(&lines)?;
     Ok(text)
 }

@@ -4,9 +4,7 @@ ghost use Rattle.aero_program.specs.Command.{AreLimitsFor, are_counted, are_word
 
 use crate::arguments::Unread;
 use aero_batch::plan::Plan;
-use aero_model::except::{Except, SharedExcept};
-use aero_model::limits::Limits;
-use aero_model::name::Name;
+use aero_model::{Except, Limits, Name, SharedExcept};
 pub use aero_report::Form;
 use std::alloc::{AllocError, Global};
 

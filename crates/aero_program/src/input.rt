@@ -10,7 +10,7 @@ use crate::reason::Reason;
 use crate::retrying::Retrying;
 use crate::stamp::Stamp;
 use crate::start::Start;
-use aero_watch::watch::Watch;
+use aero_watch::Watch;
 use std::alloc::{AllocError, Global};
 use std::io::{ErrorKind, Read};
 use std::{io, mem};

@@ -6,20 +6,17 @@ ghost use Rattle.aero_batch.specs.Founds.{sighted};
 ghost use Rattle.aero_model.specs.CallCounts.{inner_of};
 ghost use Rattle.aero_program.specs.Inputs.{bytes_left, standing_of};
 ghost use Rattle.aero_program.specs.Labels.{labels_of, missing_of, watched_in};
-ghost use Rattle.aero_program.specs.Notes.{all_read, is_whole, label_line, label_lines, missing_in_each, named_input, said_on};
+ghost use Rattle.aero_program.specs.Notes.{all_read, is_whole, label_line, label_lines, missing_in_each, named_input};
 ghost use Rattle.aero_program.specs.Sightings.{resighted};
 ghost use Rattle.aero_watch.specs.Watches.{at_places};
 
 use crate::files::Opener;
 use crate::input::Input;
-use aero_batch::outcome::Cause;
+use crate::notes::append_said;
+use aero_batch::Cause;
 use aero_batch::source::Source;
-use aero_model::counting::Counting;
-use aero_model::except::SharedExcept;
-use aero_model::name::Name;
-use aero_model::verdict::Ending;
-use aero_report::shown::append_text;
-use aero_watch::watch::Watch;
+use aero_model::{Counting, Ending, Name, SharedExcept};
+use aero_watch::Watch;
 use std::alloc::{AllocError, Global};
 use std::io::Read;
 
@@ -186,20 +183,10 @@ fn append_line(text: &mut Vec<u8>, label: &[u8], on_terminal: bool) -> Result<()
     ensures { OnOk result (text.new.items ≡ text.old.items ++ label_line on_terminal label.now) }
 {
     text.extend_from_slice(b"aerodrome: no block begins with begin(")?;
-    append_label(text, label, on_terminal)?;
+    append_said(text, label, on_terminal)?;
     text.extend_from_slice(b")")?;
     text.extend_from_slice(b"\n")?;
     Ok(())
-}
-
-fn append_label(text: &mut Vec<u8>, label: &[u8], on_terminal: bool) -> Result<(), AllocError>
-    ensures { OnOk result (text.new.items ≡ text.old.items ++ said_on on_terminal label.now) }
-{
-    if on_terminal {
-        append_text(text, label)
-    } else {
-        text.extend_from_slice(label)
-    }
 }
 
 /// Whether a run that stopped for this cause, or for none, read each source to its end.

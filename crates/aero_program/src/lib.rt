@@ -3,8 +3,9 @@
 //!
 //! `words_of` gives the words. `answer` does what they ask for and gives the exit status: it runs over
 //! the sources of `sources_of`, of which each is an `Input`, standard input or a file that is opened
-//! at its first read by an `Opener`, and then tells on standard error what `notes_of` says of them. The files may be
-//! named in a list (`read_list`). A `Failure` has the line and the status where there is no whole report.
+//! at its first read by an `Opener`. What `notes_of` says of them it tells in the summary as JSON, and then on
+//! standard error. The files may be named in a list (`read_list`). A `Failure` has the line and the status where
+//! there is no whole report.
 //!
 //! ```text
 //! let mut output = Output::new(rt.stdout());
@@ -35,7 +36,7 @@
 //! - An input notes its first three bytes and its first failure: `Input::read`, `start`, `reason`. It notes with which labels
 //!   of its watch no line of the bytes that came begins a block: `Input::read`, `watched`, `seen`; `lacks`.
 //! - Behind the notes on sources those labels are told, in order, that each source lacks, where each was read to its end:
-//!   `label_notes`, `all_read`, `answer`. That a source gets a watch for them, `watched` says.
+//!   `lines_on`, `all_read`, `answer`. That a source gets a watch for them, `watched` says.
 //! - Where the flush of standard output fails as that of a pipe whose reader has gone, no line says so: `answer`,
 //!   `status_after`, `Failure::of_write`, `of_cut`.
 //! - The whole size of files is the sum of theirs, where each is known: `whole_size`.
@@ -44,8 +45,8 @@
 //!   `flush`.
 //! - It never fails with an interruption, and finds the end exactly where the stream does. What is read or written is
 //!   the stream's, where its type tells its bytes: `lasting`, `idle`, `bytes`.
-//! - The notes on byte order marks, failed reads, sizes and faulty lines, as they are shown where standard error is a
-//!   terminal: `notes_of`, `reason_note`. The system's words: `Reason::of`, `words`.
+//! - The notes on byte order marks, failed reads, sizes and faulty lines: `notes_of`. Their lines, as they are shown where
+//!   standard error is a terminal: `note_texts`, `reason_note`. The system's words: `Reason::of`, `words`.
 //! - A faulty line is told as a second look at the file shows it, or else in words: `notes_of`. Such a look shows the fault
 //!   that the run found, on its line, of a file that was opened at the source's name with the stamp that the input noted:
 //!   `Looker::look`, `look_at`. That it shows something where it can is only tested.

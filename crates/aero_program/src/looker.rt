@@ -5,10 +5,10 @@ ghost use Rattle.std.specs.declared.io.ErrorKind.TheVariants.{Interrupted};
 
 use crate::files::{Opened, Opener};
 use crate::stamp::{Stamp, is_stamp};
-use aero_batch::outcome::{Fault, FaultyLine};
+use aero_batch::{Fault, FaultyLine};
 use aero_faults::look::Look;
 use aero_faults::reading::{ill_formed_look, line_at, malformed_look};
-use aero_model::verdict::{LineFault, ShapeFault};
+use aero_model::{LineFault, ShapeFault};
 use std::alloc::Global;
 use std::io::ErrorKind;
 use std::{io, str};

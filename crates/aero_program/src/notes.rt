@@ -1,17 +1,19 @@
-//! What the program has to tell of its sources beside the report, on standard error.
-ghost use Rattle.std.specs.Prelude.{◌≡◌, ◌++◌, IfOk, OnOk, bytes_eq, codes};
+//! What the program has to tell of its sources beside the report: in the JSON's summary, and on standard error.
+ghost use Rattle.std.specs.Prelude.{◌≡◌, [], ◌∷◌, ◌++◌, map, None, IfOk, OnOk, bytes_eq, codes, decimal};
 ghost use Rattle.std.specs.Option.{option_copied};
-ghost use Rattle.aero_program.specs.Notes.{AreNotes, GrowsBy, fault_line, fault_told, is_missing, line_note, note_line, noted_of, noted_of_all, mark_line, reason_line, reason_text, said_on, sentence_of, sentence_on, size_line, was_too_large};
+ghost use Rattle.aero_report.specs.Asked.{note_of};
+ghost use Rattle.aero_program.specs.Notes.{AreNotes, GrowsBy, fault_notes, fault_told, is_missing, mark_notes, note_at, note_text, note_texts, noted_of, noted_of_all, place_text, reason_notes, reason_text, said_on, sentence_of, sentence_on, size_notes, was_too_large};
 ghost use Rattle.aero_program.specs.Reasons.{reason_words};
 
 use crate::files::Opener;
 use crate::input::Input;
 use crate::looker::Looker;
 use crate::reason::Reason;
-use aero_batch::outcome::{Fault, FaultyLine};
 use aero_batch::source::Source;
+use aero_batch::{Fault, FaultyLine};
 use aero_faults::look::{Look, append_ill_formed, append_malformed};
-use aero_model::verdict::Ending;
+use aero_model::Ending;
+use aero_report::Note;
 use aero_report::shown::append_text;
 use itoa::Buffer;
 use std::alloc::{AllocError, Global};
@@ -21,36 +23,27 @@ use std::io::Read;
 const GZIP_SENTENCE: &str =
     "the source is compressed by gzip: zcat FILE | aerodrome judges what is in it";
 
-/// How the names of sources are told.
-#[derive(Clone, Copy, Debug, PartialEq, Eq)]
-pub struct Naming {
-    /// Whether they are FILE words.
-    pub are_words: bool,
-    /// Whether a terminal is told, which is shown no control characters of theirs.
-    pub on_terminal: bool,
-}
-
-/// The lines on the sources, in order: of each that it starts with a byte order mark, if it does,
+/// The notes on the sources, in order: of each that it starts with a byte order mark, if it does,
 /// then why its first read that failed did, if one did, then how it is judged all the same, if it
 /// was too large, and then what is wrong with its faulty line, if it has one, as far as a second look
 /// at its file shows it. The endings are those of the first sources, each with how many bytes came, and
 /// the faults are theirs. Where the names are FILE words, one `-` that names no file is told what would
-/// be read without it. A terminal is shown no control characters of names and of lines.
+/// be read without it.
 ///
 /// # Errors
 ///
-/// `AllocError` where memory is refused. Where it is refused to a second look, the line on the fault has
+/// `AllocError` where memory is refused. Where it is refused to a second look, the note on the fault has
 /// its words alone.
 pub fn notes_of<S: Read + Drop, F: Opener + Drop, G: Opener>(
     looker: &Looker<'_, G>,
     sources: Vec<Source<Input<S, F>>>,
     endings: &[(u64, Ending)],
     faults: &[Option<FaultyLine>],
-    naming: Naming,
-) -> Result<Vec<u8>, AllocError>
-    ensures { IfOk result (λ text. AreNotes G.holds (noted_of_all naming sources.items endings.now faults.now) text.items) }
+    are_words: bool,
+) -> Result<Vec<Note>, AllocError>
+    ensures { IfOk result (λ notes. AreNotes G.holds (noted_of_all are_words sources.items endings.now faults.now) (map note_of notes.items)) }
 {
-    let mut text = Vec::new(looker.alloc);
+    let mut notes = Vec::new(looker.alloc);
     let mut place = 0usize;
     for source in sources {
         let fault = fault_of(faults.get(place));
@@ -58,10 +51,10 @@ pub fn notes_of<S: Read + Drop, F: Opener + Drop, G: Opener>(
             too_large: is_too_large(endings.get(place)),
             fault,
         };
-        append_notes(&mut text, looker, source, found, naming)?;
+        add_notes(&mut notes, looker, source, found, are_words)?;
         place += 1;
     }
-    Ok(text)
+    Ok(notes)
 }
 
 // What a run found of a source, beside its line in the report: whether it was too large, and its faulty line.
@@ -88,64 +81,58 @@ fn fault_of(fault: Option<&Option<FaultyLine>>) -> Option<FaultyLine>
     }
 }
 
-fn append_notes<S: Read + Drop, F: Opener + Drop, G: Opener>(
-    text: &mut Vec<u8>,
+fn add_notes<S: Read + Drop, F: Opener + Drop, G: Opener>(
+    notes: &mut Vec<Note>,
     looker: &Looker<'_, G>,
     source: Source<Input<S, F>>,
     found: Found,
-    naming: Naming,
+    are_words: bool,
 ) -> Result<(), AllocError>
-    ensures { OnOk result (GrowsBy G.holds text.old.items text.new.items (noted_of naming source found.too_large found.fault)) }
+    ensures { OnOk result (GrowsBy G.holds (map note_of notes.old.items) (map note_of notes.new.items) (noted_of are_words source found.too_large found.fault)) }
 {
     let Source { name, reader, .. } = source;
     let input = reader.into_inner();
+    let alloc = looker.alloc;
     let seen = looker.look(&name, input.opened(), found.fault);
-    let name = said(looker.alloc, name, naming.on_terminal)?;
-    append_mark(text, &name, input.has_mark())?;
-    append_reason(text, &name, input.reason(), naming.are_words)?;
-    append_size(text, &name, found.too_large)?;
-    let sentence = sentence_on(looker.alloc, input.is_gzip(), found.fault, &seen)?;
-    let sentence = said(looker.alloc, sentence, naming.on_terminal)?;
-    append_fault(text, &name, found.fault, &sentence)?;
+    add_mark(notes, alloc, &name, input.has_mark())?;
+    add_reason(notes, alloc, &name, input.reason(), are_words)?;
+    add_size(notes, alloc, &name, found.too_large)?;
+    let sentence = sentence_on(alloc, input.is_gzip(), found.fault, &seen)?;
+    add_fault(notes, alloc, &name, found.fault, sentence)?;
     Ok(())
 }
 
-// Bytes that others chose, as they are told.
-fn said(alloc: Global, bytes: Vec<u8>, on_terminal: bool) -> Result<Vec<u8>, AllocError>
-    ensures { IfOk result (λ text. text.items ≡ said_on on_terminal bytes.items) }
-{
-    if !on_terminal {
-        return Ok(bytes);
-    }
-    let mut text = Vec::new(alloc);
-    append_text(&mut text, &bytes)?;
-    Ok(text)
-}
-
-fn append_mark(text: &mut Vec<u8>, name: &[u8], has_mark: bool) -> Result<(), AllocError>
-    ensures { OnOk result (text.new.items ≡ text.old.items ++ mark_line name.now has_mark) }
+fn add_mark(
+    notes: &mut Vec<Note>,
+    alloc: Global,
+    name: &[u8],
+    has_mark: bool,
+) -> Result<(), AllocError>
+    ensures { OnOk result (map note_of notes.new.items ≡ map note_of notes.old.items ++ mark_notes name.now has_mark) }
 {
     if !has_mark {
         return Ok(());
     }
-    append_line(
-        text,
+    add_words(
+        notes,
+        alloc,
         name,
         "starts with a byte order mark, which counts as part of the first thread's name",
     )
 }
 
-fn append_reason(
-    text: &mut Vec<u8>,
+fn add_reason(
+    notes: &mut Vec<Note>,
+    alloc: Global,
     name: &[u8],
     reason: Option<Reason>,
     is_word: bool,
 ) -> Result<(), AllocError>
-    ensures { OnOk result (text.new.items ≡ text.old.items ++ reason_line is_word name.now reason) }
+    ensures { OnOk result (map note_of notes.new.items ≡ map note_of notes.old.items ++ reason_notes is_word name.now reason) }
 {
     match reason {
         None => Ok(()),
-        Some(reason) => append_line(text, name, reason_text(name, reason, is_word)),
+        Some(reason) => add_words(notes, alloc, name, reason_text(name, reason, is_word)),
     }
 }
 
@@ -174,71 +161,65 @@ fn is_missing(reason: Reason) -> bool
     reason == Reason::System(2)
 }
 
-fn append_size(text: &mut Vec<u8>, name: &[u8], too_large: bool) -> Result<(), AllocError>
-    ensures { OnOk result (text.new.items ≡ text.old.items ++ size_line name.now too_large) }
+fn add_size(
+    notes: &mut Vec<Note>,
+    alloc: Global,
+    name: &[u8],
+    too_large: bool,
+) -> Result<(), AllocError>
+    ensures { OnOk result (map note_of notes.new.items ≡ map note_of notes.old.items ++ size_notes name.now too_large) }
 {
     if !too_large {
         return Ok(());
     }
-    append_line(
-        text,
+    add_words(
+        notes,
+        alloc,
         name,
         "over 1073741824 bytes: --long judges sources of any size",
     )
 }
 
-/// The line that says why what has this name couldn't be opened or read. A terminal is shown no control characters
-/// of the name.
-///
-/// # Errors
-///
-/// `AllocError` where memory is refused.
-pub fn reason_note(
+fn add_fault(
+    notes: &mut Vec<Note>,
     alloc: Global,
     name: &[u8],
-    reason: Reason,
-    on_terminal: bool,
-) -> Result<Vec<u8>, AllocError>
-    ensures { IfOk result (λ text. text.items ≡ note_line (said_on on_terminal name.now) (reason_words reason)) }
-{
-    let name = Vec::from_slice(alloc, name)?;
-    let name = said(alloc, name, on_terminal)?;
-    let mut text = Vec::new(alloc);
-    append_line(&mut text, &name, reason.words())?;
-    Ok(text)
-}
-
-fn append_fault(
-    text: &mut Vec<u8>,
-    name: &[u8],
     fault: Option<FaultyLine>,
-    sentence: &[u8],
+    sentence: Vec<u8>,
 ) -> Result<(), AllocError>
-    ensures { OnOk result (text.new.items ≡ text.old.items ++ fault_line name.now fault sentence.now) }
+    ensures { OnOk result (map note_of notes.new.items ≡ map note_of notes.old.items ++ fault_notes name.now fault sentence.items) }
 {
     match fault {
         None => Ok(()),
-        Some(faulty) => append_faulty(text, name, faulty.line, sentence),
+        Some(faulty) => add_note(notes, alloc, name, Some(faulty.line), sentence),
     }
 }
 
-// The line on a faulty line of the source of this name.
-fn append_faulty(
-    text: &mut Vec<u8>,
+// A note on the source of this name.
+fn add_words(
+    notes: &mut Vec<Note>,
+    alloc: Global,
     name: &[u8],
-    line: u32,
-    sentence: &[u8],
+    words: &str,
 ) -> Result<(), AllocError>
-    ensures { OnOk result (text.new.items ≡ text.old.items ++ line_note name.now line sentence.now) }
+    ensures { OnOk result (map note_of notes.new.items ≡ map note_of notes.old.items ++ note_at name.now None words.now ∷ []) }
 {
-    let mut buffer = Buffer::new();
-    text.extend_from_slice(b"aerodrome: ")?;
-    text.extend_from_slice(name)?;
-    text.extend_from_slice(b":")?;
-    text.extend_from_slice(buffer.format(line).as_bytes())?;
-    text.extend_from_slice(b": ")?;
-    text.extend_from_slice(sentence)?;
-    text.extend_from_slice(b"\n")?;
+    let text = Vec::from_slice(alloc, words.as_bytes())?;
+    add_note(notes, alloc, name, None, text)
+}
+
+// A note on the source of this name, or on a line of it.
+fn add_note(
+    notes: &mut Vec<Note>,
+    alloc: Global,
+    name: &[u8],
+    line: Option<u32>,
+    text: Vec<u8>,
+) -> Result<(), AllocError>
+    ensures { OnOk result (map note_of notes.new.items ≡ map note_of notes.old.items ++ note_at name.now line text.items ∷ []) }
+{
+    let source = Vec::from_slice(alloc, name)?;
+    notes.push(Note { source, line, text })?;
     Ok(())
 }
 
@@ -276,14 +257,90 @@ fn append_sentence(text: &mut Vec<u8>, fault: Fault, look: &Look) -> Result<(), 
     }
 }
 
-// A line on the source of this name.
-fn append_line(text: &mut Vec<u8>, name: &[u8], words: &str) -> Result<(), AllocError>
-    ensures { OnOk result (text.new.items ≡ text.old.items ++ note_line name.now words.now) }
+/// The lines of notes, in order. A terminal is shown no control characters of names and of texts.
+///
+/// # Errors
+///
+/// `AllocError` where memory is refused.
+pub fn note_texts(alloc: Global, notes: &[Note], on_terminal: bool) -> Result<Vec<u8>, AllocError>
+    ensures { IfOk result (λ text. text.items ≡ note_texts on_terminal (map note_of notes.now)) }
+{
+    let mut text = Vec::new(alloc);
+    for note in notes {
+        append_note(&mut text, note, on_terminal)?;
+    }
+    Ok(text)
+}
+
+/// The line that says why what has this name couldn't be opened or read. A terminal is shown no control characters
+/// of the name.
+///
+/// # Errors
+///
+/// `AllocError` where memory is refused.
+pub fn reason_note(
+    alloc: Global,
+    name: &[u8],
+    reason: Reason,
+    on_terminal: bool,
+) -> Result<Vec<u8>, AllocError>
+    ensures { IfOk result (λ text. text.items ≡ note_text on_terminal (note_at name.now None (reason_words reason))) }
+{
+    let source = Vec::from_slice(alloc, name)?;
+    let text = Vec::from_slice(alloc, reason.words().as_bytes())?;
+    let note = Note {
+        source,
+        line: None,
+        text,
+    };
+    let mut line = Vec::new(alloc);
+    append_note(&mut line, &note, on_terminal)?;
+    Ok(line)
+}
+
+// The line of a note.
+fn append_note(text: &mut Vec<u8>, note: &Note, on_terminal: bool) -> Result<(), AllocError>
+    ensures { OnOk result (text.new.items ≡ text.old.items ++ note_text on_terminal (note_of note.now)) }
 {
     text.extend_from_slice(b"aerodrome: ")?;
-    text.extend_from_slice(name)?;
+    append_said(text, &note.source, on_terminal)?;
+    append_place(text, note.line)?;
     text.extend_from_slice(b": ")?;
-    text.extend_from_slice(words.as_bytes())?;
+    append_said(text, &note.text, on_terminal)?;
     text.extend_from_slice(b"\n")?;
     Ok(())
+}
+
+// The line of a source of which something is told, if it is one.
+fn append_place(text: &mut Vec<u8>, line: Option<u32>) -> Result<(), AllocError>
+    ensures { OnOk result (text.new.items ≡ text.old.items ++ place_text line) }
+{
+    match line {
+        None => Ok(()),
+        Some(line) => append_line(text, line),
+    }
+}
+
+fn append_line(text: &mut Vec<u8>, line: u32) -> Result<(), AllocError>
+    ensures { OnOk result (text.new.items ≡ text.old.items ++ (codes ":" ++ decimal line)) }
+{
+    let mut buffer = Buffer::new();
+    text.extend_from_slice(b":")?;
+    text.extend_from_slice(buffer.format(line).as_bytes())?;
+    Ok(())
+}
+
+/// Adds bytes that others chose, as they are told: a terminal is shown no control characters of theirs.
+///
+/// # Errors
+///
+/// `AllocError` where memory is refused. A front of it may be there.
+pub fn append_said(text: &mut Vec<u8>, bytes: &[u8], on_terminal: bool) -> Result<(), AllocError>
+    ensures { OnOk result (text.new.items ≡ text.old.items ++ said_on on_terminal bytes.now) }
+{
+    if on_terminal {
+        append_text(text, bytes)
+    } else {
+        text.extend_from_slice(bytes)
+    }
 }

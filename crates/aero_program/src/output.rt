@@ -6,7 +6,7 @@ ghost use Rattle.aero_program.specs.Streams.{stream_of, unflushed_of, writer_of}
 
 use crate::lasting::Lasting;
 use crate::retrying::Retrying;
-use aero_model::counting::Counting;
+use aero_model::Counting;
 use aero_model::ghost_count::GhostCount;
 use std::io;
 use std::io::Write;

@@ -14,7 +14,7 @@ use crate::files::Opener;
 use crate::input::Input;
 use crate::listing::{Unlisted, first_name, read_list};
 use aero_batch::source::Source;
-use aero_model::counting::Counting;
+use aero_model::Counting;
 use std::alloc::{AllocError, Global};
 use std::io::Read;
 use std::str;

@@ -6,8 +6,8 @@ ghost use Rattle.aero_program.specs.Status.{status_of, end_of_run};
 
 use crate::failure::Failure;
 use crate::lasting::flush_fault;
-use aero_batch::outcome::{Cause, Outcome};
-use aero_model::verdict::Counts;
+use aero_batch::{Cause, Outcome};
+use aero_model::Counts;
 use std::io;
 
 /// The exit status of a run: 4 where it stopped before its summary was written, else 2 where a

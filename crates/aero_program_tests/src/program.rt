@@ -10,7 +10,7 @@ ghost use Rattle.std.specs.Prelude.{◌≡◌, ◌≤◌, ◌^◌, IfOk, vec_len
 ghost use Rattle.aero_program.specs.Command.{count_named};
 
 use crate::program::streams::{EVER, Flushes, Interrupted, Narrow, Shelf, Text, never_flushed};
-use aero_model::counting::Counting;
+use aero_model::Counting;
 use aero_program::answer::answer;
 use aero_program::arguments::Unread;
 use aero_program::command::{Config, Form, Progress, Refused, Sources, Stop, Terminals};

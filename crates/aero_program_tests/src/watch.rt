@@ -1,7 +1,6 @@
 // Which labels begin no block in a text, however it is cut.
-use aero_model::except::{Except, SharedExcept};
-use aero_model::name::Name;
-use aero_watch::watch::Watch;
+use aero_model::{Except, Name, SharedExcept};
+use aero_watch::Watch;
 use std::alloc::{AllocError, Global};
 
 // One is the front of another, and one has more bytes than a name that needs no memory.

@@ -1,4 +1,4 @@
-use aero_model::name::Name;
+use aero_model::Name;
 use aero_program::command::{Config, Form, Progress, Refused, Sources};
 use aero_words::words::settle_words;
 use std::alloc::{AllocError, Global};

@@ -1,5 +1,5 @@
 -- What is written reads back: no value nests deeper than four.
-use Rattle.std.proofs.Common.{◌≡◌, ℕ, ◌≤◌, true, false, if◌then◌else◌, List, [], ◌∷◌, ◌++◌, map, Option, Some, None, option_and_then, Result, Ok, Err, OnOk, sym, ap, ◌∙◌, subst, arith, append-nil}
+use Rattle.std.proofs.Common.{◌≡◌, ℕ, ◌≤◌, true, false, if◌then◌else◌, List, [], ◌∷◌, ◌++◌, map, Option, Some, None, option_and_then, codes, Result, Ok, Err, OnOk, sym, ap, ◌∙◌, subst, arith, append-nil}
 use Rattle.std.specs.Str.{is_utf8}
 use Rattle.json.specs.Token.{Token}
 use Rattle.json.specs.Lex.{tokens}
@@ -12,14 +12,15 @@ use Rattle.aero_model.specs.declared.verdict.Verdict.TheVariants.{Serializable, 
 use Rattle.aero_model.specs.declared.verdict.Step.{Step}
 use Rattle.aero_model.specs.declared.verdict.CycleStep.{CycleStep}
 use Rattle.aero_model.specs.declared.verdict.CycleTransaction.{CycleTransaction}
+use Rattle.aero_model.specs.declared.verdict.OpenBlock.{OpenBlock}
 use Rattle.aero_model.specs.declared.verdict.Extent.{Extent}
 use Rattle.aero_model.specs.declared.verdict.Extent.TheVariants as extents
 use Rattle.aero_model.specs.declared.verdict.Counts.{Counts}
 use Rattle.aero_model.specs.declared.verdict.Finding.{Finding}
-use Rattle.aero_model.specs.declared.verdict.Finding.TheVariants.{Judged, Ordered, Explained, Broken, TooLarge}
+use Rattle.aero_model.specs.declared.verdict.Finding.TheVariants.{Judged, Ordered, Explained, Opened, Broken, TooLarge}
 use Rattle.aero_model.specs.Named.{Named}
-use Rattle.aero_report.specs.Options.{Options}
-use Rattle.aero_report.specs.Json.{Member, members_of, items_of, bytes_value, name_value, verdict_members, step_value, target_members, event_members, cycle_step_value, label_members, end_members, extent_members, transaction_value, finding_members, source_value, count_members, option_members, summary_value, unused_members, ReadsBack}
+use Rattle.aero_report.specs.Options.{Note, Options}
+use Rattle.aero_report.specs.Json.{Member, members_of, items_of, bytes_value, name, name_value, verdict_members, step_value, target_members, event_members, cycle_step_value, label_members, end_members, extent_members, transaction_value, open_block_value, finding_members, source_value, count_members, option_members, summary_value, unused_members, line_members, note_value, notes_members, ReadsBack}
 
 pub reads_back : {T E : Type 0} (r : Result T E) (ts : List Token) (j : Json) → depth j ≤ max_depth → ts ≡ json_tokens j → OnOk r (tokens (print ts) ≡ ts) → OnOk r (ReadsBack j)
 reads_back (Ok x) ts j shallow is h =
@@ -70,6 +71,9 @@ extent_depth : (e : Extent) → members_depth (members_of (extent_members e)) �
 extent_depth extents.Alone = omega arith
 extent_depth (extents.Block label end) = omega (arith, both_depth 1 (label_members label) (end_members end) (label_depth label) (end_depth end))
 
+open_block_depth : (block : OpenBlock) → depth (open_block_value block) ≤ 2
+open_block_depth block = omega (arith, name_depth block.thread, label_depth block.label)
+
 transaction_depth : (t : CycleTransaction) → depth (transaction_value t) ≤ 2
 transaction_depth t = omega (arith, name_depth t.thread, extent_depth t.extent)
 
@@ -80,6 +84,8 @@ finding_depth (Explained v cycle) =
     both_depth 3 (verdict_members v) _ (omega (arith, verdict_depth v))
     (both_depth 3 (label_members cycle.label) _ (omega (arith, label_depth cycle.label))
     (omega (arith, list_depth cycle_step_value cycle_step_depth cycle.steps.items, list_depth transaction_value transaction_depth cycle.transactions.items, event_depth cycle.closing)))
+finding_depth (Opened v blocks) =
+    both_depth 3 (verdict_members v) _ (omega (arith, verdict_depth v)) (omega (arith, list_depth open_block_value open_block_depth blocks.items))
 finding_depth (Broken bytes) = omega arith
 finding_depth TooLarge = omega arith
 
@@ -93,8 +99,19 @@ unused_depth : (labels : List (List ℕ)) → members_depth (members_of (unused_
 unused_depth [] = omega arith
 unused_depth (label ∷ more) = omega (arith, labels_depth (label ∷ more))
 
+line_depth : (line : Option ℕ) → members_depth (members_of (line_members line)) ≤ 1
+line_depth None = omega arith
+line_depth (Some line) = omega arith
+
+note_depth : (n : Note) → depth (note_value n) ≤ 2
+note_depth n = omega (arith, name_depth n.source, both_depth 1 (line_members n.line) (name (codes "note") n.text ∷ []) (line_depth n.line) (omega (arith, name_depth n.text)))
+
+notes_depth : (notes : List Note) → members_depth (members_of (notes_members notes)) ≤ 3
+notes_depth [] = omega arith
+notes_depth (note ∷ more) = omega (arith, list_depth note_value note_depth (note ∷ more))
+
 option_depth : (o : Options) → members_depth (members_of (option_members o)) ≤ 3
-option_depth o = omega (arith, labels_depth o.labels.labels, unused_depth o.unused)
+option_depth o = omega (arith, labels_depth o.labels.labels, both_depth 3 (unused_members o.unused) (notes_members o.notes) (unused_depth o.unused) (notes_depth o.notes))
 
 pub summary_depth : (o : Options) (counts : Counts) → depth (summary_value o counts) ≤ max_depth
 summary_depth o counts = omega (arith, both_depth 3 (count_members counts) (option_members o) (omega arith) (option_depth o))

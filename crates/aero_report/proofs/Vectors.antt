@@ -5,11 +5,12 @@ use Rattle.std.specs.Prelude.{codes, flat_map, Vec, Some, None, true, false}
 use Rattle.std.specs.Global.{Global}
 use Rattle.aero_model.specs.declared.verdict.Step.{Step}
 use Rattle.aero_model.specs.declared.verdict.Cycle.{Cycle}
+use Rattle.aero_model.specs.declared.verdict.OpenBlock.{OpenBlock}
 use Rattle.aero_model.specs.declared.event.Op.TheVariants.{Write, Begin, Join}
 use Rattle.aero_model.specs.declared.verdict.LineFault.TheVariants as line_faults
 use Rattle.aero_model.specs.declared.verdict.ShapeFault.TheVariants as shape_faults
 use Rattle.aero_model.specs.declared.verdict.Verdict.TheVariants.{Serializable, Pending, Violation, Malformed, IllFormed}
-use Rattle.aero_model.specs.declared.verdict.Finding.TheVariants.{Judged, Ordered, Explained, Broken, TooLarge}
+use Rattle.aero_model.specs.declared.verdict.Finding.TheVariants.{Judged, Ordered, Explained, Opened, Broken, TooLarge}
 use Rattle.aero_report.specs.declared.form.Form.TheVariants.{Json}
 use Rattle.json.proofs.OnLiterals.{json_on_literals}
 use Rattle.std.specs.Str.{chars, is_utf8}
@@ -18,7 +19,7 @@ use Rattle.aero_model.specs.declared.limits.Limits.{Limits}
 use Rattle.aero_model.specs.declared.verdict.Extent.TheVariants.{Alone, Block}
 use Rattle.aero_model.specs.Exempt.{all_but}
 use Rattle.aero_report.specs.Forms.{source_line_in, summary_line_in}
-use Rattle.aero_report.specs.Json.{transaction_value, json_text}
+use Rattle.aero_report.specs.Json.{transaction_value, open_block_value, json_text}
 use Rattle.aero_report.specs.Options.{Options}
 
 broken : source_line (codes "n") (Broken 20) ≡ codes "n: broken after 20 bytes" ++ 10 ∷ []
@@ -62,6 +63,10 @@ three_steps : (cycle : Cycle) → cycle.label ≡ Some (codes "f")
     ≡ codes "n: violation at line 6: block of T1 from line 1" ++ 10 ∷ codes "  label f" ++ 10 ∷ codes "  4 1 T1|w(x)" ++ 10 ∷ codes "  5 5 T2|begin" ++ 10 ∷ codes "  6 1 T1|join(T2)" ++ 10 ∷ []
 unfolding digits
 three_steps cycle labelled is = ap₂ (λ l s. codes "n: violation at line 6: block of T1 from line 1" ++ 10 ∷ (label_line l ++ flat_map cycle_line s)) labelled is
+
+opened : (blocks : Vec OpenBlock Global) → source_line (codes "n") (Opened (Pending 5 2 2) blocks) ≡ codes "n: no violation, 2 blocks open (5 events, 2 blocks)" ++ 10 ∷ []
+unfolding digits
+opened blocks = refl
 
 malformed : source_line (codes "n") (Judged (Malformed 2 line_faults.BadParenthesis)) ≡ codes "n:2: malformed: BadParenthesis" ++ 10 ∷ []
 unfolding digits
@@ -110,7 +115,7 @@ few = record {
 }
 
 abbrev options : Options
-options = record { limits = few; labels = all_but (codes "f" ∷ codes "g" ∷ []); order = false; explain = true; unused = [] }
+options = record { limits = few; labels = all_but (codes "f" ∷ codes "g" ∷ []); order = false; explain = true; unused = []; notes = [] }
 
 summary_object : summary_line_in Json options (counts_of (Broken 20 ∷ [])) ≡ codes "{\"traces\":1,\"serializable\":0,\"open\":0,\"violations\":0,\"faults\":1,\"version\":\"0.1.0\",\"order\":false,\"explain\":true,\"limits\":{\"bytes\":20,\"lines\":4,\"threads\":3,\"names\":2},\"only\":[\"f\",\"g\"]}" ++ 10 ∷ []
 unfolding digits json_on_literals chars is_utf8
@@ -120,6 +125,10 @@ unused_object : summary_line_in Json (record options { unused = codes "g" ∷ []
 unfolding digits json_on_literals chars is_utf8
 unused_object = refl
 
+notes_object : summary_line_in Json (record options { notes = (record { source = codes "b"; line = Some 7; text = codes "no" }) ∷ (record { source = codes "c"; line = None; text = codes "w" }) ∷ [] }) (counts_of (Broken 20 ∷ [])) ≡ codes "{\"traces\":1,\"serializable\":0,\"open\":0,\"violations\":0,\"faults\":1,\"version\":\"0.1.0\",\"order\":false,\"explain\":true,\"limits\":{\"bytes\":20,\"lines\":4,\"threads\":3,\"names\":2},\"only\":[\"f\",\"g\"],\"notes\":[{\"source\":\"b\",\"line\":7,\"note\":\"no\"},{\"source\":\"c\",\"note\":\"w\"}]}" ++ 10 ∷ []
+unfolding digits json_on_literals chars is_utf8
+notes_object = refl
+
 block_object : json_text (transaction_value (record { first = 5; thread = codes "T2"; extent = Block (Some (codes "f")) (Some 8) })) ≡ codes "{\"first\":5,\"thread\":\"T2\",\"block\":true,\"label\":\"f\",\"end\":8}"
 unfolding digits json_on_literals chars is_utf8
 block_object = refl
@@ -127,6 +136,10 @@ block_object = refl
 event_object : json_text (transaction_value (record { first = 9; thread = codes "T3"; extent = Alone })) ≡ codes "{\"first\":9,\"thread\":\"T3\",\"block\":false}"
 unfolding digits json_on_literals chars is_utf8
 event_object = refl
+
+open_block_object : json_text (open_block_value (record { line = 3; thread = codes "T2"; label = Some (codes "f") })) ≡ codes "{\"line\":3,\"thread\":\"T2\",\"label\":\"f\"}"
+unfolding digits json_on_literals chars is_utf8
+open_block_object = refl
 
 quotes_object : source_line_in Json (97 ∷ 34 ∷ 9 ∷ []) TooLarge ≡ codes "{\"source\":\"a\\\"\\t\",\"verdict\":\"too large\"}" ++ 10 ∷ []
 unfolding digits json_on_literals chars is_utf8

@@ -16,11 +16,12 @@ use Rattle.aero_model.specs.declared.verdict.CycleTransaction.{CycleTransaction}
 use Rattle.aero_model.specs.declared.verdict.Extent.{Extent}
 use Rattle.aero_model.specs.declared.verdict.Extent.TheVariants as extents
 use Rattle.aero_model.specs.declared.verdict.Finding.{Finding}
-use Rattle.aero_model.specs.declared.verdict.Finding.TheVariants.{Judged, Ordered, Explained, Broken, TooLarge}
+use Rattle.aero_model.specs.declared.verdict.OpenBlock.{OpenBlock}
+use Rattle.aero_model.specs.declared.verdict.Finding.TheVariants.{Judged, Ordered, Explained, Opened, Broken, TooLarge}
 use Rattle.aero_model.specs.declared.verdict.Counts.{Counts}
 use Rattle.aero_model.specs.Exempt.{Listed}
 use Rattle.aero_model.specs.Named.{Named}
-use Rattle.aero_report.specs.Options.{Options}
+use Rattle.aero_report.specs.Options.{Note, Options}
 use Rattle.aero_report.specs.Texts.{line_fault_name, shape_fault_name, op_name}
 use Rattle.aero_model.specs.Words.{line_words, shape_words}
 
@@ -114,10 +115,15 @@ cycle_members cycle =
     ∷ (codes "closing", object_of (event_members cycle.closing))
     ∷ []
 
+-- a block that is open: the line of its begin, its thread, and its label, if it has one
+abbrev pub open_block_value : OpenBlock → Json
+open_block_value block = object_of (count (codes "line") block.line ∷ name (codes "thread") block.thread ∷ label_members block.label)
+
 abbrev pub finding_members : Finding → List Member
 finding_members (Judged verdict) = verdict_members verdict
 finding_members (Ordered verdict steps) = verdict_members verdict ++ list (codes "order") (map step_value steps.items) ∷ []
 finding_members (Explained verdict cycle) = verdict_members verdict ++ cycle_members cycle
+finding_members (Opened verdict blocks) = verdict_members verdict ++ list (codes "opened") (map open_block_value blocks.items) ∷ []
 finding_members (Broken bytes) = word (codes "verdict") (codes "broken") ∷ count (codes "bytes") bytes ∷ []
 finding_members TooLarge = word (codes "verdict") (codes "too large") ∷ []
 
@@ -145,7 +151,21 @@ abbrev pub unused_members : List (List ℕ) → List Member
 unused_members [] = []
 unused_members (label ∷ more) = list (codes "unused") (map name_value (label ∷ more)) ∷ []
 
--- the program's version, and how the sources were judged
+-- the line of a note, if it has one
+abbrev pub line_members : Option ℕ → List Member
+line_members None = []
+line_members (Some line) = count (codes "line") line ∷ []
+
+-- a note on a source, or on a line of it
+abbrev pub note_value : Note → Json
+note_value note = object_of (name (codes "source") note.source ∷ (line_members note.line ++ name (codes "note") note.text ∷ []))
+
+-- what is told of the sources beside their lines, where there is anything, in order
+abbrev pub notes_members : List Note → List Member
+notes_members [] = []
+notes_members (note ∷ more) = list (codes "notes") (map note_value (note ∷ more)) ∷ []
+
+-- the program's version, how the sources were judged, and what is told of them beside their lines
 abbrev pub option_members : Options → List Member
 option_members options =
     word (codes "version") (codes "0.1.0")
@@ -153,7 +173,7 @@ option_members options =
     ∷ flag (codes "explain") options.explain
     ∷ (codes "limits", limits_value options.limits)
     ∷ listed_member options.labels
-    ∷ unused_members options.unused
+    ∷ (unused_members options.unused ++ notes_members options.notes)
 
 -- the data of the summary
 abbrev pub summary_value : Options → Counts → Json

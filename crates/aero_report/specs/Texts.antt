@@ -10,7 +10,7 @@ use Rattle.aero_model.specs.declared.verdict.Step.{Step}
 use Rattle.aero_model.specs.declared.verdict.Cycle.{Cycle}
 use Rattle.aero_model.specs.declared.verdict.CycleStep.{CycleStep}
 use Rattle.aero_model.specs.declared.verdict.Finding.{Finding}
-use Rattle.aero_model.specs.declared.verdict.Finding.TheVariants.{Judged, Ordered, Explained, Broken, TooLarge}
+use Rattle.aero_model.specs.declared.verdict.Finding.TheVariants.{Judged, Ordered, Explained, Opened, Broken, TooLarge}
 use Rattle.aero_model.specs.declared.event.Op.{Op}
 use Rattle.aero_model.specs.declared.event.Op.TheVariants as ops
 use Rattle.aero_model.specs.Named.{Named}
@@ -56,6 +56,7 @@ abbrev pub finding_text : Finding → List ℕ
 finding_text (Judged verdict) = verdict_text verdict
 finding_text (Ordered verdict steps) = verdict_text verdict
 finding_text (Explained verdict cycle) = verdict_text verdict
+finding_text (Opened verdict blocks) = verdict_text verdict
 finding_text (Broken bytes) = codes ": broken after " ++ decimal bytes ++ codes " bytes"
 finding_text TooLarge = codes ": too large"
 
@@ -99,6 +100,7 @@ abbrev pub step_lines : Finding → List ℕ
 step_lines (Ordered verdict steps) = flat_map step_line steps.items
 step_lines (Explained verdict cycle) = cycle_lines cycle
 step_lines (Judged verdict) = []
+step_lines (Opened verdict blocks) = []
 step_lines (Broken bytes) = []
 step_lines TooLarge = []
 
@@ -129,6 +131,7 @@ abbrev pub counted : Counts → Finding → Counts
 counted counts (Judged verdict) = verdict_counted counts verdict
 counted counts (Ordered verdict steps) = verdict_counted counts verdict
 counted counts (Explained verdict cycle) = verdict_counted counts verdict
+counted counts (Opened verdict blocks) = verdict_counted counts verdict
 counted counts (Broken bytes) = record counts { faults = counts.faults + 1 }
 counted counts TooLarge = record counts { faults = counts.faults + 1 }
 

@@ -6,9 +6,7 @@ ghost use Rattle.aero_report.specs.Members.{member_tokens, all_members_tokens};
 
 use crate::line::Line;
 use crate::texts::op_name;
-use aero_model::event::Event;
-use aero_model::name::Name;
-use aero_model::verdict::{Cycle, CycleStep, CycleTransaction, Extent};
+use aero_model::{Cycle, CycleStep, CycleTransaction, Event, Extent, Name};
 use std::alloc::AllocError;
 
 /// The label of the block, if it has one, the events, the transactions, and the closing event.
@@ -21,7 +19,7 @@ pub fn write_cycle(out: &mut Line, cycle: &Cycle) -> Result<(), AllocError>
     write_closing(out, &cycle.closing)
 }
 
-fn write_label(out: &mut Line, label: &Option<Name>) -> Result<(), AllocError>
+pub(crate) fn write_label(out: &mut Line, label: &Option<Name>) -> Result<(), AllocError>
     ensures { OnOk result (out.new ≡ out.old ++ all_members_tokens (label_members label.now)) }
 {
     match label {

@@ -9,7 +9,7 @@ use crate::options::{Options, summary_object};
 use crate::shown::{append_lines, append_text};
 use crate::summary::summary_text;
 use crate::texts::trace_text;
-use aero_model::verdict::{Counts, Finding};
+use aero_model::{Counts, Finding};
 use std::alloc::{AllocError, Global};
 
 /// The form of a report.

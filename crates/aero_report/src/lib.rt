@@ -41,6 +41,7 @@
 mod cycles;
 mod form;
 mod line;
+mod notes;
 mod objects;
 mod options;
 mod output;
@@ -49,6 +50,7 @@ mod summary;
 mod texts;
 
 pub use form::{Form, source_text, totals_text};
+pub use notes::Note;
 pub use options::{Options, VERSION};
 pub use output::{Cut, put};
 pub use summary::summary_text;

@@ -1,14 +1,14 @@
 //! What is said of a source, as JSON.
 ghost use Rattle.std.specs.Prelude.{◌≡◌, [], ◌∷◌, ◌++◌, codes, map, flat_map, IfOk, OnOk};
 ghost use Rattle.json.specs.Tree.{json_tokens};
-ghost use Rattle.aero_report.specs.Json.{object_of, count, word, name, verdict_members, step_value, list, finding_members, source_value, json_line, ReadsBack};
+ghost use Rattle.aero_report.specs.Json.{object_of, count, word, name, verdict_members, step_value, list, finding_members, open_block_value, source_value, json_line, ReadsBack};
 ghost use Rattle.aero_report.specs.Members.{member_tokens, all_members_tokens};
 
-use crate::cycles::write_cycle;
+use crate::cycles::{write_cycle, write_label};
 use crate::line::Line;
 use crate::texts::{line_fault_name, shape_fault_name};
-use aero_model::verdict::{Finding, Step, Verdict};
 use aero_model::words::{line_words, shape_words};
+use aero_model::{Finding, OpenBlock, Step, Verdict};
 use std::alloc::{AllocError, Global};
 
 /// The line of a source as JSON, with a newline.
@@ -42,6 +42,10 @@ fn write_finding(out: &mut Line, finding: &Finding) -> Result<(), AllocError>
         Finding::Explained(verdict, cycle) => {
             write_verdict(out, verdict)?;
             write_cycle(out, cycle)
+        }
+        Finding::Opened(verdict, blocks) => {
+            write_verdict(out, verdict)?;
+            write_opened(out, blocks)
         }
         Finding::Broken(bytes) => {
             out.word("verdict", "broken")?;
@@ -143,5 +147,33 @@ fn write_step(out: &mut Line, line: u32, thread: &[u8]) -> Result<(), AllocError
     out.begin_object()?;
     out.count("line", line)?;
     out.name("thread", thread)?;
+    out.end_object()
+}
+
+fn write_opened(out: &mut Line, blocks: &[OpenBlock]) -> Result<(), AllocError>
+    ensures { OnOk result (out.new ≡ out.old ++ member_tokens (list (codes "opened") (map open_block_value blocks.now))) }
+{
+    out.begin_array("opened")?;
+    write_open_blocks(out, blocks)?;
+    out.end_array()
+}
+
+fn write_open_blocks(out: &mut Line, blocks: &[OpenBlock]) -> Result<(), AllocError>
+    ensures { OnOk result (out.new ≡ out.old ++ flat_map (λ b. json_tokens (open_block_value b)) blocks.now) }
+{
+    for block in blocks {
+        write_open_block(out, block)?;
+    }
+    Ok(())
+}
+
+// The line of a block's begin, its thread and its label.
+fn write_open_block(out: &mut Line, block: &OpenBlock) -> Result<(), AllocError>
+    ensures { OnOk result (out.new ≡ out.old ++ json_tokens (open_block_value block.now)) }
+{
+    out.begin_object()?;
+    out.count("line", block.line)?;
+    out.name("thread", block.thread.bytes())?;
+    write_label(out, &block.label)?;
     out.end_object()
 }

@@ -6,19 +6,17 @@ ghost use Rattle.aero_report.specs.Json.{count_members, json_line, limits_value,
 ghost use Rattle.aero_report.specs.Members.{member_tokens, all_members_tokens};
 
 use crate::line::Line;
+use crate::notes::{Note, write_notes};
 use crate::summary::sources_of;
-use aero_model::except::Except;
-use aero_model::limits::Limits;
-use aero_model::name::Name;
-use aero_model::verdict::Counts;
+use aero_model::{Counts, Except, Limits, Name};
 use std::alloc::{AllocError, Global};
 
 /// The program's version.
 pub const VERSION: &str = "0.1.0";
 
 /// How the sources of a report were judged, as far as its summary tells it: the limits of a source, which of its blocks
-/// are no transactions, whether the serial order was asked for, whether violations were to be explained, and with which
-/// labels of the list no block begins.
+/// are no transactions, whether the serial order was asked for, whether violations were to be explained, with which
+/// labels of the list no block begins, and what is told of the sources beside their lines.
 #[derive(Clone, Copy)]
 pub struct Options<'a> {
     pub limits: &'a Limits,
@@ -26,6 +24,7 @@ pub struct Options<'a> {
     pub order: bool,
     pub explain: bool,
     pub unused: &'a [&'a Name],
+    pub notes: &'a [Note],
 }
 
 /// The line of the summary as JSON, with a newline.
@@ -69,7 +68,8 @@ fn write_options(out: &mut Line, options: Options<'_>) -> Result<(), AllocError>
     out.flag("explain", options.explain)?;
     write_limits(out, options.limits)?;
     write_listed(out, options.except)?;
-    write_unused(out, options.unused)
+    write_unused(out, options.unused)?;
+    write_notes(out, options.notes)
 }
 
 fn write_limits(out: &mut Line, limits: &Limits) -> Result<(), AllocError>

@@ -3,7 +3,7 @@ ghost use Rattle.std.specs.Prelude.{◌≡◌, ◌+◌, ◌<◌, length, take, O
 ghost use Rattle.std.specs.Io.KnownBytes.{Appends};
 ghost use Rattle.aero_model.specs.CallCounts.{inner_of, faults_of, ends_of};
 
-use aero_model::counting::Counting;
+use aero_model::Counting;
 use std::io::Write;
 
 /// Where a text was cut off: its first `written` bytes went out, which is not all of it.

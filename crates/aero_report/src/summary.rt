@@ -3,7 +3,7 @@ ghost use Rattle.std.specs.Prelude.{◌≡◌, ◌+◌, ◌++◌, codes, decimal
 ghost use Rattle.aero_report.specs.Texts.{summary_line};
 
 use crate::texts::append_number;
-use aero_model::verdict::Counts;
+use aero_model::Counts;
 use itoa::Buffer;
 use std::alloc::{AllocError, Global};
 

@@ -2,9 +2,9 @@
 ghost use Rattle.std.specs.Prelude.{◌≡◌, ◌++◌, codes, decimal, flat_map, IfOk, OnOk};
 ghost use Rattle.aero_report.specs.Texts.{line_fault_name, shape_fault_name, sizes_text, verdict_text, finding_text, op_name, target_text, event_text, cycle_line, cycle_lines, label_line, step_line, step_lines, source_line};
 
-use aero_model::event::{Event, Op};
-use aero_model::name::Name;
-use aero_model::verdict::{Cycle, CycleStep, Finding, LineFault, ShapeFault, Step, Verdict};
+use aero_model::{
+    Cycle, CycleStep, Event, Finding, LineFault, Name, Op, ShapeFault, Step, Verdict,
+};
 use itoa::Buffer;
 use std::alloc::{AllocError, Global};
 
@@ -39,6 +39,7 @@ fn append_finding(text: &mut Vec<u8>, finding: &Finding) -> Result<(), AllocErro
         Finding::Judged(verdict) => append_verdict(text, verdict),
         Finding::Ordered(verdict, _) => append_verdict(text, verdict),
         Finding::Explained(verdict, _) => append_verdict(text, verdict),
+        Finding::Opened(verdict, _) => append_verdict(text, verdict),
         Finding::Broken(bytes) => {
             text.extend_from_slice(b": broken after ")?;
             append_number(text, *bytes)?;
@@ -55,6 +56,7 @@ fn append_steps_of(text: &mut Vec<u8>, finding: &Finding) -> Result<(), AllocErr
         Finding::Ordered(_, steps) => append_steps(text, steps),
         Finding::Explained(_, cycle) => append_cycle(text, cycle),
         Finding::Judged(_) => Ok(()),
+        Finding::Opened(_, _) => Ok(()),
         Finding::Broken(_) => Ok(()),
         Finding::TooLarge => Ok(()),
     }

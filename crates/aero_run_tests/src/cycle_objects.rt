@@ -1,8 +1,6 @@
 // What no clause says of a cycle as JSON: texts known from elsewhere.
 use crate::objects::has_object;
-use aero_model::event::{Event, Op};
-use aero_model::name::Name;
-use aero_model::verdict::{Cycle, CycleStep, CycleTransaction, Extent, Finding, Verdict};
+use aero_model::{Cycle, CycleStep, CycleTransaction, Event, Extent, Finding, Name, Op, Verdict};
 use std::alloc::Global;
 
 // The helpers below say that a row doesn't hold where memory is refused.

@@ -1,5 +1,4 @@
-use aero_model::except::{Except, SharedExcept};
-use aero_model::name::Name;
+use aero_model::{Except, Name, SharedExcept};
 use std::alloc::Global;
 
 // The list of these labels, between which a space stands. `None` where memory is refused.

@@ -1,8 +1,7 @@
-use aero_gather::gather::{Gather, Settled, Tally, Ticket};
-use aero_grammar::parsed::Parsed;
-use aero_model::numbered::What;
-use aero_pieces::answer::{Answer, Value};
-use aero_pieces::question::{Bytes, Question};
+use aero_gather::{Gather, Settled, Tally, Ticket};
+use aero_grammar::Parsed;
+use aero_model::What;
+use aero_pieces::{Answer, Bytes, Question, Value};
 use std::alloc::Global;
 use std::sync::Arc;
 
@@ -92,7 +91,7 @@ fn push_what(alloc: Global, words: &mut String, what: What) -> bool {
 fn push_value(alloc: Global, words: &mut String, value: &Value) -> bool {
     match value {
         Value::Parsed(parsed) => push_event(alloc, words, parsed),
-        Value::Judged(_) | Value::Ordered(..) | Value::Explained(..) => words
+        Value::Judged(_) | Value::Ordered(..) | Value::Explained(..) | Value::Opened(..) => words
             .push_str("a verdict")
             .is_ok(),
     }

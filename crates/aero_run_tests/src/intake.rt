@@ -1,10 +1,7 @@
 // How sources come and end, step by step, and which plans there are.
 use crate::except::listed;
-use aero_intake::intake::{Intake, Taken};
-use aero_intake::plan::{Keeping, Plan};
-use aero_model::counting::Counting;
-use aero_model::limits::Limits;
-use aero_model::verdict::Ending;
+use aero_intake::{Intake, Keeping, Plan, Taken};
+use aero_model::{Counting, Ending, Limits};
 use std::alloc::{AllocError, Global};
 use std::io;
 use std::io::Read;

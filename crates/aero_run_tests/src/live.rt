@@ -1,13 +1,10 @@
 // What is found of a source that is judged as it comes. In texts and lines `/` stands for the byte 10.
 use crate::except::listed;
 use crate::intake::lines_of;
-use aero_grammar::block::parse_block;
-use aero_grammar::parsed::Parsed;
+use aero_grammar::{Parsed, parse_block};
 use aero_intake::live::Live;
 use aero_intake::terms::Terms;
-use aero_model::except::SharedExcept;
-use aero_model::limits::Limits;
-use aero_model::verdict::Finding;
+use aero_model::{Finding, Limits, SharedExcept};
 use aero_report::trace_text;
 use std::alloc::{AllocError, Global};
 use std::test::Fail;

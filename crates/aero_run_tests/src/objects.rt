@@ -1,6 +1,5 @@
 // What no clause says of aero_report's JSON: texts known from elsewhere.
-use aero_model::name::Name;
-use aero_model::verdict::{Finding, LineFault, ShapeFault, Step, Verdict};
+use aero_model::{Finding, LineFault, Name, OpenBlock, ShapeFault, Step, Verdict};
 use aero_report::{Form, source_text};
 use std::alloc::Global;
 
@@ -138,6 +137,60 @@ fn each_finding_has_its_object(rt: HostRuntime) {
         has_object(alloc, b"a", &Finding::Broken(u64::MAX), BROKEN),
     ];
     assert_eq!(rt; are_told, [true; 7]);
+}
+
+// An open block of the thread T1, or of one whose name isn't UTF-8, with this label, if there is one.
+fn open_block(alloc: Global, line: u32, is_text: bool, label: Option<&[u8]>) -> Option<OpenBlock> {
+    let thread: &[u8] = if is_text { b"T1" } else { b"\x80" };
+    let thread = Name::read(alloc, thread).ok()?;
+    let label = match label {
+        Some(label) => Some(Name::read(alloc, label).ok()?),
+        None => None,
+    };
+    Some(OpenBlock {
+        line,
+        thread,
+        label,
+    })
+}
+
+fn two_open_blocks(alloc: Global) -> Option<Vec<OpenBlock>> {
+    let mut blocks = Vec::new(alloc);
+    blocks
+        .push(open_block(alloc, 1, true, Some(b"with\"draw"))?)
+        .ok()?;
+    blocks
+        .push(open_block(alloc, 4_294_967_295, false, None)?)
+        .ok()?;
+    Some(blocks)
+}
+
+// A trace with open blocks that are told has this line.
+fn is_opened_so(alloc: Global, blocks: Option<Vec<OpenBlock>>, line: &str) -> bool {
+    let verdict = Verdict::Pending {
+        events: 6,
+        blocks: 3,
+        pending: 2,
+    };
+    match blocks {
+        Some(blocks) => has_object(alloc, b"a", &Finding::Opened(verdict, blocks), line),
+        None => false,
+    }
+}
+
+const OPENED: &str =
+    r#"{"source":"a","verdict":"open","events":6,"blocks":3,"open":2,"opened":[{"line":1,"thread":"T1","label":"with\"draw"},{"line":4294967295,"thread":{"bytes":"gA=="}}]}"#;
+
+const NONE_OPENED: &str =
+    r#"{"source":"a","verdict":"open","events":6,"blocks":3,"open":2,"opened":[]}"#;
+
+#[test]
+fn open_blocks_stand_so(rt: HostRuntime) {
+    let alloc = rt.alloc();
+    assert!(rt;
+        is_opened_so(alloc, two_open_blocks(alloc), OPENED)
+            && is_opened_so(alloc, Some(Vec::new(alloc)), NONE_OPENED)
+    );
 }
 
 fn push_step(alloc: Global, steps: &mut Vec<Step>, line: u32, thread: &[u8]) -> bool {

@@ -1,14 +1,7 @@
 use crate::except::listed;
-use aero_grammar::block::parse_block;
-use aero_grammar::parsed::Parsed;
-use aero_model::event::Event;
-use aero_model::limits::Limits;
-use aero_model::name::Name;
-use aero_model::numbered::What;
-use aero_model::verdict::{Cycle, CycleStep, Step, Verdict};
-use aero_pieces::answer::{Answer, Value};
-use aero_pieces::question::{Bytes, Parts, Question};
-use aero_pieces::same;
+use aero_grammar::{Parsed, parse_block};
+use aero_model::{Cycle, CycleStep, Event, Limits, Name, OpenBlock, Step, Verdict, What};
+use aero_pieces::{Answer, Bytes, Parts, Question, Value, same};
 use std::alloc::Global;
 
 // The helpers give `None` where memory is refused.
@@ -106,7 +99,7 @@ fn is_read(value: &Value) -> bool {
                 && parsed.threads.name(event.thread) == Some(b"T1".as_slice())
                 && parsed.variables.name(0) == Some(b"x".as_slice())
         }
-        Value::Judged(_) | Value::Ordered(..) | Value::Explained(..) => false,
+        Value::Judged(_) | Value::Ordered(..) | Value::Explained(..) | Value::Opened(..) => false,
     }
 }
 
@@ -208,13 +201,35 @@ fn push_cycle(alloc: Global, words: &mut String, cycle: &Cycle) -> bool {
     fits
 }
 
-// Puts what goes with the verdict, an order or a cycle, behind the words so far, or else what the value is.
+// Its line, its thread, and its label, if it has one.
+fn push_block(alloc: Global, words: &mut String, block: &OpenBlock) -> bool {
+    let line = block.line;
+    let Ok(thread) = str::from_utf8(block.thread.bytes()) else {
+        return false;
+    };
+    match format!(in alloc; "open {line} {thread}/") {
+        Ok(text) => words.push_str(&text).is_ok() && push_label(words, &block.label),
+        Err(_) => false,
+    }
+}
+
+fn push_blocks(alloc: Global, words: &mut String, blocks: &[OpenBlock]) -> bool {
+    let mut fits = true;
+    for block in blocks {
+        fits &= push_block(alloc, words, block);
+    }
+    fits
+}
+
+// Puts what goes with the verdict, an order, a cycle or open blocks, behind the words so far, or else what the value is.
 fn push_order(alloc: Global, words: &mut String, value: &Value) -> bool {
     match value {
         Value::Ordered(Verdict::Serializable { .. }, steps) => push_steps(alloc, words, steps),
         Value::Ordered(..) => words.push_str("an order of another verdict").is_ok(),
         Value::Explained(Verdict::Violation { .. }, cycle) => push_cycle(alloc, words, cycle),
         Value::Explained(..) => words.push_str("a cycle of another verdict").is_ok(),
+        Value::Opened(Verdict::Pending { .. }, blocks) => push_blocks(alloc, words, blocks),
+        Value::Opened(..) => words.push_str("blocks of another verdict").is_ok(),
         Value::Judged(_) => words.push_str("a verdict").is_ok(),
         Value::Parsed(_) => words.push_str("a block").is_ok(),
     }
@@ -295,7 +310,7 @@ const TWO_BLOCKS: &str = "T1|begin/T2|begin;T1|w(x)/T2|r(x)/T2|w(y);T1|r(y)";
 
 const TWO_BLOCKS_CYCLE: &str = "3 1 T1 Write x/4 2 T2 Read x/5 2 T2 Write y/6 1 T1 Read y/";
 
-static EXPLAINED: [Ordered; 8] = [
+static EXPLAINED: [Ordered; 10] = [
     (TWO_BLOCKS, false, TWO_BLOCKS_CYCLE),
     (TWO_BLOCKS, true, TWO_BLOCKS_CYCLE),
     (
@@ -305,13 +320,19 @@ static EXPLAINED: [Ordered; 8] = [
     ),
     ("T1|begin/T2|w(x);T1|r(x)/T1|end", false, "a verdict"),
     ("T1|begin/T2|w(x);T1|r(x)/T1|end", true, "2 T2/1 T1/"),
-    ("T1|begin/T2|w(x);T1|r(x)", true, "a verdict"),
+    (
+        "T1|begin(f)/T2|w(x);T2|begin/T1|r(x)",
+        false,
+        "open 1 T1/f/open 3 T2/",
+    ),
+    ("T1|begin/T2|w(x);T1|r(x)", true, "open 1 T1/"),
+    ("T1|begin(a)/T2|w(x)", false, "a verdict"),
     ("T1|w(x);T1", false, "a verdict"),
     ("T1|begin(a)/T1|w(x);T2|w(x)/T1|r(x)", false, "a verdict"),
 ];
 
 #[test]
-fn a_violation_is_explained_where_that_is_asked_for(rt: HostRuntime) {
+fn what_is_found_is_explained_where_that_is_asked_for(rt: HostRuntime) {
     assert_eq!(rt; first_unexplained(rt.alloc(), &EXPLAINED), None);
 }
 

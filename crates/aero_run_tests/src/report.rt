@@ -1,12 +1,10 @@
 // What no clause says: texts known from elsewhere, and writers that fail or take nothing.
 ghost use Rattle.std.specs.Prelude.{◌≡◌, ◌≤◌, IfOk, Some};
 
-use aero_model::counting::Counting;
-use aero_model::event::{Event, Op};
-use aero_model::name::Name;
 use aero_model::verdict::{
     Counts, Cycle, CycleStep, Finding, LineFault as Line, ShapeFault as Shape, Step, Verdict,
 };
+use aero_model::{Counting, Event, Name, Op};
 use aero_report::{Cut, cycle_text, put, summary_text, trace_text};
 use std::alloc::Global;
 use std::io;

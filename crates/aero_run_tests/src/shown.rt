@@ -1,6 +1,5 @@
 // Bytes as a terminal is shown them, in a report too.
-use aero_model::name::Name;
-use aero_model::verdict::{Finding, Verdict};
+use aero_model::{Finding, Name, Verdict};
 use aero_report::shown::{append_bytes, append_lines, append_text};
 use aero_report::{Form, source_text};
 use std::alloc::Global;

@@ -1,6 +1,6 @@
 ghost use Rattle.std.specs.Prelude.{◌≡◌};
 
-use aero_pieces::question::{Bytes, Question};
+use aero_pieces::{Bytes, Question};
 use aero_stage::{Job, Poster, Taker, stage};
 use std::alloc::{AllocError, Global};
 use std::process::Abort;

@@ -1,10 +1,7 @@
 // What no clause says of summaries as JSON: texts known from elsewhere.
 use crate::objects::is_line;
-use aero_model::except::Except;
-use aero_model::limits::Limits;
-use aero_model::name::Name;
-use aero_model::verdict::{Counts, Finding};
-use aero_report::{Form, Options, source_text, totals_text};
+use aero_model::{Counts, Except, Finding, Limits, Name};
+use aero_report::{Form, Note, Options, source_text, totals_text};
 use std::alloc::Global;
 
 // The helpers below say that a row doesn't hold where memory is refused.
@@ -114,7 +111,7 @@ fn is_joined(text: &[u8], front: &str, end: &str) -> bool {
     }
 }
 
-fn is_summed_so(alloc: Global, row: &Counted, asked: &Asked) -> bool {
+fn is_summed_so(alloc: Global, row: &Counted, asked: &Asked, notes: &[Note]) -> bool {
     let ([serializable, pending, violations, faults], front) = *row;
     let counts = Counts {
         serializable,
@@ -135,6 +132,7 @@ fn is_summed_so(alloc: Global, row: &Counted, asked: &Asked) -> bool {
         order: asked.order,
         explain: asked.explain,
         unused: &unused,
+        notes,
     };
     match totals_text(alloc, Form::Json, options, &counts) {
         Ok(text) => is_joined(&text, front, asked.end),
@@ -145,7 +143,7 @@ fn is_summed_so(alloc: Global, row: &Counted, asked: &Asked) -> bool {
 // The first counts whose object doesn't hold.
 fn first_missummed(alloc: Global, rows: &[Counted]) -> Option<usize> {
     for i in 0..rows.len() {
-        if !is_summed_so(alloc, &rows[i], &ASKED[0]) {
+        if !is_summed_so(alloc, &rows[i], &ASKED[0], &[]) {
             return Some(i);
         }
     }
@@ -175,7 +173,7 @@ fn the_object_of_the_summary_counts_what_was_found(rt: HostRuntime) {
 // The first options whose object doesn't hold.
 fn first_misasked(alloc: Global, rows: &[Asked]) -> Option<usize> {
     for i in 0..rows.len() {
-        if !is_summed_so(alloc, &SUMMARIES[1], &rows[i]) {
+        if !is_summed_so(alloc, &SUMMARIES[1], &rows[i], &[]) {
             return Some(i);
         }
     }
@@ -185,6 +183,60 @@ fn first_misasked(alloc: Global, rows: &[Asked]) -> Option<usize> {
 #[test]
 fn the_object_of_the_summary_tells_how_sources_were_judged(rt: HostRuntime) {
     assert_eq!(rt; first_misasked(rt.alloc(), &ASKED), None);
+}
+
+// A note: its source, its line, if it has one, and its text.
+type Told = (&'static [u8], Option<u32>, &'static [u8]);
+
+static TOLD: [Told; 3] = [
+    (b"no.std", None, b"No such file or directory"),
+    (
+        b"a\"b",
+        Some(4294967295),
+        b"T2 acquires l, which T1 holds since line 1",
+    ),
+    (b"\xff", Some(1), b"no such operation: \xfe"),
+];
+
+static NOTED: Asked = Asked {
+    order: false,
+    explain: false,
+    labels: &[b"f"],
+    only: false,
+    are_unused: true,
+    end: r#","version":"0.1.0","order":false,"explain":false,"limits":{"bytes":1073741824,"lines":268435456,"threads":65536,"names":67108864},"except":["f"],"unused":["f"],"notes":[{"source":"no.std","note":"No such file or directory"},{"source":"a\"b","line":4294967295,"note":"T2 acquires l, which T1 holds since line 1"},{"source":{"bytes":"/w=="},"line":1,"note":{"bytes":"bm8gc3VjaCBvcGVyYXRpb246IP4="}}]}"#,
+};
+
+fn note_of(alloc: Global, row: &Told) -> Option<Note> {
+    let (source, line, text) = *row;
+    let source = Vec::from_slice(alloc, source).ok()?;
+    let text = Vec::from_slice(alloc, text).ok()?;
+    Some(Note { source, line, text })
+}
+
+fn push_note(alloc: Global, notes: &mut Vec<Note>, row: &Told) -> bool {
+    match note_of(alloc, row) {
+        Some(note) => notes.push(note).is_ok(),
+        None => false,
+    }
+}
+
+fn push_notes(alloc: Global, notes: &mut Vec<Note>, rows: &[Told]) -> bool {
+    let mut fits = true;
+    for i in 0..rows.len() {
+        fits &= push_note(alloc, notes, &rows[i]);
+    }
+    fits
+}
+
+fn has_notes(alloc: Global) -> bool {
+    let mut notes = Vec::new(alloc);
+    push_notes(alloc, &mut notes, &TOLD) && is_summed_so(alloc, &SUMMARIES[1], &NOTED, &notes)
+}
+
+#[test]
+fn the_object_of_the_summary_has_the_notes_on_sources(rt: HostRuntime) {
+    assert!(rt; has_notes(rt.alloc()));
 }
 
 // Whether the line of a source for people is that of `trace_text`.
@@ -214,6 +266,7 @@ fn has_totals_text(alloc: Global) -> bool {
         order: true,
         explain: true,
         unused: &[],
+        notes: &[],
     };
     match totals_text(alloc, Form::Text, options, &counts) {
         Ok(text) => is_line(text.as_slice(), line),

@@ -1,13 +1,9 @@
 // What no clause says: that workers answer, that they work at once, and that a crew ends where nobody receives,
 // where no thread can be made and where memory is refused.
 use crate::except::listed;
-use aero_grammar::block::parse_block;
-use aero_model::limits::Limits;
-use aero_model::numbered::What;
-use aero_model::verdict::Verdict;
-use aero_pieces::answer::{Answer, Value};
-use aero_pieces::question::{Bytes, Parts, Question};
-use aero_pieces::same;
+use aero_grammar::parse_block;
+use aero_model::{Limits, Verdict, What};
+use aero_pieces::{Answer, Bytes, Parts, Question, Value, same};
 use aero_stage::Job;
 use aero_worker::{Crew, CrewReport, Gate, NoGate, Reply, reply_with};
 use std::alloc::{AllocError, Global};

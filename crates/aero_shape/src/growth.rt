@@ -5,7 +5,7 @@ ghost use Rattle.aero_shape.specs.States.{thread_at, lock_at, around_at, HasThre
 use crate::exempt::{Around, open_exempt};
 use crate::judge::Judged;
 use crate::states::{FREE, IDLE, LockState, ThreadState};
-use aero_model::numbered::{Numbered, What};
+use aero_model::{Numbered, What};
 use std::alloc::AllocError;
 
 // The table gets a place for the number, if it has none. New places are what was said beyond the

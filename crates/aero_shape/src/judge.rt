@@ -7,7 +7,7 @@ ghost use Rattle.aero_shape.specs.Told.{is_last, exempt_told, judged_told};
 
 use crate::exempt::{Around, ends_exempt};
 use crate::states::{IDLE, ThreadState, state_at};
-use aero_model::numbered::{Numbered, What};
+use aero_model::{Numbered, What};
 
 // An event as it is judged, whether an exempt block opens or closes with it, and how many blocks
 // that aren't exempt are open at it.

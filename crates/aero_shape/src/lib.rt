@@ -38,3 +38,6 @@ mod notes;
 mod rules;
 pub mod shape;
 mod states;
+
+pub use admission::Admitted;
+pub use shape::Shape;

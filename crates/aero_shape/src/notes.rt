@@ -3,7 +3,7 @@ ghost use Rattle.std.specs.Prelude.{◌≡◌, ℕ, ◌<◌, length, slice_set};
 ghost use Rattle.aero_shape.specs.States.{thread_at, lock_at, HasThreadPlace, HasLockPlace, acting, affected, thread_after, lock_after};
 
 use crate::states::{LockState, ThreadState};
-use aero_model::numbered::{Numbered, What};
+use aero_model::{Numbered, What};
 
 // What the thread itself does.
 #[inline(always)]

@@ -5,8 +5,7 @@ ghost use Rattle.aero_shape.specs.Told.{is_held_by, is_kept_from, is_started, fa
 
 use crate::admission::Admitted;
 use crate::states::{FREE, IDLE, LockState, ThreadState, state_at};
-use aero_model::numbered::{Numbered, What};
-use aero_model::verdict::ShapeFault;
+use aero_model::{Numbered, ShapeFault, What};
 
 impl LockState {
     #[inline(always)]

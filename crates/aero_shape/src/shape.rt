@@ -9,8 +9,7 @@ use crate::judge::judge;
 use crate::notes::{note_lock, note_threads};
 use crate::rules::{access_of, fault_of, kind_of};
 use crate::states::{LockState, ThreadState};
-use aero_model::numbered::Numbered;
-use aero_model::verdict::ShapeFault;
+use aero_model::{Numbered, ShapeFault};
 use std::alloc::Global;
 use std::marker::Model;
 

@@ -1,5 +1,5 @@
 // What goes through the queue, and what each end knows of it.
-use aero_pieces::question::Question;
+use aero_pieces::Question;
 use std::alloc::Global;
 use std::collections::LinkedList;
 use std::sync::Arc;

@@ -4,16 +4,10 @@ ghost use Rattle.std.specs.Prelude.{◌≡◌};
 
 use crate::model::except_of;
 use crate::verdict::words_of;
-use aero_grammar::batch::Batch;
-use aero_grammar::block::parse_block;
-use aero_grammar::line::parse_line;
-use aero_grammar::parsed::Parsed;
-use aero_leads::leads::Leads;
-use aero_model::event::Event;
-use aero_model::except::Except;
-use aero_model::limits::Limits;
-use aero_model::numbered::{Numbered, What};
-use aero_verdict::monitor::Monitor;
+use aero_grammar::{Batch, Parsed, parse_block, parse_line};
+use aero_leads::Leads;
+use aero_model::{Event, Except, Limits, Numbered, What};
+use aero_verdict::Monitor;
 use std::alloc::{AllocError, Global};
 use std::mem;
 

@@ -1,4 +1,4 @@
-use aero_clock::clock::Clock;
+use aero_clock::Clock;
 use std::alloc::Global;
 
 // The helpers below give `None` where memory is refused, and then a row doesn't hold.

@@ -1,6 +1,6 @@
 use crate::leads::{event_of, make_by_clocks};
-use aero_access::clocks::Clocks;
-use aero_engine::spent::Spent;
+use aero_access::Clocks;
+use aero_engine::Spent;
 use std::alloc::Global;
 
 // The answer to the last event of the trace, with `/` between its lines. Each before it has to answer

@@ -1,19 +1,15 @@
 use crate::model::except_of;
 use crate::verdict::{parts_of, push_words};
-use aero_grammar::parsed::Parsed;
-use aero_model::event::Event;
-use aero_model::except::Except;
-use aero_model::limits::Limits;
-use aero_model::name::Name;
-use aero_model::verdict::{Cycle, CycleStep, CycleTransaction, Extent, Finding, Verdict};
-use aero_verdict::monitor::{Monitor, feed_all};
-use aero_verdict::recorder::Recorder;
-use aero_verdict::{check_trace_explained, check_trace_in_full};
+use aero_grammar::Parsed;
+use aero_model::{
+    Cycle, CycleStep, CycleTransaction, Event, Except, Extent, Finding, Limits, Name, Verdict,
+};
+use aero_verdict::{Monitor, Recorder, check_trace_explained, check_trace_in_full, feed_all};
 use std::alloc::Global;
 
 // The helpers below say that a row doesn't hold where memory is refused.
 
-fn text_of(name: &Option<Name>) -> Option<&str> {
+pub(crate) fn text_of(name: &Option<Name>) -> Option<&str> {
     match name {
         Some(name) => str::from_utf8(name.bytes()).ok(),
         None => Some("-"),
@@ -162,6 +158,7 @@ fn is_found(
         Ok(Finding::Explained(verdict, cycle)) => says(alloc, &verdict, &Some(cycle), wanted),
         Ok(Finding::Ordered(verdict, _)) => says(alloc, &verdict, &None, wanted),
         Ok(Finding::Judged(verdict)) => says(alloc, &verdict, &None, wanted),
+        Ok(Finding::Opened(verdict, _)) => says(alloc, &verdict, &None, wanted),
         _ => false,
     }
 }

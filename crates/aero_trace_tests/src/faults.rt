@@ -1,8 +1,8 @@
 // What is told of each fault, and of what stands in its way: in words by hand.
 use aero_faults::look::{Look, append_ill_formed, append_malformed};
 use aero_faults::search::Search;
-use aero_grammar::line::parse_line;
-use aero_model::event::Event;
+use aero_grammar::parse_line;
+use aero_model::Event;
 use aero_model::verdict::{LineFault as Line, ShapeFault as Shape};
 use std::alloc::Global;
 

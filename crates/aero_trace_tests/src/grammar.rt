@@ -1,11 +1,6 @@
-use aero_grammar::block::parse_block;
-use aero_grammar::line::parse_line;
-use aero_grammar::line_event::LineEvent;
-use aero_grammar::parsed::Parsed;
-use aero_model::event::Event;
-use aero_model::numbered::{Numbered, What};
-use aero_model::verdict::LineFault;
-use aero_names::list::NameList;
+use aero_grammar::{LineEvent, Parsed, parse_block, parse_line};
+use aero_model::{Event, LineFault, Numbered, What};
+use aero_names::NameList;
 use std::alloc::Global;
 
 // What is put into words here is put behind the words so far, and each helper says whether that went: no

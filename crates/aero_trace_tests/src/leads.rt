@@ -1,7 +1,7 @@
-use aero_access::clocks::Clocks;
+use aero_access::Clocks;
 use aero_end::end;
-use aero_engine::spent::Spent;
-use aero_leads::leads::Leads;
+use aero_engine::Spent;
+use aero_leads::Leads;
 use std::alloc::Global;
 
 #[derive(Clone, Copy)]

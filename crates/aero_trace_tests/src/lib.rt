@@ -30,6 +30,8 @@ mod monitor;
 #[cfg(test)]
 mod names;
 #[cfg(test)]
+mod opened;
+#[cfg(test)]
 mod order;
 #[cfg(test)]
 mod replaced;

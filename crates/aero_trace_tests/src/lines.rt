@@ -1,4 +1,4 @@
-use aero_lines::cutter::{Block, Cutter};
+use aero_lines::{Block, Cutter};
 use std::alloc::Global;
 
 // The helpers below say that a row doesn't hold where memory is refused.

@@ -1,7 +1,4 @@
-use aero_model::counting::Counting;
-use aero_model::except::{Except, SharedExcept};
-use aero_model::limits::Limits;
-use aero_model::name::{Name, NameFault};
+use aero_model::{Counting, Except, Limits, Name, NameFault, SharedExcept};
 use std::alloc::Global;
 use std::io;
 use std::io::{Read, Write};

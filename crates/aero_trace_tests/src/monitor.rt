@@ -3,14 +3,12 @@ ghost use Rattle.std.specs.Prelude.{◌≡◌};
 
 use crate::model::except_of;
 use crate::verdict::{parts_of, words_of};
-use aero_end::ending_clocks::EndingClocks;
-use aero_grammar::parsed::Parsed;
-use aero_leads::leads::Leads;
-use aero_model::except::Except;
-use aero_model::limits::Limits;
-use aero_verdict::check_trace;
+use aero_end::EndingClocks;
+use aero_grammar::Parsed;
+use aero_leads::Leads;
+use aero_model::{Except, Limits};
 use aero_verdict::engine::Engine;
-use aero_verdict::monitor::Monitor;
+use aero_verdict::{Monitor, check_trace};
 use std::alloc::Global;
 
 // The helpers below say that a row doesn't hold where memory is refused.

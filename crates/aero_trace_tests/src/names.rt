@@ -1,7 +1,5 @@
-use aero_model::name::Name;
-use aero_model::verdict::{LineFault, ShapeFault};
-use aero_names::list::NameList;
-use aero_names::names::{Names, NamesFault};
+use aero_model::{LineFault, Name, ShapeFault};
+use aero_names::{NameList, Names, NamesFault};
 use std::alloc::Global;
 use std::fmt::Display;
 
@@ -317,7 +315,7 @@ fn a_list_has_its_names_in_order(rt: HostRuntime) {
     assert!(rt; is_in_order(rt.alloc(), "ab c ab", [b"ab", b"c", b"ab"]));
 }
 
-fn tells<F: Display + Drop>(alloc: Global, fault: F, wanted: &str) -> bool {
+fn tells<F: Display>(alloc: Global, fault: F, wanted: &str) -> bool {
     match fault.to_string(alloc) {
         Ok(text) => text.as_str() == wanted,
         Err(_) => false,

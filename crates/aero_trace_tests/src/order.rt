@@ -3,10 +3,9 @@ ghost use Rattle.aero_model.specs.Blocks.{is_begin, is_end, by_thread, depth};
 ghost use Rattle.aero_model.specs.Exempt.{IsJudgedWhat};
 
 use crate::leads::{Event, event_of};
-use aero_model::numbered::{Numbered, What};
+use aero_model::{Numbered, What};
 use aero_order::first::First;
-use aero_order::order::least_order;
-use aero_order::transactions::Transactions;
+use aero_order::{Transactions, least_order};
 use std::alloc::{AllocError, Global};
 
 // Whether this is the order. Where memory is refused, it is none.

@@ -4,9 +4,9 @@
 use crate::leads::roll;
 use crate::model::except_of;
 use crate::verdict::{judged_by, parts_of};
-use aero_end::ending_clocks::EndingClocks;
-use aero_leads::leads::Leads;
-use aero_model::limits::Limits;
+use aero_end::EndingClocks;
+use aero_leads::Leads;
+use aero_model::Limits;
 use aero_verdict::engine::Engine;
 use std::alloc::Global;
 

@@ -1,12 +1,10 @@
 use crate::model::except_of;
 use crate::verdict::{parts_of, push_words};
-use aero_grammar::parsed::Parsed;
-use aero_model::except::Except;
-use aero_model::limits::Limits;
-use aero_model::verdict::{Finding, Step, Verdict};
-use aero_verdict::in_order::InOrder;
-use aero_verdict::monitor::{Monitor, feed_all};
-use aero_verdict::{actor_at, check_trace_in_full, check_trace_in_order, serial_order};
+use aero_grammar::Parsed;
+use aero_model::{Except, Finding, Limits, Step, Verdict};
+use aero_verdict::{
+    InOrder, Monitor, actor_at, check_trace_in_full, check_trace_in_order, feed_all, serial_order,
+};
 use std::alloc::Global;
 
 // The helpers below say that a row doesn't hold where memory is refused.

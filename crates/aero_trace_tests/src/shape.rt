@@ -1,7 +1,5 @@
-use aero_model::numbered::{Numbered, What};
-use aero_model::verdict::ShapeFault;
-use aero_shape::admission::Admitted;
-use aero_shape::shape::Shape;
+use aero_model::{Numbered, ShapeFault, What};
+use aero_shape::{Admitted, Shape};
 use std::alloc::Global;
 
 // An event, and what is told of it.

@@ -1,10 +1,7 @@
 use crate::model::except_of;
-use aero_end::ending_clocks::EndingClocks;
-use aero_grammar::block::parse_block;
-use aero_grammar::parsed::Parsed;
-use aero_model::except::Except;
-use aero_model::limits::Limits;
-use aero_model::verdict::Verdict;
+use aero_end::EndingClocks;
+use aero_grammar::{Parsed, parse_block};
+use aero_model::{Except, Limits, Verdict};
 use aero_verdict::engine::Engine;
 use aero_verdict::{check_trace, check_trace_by};
 use std::alloc::Global;

@@ -1,11 +1,9 @@
 ghost use Rattle.std.specs.Prelude.{◌<◌, length};
 
 use crate::order::events_of;
-use aero_model::numbered::Numbered;
-use aero_witness::search::{shorten, shortest_cycle};
-use aero_witness::telling::is_telling_cycle;
-use aero_witness::transactions::{Nest, transactions_of};
-use aero_witness::visit::Visit;
+use aero_model::Numbered;
+use aero_witness::transactions::Nest;
+use aero_witness::{Visit, is_telling_cycle, shorten, shortest_cycle, transactions_of};
 use std::alloc::{AllocError, Global};
 
 // A trace, a list of visits by their two places, and the shortest telling cycle from the transaction of the

@@ -11,7 +11,9 @@ pub mod ReadAt
 pub mod Showing
 pub mod Rising
 pub mod Spanning
+pub mod Keeping
 pub mod Explaining
+pub mod Opening
 pub mod SameVerdict
 pub mod Staying
 pub mod Steps

@@ -219,7 +219,7 @@ module _ (rules : Rules) (events : List (ℕ × Named)) (n : ℕ) (within : n �
   abbrev trace : List Numbered
   trace = judged_in rules events
 
-  long : length trace ≡ length events
+  pub long : length trace ≡ length events
   long = judged_length marked ∙ length-map (names_of events) _ ∙ length-map events (λ e. e.1)
 
   pub front_agrees : Agree n (take n trace) trace

@@ -1,7 +1,7 @@
--- What says the same has the same verdicts, serial orders and telling cycles.
+-- What says the same has the same verdicts, serial orders, telling cycles and open blocks.
 use Rattle.std.proofs.Common.{◌≡◌, ◌≢◌, ℕ, suc, ◌+◌, true, List, [], ◌∷◌, Option, Some, None, refl, sym, ◌∙◌, ap, subst, arith}
 use Rattle.std.proofs.lemmas.List.{append-nil}
-use Rattle.std.specs.Prelude.{◌≤◌, map, option_map, slice_get, length}
+use Rattle.std.specs.Prelude.{◌≤◌, map, option_map, slice_get, length, take}
 use Rattle.aero_model.specs.declared.numbered.Numbered.{Numbered}
 use Rattle.aero_model.specs.declared.verdict.LineFault.{LineFault}
 use Rattle.aero_model.specs.declared.verdict.ShapeFault.{ShapeFault}
@@ -10,6 +10,7 @@ use Rattle.aero_model.specs.declared.verdict.CycleStep.{CycleStep}
 use Rattle.aero_model.specs.declared.verdict.CycleTransaction.{CycleTransaction}
 use Rattle.aero_model.specs.declared.verdict.Extent.{Extent}
 use Rattle.aero_model.specs.declared.verdict.Extent.TheVariants as extents
+use Rattle.aero_model.specs.declared.verdict.OpenBlock.{OpenBlock}
 use Rattle.aero_model.specs.declared.verdict.Step.{Step}
 use Rattle.aero_model.specs.declared.verdict.Verdict.{Verdict}
 use Rattle.aero_model.specs.declared.verdict.Verdict.TheVariants.{Serializable, Pending, Violation, Malformed, IllFormed}
@@ -25,6 +26,7 @@ use Rattle.aero_model.specs.BlockCounts.{block_count, open_count}
 use Rattle.aero_grammar.specs.Reading.{Reading, whole_reading, events_within, malformed_line}
 use Rattle.aero_verdict.proofs.Zipped.{zip_as}
 use Rattle.aero_verdict.specs.Explained.{round_places, IsFirstOf, IsLastOf, IsEnd, IsExtent, IsCycleStep, IsCycleTransaction, IsExplained, IsCycleOf}
+use Rattle.aero_verdict.specs.Opened.{AreOpenings, IsOpenBlock, AreOpenBlocks}
 use Rattle.aero_verdict.specs.Ordered.{step_at, AreStepsInOrder}
 use Rattle.aero_verdict.specs.Verdict.{Rules, IsVerdict, IsViolation, IsIllFormed, IsMalformed, IsFaultless, IsClean, BeginsOnLine}
 
@@ -185,3 +187,17 @@ module _ (rules : Rules) (parts others : List Reading)
   same_cycle (Violation line thread begun) cycle is = explained line thread begun cycle is
   same_cycle (Malformed line fault) cycle is = absurd is
   same_cycle (IllFormed line fault) cycle is = absurd is
+
+  open_block : (place : ℕ) (block : OpenBlock) → IsOpenBlock parts rules place block → IsOpenBlock others rules place block
+  open_block place block is = record {
+    line = on_line place block.line is.line;
+    thread = subst (λ es. option_map (λ e. e.1.thread) (slice_get es place) ≡ Some block.thread) same is.thread;
+    label = subst (λ es. option_map (λ e. e.1.target) (slice_get es place) ≡ Some block.label) same is.label;
+  }
+
+  pub same_blocks : (blocks : List OpenBlock) → AreOpenBlocks parts rules blocks → AreOpenBlocks others rules blocks
+  same_blocks blocks is = record {
+    places = is.places;
+    are = subst (λ es. AreOpenings (trace es) is.places) same is.are;
+    told = zip_as (IsOpenBlock parts rules) (IsOpenBlock others rules) open_block (take 64 is.places) blocks is.told;
+  }

@@ -1,5 +1,5 @@
 -- To be believed: Verdict (the verdict on parts under rules), Ordered (the order by lines and steps), Explained (the cycle
--- that shows a violation), Finding (what is found of a source) and Laws. Also Fed (what a monitor
+-- that shows a violation), Opened (the blocks that are open), Finding (what is found of a source) and Laws. Also Fed (what a monitor
 -- was fed, and when its verdict is certain) and Actors. What an engine is given and answers stands in aero_engine.
 -- For proofs alone: Naming, Limited, Begun, Known, Standing, InOrder, Recorded, Full, Records, Spans, Spots and Parts. Monitored tells how the
 -- view of Monitor reads its state.
@@ -11,6 +11,7 @@ pub mod Standing
 pub mod Verdict
 pub mod Ordered
 pub mod Explained
+pub mod Opened
 pub mod InOrder
 pub mod Recorded
 pub mod Swept

@@ -1,14 +1,18 @@
--- What is recorded of a trace up to the event with which a cycle closes, and what is told of its events.
-use Rattle.std.specs.Prelude.{◌≡◌, ◌<◌, ◌≤◌, ◌^◌, ℕ, suc, All, List, [], ◌∷◌, length, take, slice_get, Option, Some, option_and_then}
+-- What is recorded of the first events of a trace, as up to the one with which a cycle closes, and what is told of them.
+use Rattle.std.specs.Prelude.{◌≡◌, ◌↔◌, ◌<◌, ◌≤◌, ◌^◌, ℕ, suc, true, All, List, [], ◌∷◌, length, take, slice_get, Option, Some, option_map, option_and_then}
 use Rattle.aero_model.specs.declared.numbered.Numbered.{Numbered}
 use Rattle.aero_model.specs.declared.numbered.What.{What}
 use Rattle.aero_model.specs.declared.numbered.What.TheVariants.{Begin}
 use Rattle.aero_model.specs.declared.verdict.CycleStep.{CycleStep}
 use Rattle.aero_model.specs.declared.verdict.CycleTransaction.{CycleTransaction}
+use Rattle.aero_model.specs.declared.verdict.OpenBlock.{OpenBlock}
 use Rattle.aero_model.specs.declared.verdict.Extent.{Extent}
 use Rattle.aero_model.specs.declared.verdict.Extent.TheVariants as extents
+use Rattle.aero_model.specs.Blocks.{is_begin, transaction, HasEnded}
+use Rattle.aero_model.specs.Cycle.{HasTellingCycle}
 use Rattle.aero_model.specs.Named.{Named}
 use Rattle.aero_model.specs.Numbering.{tables_of}
+use Rattle.aero_model.specs.Shape.{IsLawful}
 use Rattle.aero_grammar.specs.Reading.{Reading, IsReading}
 use Rattle.aero_witness.specs.declared.visit.Visit.{Visit}
 use Rattle.aero_witness.specs.Telling.{visit_of, visits_of}
@@ -25,17 +29,28 @@ use Rattle.aero_verdict.specs.Monitored.{TellsFed}
 use Rattle.aero_verdict.specs.Recorded.{HasRecorded, StandsForLeads}
 use Rattle.aero_verdict.specs.Shown.{shown, CanShow}
 use Rattle.aero_verdict.specs.Spans.{IsSpanOf}
-use Rattle.aero_verdict.specs.Verdict.{Rules, counted_events, events_of, IsViolation}
+use Rattle.aero_verdict.specs.Verdict.{Rules, counted_events, events_of, read_trace, checked_trace, IsViolation}
 
--- the events are recorded up to the one on this line, with which a cycle closes, and the names are theirs
-pub record IsRecordOf (parts : List Reading) (rules : Rules) (numbering : Numbering) (recorder : Recorder) (line : ℕ) (thread : List ℕ) (begun : ℕ) : Type 0 where
+-- The first n events are recorded, and the names are theirs. They are lawful, and fewer of them have no telling cycle.
+pub record IsRecordTo (parts : List Reading) (rules : Rules) (numbering : Numbering) (recorder : Recorder) (n : ℕ) : Type 0 where
   pub readings : All IsReading parts
-  pub violation : IsViolation parts rules line thread begun
-  pub few : suc violation.place < 2 ^ 32
+  pub within : n ≤ length (counted_events parts rules)
+  pub few : n < 2 ^ 32
+  pub lawful : IsLawful rules.limits (read_trace parts rules) n
+  pub untold : (m : ℕ) → m < n → ¬ HasTellingCycle (checked_trace parts rules) m
   pub given : List Given
-  pub are_given : AreGiven rules (counted_events parts rules) (suc violation.place) given
+  pub are_given : AreGiven rules (counted_events parts rules) n given
   pub kept : HasRecorded recorder given
-  pub names_are : names_in numbering ≡ tables_of (take (suc violation.place) (events_of parts rules))
+  pub names_are : names_in numbering ≡ tables_of (take n (events_of parts rules))
+
+-- the events are recorded up to the one on this line, with which a cycle closes
+pub record IsRecordOf (parts : List Reading) (rules : Rules) (numbering : Numbering) (recorder : Recorder) (line : ℕ) (thread : List ℕ) (begun : ℕ) : Type 0 where
+  pub violation : IsViolation parts rules line thread begun
+  pub upto : IsRecordTo parts rules numbering recorder (suc violation.place)
+
+-- all events that count are recorded
+abbrev pub IsWholeRecord : List Reading → Rules → Numbering → Recorder → Type 0
+IsWholeRecord parts rules numbering recorder = IsRecordTo parts rules numbering recorder (length (counted_events parts rules))
 
 -- the verdict on these parts, and a checker with these names and this engine has recorded them, up to an event with which a cycle closes
 pub record IsJudged (parts : List Reading) (rules : Rules) (numbering : Numbering) (recorder : Recorder) (verdict : Verdict) : Type 0 where
@@ -45,6 +60,10 @@ pub record IsJudged (parts : List Reading) (rules : Rules) (numbering : Numberin
   pub names : numbering ≡ checker.numbering
   pub engine : recorder ≡ checker.engine
   pub tells : TellsFed (words_of StandsForLeads HasRecorded) rules parts checker verdict
+
+-- all events that count in some parts are recorded
+abbrev pub IsWhole : Numbering → Recorder → Type 0
+IsWhole numbering recorder = (parts : List Reading) × (rules : Rules) × IsWholeRecord parts rules numbering recorder
 
 -- so it is for some violation whose block begins on this line
 abbrev pub IsRecord : Numbering → Recorder → ℕ → Type 0
@@ -103,3 +122,21 @@ pub record IsTransactionAt (numbering : Numbering) (recorder : Recorder) (span :
 -- the transaction into which the visit comes
 abbrev pub IsTransactionOf : Numbering → Recorder → Visit → CycleTransaction → Type 0
 IsTransactionOf numbering recorder v t = (span : Span) × IsSpanOf recorder.events.items v span × IsTransactionAt numbering recorder span t
+
+-- the event at the place is a begin, and its transaction hasn't ended
+abbrev pub IsBegunAt : List Numbered → ℕ → Type 0
+IsBegunAt events place =
+    (option_map (λ e. is_begin e.what) (slice_get events place) ≡ Some true) × (¬ HasEnded events (length events) (transaction events place))
+
+-- these are the places of such events among the first n, in their order
+pub record AreBegunTo (events : List Numbered) (n : ℕ) (places : List ℕ) : Type 0 where
+  pub rise : (i j p q : ℕ) → i < j → slice_get places i ≡ Some p → slice_get places j ≡ Some q → p < q
+  pub each : (p : ℕ) → ((i : ℕ) × (slice_get places i ≡ Some p)) ↔ ((p < n) × IsBegunAt events p)
+
+-- the line, the thread and the label of the begin at the place
+pub record IsBlockAt (numbering : Numbering) (recorder : Recorder) (place : ℕ) (block : OpenBlock) : Type 0 where
+  pub line : slice_get recorder.lines.items place ≡ Some block.line
+  pub event : Named
+  pub event_is : IsEventAt numbering recorder place event
+  pub thread : event.thread ≡ block.thread
+  pub label : event.target ≡ block.label

@@ -8,8 +8,8 @@ ghost use Rattle.aero_verdict.specs.Actors.{actor_on};
 ghost use Rattle.aero_verdict.specs.Spots.{named_at};
 
 use crate::on_line::spot_on;
-use aero_grammar::parsed::Parsed;
-use aero_names::list::NameList;
+use aero_grammar::Parsed;
+use aero_names::NameList;
 
 /// The name of the actor of the event on this line, whatever the limits, if there is one. Lines count
 /// from 1 through all parts, and what follows a part with a fault is ignored.

@@ -1,7 +1,7 @@
 //! The blocks of a trace: how many have begun and have ended, and where.
 ghost use Rattle.std.specs.Prelude.{◌≡◌, ◌<◌, ◌==◌, ℕ, OnOk, if◌then◌else◌, vec_len, slice_index_or};
 
-use aero_shape::admission::Admitted;
+use aero_shape::Admitted;
 use std::alloc::{AllocError, Global};
 
 // The outermost blocks of the events so far.

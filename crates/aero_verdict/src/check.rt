@@ -11,12 +11,10 @@ ghost use Rattle.aero_verdict.specs.Parts.{IsPartExpected, ComesNext, TellsPart}
 use crate::checker::{Checker, Stop};
 use crate::known::{BlockNames, told_exemptions};
 use crate::monitor::{Monitor, feed_all};
-use aero_engine::engine::Engine;
-use aero_grammar::parsed::Parsed;
-use aero_leads::leads::Leads;
-use aero_model::except::Except;
-use aero_model::limits::Limits;
-use aero_model::verdict::{LineFault, ShapeFault, Verdict};
+use aero_engine::Engine;
+use aero_grammar::Parsed;
+use aero_leads::Leads;
+use aero_model::{Except, Limits, LineFault, ShapeFault, Verdict};
 use std::alloc::{AllocError, Global};
 
 /// The verdict on the trace that the parts hold, one after the other, under the limits. A block that

@@ -9,13 +9,10 @@ ghost use Rattle.aero_verdict.specs.Known.{tables_in, HasLabel};
 use crate::blocks::Blocks;
 use crate::known::{BlockNames, Known};
 use crate::numbering::Numbering;
-use aero_engine::engine::Engine;
-use aero_grammar::line_event::LineEvent;
-use aero_model::limits::Limits;
-use aero_model::name::Name;
-use aero_model::numbered::{Numbered, What};
-use aero_model::verdict::ShapeFault;
-use aero_shape::shape::Shape;
+use aero_engine::Engine;
+use aero_grammar::LineEvent;
+use aero_model::{Limits, Name, Numbered, ShapeFault, What};
+use aero_shape::Shape;
 use std::alloc::{AllocError, Global};
 
 // Why no further event is admitted.

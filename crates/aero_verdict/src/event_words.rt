@@ -4,8 +4,7 @@ ghost use Rattle.aero_grammar.specs.Words.{IsName, IsEvent};
 ghost use Rattle.aero_verdict.specs.Spots.{named_words};
 
 use crate::named::named;
-use aero_model::event::{Event, Op};
-use aero_model::name::Name;
+use aero_model::{Event, Name, Op};
 use std::alloc::{AllocError, Global};
 
 // The words of an event.

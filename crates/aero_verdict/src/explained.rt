@@ -14,15 +14,11 @@ use crate::numbering::Numbering;
 use crate::recorder::Recorder;
 use crate::shown::event_shown;
 use crate::spans::{Span, spans_of};
-use aero_grammar::parsed::Parsed;
-use aero_model::event::Event;
-use aero_model::except::Except;
-use aero_model::limits::Limits;
-use aero_model::name::Name;
-use aero_model::numbered::What;
-use aero_model::verdict::{Cycle, CycleStep, CycleTransaction, Extent, Verdict};
-use aero_witness::search::{Shortest, shortest_of};
-use aero_witness::visit::Visit;
+use aero_grammar::Parsed;
+use aero_model::{
+    Cycle, CycleStep, CycleTransaction, Event, Except, Extent, Limits, Name, Verdict, What,
+};
+use aero_witness::{Shortest, Visit, shortest_of};
 use std::alloc::{AllocError, Global};
 
 /// The verdict on the trace that the parts hold, as `check_trace` tells it. Where it is a `Violation`, the label of
@@ -309,7 +305,7 @@ fn closing_event(alloc: Global, names: &Numbering, recorder: &Recorder) -> Resul
 }
 
 // The event at this place.
-fn event_at(
+pub(crate) fn event_at(
     alloc: Global,
     names: &Numbering,
     recorder: &Recorder,

@@ -4,7 +4,7 @@ ghost use Rattle.aero_verdict.specs.InOrder.{step_in};
 ghost use Rattle.aero_verdict.specs.Limited.{IsNamedThread};
 
 use crate::numbering::Numbering;
-use aero_model::verdict::Step;
+use aero_model::Step;
 use aero_order::first::First;
 use std::alloc::{AllocError, Global};
 

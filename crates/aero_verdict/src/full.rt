@@ -5,25 +5,22 @@ ghost use Rattle.aero_model.specs.declared.numbered.Numbered.{Numbered};
 ghost use Rattle.aero_model.specs.Exempt.{IsJudgedAs};
 ghost use Rattle.aero_engine.specs.Given.{Given};
 ghost use Rattle.aero_engine.specs.Judging.{IsAdmitted, ComesAfter, Tells};
-ghost use Rattle.aero_verdict.specs.Explained.{ShowsVerdict};
 ghost use Rattle.aero_verdict.specs.Finding.{IsTraceFinding, on};
 ghost use Rattle.aero_verdict.specs.Full.{StandsForFull, KeepsInFull};
 ghost use Rattle.aero_verdict.specs.Ordered.{TellsInOrder};
+ghost use Rattle.aero_verdict.specs.Records.{IsJudged};
 ghost use Rattle.aero_verdict.specs.Verdict.{Rules, under};
 
-use crate::explained::cycle_in;
 use crate::monitor::{Monitor, feed_all};
+use crate::numbering::Numbering;
+use crate::opened::finding_shown;
 use crate::recorder::Recorder;
 use crate::serial::{firsts_where, is_ordered, steps_told};
-use aero_engine::engine::Engine;
-use aero_engine::spent::Spent;
-use aero_grammar::parsed::Parsed;
-use aero_model::except::Except;
-use aero_model::limits::Limits;
-use aero_model::numbered::Numbered;
-use aero_model::verdict::{Cycle, Finding, Step, Verdict};
-use aero_order::transactions::Transactions;
-use aero_shape::admission::Admitted;
+use aero_engine::{Engine, Spent};
+use aero_grammar::Parsed;
+use aero_model::{Except, Finding, Limits, Numbered, Step, Verdict};
+use aero_order::Transactions;
+use aero_shape::Admitted;
 use std::alloc::{AllocError, Global};
 
 /// What judges the events, by first places, what records them, and what keeps their transactions.
@@ -83,8 +80,8 @@ fn judge(
 }
 
 /// What is found of the trace that the parts hold: the verdict, as `check_trace` tells it, with the serial order where it
-/// is `Serializable`, as `check_trace_in_order` gives it, and with what shows it where it is a `Violation`, as
-/// `check_trace_explained` does. Each event is judged once.
+/// is `Serializable`, as `check_trace_in_order` gives it, and with what shows it where it is a `Violation` or `Pending`,
+/// as `explain_trace` does. Each event is judged once.
 ///
 /// An `AllocError` says that memory was refused.
 pub fn check_trace_in_full(
@@ -105,7 +102,8 @@ impl Monitor<Full> {
     ghost use Rattle.aero_verdict.specs.Finding.{IsTraceFinding, on};
 
     /// What is found of exactly the parts that were fed, though none was kept: the verdict, with the serial order where
-    /// it is `Serializable`, and with what shows it where it is a `Violation`.
+    /// it is `Serializable`, with a telling cycle where it is a `Violation`, and with the first 64 open blocks where it is
+    /// `Pending`.
     ///
     /// An `AllocError` says that memory was refused.
     pub fn finish_in_full(self) -> Result<Finding, AllocError>
@@ -118,8 +116,7 @@ impl Monitor<Full> {
         let wanted = is_ordered(&verdict);
         let firsts = firsts_where(alloc, transactions, wanted);
         let (verdict, steps) = steps_told(alloc, &numbering, verdict, firsts)?;
-        let cycle = cycle_in(alloc, &numbering, &recorder, &verdict)?;
-        Ok(finding_of(verdict, steps, cycle))
+        finding_of(alloc, &numbering, &recorder, verdict, steps)
     }
 }
 
@@ -139,14 +136,20 @@ impl Full {
     }
 }
 
-// What is found, where this is the verdict, and an order or a cycle goes with it, or none.
-fn finding_of(verdict: Verdict, steps: Option<Vec<Step>>, cycle: Option<Cycle>) -> Finding
-    ensures { (parts : List Reading) (rules : Rules) → TellsInOrder parts rules verdict (option_map (λ steps. steps.items) steps) → ShowsVerdict parts rules verdict cycle →
-        IsTraceFinding parts (on rules true true) result }
+// What is found, where this is the verdict, and these are the steps of the order that goes with it, if one does.
+fn finding_of(
+    alloc: Global,
+    names: &Numbering,
+    recorder: &Recorder,
+    verdict: Verdict,
+    steps: Option<Vec<Step>>,
+) -> Result<Finding, AllocError>
+    requires { (parts : List Reading) × (rules : Rules) × IsJudged parts rules names.now recorder.now verdict }
+    ensures { (parts : List Reading) (rules : Rules) → IsJudged parts rules names.now recorder.now verdict → TellsInOrder parts rules verdict (option_map (λ steps. steps.items) steps) →
+        IfOk result (IsTraceFinding parts (on rules true true)) }
 {
-    match (steps, cycle) {
-        (Some(steps), _) => Finding::Ordered(verdict, steps),
-        (None, Some(cycle)) => Finding::Explained(verdict, cycle),
-        (None, None) => Finding::Judged(verdict),
+    match steps {
+        Some(steps) => Ok(Finding::Ordered(verdict, steps)),
+        None => finding_shown(alloc, names, recorder, verdict),
     }
 }

@@ -4,8 +4,8 @@ ghost use Rattle.std.specs.Borrow.{ftrue};
 ghost use Rattle.aero_model.specs.Exempt.{Listed};
 ghost use Rattle.aero_grammar.specs.Reading.{Reading};
 
-use aero_grammar::parsed::Parsed;
-use aero_model::except::Except;
+use aero_grammar::Parsed;
+use aero_model::Except;
 use std::marker::Model;
 
 // Some labels and some parts that contracts alone see. They take no bytes, and the calls do nothing when they run.

@@ -6,13 +6,11 @@ ghost use Rattle.aero_engine.specs.Given.{Given};
 ghost use Rattle.aero_engine.specs.Judging.{IsAdmitted, ComesAfter, Tells};
 ghost use Rattle.aero_verdict.specs.InOrder.{StandsForBoth, KeepsInOrder};
 
-use aero_engine::by_kind;
-use aero_engine::engine::Engine;
-use aero_engine::spent::Spent;
-use aero_leads::leads::Leads;
-use aero_model::numbered::Numbered;
-use aero_order::transactions::Transactions;
-use aero_shape::admission::Admitted;
+use aero_engine::{Engine, Spent, by_kind};
+use aero_leads::Leads;
+use aero_model::Numbered;
+use aero_order::Transactions;
+use aero_shape::Admitted;
 use std::alloc::Global;
 
 /// What judges the events, by first places, and what keeps their transactions.

@@ -5,11 +5,8 @@ ghost use Rattle.aero_grammar.specs.Tabled.{name_at};
 ghost use Rattle.aero_verdict.specs.Known.{AreKnown, AreMarked};
 ghost use Rattle.aero_verdict.specs.Naming.{NumbersName, RefusesName};
 
-use aero_model::except::Except;
-use aero_model::numbered::What;
-use aero_model::verdict::ShapeFault;
-use aero_names::list::NameList;
-use aero_names::names::{Names, NamesFault};
+use aero_model::{Except, ShapeFault, What};
+use aero_names::{NameList, Names, NamesFault};
 use std::alloc::{AllocError, Global};
 
 // Whether a block is no transaction: of each label of a block of lines, where it begins with that, and

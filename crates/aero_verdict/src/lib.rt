@@ -43,8 +43,12 @@
 //!   and as a block with its label and, where it has ended, the line of its end, and the closing event:
 //!   `Monitor::finish_explained`, `told`, `own_fault`. `check_trace_explained` gives the same of parts at once, and
 //!   `Monitor::explain` of a violation that is certain, while the monitor goes on.
-//! - A monitor of `Full` gives at its end both, each with the verdict that it goes with: `Monitor::finish_in_full`.
-//!   `check_trace_in_full` gives the same of parts at once.
+//! - A monitor of `Recorder` also gives at its end what is found of what it was fed: the verdict with such a cycle exactly
+//!   where it is a violation, and with the blocks that are open exactly where it is `Pending`. Each of these comes with
+//!   its thread, and with the line and the label of its begin. They are the first 64 in the order of their begins:
+//!   `Monitor::finish_to_explain`. `explain_trace` gives the same of parts at once.
+//! - A monitor of `Full` gives at its end all of these, each with the verdict that it goes with:
+//!   `Monitor::finish_in_full`. `check_trace_in_full` gives the same of parts at once.
 //! - The actor of the event on a line is returned, whatever the limits, if there is one: `actor_at`.
 //! - `InOrder`, first places with the transactions, `Recorder`, with the events, and `Full`, with both, are engines too: of
 //!   the events that each is given it tells what the definitions say. By `Engine::judge`, `told`.
@@ -71,6 +75,7 @@ pub mod monitor;
 mod named;
 mod numbering;
 mod on_line;
+mod opened;
 pub mod recorder;
 mod serial;
 mod shown;
@@ -81,5 +86,9 @@ pub use actor::actor_at;
 pub use aero_engine::engine;
 pub use check::{check_trace, check_trace_by};
 pub use explained::check_trace_explained;
-pub use full::check_trace_in_full;
+pub use full::{Full, check_trace_in_full};
+pub use in_order::InOrder;
+pub use monitor::{Monitor, feed_all};
+pub use opened::explain_trace;
+pub use recorder::Recorder;
 pub use serial::{check_trace_in_order, serial_order};

@@ -62,11 +62,9 @@ ghost use Rattle.aero_verdict.specs.Verdict.{under, IsVerdict};
 use crate::check::{check_part, faultless};
 use crate::checker::Checker;
 use crate::ghost_parts::GhostParts;
-use aero_engine::engine::Engine;
-use aero_grammar::parsed::Parsed;
-use aero_model::except::Except;
-use aero_model::limits::Limits;
-use aero_model::verdict::{LineFault, Verdict};
+use aero_engine::Engine;
+use aero_grammar::Parsed;
+use aero_model::{Except, Limits, LineFault, Verdict};
 use std::alloc::{AllocError, Global};
 use std::marker::Model;
 

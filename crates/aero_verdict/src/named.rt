@@ -3,7 +3,7 @@ ghost use Rattle.std.specs.Prelude.{◌≡◌, ◌<◌, length, IfOk, OnErr};
 ghost use Rattle.aero_grammar.specs.Words.{IsName};
 ghost use Rattle.aero_model.specs.Names.{most_inline_bytes};
 
-use aero_model::name::{Name, NameFault};
+use aero_model::{Name, NameFault};
 use std::alloc::{AllocError, Global};
 
 // The name with these bytes, which takes no memory up to 16 of them. An error says that memory was

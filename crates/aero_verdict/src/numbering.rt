@@ -2,11 +2,8 @@
 //! appearance, and no more of each than the limits allow.
 use crate::known::{BlockNames, Known, number_known};
 use crate::named::named;
-use aero_model::limits::Limits;
-use aero_model::name::Name;
-use aero_model::numbered::{Numbered, What};
-use aero_model::verdict::ShapeFault;
-use aero_names::names::Names;
+use aero_model::{Limits, Name, Numbered, ShapeFault, What};
+use aero_names::Names;
 use std::alloc::{AllocError, Global};
 
 // The names of the events so far.

@@ -4,7 +4,7 @@ ghost use Rattle.aero_grammar.specs.Reading.{after_lines, whole_reading};
 ghost use Rattle.aero_verdict.specs.Actors.{named_on};
 ghost use Rattle.aero_verdict.specs.Spots.{named_at, named_spot};
 
-use aero_grammar::parsed::Parsed;
+use aero_grammar::Parsed;
 
 // An event of a part, by its place in it.
 #[derive(Clone, Copy)]

@@ -9,13 +9,11 @@ ghost use Rattle.aero_verdict.specs.Recorded.{inner_what, recorded_what, IsLabel
 ghost use Rattle.aero_verdict.specs.Swept.{label_in};
 
 use crate::sweep::{keep_at, marks_of, set_places};
-use aero_engine::by_kind;
-use aero_engine::engine::Engine;
-use aero_engine::spent::Spent;
-use aero_leads::leads::Leads;
-use aero_model::numbered::{Numbered, What};
-use aero_names::names::Names;
-use aero_shape::admission::Admitted;
+use aero_engine::{Engine, Spent, by_kind};
+use aero_leads::Leads;
+use aero_model::{Numbered, What};
+use aero_names::Names;
+use aero_shape::Admitted;
 use std::alloc::{AllocError, Global};
 
 /// What judges the events, by first places, and what records them with their lines. Of their begins and ends the outermost

@@ -14,12 +14,10 @@ use crate::first_steps::{lines_of, steps_of};
 use crate::in_order::InOrder;
 use crate::monitor::{Monitor, feed_all};
 use crate::numbering::Numbering;
-use aero_grammar::parsed::Parsed;
-use aero_model::except::Except;
-use aero_model::limits::Limits;
-use aero_model::verdict::{Step, Verdict};
+use aero_grammar::Parsed;
+use aero_model::{Except, Limits, Step, Verdict};
+use aero_order::Transactions;
 use aero_order::first::First;
-use aero_order::transactions::Transactions;
 use std::alloc::{AllocError, Global};
 
 /// The lines of the first events of all transactions that the parts hold, in the serial order: each

@@ -6,9 +6,8 @@ ghost use Rattle.aero_verdict.specs.Shown.{bound_shown, op_shown, label_shown, t
 
 use crate::event_words::{EventWords, event_named};
 use crate::numbering::Numbering;
-use aero_model::event::{Event, Op};
-use aero_model::numbered::{Numbered, What};
-use aero_names::names::Names;
+use aero_model::{Event, Numbered, Op, What};
+use aero_names::Names;
 use std::alloc::{AllocError, Global};
 
 // The event by its names, where these are the trace's, and this is its code. An `AllocError` says that memory was

@@ -4,10 +4,8 @@ ghost use Rattle.std.specs.List.{AllZip};
 ghost use Rattle.aero_witness.specs.Parts.{AreOf};
 ghost use Rattle.aero_verdict.specs.Spans.{AreLasts, IsSpan, IsSpanOf};
 
-use aero_model::numbered::Numbered;
-use aero_witness::telling::has_ended;
-use aero_witness::transactions::Transactions;
-use aero_witness::visit::Visit;
+use aero_model::Numbered;
+use aero_witness::{Transactions, Visit, has_ended};
 use std::alloc::{AllocError, Global};
 
 /// The place of a transaction's first event and, where it has ended, that of its last one.

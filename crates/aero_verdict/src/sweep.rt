@@ -6,8 +6,8 @@ ghost use Rattle.aero_leads.specs.Standing.{state_of};
 ghost use Rattle.aero_verdict.specs.Recorded.{AreMarks};
 ghost use Rattle.aero_verdict.specs.Swept.{AreLeasts, IsMarkedAt, items_at, one_or_none, set_places};
 
-use aero_leads::leads::Leads;
-use aero_model::numbered::Numbered;
+use aero_leads::Leads;
+use aero_model::Numbered;
 use std::alloc::{AllocError, Global};
 
 /// Of each event whether an open block leads to it, where the events have these places.

@@ -20,3 +20,5 @@
 
 mod line;
 pub mod watch;
+
+pub use watch::Watch;

@@ -5,10 +5,8 @@ ghost use Rattle.aero_grammar.specs.Meaning.{meaning};
 ghost use Rattle.aero_watch.specs.Quiet.{is_quiet};
 ghost use Rattle.aero_watch.specs.Watches.{label_said};
 
-use aero_grammar::line::parse_line;
-use aero_model::event::{Event, Op};
-use aero_model::name::Name;
-use aero_model::verdict::LineFault;
+use aero_grammar::parse_line;
+use aero_model::{Event, LineFault, Name, Op};
 use memchr::memchr;
 use std::alloc::{AllocError, Global};
 

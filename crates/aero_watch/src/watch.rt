@@ -5,8 +5,7 @@ ghost use Rattle.aero_watch.specs.Watches.{at_places, is_label};
 
 use crate::line::label_of;
 use aero_model::bytes::MOST_LINE_BYTES;
-use aero_model::except::SharedExcept;
-use aero_model::name::Name;
+use aero_model::{Name, SharedExcept};
 use memchr::memchr;
 use std::alloc::{AllocError, Global};
 use std::marker::Model;

@@ -4,7 +4,7 @@ ghost use Rattle.aero_model.specs.Graph.{Conflict};
 ghost use Rattle.aero_model.specs.Shape.{is_fork_of, is_join_of};
 ghost use Rattle.aero_witness.specs.Deciding.{deeds_conflict, conflicting};
 
-use aero_model::numbered::{Numbered, What};
+use aero_model::{Numbered, What};
 
 // Whether one variable is accessed and one of the two writes it, or a lock is released and then acquired.
 fn deeds_conflict(first: What, second: What) -> bool

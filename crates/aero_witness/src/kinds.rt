@@ -3,7 +3,7 @@
 ghost use Rattle.std.specs.Prelude.{◌≡◌};
 ghost use Rattle.aero_witness.specs.Kinds.{source_number, target_number};
 
-use aero_model::numbered::{Numbered, What};
+use aero_model::{Numbered, What};
 
 // By a thread, by its fork and by its join, by a write of a variable and by a read of it, and by a release of a lock.
 #[derive(Clone, Copy, Debug, PartialEq, Eq)]

@@ -5,7 +5,7 @@ ghost use Rattle.aero_witness.specs.Lanes.{head_at, head_of, is_number, AreLinks
 
 use crate::kinds::{Kind, target_number};
 use crate::quest::{Quest, is_home};
-use aero_model::numbered::Numbered;
+use aero_model::Numbered;
 use std::alloc::{AllocError, Global};
 
 // The places that a kind numbers as targets, as lists. Here a place is told as one more, and 0 says that there is none.

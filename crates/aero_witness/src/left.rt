@@ -8,7 +8,7 @@ ghost use Rattle.aero_witness.specs.Left.{lane_of, lane_leads_home, event_leads_
 use crate::kinds::{Kind, source_number};
 use crate::lanes::{Lane, Lead, head_of, lane_of, take};
 use crate::quest::Quest;
-use aero_model::numbered::{Numbered, What};
+use aero_model::{Numbered, What};
 use std::alloc::{AllocError, Global};
 
 #[derive(Drop)]

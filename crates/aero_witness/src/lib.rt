@@ -51,3 +51,8 @@ pub mod search;
 pub mod telling;
 pub mod transactions;
 pub mod visit;
+
+pub use search::{Shortest, shorten, shortest_cycle, shortest_of};
+pub use telling::{has_ended, is_telling_cycle};
+pub use transactions::{Transactions, transactions_of};
+pub use visit::Visit;

@@ -3,7 +3,7 @@ ghost use Rattle.std.specs.Prelude.{◌≡◌, ℕ, ◌==◌, if◌then◌else�
 ghost use Rattle.aero_model.specs.Shape.{is_release_of};
 ghost use Rattle.aero_witness.specs.MarkWords.{mark_at, with_first, least, is_ahead, is_write_of, is_read_of};
 
-use aero_model::numbered::{Numbered, What};
+use aero_model::{Numbered, What};
 use std::alloc::{AllocError, Global};
 
 // Of each thread, variable and lock the place of its first noted event of a kind.

@@ -4,7 +4,7 @@ ghost use Rattle.aero_witness.specs.Quest.{AreNext, IsQuest};
 
 use crate::telling::first_at;
 use crate::transactions::{Transactions, transactions_of};
-use aero_model::numbered::Numbered;
+use aero_model::Numbered;
 use std::alloc::{AllocError, Global};
 
 // The transactions of the events, and of each place the next one of its transaction: after the last the number of events.

@@ -7,7 +7,7 @@ ghost use Rattle.aero_witness.specs.Reached.{is_noted, reached_at, start_at, Are
 use crate::quest::Quest;
 use crate::telling::{first_at, has_ended};
 use crate::transactions::Transactions;
-use aero_model::numbered::Numbered;
+use aero_model::Numbered;
 use std::alloc::{AllocError, Global};
 
 /// How a walk comes to leave at a place: with so many visits before, entering here, from an event at a place

@@ -12,7 +12,7 @@ use crate::left::{Left, leads_home, leads_of, left_of};
 use crate::marks::Marks;
 use crate::quest::{Quest, is_home};
 use crate::reached::{Reached, Walks, enter, front_of, is_noted, start};
-use aero_model::numbered::Numbered;
+use aero_model::Numbered;
 use std::alloc::{AllocError, Global};
 
 // The level is how many visits come before its places, which are the front. By each kind of conflict the events are left

@@ -15,7 +15,7 @@ use crate::rounds::{Search, begin, next_round};
 use crate::telling::is_telling_cycle;
 use crate::transactions::Transactions;
 use crate::visit::Visit;
-use aero_model::numbered::Numbered;
+use aero_model::Numbered;
 use std::alloc::{AllocError, Global};
 
 /// A telling cycle with as few visits as can be, and the transactions of the events, which the search goes by.

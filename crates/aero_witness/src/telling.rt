@@ -10,7 +10,7 @@ ghost use Rattle.aero_witness.specs.Following.{Follows, AreFollowing};
 use crate::conflict::conflict;
 use crate::transactions::{Nest, Transactions, nest_of, transactions_of};
 use crate::visit::Visit;
-use aero_model::numbered::Numbered;
+use aero_model::Numbered;
 use std::alloc::{AllocError, Global};
 
 /// Whether the visits are a telling cycle of these events, whatever places they name. An `AllocError`

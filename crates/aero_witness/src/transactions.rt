@@ -2,7 +2,7 @@
 ghost use Rattle.std.specs.Prelude.{◌≡◌, ◌<◌, ◌≤◌, ◌^◌, ◌+◌, ◌==◌, ℕ, if◌then◌else◌, length, OnOk, IfOk};
 ghost use Rattle.aero_witness.specs.Parts.{AreOf, nest_at, nest_after, first_with};
 
-use aero_model::numbered::{Numbered, What};
+use aero_model::{Numbered, What};
 use std::alloc::{AllocError, Global};
 
 /// How many blocks of a thread are open, one within another, and, where any is, the place at which the

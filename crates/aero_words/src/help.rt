@@ -79,7 +79,8 @@ back to it at the last. From one event to the next it goes by a
 conflict, or within a transaction, where the second number stays. No
 cycle from that block has fewer transactions. Ahead of them stands
 the block's label, if it has one: two spaces, `label`, a space, and
-the label. Each trace is kept in memory for it";
+the label. With --format json a violation also has the transactions of
+the cycle, and a trace with open blocks has the first 64 of these";
 
 pub const LONG: &str = "Sources of any size, of up to 4000000000 lines";
 

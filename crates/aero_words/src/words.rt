@@ -10,7 +10,7 @@ ghost use Rattle.aero_words.specs.Words.{IsRead, ReadsFlag, ReadsWithin};
 
 use crate::help;
 use aero_model::except::MOST_LABELS;
-use aero_model::name::{Name, NameFault};
+use aero_model::{Name, NameFault};
 pub use aero_program::command::{Config, Form, MOST_FILES, Progress, Refused, Sources, Terminals};
 use aero_report::VERSION;
 use clap::builder::ValueParser;

@@ -8,7 +8,7 @@ use crate::gate::Gate;
 use crate::reply::Reply;
 use crate::seed::{Staff, hire, make_seeds};
 use crate::shift::{Channels, Honest, LET_GO, Shift};
-use aero_pieces::question::Question;
+use aero_pieces::Question;
 use aero_stage::{Full, Job, Poster, Taker, stage};
 use crossbeam_channel::{Receiver, Sender};
 use std::alloc::{AllocError, Global};

@@ -1,6 +1,5 @@
 //! A caller's own code round each answer.
-use aero_pieces::answer::Answer;
-use aero_pieces::question::Question;
+use aero_pieces::{Answer, Question};
 
 /// What a caller does in the workers, before each answer is worked out and after. Several workers
 /// may be in it at once.

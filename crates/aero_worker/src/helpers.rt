@@ -3,7 +3,7 @@ ghost use Rattle.std.specs.Prelude.{◌≡◌, ℕ};
 
 use crate::crew::Crew;
 use crate::reply::Reply;
-use aero_pieces::question::Question;
+use aero_pieces::Question;
 use aero_stage::{Full, Job};
 use std::alloc::Global;
 use std::sync::{Arc, Wait};

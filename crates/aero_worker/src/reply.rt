@@ -3,8 +3,7 @@ ghost use Rattle.std.specs.Prelude.{◌≡◌, IfOk, IfErr};
 ghost use Rattle.aero_worker.specs.Shifts.{IsReplyTo};
 
 use crate::gate::Gate;
-use aero_pieces::answer::Answer;
-use aero_pieces::question::Question;
+use aero_pieces::{Answer, Question};
 use aero_stage::Job;
 use std::alloc::{AllocError, Global};
 

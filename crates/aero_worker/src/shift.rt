@@ -4,7 +4,7 @@ ghost use Rattle.aero_worker.specs.Shifts.{IsShiftOf, number_of};
 
 use crate::gate::Gate;
 use crate::reply::{Reply, reply_to};
-use aero_pieces::question::Question;
+use aero_pieces::Question;
 use aero_stage::{Job, Taker};
 use crossbeam_channel::{Receiver, Sender};
 use std::alloc::{AllocError, Global};

@@ -20,7 +20,7 @@
 //! proved: some of its calls may wait.
 #![tactic(auto)]
 
-use aero_model::counting::Counting;
+use aero_model::Counting;
 use aero_program::answer::answer;
 use aero_program::arguments::words_of;
 use aero_program::command::{Config, Sources, Stop, TICK, Terminals};

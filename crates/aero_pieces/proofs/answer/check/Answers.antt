@@ -3,16 +3,16 @@ use Rattle.std.proofs.lemmas.Bool.{not-true, not-false}
 use Rattle.std.proofs.lemmas.Result.{IfOk-weaker}
 use Rattle.aero_pieces.specs.declared.question.Question.TheVariants.{Check}
 use Rattle.aero_pieces.specs.Values.{IsValueOf}
-use Rattle.aero_pieces.proofs.Asked.{no_order}
 use Rattle.aero_pieces.proofs.answer.check.Goals as goal
 
 pub returns-then-not-asked : goal.returns-then-not-asked
 returns-then-not-asked c =
     let asked = c.args.asked in
-    let none = not-true asked.order c.if-not-asked.true in
     IfOk-weaker c.judge.result _ (λ value. (trace : ℕ) →
     IsValueOf (Check trace c.args.parts.now c.args.limits.now c.args.except.now asked.order asked.explain) value)
-    (λ value fits trace. fits trace asked.order (λ verdict is. no_order asked.order none verdict)) c.judge.ensures
+    (λ value fits trace.
+    subst (λ o. IsValueOf (Check trace c.args.parts.now c.args.limits.now c.args.except.now o asked.explain) value) (sym (not-true asked.order c.if-not-asked.true)) (fits trace))
+    c.judge.ensures
 
 -- both are asked for
 pub returns-then-asked : goal.returns-then-asked

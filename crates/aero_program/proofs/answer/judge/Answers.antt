@@ -7,15 +7,16 @@ use Rattle.aero_verdict.specs.Finding.{asking}
 use Rattle.aero_batch.specs.Founds.{sighted}
 use Rattle.aero_batch.proofs.Stands.{summed}
 use Rattle.aero_intake.specs.PlanTerms.{options_with, terms_of}
+use Rattle.aero_report.specs.Asked.{note_of}
 use Rattle.aero_report.specs.Forms.{summary_line_in}
-use Rattle.aero_program.proofs.Unused.{found_labels, summed_labels, told_labels}
+use Rattle.aero_report.specs.Options.{Note}
+use Rattle.aero_program.proofs.Unused.{found_labels, lines_told, summed_beside, told_labels}
 use Rattle.aero_program.specs.declared.command.Sources.{Sources}
-use Rattle.aero_program.specs.declared.notes.Naming.{Naming}
 use Rattle.aero_program.specs.Answers.{Ends, TellsUnlisted}
 use Rattle.aero_program.specs.Command.{are_words, count_named, list_path, listed_by}
 use Rattle.aero_program.specs.Inputs.{bytes_left, standing_of}
 use Rattle.aero_program.specs.Sightings.{AreNames, AreUnlisted, bytes_known, resighted, source_sightings}
-use Rattle.aero_program.specs.Notes.{all_read, label_lines, labels_told, noted_of_all, notes}
+use Rattle.aero_program.specs.Notes.{all_read, label_lines, labels_told, note_texts, noted_of_all, notes_on}
 use Rattle.aero_program.proofs.Noting.{told_as}
 use Rattle.aero_program.specs.Faults.{fault_of}
 use Rattle.aero_program.specs.Streams.{shown_by, written_by}
@@ -38,9 +39,8 @@ returns g c =
     let named : AreNames config.files given names = subst (λ (s : Sources). AreNames s given names) asked_is c.in-Ok-sources_of.ensures.names in
     let seen = c.in-Ok-watched.ensures.sighted ∙ ap (map resighted) (c.in-Ok-sources_of.ensures.sighted ∙ ap (λ (s : Sources). source_sightings s given names) asked_is)
     ∙ resighted_sightings (bytes_known config.files given) names in
-    let naming_of : Bool → Naming = λ words. record { are_words = words; on_terminal = config.terminals.errors } in
-    let words_are = ap naming_of (c.are_words.ensures ∙ ap are_words asked_is) in
-    let words = naming_of (are_words config.files) in
+    let words : Bool = are_words config.files in
+    let on : Bool = config.terminals.errors in
     let terms = terms_of c.in-Ok.plan in
     let form = c.in-Ok.plan.form in
     let report = c.run_all-report.result.0 in
@@ -59,14 +59,19 @@ returns g c =
     ∙ ap (λ ls. if all_read report.cause report.endings.items then ls else []) labels_are in
     let found = found_labels unused (λ u. map (λ label. label.now) u.items) report.cause report.endings.items words left noted_endings report.faults.items c.told_of-labels.result.now labels
     c.unused_labels-unused.ensures.unused listed_are in
-    let text : List (List ℕ) → List ℕ = λ ls. summary_line_in form (options_with terms ls) report.counts in
-    let sums = summed_labels unused (λ u. map (λ label. label.now) u.items) text (labels_told None report.endings.items noted labels) report.cause cause mid after found c.sum_up_with-cause.ensures.summed in
-    let run = summed terms form (summary_line_in form (options_with terms (labels_told None report.endings.items noted labels))) (map (sighted (λ input. bytes_left (standing_of g.S.Read.remaining input))) c.in-Ok-watched.sources.items) (map (sighted (λ input. bytes_left (standing_of g.S.Read.remaining input))) left)
+    let told = told_as g.F.Opener.holds (λ ns. map note_of ns.items) c.are_words.result words c.unused_labels-unused.result.1.items left noted_endings report.faults.items
+    (c.are_words.ensures ∙ ap are_words asked_is) c.unused_labels-unused.ensures.kept c.all_notes-notes.result c.all_notes-notes.ensures in
+    let notes : List Note = notes_on told.remarks in
+    let text : List (List ℕ) → List Note → List ℕ = λ ls ns. summary_line_in form (options_with terms ls ns) report.counts in
+    let sums = summed_beside unused (λ u. map (λ label. label.now) u.items) c.all_notes-notes.result (λ ns. map note_of ns.items) text (labels_told None report.endings.items noted labels) notes
+    report.cause cause mid after found told.told c.sum_up_with-cause.ensures.summed in
+    let run = summed terms form (summary_line_in form (options_with terms (labels_told None report.endings.items noted labels) notes)) (map (sighted (λ input. bytes_left (standing_of g.S.Read.remaining input))) c.in-Ok-watched.sources.items) (map (sighted (λ input. bytes_left (standing_of g.S.Read.remaining input))) left)
     before.writer mid after report.endings.items report.faults.items report.counts report.cause cause c.run_all-report.ensures.told sums in
-    let lines_are = told_labels unused (λ u. u.items) (λ label. label.now) c.told_after-told.result.now report.cause cause report.endings.items words left noted_endings report.faults.items labels
+    let labels_are_told = told_labels unused (λ u. u.items) (λ label. label.now) c.told_after-told.result.now report.cause cause report.endings.items words left noted_endings report.faults.items labels
     found c.sum_up_with-cause.ensures.known c.sum_up_with-cause.ensures.whole c.told_after-told.ensures.whole c.told_after-told.ensures.stopped in
-    let told = told_as g.F.Opener.holds (λ text. text.items) (naming_of c.are_words.result) words c.unused_labels-unused.result.1.items left noted_endings report.faults.items config.terminals.errors
-    (map (λ label. label.now) c.told_after-told.result.now) words_are c.unused_labels-unused.ensures.kept c.all_notes-notes.result c.all_notes-notes.ensures in
+    let lines_of : List Note → List ℕ = λ ns. note_texts on ns ++ label_lines on (map (λ label. label.now) c.told_after-told.result.now) in
+    let lines = lines_told c.all_lines-lines.result (λ text. text.items) c.all_notes-notes.result (λ ns. map note_of ns.items) lines_of notes
+    c.all_lines-lines.ensures.known c.all_lines-lines.ensures.lines told.told in
     inl (judged g.F.Opener.holds (λ input. bytes_left (standing_of g.S.Read.remaining input)) config given
     c.in-Ok.plan.limits names c.in-Ok-watched.sources.items c.in-Ok-watched.sources.items left
     before
@@ -76,15 +81,16 @@ returns g c =
     (λ i. asking c.in-Ok.plan.limits (c.in-Ok.ensures.except i) (c.in-Ok.ensures.order i) (c.in-Ok.ensures.explain i)) c.in-Ok.ensures.form c.in-Ok.ensures.limits
     named seen
     refl
+    told.remarks told.are told.shown
     run refl
     (record {
       bytes = c.flush-flushed.ensures.bytes;
       faults = c.flush-flushed.ensures.faults;
       unflushed = c.flush-flushed.ensures.unflushed ∙ ap (λ b. c.args.output.now.unflushed.number + (if b then 1 else 0)) (is_fault error_kind c.flush-flushed.result);
     })
-    c.end_after-end.ensures told.remarks told.are told.shown
-    (subst (λ ls. Ends (notes told.remarks ++ label_lines config.terminals.errors ls) c.end_after-end.result (seen_by g.E.Write.contents c.args.errors.now) (seen_by g.E.Write.contents c.finish.new.errors) c.finish.result)
-    lines_are (c.finish.ensures (notes told.remarks ++ label_lines config.terminals.errors (map (λ label. label.now) c.told_after-told.result.now)) told.told)))
+    c.end_after-end.ensures
+    (subst (λ ls. Ends (note_texts on notes ++ label_lines on ls) c.end_after-end.result (seen_by g.E.Write.contents c.args.errors.now) (seen_by g.E.Write.contents c.finish.new.errors) c.finish.result)
+    labels_are_told (c.finish.ensures (lines_of notes) lines)))
 
 pub run_all-report-requires-after_bounds : goal.run_all-report-requires-after_bounds
 run_all-report-requires-after_bounds g c = λ κs within.

@@ -1,19 +1,21 @@
-use Rattle.std.proofs.Common.{List, Vec, Global, ◌∙◌, ap, subst}
-use Rattle.std.specs.Prelude.{Result, Ok, Err, IfOk, option_map}
+use Rattle.std.proofs.Common.{◌≡◌, ◌≤◌, List, Vec, Global, ◌∙◌, ap, subst}
+use Rattle.std.specs.Prelude.{Result, Ok, Err, All, IfOk, option_map}
 use Rattle.std.specs.declared.alloc.AllocError.{AllocError}
 use Rattle.aero_engine.specs.Given.{words_of}
 use Rattle.aero_model.specs.declared.verdict.Step.{Step}
 use Rattle.aero_model.specs.declared.verdict.Verdict.{Verdict}
-use Rattle.aero_grammar.specs.Reading.{Reading}
+use Rattle.aero_grammar.specs.Reading.{Reading, IsReading}
 use Rattle.aero_verdict.specs.declared.checker.Checker.{Checker}
 use Rattle.aero_verdict.specs.declared.full.Full.{Full}
 use Rattle.aero_verdict.specs.declared.in_order.InOrder.{InOrder}
+use Rattle.aero_verdict.specs.declared.numbering.Numbering.{Numbering}
 use Rattle.aero_verdict.specs.declared.recorder.Recorder.{Recorder}
 use Rattle.aero_verdict.specs.Full.{StandsForFull, KeepsInFull}
 use Rattle.aero_verdict.specs.InOrder.{StandsForBoth, KeepsInOrder}
 use Rattle.aero_verdict.specs.Monitored.{TellsFed}
 use Rattle.aero_verdict.specs.Ordered.{TellsInOrder}
 use Rattle.aero_verdict.specs.Recorded.{HasRecorded, StandsForLeads}
+use Rattle.aero_verdict.specs.Records.{IsJudged}
 use Rattle.aero_verdict.specs.Verdict.{Rules}
 use Rattle.aero_verdict.proofs.Gathered.{right_with_order, stands_where_wanted, named_told, steps_finished}
 use Rattle.aero_verdict.proofs.PartOf.{with_engine, told_of_part}
@@ -35,6 +37,9 @@ module _ (rules : Rules) (parts : List Reading) (checker : Checker Full) (verdic
 
   of_record : TellsFed (words_of StandsForLeads HasRecorded) rules parts (as_recorder checker) verdict
   of_record = told_of_part (words_of StandsForFull KeepsInFull) (words_of StandsForLeads HasRecorded) (λ (e : Full). e.recorder) (λ e trace stands. stands.0) (λ e given kept. kept.0) rules parts checker verdict tells
+
+  judged : All IsReading parts → rules.limits.lines ≤ 4000000000 → (numbering : Numbering) (recorder : Recorder) → numbering ≡ checker.numbering → recorder ≡ checker.engine.recorder → IsJudged parts rules numbering recorder verdict
+  judged readings few numbering recorder names engine = record { readings = readings; few = few; checker = as_recorder checker; names = names; engine = engine; tells = of_record }
 
 all_of_order : (rules : Rules) (parts : List Reading) (checker : Checker Full) (verdict : Result Verdict AllocError) → IfOk verdict (TellsFed (words_of StandsForFull KeepsInFull) rules parts checker) → IfOk verdict (TellsFed (words_of StandsForBoth KeepsInOrder) rules parts (as_in_order checker))
 all_of_order rules parts checker (Ok v) tells = of_order rules parts checker v tells
@@ -61,24 +66,16 @@ steps_told-requires c =
     (right_with_order c.args.self.parts c.args.self.rules (as_in_order checker) c.into_parts-recorder.result.1 c.into_parts-numbering.result.0 transactions c.into_parts-numbering.ensures.names wanted verdict c.is_ordered-wanted.ensures.ok) c.is_ordered-wanted.ensures.err
     c.firsts_where-firsts.result c.firsts_where-firsts.ensures
 
--- the record shows the verdict
-pub cycle_in-requires : goal.cycle_in-requires
-cycle_in-requires c =
+-- the record is that of the verdict
+pub finding_of-requires : goal.finding_of-requires
+finding_of-requires c =
     let checker = c.into_verdict-verdict.result.1 in
     let rules = c.args.self.rules in
     let parts = c.args.self.parts in
-    let tells = subst (λ r. IfOk r (TellsFed (words_of StandsForFull KeepsInFull) rules parts checker)) c.in_ok-verdict.ensures.verdict c.into_verdict-verdict.ensures.tells in (
-      parts,
-      rules,
-      record {
-        readings = c.into_verdict-verdict.ensures.readings;
-        few = c.into_verdict-verdict.ensures.few;
-        checker = as_recorder checker;
-        names = c.into_parts-numbering.ensures.names;
-        engine = c.into_parts-recorder.ensures.recorder ∙ ap (λ (e : Full). e.recorder) c.into_parts-numbering.ensures.engine;
-        tells = of_record rules parts checker c.in_ok-verdict.verdict tells;
-      },
-    )
+    let verdict = c.in_ok-verdict.verdict in
+    let tells = subst (λ r. IfOk r (TellsFed (words_of StandsForFull KeepsInFull) rules parts checker)) c.in_ok-verdict.ensures.verdict c.into_verdict-verdict.ensures.tells in
+    let same = c.into_parts-recorder.ensures.recorder ∙ ap (λ (e : Full). e.recorder) c.into_parts-numbering.ensures.engine in
+    (parts, rules, judged rules parts checker verdict tells c.into_verdict-verdict.ensures.readings c.into_verdict-verdict.ensures.few c.into_parts-numbering.result.0 c.into_parts-recorder.result.0 c.into_parts-numbering.ensures.names same)
 
 pub returns : goal.returns
 returns c =
@@ -94,12 +91,6 @@ returns c =
     c.firsts_where-firsts.result c.firsts_where-firsts.ensures c.is_ordered-wanted.ensures.ok c.steps_told.result c.steps_told.ensures.verdict c.steps_told.ensures.steps in
     let tells = subst (λ r. IfOk r (TellsFed (words_of StandsForFull KeepsInFull) rules parts checker)) c.in_ok-verdict.ensures.verdict c.into_verdict-verdict.ensures.tells in
     let in_steps = subst (λ r. IfOk r (λ t. TellsInOrder parts rules t.0 (option_map (λ (ss : Vec Step Global). ss.items) t.1))) c.in_ok-verdict.was ordered in
-    let shows = c.in_ok-cycle.ensures parts rules (record {
-      readings = c.into_verdict-verdict.ensures.readings;
-      few = c.into_verdict-verdict.ensures.few;
-      checker = as_recorder checker;
-      names = c.into_parts-numbering.ensures.names;
-      engine = c.into_parts-recorder.ensures.recorder ∙ ap (λ (e : Full). e.recorder) c.into_parts-numbering.ensures.engine;
-      tells = of_record rules parts checker c.in_ok-verdict.verdict tells;
-    }) in
-    c.finding_of.ensures parts rules in_steps shows
+    let same = c.into_parts-recorder.ensures.recorder ∙ ap (λ (e : Full). e.recorder) c.into_parts-numbering.ensures.engine in
+    let judges = judged rules parts checker c.in_ok-verdict.verdict tells c.into_verdict-verdict.ensures.readings c.into_verdict-verdict.ensures.few c.into_parts-numbering.result.0 c.into_parts-recorder.result.0 c.into_parts-numbering.ensures.names same in
+    c.finding_of.ensures parts rules judges in_steps
