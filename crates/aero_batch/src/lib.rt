@@ -66,7 +66,6 @@ pub mod told;
 mod underway;
 
 pub use aero_intake::{intake, laws, plan, source};
-pub use find::find;
 pub use outcome::{Cause, Fault, FaultyLine, Outcome};
-pub use run::{run, run_lines, run_lines_over, run_over};
+pub use run::{run_lines, run_lines_over, run_over};
 pub use told::sum_up;

@@ -4,8 +4,7 @@ ghost use Rattle.aero_intake.specs.PlanTerms.{terms_of};
 ghost use Rattle.aero_lanes.specs.Ends.{IsEndOf};
 
 use crate::shared::Shared;
-use aero_batch::find;
-use aero_batch::find::Judged;
+use aero_batch::find::{Judged, find};
 use aero_batch::helpers::Nobody;
 use aero_batch::setting::Setting;
 use aero_intake::{Plan, Source};
