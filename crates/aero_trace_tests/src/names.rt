@@ -315,7 +315,7 @@ fn a_list_has_its_names_in_order(rt: HostRuntime) {
     assert!(rt; is_in_order(rt.alloc(), "ab c ab", [b"ab", b"c", b"ab"]));
 }
 
-fn tells<F: Display>(alloc: Global, fault: F, wanted: &str) -> bool {
+fn tells<F: Display + Drop>(alloc: Global, fault: F, wanted: &str) -> bool {
     match fault.to_string(alloc) {
         Ok(text) => text.as_str() == wanted,
         Err(_) => false,
