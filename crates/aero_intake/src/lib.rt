@@ -53,6 +53,6 @@ pub mod source;
 pub mod terms;
 pub mod track;
 
-pub use intake::{Intake, Taken};
+pub use intake::Intake;
 pub use plan::{Keeping, Plan};
 pub use source::Source;

@@ -1,6 +1,7 @@
 // How sources come and end, step by step, and which plans there are.
 use crate::except::listed;
-use aero_intake::{Intake, Keeping, Plan, Taken};
+use aero_intake::intake::Taken;
+use aero_intake::{Intake, Keeping, Plan};
 use aero_model::{Counting, Ending, Limits};
 use std::alloc::{AllocError, Global};
 use std::io;
