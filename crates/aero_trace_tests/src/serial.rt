@@ -125,6 +125,7 @@ fn is_found(
     match check_trace_in_full(alloc, parts, limits, except) {
         Ok(Finding::Ordered(verdict, steps)) => says(alloc, &verdict, &Some(steps), wanted),
         Ok(Finding::Explained(verdict, _)) => says(alloc, &verdict, &None, wanted),
+        Ok(Finding::Opened(verdict, _)) => says(alloc, &verdict, &None, wanted),
         Ok(Finding::Judged(verdict)) => says(alloc, &verdict, &None, wanted),
         _ => false,
     }
