@@ -2,7 +2,7 @@
 ghost use Rattle.std.specs.Prelude.{IfOk, IfSome};
 ghost use Rattle.aero_c.specs.Answers.{AreLimitsOf, Begins, IsBegun};
 
-use crate::monitor::{Monitor, put};
+use crate::holder::{Holder, put};
 use crate::status::{DONE, IN_USE, NO_MEMORY};
 use aero_feed::Feed;
 use aero_model::{Except, Limits};
@@ -11,7 +11,7 @@ use std::alloc::{AllocError, Global};
 // Begins a trace with these labels, if the monitor has none. With `explains` its violation is to be shown.
 pub(crate) fn begin(
     alloc: Global,
-    monitor: &mut Monitor,
+    monitor: &mut Holder,
     is_long: bool,
     explains: bool,
     except: Except,

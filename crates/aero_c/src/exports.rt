@@ -7,7 +7,7 @@ ghost use Rattle.aero_c.specs.Answers.{Answers, BeginsLabelled, IsAsked, Begins,
 use crate::beginning::begin;
 use crate::judging::{ask, conclude, feed_piece, show};
 use crate::labels::list;
-use crate::monitor::{Monitor, put, take};
+use crate::holder::{Holder, put, take};
 use crate::numbers::Numbers;
 use crate::status::{DONE, MANY_LABELS, UNHELD};
 use aero_model::Except;
@@ -16,7 +16,7 @@ use std::alloc::Global;
 /// Begins a trace under the ordinary limits, or those of a long source. Returns `IN_USE` where the monitor has one, and
 /// `NO_MEMORY`: it has what it had then.
 #[unsafe(no_mangle)]
-pub extern "C" fn aerodrome_held_begin(alloc: Global, monitor: &mut Monitor, is_long: bool) -> u32
+pub extern "C" fn aerodrome_held_begin(alloc: Global, monitor: &mut Holder, is_long: bool) -> u32
     ensures { Begins monitor.old.pointer.held monitor.new.pointer.held result is_long false (these []) }
 {
     match Except::new(Vec::new(alloc)) {
@@ -33,7 +33,7 @@ pub extern "C" fn aerodrome_held_begin(alloc: Global, monitor: &mut Monitor, is_
 #[unsafe(no_mangle)]
 pub extern "C" fn aerodrome_held_begin_labelled(
     alloc: Global,
-    monitor: &mut Monitor,
+    monitor: &mut Holder,
     is_long: bool,
     labels: &[u8],
     is_only: bool,
@@ -51,7 +51,7 @@ pub extern "C" fn aerodrome_held_begin_labelled(
 #[unsafe(no_mangle)]
 pub extern "C" fn aerodrome_held_begin_explained(
     alloc: Global,
-    monitor: &mut Monitor,
+    monitor: &mut Holder,
     is_long: bool,
     labels: &[u8],
     is_only: bool,
@@ -67,7 +67,7 @@ pub extern "C" fn aerodrome_held_begin_explained(
 /// Takes the next piece of the trace, of any length: lines may be cut anywhere. Returns `UNHELD` where there is no trace,
 /// and `NO_MEMORY`, as each call for the trace does from then on.
 #[unsafe(no_mangle)]
-pub extern "C" fn aerodrome_held_feed(alloc: Global, monitor: &mut Monitor, piece: &[u8]) -> u32
+pub extern "C" fn aerodrome_held_feed(alloc: Global, monitor: &mut Holder, piece: &[u8]) -> u32
     ensures { Answers monitor.old.pointer.held monitor.new.pointer.held result (λ was now. now.text ≡ was.text ++ piece.now) }
 {
     let Some(mut feed) = take(alloc, monitor) else {
@@ -83,7 +83,7 @@ pub extern "C" fn aerodrome_held_feed(alloc: Global, monitor: &mut Monitor, piec
 #[unsafe(no_mangle)]
 pub extern "C" fn aerodrome_held_certain(
     alloc: Global,
-    monitor: &mut Monitor,
+    monitor: &mut Holder,
     is_certain: &mut u32,
 ) -> u32
     ensures { Answers monitor.old.pointer.held monitor.new.pointer.held result (λ was now. IsAsked was now is_certain.new) }
@@ -102,7 +102,7 @@ pub extern "C" fn aerodrome_held_certain(
 #[unsafe(no_mangle)]
 pub extern "C" fn aerodrome_held_cycle(
     alloc: Global,
-    monitor: &mut Monitor,
+    monitor: &mut Holder,
     buffer: &mut [u8],
     size: &mut usize,
 ) -> u32
@@ -122,7 +122,7 @@ pub extern "C" fn aerodrome_held_cycle(
 #[unsafe(no_mangle)]
 pub extern "C" fn aerodrome_held_verdict(
     alloc: Global,
-    monitor: &mut Monitor,
+    monitor: &mut Holder,
     numbers: &mut Numbers,
     buffer: &mut [u8],
     size: &mut usize,
@@ -138,7 +138,7 @@ pub extern "C" fn aerodrome_held_verdict(
 
 /// Lets the trace go. Returns `UNHELD` where there is none.
 #[unsafe(no_mangle)]
-pub extern "C" fn aerodrome_held_free(alloc: Global, monitor: &mut Monitor) -> u32
+pub extern "C" fn aerodrome_held_free(alloc: Global, monitor: &mut Holder) -> u32
     ensures none { monitor.new.pointer.held ≡ None }
     ensures unheld { monitor.old.pointer.held ≡ None → result ≡ unheld }
     ensures done { monitor.old.pointer.held ≢ None → result ≡ done }

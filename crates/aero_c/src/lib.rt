@@ -1,8 +1,8 @@
 //! The library for programs in C: a trace is fed in pieces, and judged.
 //!
-//! A program in C holds a `Monitor`, which owns the trace that it is fed. Each export takes the trace out, does one thing
+//! A program in C holds a `Holder`, which owns the trace that it is fed. Each export takes the trace out, does one thing
 //! to it by `aero_feed`, and puts it back. Where there is none, and where memory was refused, a status says so.
-//! `include/aerodrome.h` declares the calls, and tests each pointer before one is made. A program in C hands a `Monitor`
+//! `include/aerodrome.h` declares the calls, and tests each pointer before one is made. A program in C hands a `Holder`
 //! only as a call left it, or with all bytes 0.
 //!
 //! # What is proved
@@ -24,10 +24,10 @@
 
 mod beginning;
 mod exports;
+mod holder;
 mod judging;
 mod labels;
 mod loose;
-mod monitor;
 mod numbers;
 mod pointer;
 mod status;

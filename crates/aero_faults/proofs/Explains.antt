@@ -13,7 +13,7 @@ use Rattle.aero_faults.specs.Hindrances.{Hinders}
 use Rattle.aero_faults.specs.Searches.{target_of, IsSeen, by_holder, by_join, by_deed, by_start, by_blocks, by_itself, hindrance_in}
 use Rattle.aero_faults.specs.declared.first.Deed.{Deed}
 use Rattle.aero_faults.specs.declared.first.Deed.TheVariants as deed
-use Rattle.aero_faults.specs.declared.first.First.{First}
+use Rattle.aero_faults.specs.declared.first.FirstDeed.{FirstDeed}
 use Rattle.aero_faults.specs.declared.first.Sought.TheVariants.{Joins, Starts}
 use Rattle.aero_faults.specs.declared.holder.Holder.{Holder}
 use Rattle.aero_faults.specs.declared.holder.Holder.TheVariants as holder
@@ -75,11 +75,11 @@ module _ (e : Named) where
       (λ passed before free. record { lock = target_of e; event = passed; free = free })
   explain_holder fault holder = tt
 
-  explain_join : (fault : ShapeFault) (first : Option First) → IfSome (by_join fault first) (λ h. (before : List (ℕ × Named)) → IsFound (is_sought Joins e.thread) e.thread before first → Hinders before e fault h)
+  explain_join : (fault : ShapeFault) (first : Option FirstDeed) → IfSome (by_join fault first) (λ h. (before : List (ℕ × Named)) → IsFound (is_sought Joins e.thread) e.thread before first → Hinders before e fault h)
   explain_join ThreadJoined (Some f) = λ before came. record { join = came.event; first = came.first; thread = came.thread }
   explain_join fault first = tt
 
-  deed_explains : (f : First) (d : Deed) → f.deed ≡ d → is_fork_of (target_of e) e ≡ true → (before : List (ℕ × Named)) → CameFirst (is_start_of (target_of e)) (target_of e) before f
+  deed_explains : (f : FirstDeed) (d : Deed) → f.deed ≡ d → is_fork_of (target_of e) e ≡ true → (before : List (ℕ × Named)) → CameFirst (is_start_of (target_of e)) (target_of e) before f
       → Hinders before e ForkStarted (by_deed f d)
   deed_explains f deed.Acted is forks before came = record {
     thread = target_of e;
@@ -104,7 +104,7 @@ module _ (e : Named) where
     by = came.thread;
   }
 
-  explain_start : (fault : ShapeFault) (first : Option First) → IfSome (by_start fault e first) (λ h. (before : List (ℕ × Named)) → IsFound (is_sought Starts (target_of e)) (target_of e) before first → Hinders before e fault h)
+  explain_start : (fault : ShapeFault) (first : Option FirstDeed) → IfSome (by_start fault e first) (λ h. (before : List (ℕ × Named)) → IsFound (is_sought Starts (target_of e)) (target_of e) before first → Hinders before e fault h)
   explain_start ForkStarted (Some f) =
       if_passed (is_fork_of (target_of e) e) (by_deed f f.deed)
       (λ x. (before : List (ℕ × Named)) → CameFirst (is_start_of (target_of e)) (target_of e) before f → Hinders before e ForkStarted x)

@@ -5,7 +5,7 @@ use Rattle.aero_model.specs.Named.{Named}
 use Rattle.aero_faults.specs.Before.{is_by, is_fork_of, is_join_of, is_start_of}
 use Rattle.aero_faults.specs.declared.first.Deed.{Deed}
 use Rattle.aero_faults.specs.declared.first.Deed.TheVariants.{Acted, Forked, Joined}
-use Rattle.aero_faults.specs.declared.first.First.{First}
+use Rattle.aero_faults.specs.declared.first.FirstDeed.{FirstDeed}
 use Rattle.aero_faults.specs.declared.first.Sought.{Sought}
 use Rattle.aero_faults.specs.declared.first.Sought.TheVariants.{Joins, Starts}
 
@@ -26,13 +26,13 @@ abbrev pub deed_of : (thread : List ℕ) → Named → Deed
 deed_of u e = if is_by u e then Acted else if is_fork_of u e then Forked else Joined
 
 -- an event passed the test first, and this is kept of it
-pub record CameFirst (test : Named → Bool) (u : List ℕ) (before : List (ℕ × Named)) (f : First) : Type 0 where
+pub record CameFirst (test : Named → Bool) (u : List ℕ) (before : List (ℕ × Named)) (f : FirstDeed) : Type 0 where
   pub event : Named
   pub first : IsFirst test before f.line event
   pub thread : f.thread ≡ event.thread
   pub deed : f.deed ≡ deed_of u event
 
 -- the first event that passes the test, if one does
-abbrev pub IsFound : (Named → Bool) → (thread : List ℕ) → List (ℕ × Named) → Option First → Type 0
+abbrev pub IsFound : (Named → Bool) → (thread : List ℕ) → List (ℕ × Named) → Option FirstDeed → Type 0
 IsFound test u before None = list_any (λ e. test e.1) before ≡ false
 IsFound test u before (Some f) = CameFirst test u before f

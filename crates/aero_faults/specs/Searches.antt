@@ -8,7 +8,7 @@ use Rattle.aero_faults.specs.Firsts.{is_sought, IsFound}
 use Rattle.aero_faults.specs.Holders.{IsHolder}
 use Rattle.aero_faults.specs.Opened.{AreOpen}
 use Rattle.aero_faults.specs.declared.first.Deed.TheVariants as deed
-use Rattle.aero_faults.specs.declared.first.First.{First}
+use Rattle.aero_faults.specs.declared.first.FirstDeed.{FirstDeed}
 use Rattle.aero_faults.specs.declared.first.Sought.TheVariants.{Joins, Starts}
 use Rattle.aero_faults.specs.declared.holder.Holder.{Holder}
 use Rattle.aero_faults.specs.declared.holder.Holder.TheVariants as holder
@@ -50,16 +50,16 @@ by_holder LockNotHeld e (holder.Thread h) = if is_release_of (target_of e) e && 
 by_holder LockNotHeld e holder.Nobody = if is_release_of (target_of e) e then Some Free else None
 by_holder fault e holder = None
 
-abbrev pub by_join : ShapeFault → Option First → Option Hindrance
+abbrev pub by_join : ShapeFault → Option FirstDeed → Option Hindrance
 by_join ThreadJoined (Some first) = Some (Joined first.thread first.line)
 by_join fault first = None
 
-abbrev pub by_deed : First → deed.the_data → Hindrance
+abbrev pub by_deed : FirstDeed → deed.the_data → Hindrance
 by_deed first deed.Acted = Acted first.line
 by_deed first deed.Forked = Forked first.line
 by_deed first deed.Joined = Joined first.thread first.line
 
-abbrev pub by_start : ShapeFault → Named → Option First → Option Hindrance
+abbrev pub by_start : ShapeFault → Named → Option FirstDeed → Option Hindrance
 by_start ForkStarted e (Some first) = if is_fork_of (target_of e) e then Some (by_deed first first.deed) else None
 by_start fault e first = None
 

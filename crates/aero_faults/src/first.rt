@@ -27,7 +27,7 @@ pub enum Deed {
 
 /// The first event that was looked for: who made it, on which line, from 1, and what it was.
 #[derive(Drop)]
-pub struct First {
+pub struct FirstDeed {
     pub thread: Name,
     pub line: u32,
     pub deed: Deed,
@@ -40,12 +40,12 @@ pub struct First {
 /// `AllocError` where memory is refused, to a name of more than 16 bytes.
 pub fn first_after(
     alloc: Global,
-    first: Option<First>,
+    first: Option<FirstDeed>,
     sought: Sought,
     thread: &[u8],
     line: u32,
     event: &Event,
-) -> Result<Option<First>, AllocError>
+) -> Result<Option<FirstDeed>, AllocError>
     ensures { IfOk result (λ now. (before : List (ℕ × Named)) → IsFound (is_one_sought sought thread.now) thread.now before first
         → IsFound (is_one_sought sought thread.now) thread.now (before ++ (line, event.now) ∷ []) now) }
 {
@@ -62,14 +62,14 @@ fn first_of(
     thread: &[u8],
     line: u32,
     event: &Event,
-) -> Result<Option<First>, AllocError>
+) -> Result<Option<FirstDeed>, AllocError>
     ensures { IfOk result (λ now. (before : List (ℕ × Named)) → IsFound (is_one_sought sought thread.now) thread.now before None
         → IsFound (is_one_sought sought thread.now) thread.now (before ++ (line, event.now) ∷ []) now) }
 {
     if !is_sought(sought, thread, event) {
         return Ok(None);
     }
-    let first = First {
+    let first = FirstDeed {
         thread: name_of(alloc, event.thread.bytes())?,
         line,
         deed: deed_of(thread, event),

@@ -5,7 +5,7 @@ ghost use Rattle.aero_faults.specs.Hindrances.{Hinders};
 ghost use Rattle.aero_faults.specs.Searches.{IsSeen, HasSeen, target_of as target_in, seen_at_first, by_holder as of_holder, by_join as of_join, by_deed as of_deed, by_start as of_start, by_blocks as of_blocks, by_itself as of_itself, hindrance_in};
 
 use crate::deeds::{is_acquire_of, is_fork_of, is_join_of, is_release_of};
-use crate::first::{Deed, First, Sought, first_after};
+use crate::first::{Deed, FirstDeed, Sought, first_after};
 use crate::hindrance::Hindrance;
 use crate::holder::{Holder, Holding};
 use crate::opened::opened_after;
@@ -25,8 +25,8 @@ pub struct Search {
 #[derive(Drop)]
 enum Seen {
     Lock(Holder),
-    Joins(Option<First>),
-    Starts(Option<First>),
+    Joins(Option<FirstDeed>),
+    Starts(Option<FirstDeed>),
     // So many blocks are open, or an end was seen where none was.
     Blocks(Option<u64>),
     // The event explains itself.
@@ -192,7 +192,7 @@ fn by_thread(fault: ShapeFault, event: &Event, holding: Holding) -> Option<Hindr
     }
 }
 
-fn by_join(fault: ShapeFault, first: Option<First>) -> Option<Hindrance>
+fn by_join(fault: ShapeFault, first: Option<FirstDeed>) -> Option<Hindrance>
     ensures { result ≡ of_join fault first }
 {
     match (fault, first) {
@@ -201,15 +201,15 @@ fn by_join(fault: ShapeFault, first: Option<First>) -> Option<Hindrance>
     }
 }
 
-fn joined(first: First) -> Hindrance
+fn joined(first: FirstDeed) -> Hindrance
     ensures { result ≡ Hindrance.Joined first.thread first.line }
 {
-    let First { thread, line, .. } = first;
+    let FirstDeed { thread, line, .. } = first;
     Hindrance::Joined { thread, line }
 }
 
 // The first event of the thread that the event forks.
-fn by_start(fault: ShapeFault, event: &Event, first: Option<First>) -> Option<Hindrance>
+fn by_start(fault: ShapeFault, event: &Event, first: Option<FirstDeed>) -> Option<Hindrance>
     ensures { result ≡ of_start fault event.now first }
 {
     let first = first?;
@@ -220,7 +220,7 @@ fn by_start(fault: ShapeFault, event: &Event, first: Option<First>) -> Option<Hi
     }
 }
 
-fn by_deed(first: First) -> Hindrance
+fn by_deed(first: FirstDeed) -> Hindrance
     ensures { result ≡ of_deed first first.deed }
 {
     match first.deed {

@@ -9,8 +9,8 @@ use Rattle.aero_verdict.specs.Explained.{IsCycleOf, ShowsCertain}
 use Rattle.aero_verdict.specs.Fed.{Fed, IsCertain, IsOpen}
 use Rattle.aero_verdict.specs.Verdict.{Rules}
 use Rattle.aero_feed.specs.Feeding.{IsCertainOf}
-use Rattle.aero_feed.specs.declared.judge.Judge.{Judge}
-use Rattle.aero_feed.specs.declared.judge.Judge.TheVariants.{Plain, Explaining}
+use Rattle.aero_feed.specs.declared.any_monitor.AnyMonitor.{AnyMonitor}
+use Rattle.aero_feed.specs.declared.any_monitor.AnyMonitor.TheVariants.{Plain, Explaining}
 
 -- what isn't cut yet is the text's end, and has no byte 10
 pub record EndsIn (text : List ℕ) (cutting : Cutting) : Type 0 where
@@ -45,16 +45,16 @@ IsJudgedOut was cutting now =
     ⊎ ((was.certain ≡ None) × (now.parts ≡ was.parts ++ map reading_of (option_to_list (last_block cutting))) × (now.rules ≡ was.rules))
 
 -- what a judge was fed, and whether it shows violations
-abbrev pub fed_by : Judge → Fed
+abbrev pub fed_by : AnyMonitor → Fed
 fed_by (Plain fed) = fed
 fed_by (Explaining fed) = fed.value
 
-abbrev pub explains_in : Judge → Bool
+abbrev pub explains_in : AnyMonitor → Bool
 explains_in (Plain fed) = false
 explains_in (Explaining fed) = true
 
 -- it judges by these rules, shows violations or not, and was fed nothing
-pub record IsUnfed (rules : Rules) (explains : Bool) (judge : Judge) : Type 0 where
+pub record IsUnfed (rules : Rules) (explains : Bool) (judge : AnyMonitor) : Type 0 where
   pub rules_are : (fed_by judge).rules ≡ rules
   pub explained : explains_in judge ≡ explains
   pub none : (fed_by judge).parts ≡ []

@@ -6,7 +6,7 @@ ghost use Rattle.aero_verdict.specs.Verdict.{under};
 ghost use Rattle.aero_feed.specs.Feeding.{nothing_fed, IsTextVerdict, IsCertainOf, IsOpenText, ShowsText};
 ghost use Rattle.aero_feed.specs.Reads.{fed_by, explains_in};
 
-use crate::judge::Judge;
+use crate::any_monitor::AnyMonitor;
 use crate::text_monitor::TextMonitor;
 use aero_model::{Cycle, Except, Limits, Verdict};
 use std::alloc::{AllocError, Global};
@@ -45,7 +45,7 @@ impl Feed {
     pub fn new(alloc: Global, limits: &Limits, except: Except) -> Feed
         ensures { result ≡ nothing_fed (under limits.now except) false }
     {
-        let judge = Judge::plain(alloc, limits, &except);
+        let judge = AnyMonitor::plain(alloc, limits, &except);
         judged_by(alloc, judge, except)
     }
 
@@ -58,7 +58,7 @@ impl Feed {
     pub fn explaining(alloc: Global, limits: &Limits, except: Except) -> Result<Feed, AllocError>
         ensures { IfOk result (λ feed. feed ≡ nothing_fed (under limits.now except) true) }
     {
-        let judge = Judge::explaining(alloc, limits, &except)?;
+        let judge = AnyMonitor::explaining(alloc, limits, &except)?;
         Ok(judged_by(alloc, judge, except))
     }
 
@@ -188,7 +188,7 @@ impl Feed {
 }
 
 // A text of which no byte has come, and a judge of it, which goes by these labels and was fed nothing.
-fn judged_by(alloc: Global, judge: Judge, except: Except) -> Feed
+fn judged_by(alloc: Global, judge: AnyMonitor, except: Except) -> Feed
     requires labels { except ≡ (fed_by judge).rules.labels }
     requires none { (fed_by judge).parts ≡ [] }
     ensures { result ≡ nothing_fed (fed_by judge).rules (explains_in judge) }

@@ -34,9 +34,9 @@
 //! - The verdict is that of the text, as one part: `Feed::finish`. So it is what `check_trace` returns of it.
 #![tactic(auto)]
 
+mod any_monitor;
 pub mod feed;
 mod ghost_text;
-mod judge;
 mod text_monitor;
 
 pub use feed::Feed;

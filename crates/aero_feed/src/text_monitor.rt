@@ -9,7 +9,7 @@ ghost use Rattle.aero_feed.specs.Feeding.{nothing_fed, IsTextVerdict, IsCertainO
 ghost use Rattle.aero_feed.specs.Reads.{fed_by, explains_in, IsJudgedOut};
 
 use crate::ghost_text::GhostText;
-use crate::judge::Judge;
+use crate::any_monitor::AnyMonitor;
 use aero_grammar::parse_block;
 use aero_lines::Cutter;
 use aero_model::{Cycle, Except, Verdict};
@@ -22,7 +22,7 @@ pub(crate) struct TextMonitor {
     alloc: Global,
     except: Except,
     cutter: Cutter,
-    judge: Judge,
+    judge: AnyMonitor,
     is_spent: bool,
     text: GhostText,
 }
@@ -51,7 +51,7 @@ impl Model for TextMonitor {
 
 impl TextMonitor {
     // No byte has come, and the judge, which goes by these labels, was fed nothing.
-    pub(crate) fn new(alloc: Global, judge: Judge, except: Except) -> TextMonitor
+    pub(crate) fn new(alloc: Global, judge: AnyMonitor, except: Except) -> TextMonitor
         requires labels { except ≡ (fed_by judge).rules.labels }
         requires none { (fed_by judge).parts ≡ [] }
         ensures { result ≡ nothing_fed (fed_by judge).rules (explains_in judge) }
@@ -156,7 +156,7 @@ impl TextMonitor {
 fn judge_rest(
     alloc: Global,
     cutter: Cutter,
-    judge: &mut Judge,
+    judge: &mut AnyMonitor,
     except: &Except,
     is_spent: bool,
 ) -> Result<(), AllocError>
@@ -177,7 +177,7 @@ fn judge_rest(
 fn judge_piece(
     alloc: Global,
     cutter: &mut Cutter,
-    judge: &mut Judge,
+    judge: &mut AnyMonitor,
     except: &Except,
     piece: &[u8],
 ) -> Result<(), AllocError>
@@ -200,7 +200,7 @@ fn judge_piece(
 // Judges a block of whole lines.
 fn judge_block(
     alloc: Global,
-    judge: &mut Judge,
+    judge: &mut AnyMonitor,
     except: &Except,
     block: &[u8],
 ) -> Result<(), AllocError>
@@ -222,7 +222,7 @@ fn judge_block(
 fn judge_last(
     alloc: Global,
     cutter: Cutter,
-    judge: &mut Judge,
+    judge: &mut AnyMonitor,
     except: &Except,
 ) -> Result<(), AllocError>
     requires labels { except.now ≡ (fed_by judge.old).rules.labels }

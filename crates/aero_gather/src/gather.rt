@@ -4,8 +4,8 @@ ghost use Rattle.std.specs.Arc.{arc_value};
 ghost use Rattle.aero_gather.specs.Gathered.{IsGathered, Accepts, Settles, GivesKnown, IsAwaited, nothing_gathered, with_asked, with_missed, oldest_of};
 ghost use Rattle.aero_gather.specs.Given.{value_of};
 
-use crate::slot::{
-    Slot, has_question, miss, oldest_waiting, question_alone, state, with_its_value,
+use crate::open_question::{
+    OpenQuestion, has_question, miss, oldest_waiting, question_alone, state, with_its_value,
 };
 use aero_pieces::{Answer, Question, Value};
 use std::alloc::{AllocError, Global};
@@ -69,7 +69,7 @@ pub struct Tally {
 pub struct Gather {
     alloc: Global,
     window: u32,
-    slots: Vec<Slot>,
+    slots: Vec<OpenQuestion>,
     tally: Tally,
 }
 
@@ -124,7 +124,7 @@ impl Gather {
         if self.slots.len() >= self.window as usize {
             return Err(WindowFull { question });
         }
-        let slot = Slot {
+        let slot = OpenQuestion {
             question,
             value: None,
             missed: false,

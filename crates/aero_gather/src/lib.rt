@@ -34,6 +34,6 @@
 
 pub mod gather;
 pub mod laws;
-mod slot;
+mod open_question;
 
 pub use gather::{Accepted, Gather, Oldest, Settled, Tally, Ticket, WindowFull};

@@ -8,7 +8,7 @@ use aero_grammar::Parsed;
 use aero_leads::Leads;
 use aero_model::{Except, Finding, Limits};
 use aero_verdict::engine::Engine;
-use aero_verdict::{Full, InOrder, Monitor, Recorder, feed_all};
+use aero_verdict::{InFull, InOrder, Monitor, Recorder, feed_all};
 use std::alloc::{AllocError, Global};
 
 /// What judges the blocks of a source one after another, and needs none of them again.
@@ -21,7 +21,7 @@ pub enum Judge {
     /// It also tells what shows a violation.
     Explaining(Box<Monitor<Recorder>, Global>),
     /// It also tells both, each with the verdict that it goes with.
-    InFull(Box<Monitor<Full>, Global>),
+    InFull(Box<Monitor<InFull>, Global>),
 }
 
 impl Judge {
@@ -149,7 +149,7 @@ fn in_full(alloc: Global, limits: &Limits, except: &Except) -> Result<Judge, All
     ensures parts { IfOk result (λ judge. (watched_by judge).parts ≡ []) }
     ensures terms { IfOk result (λ judge. (watched_by judge).terms ≡ asking limits.now except.now true true) }
 {
-    let monitor = Monitor::<Full>::new(alloc, limits, except);
+    let monitor = Monitor::<InFull>::new(alloc, limits, except);
     Ok(Judge::InFull(Box::new(alloc, monitor)?))
 }
 

@@ -4,7 +4,7 @@ use aero_program::files::{MeteredFiles, Opener};
 use aero_progress::beside::Beside;
 use aero_progress::course::Course;
 use aero_progress::gain::{Gain, ends_text, gain_of, gain_of_failure};
-use aero_progress::line::{Line, Surface, text_of};
+use aero_progress::line::{ProgressLine, Surface, text_of};
 use aero_progress::meter::Meter;
 use aero_progress::metered::Metered;
 use aero_progress::reached::{Reached, Work};
@@ -140,7 +140,7 @@ fn read_and_write(meter: &Meter, alloc: Global) -> io::Result<()> {
 fn shown_twice(alloc: Global, screen: &mut Narrow, sources: u64) -> io::Result<()> {
     let clock = stepping_by(1_700, false);
     let course = Course::begin(&clock, Some(work(sources, Some(3))))?;
-    let mut line = Line::new(screen, Surface::Other);
+    let mut line = ProgressLine::new(screen, Surface::Other);
     course.show(&clock, alloc, &mut line)?;
     read_and_write(course.meter(), alloc)?;
     course.show(&clock, alloc, &mut line)
@@ -171,7 +171,7 @@ fn the_line_tells_the_course_of_a_run(rt: HostRuntime) -> Result<(), Fail> {
 fn shown_of_a_list(alloc: Global, screen: &mut Narrow) -> io::Result<()> {
     let clock = stepping_by(1_700, false);
     let course = Course::begin(&clock, None)?;
-    let mut line = Line::new(screen, Surface::Other);
+    let mut line = ProgressLine::new(screen, Surface::Other);
     course.show(&clock, alloc, &mut line)?;
     course.meter().add(LIST_READ);
     course.show(&clock, alloc, &mut line)?;
@@ -299,7 +299,7 @@ const BLANK: &[u8] =
 
 // Shows lines, clears them, and ends.
 fn show_and_end(rt: &impl Abort, screen: &mut Narrow, surface: Surface) -> io::Result<()> {
-    let mut line = Line::new(screen, surface);
+    let mut line = ProgressLine::new(screen, surface);
     line.clear()?;
     line.show(b"\rab")?;
     line.show(b"\rabc")?;
@@ -355,7 +355,7 @@ fn writes_beside_a_line_clear_it(rt: HostRuntime) -> Result<(), Fail> {
 
 // Writes a report beside a line.
 fn write_beside<R: Wait + Drop>(rt: R, screen: &mut Narrow, report: &mut Narrow) -> io::Result<()> {
-    let mut line = Line::new(screen, Surface::Other);
+    let mut line = ProgressLine::new(screen, Surface::Other);
     line.show(b"\rab")?;
     let shared = Mutex::new(line);
     let mut beside = Beside::new(rt, report, Some(&shared));
@@ -373,7 +373,7 @@ struct Writes {
 // A writer that notes whether the line is locked.
 #[derive(Drop)]
 struct Watches<'a> {
-    line: &'a Mutex<Line<Narrow>>,
+    line: &'a Mutex<ProgressLine<Narrow>>,
     writes: &'a Writes,
 }
 
@@ -393,7 +393,7 @@ impl Write for Watches<'_> {
 
 fn write_twice<R: Wait + Drop>(
     rt: R,
-    line: &Mutex<Line<Narrow>>,
+    line: &Mutex<ProgressLine<Narrow>>,
     writes: &Writes,
 ) -> io::Result<()> {
     let mut beside = Beside::new(rt, Watches { line, writes }, Some(line));
@@ -404,7 +404,7 @@ fn write_twice<R: Wait + Drop>(
 // No tick can show the line between what clears it and what is written then: it is locked until that is written.
 #[test]
 fn a_line_is_locked_while_something_is_written_beside_it(rt: HostRuntime) -> Result<(), Fail> {
-    let line = Mutex::new(Line::new(narrow(rt.alloc(), 3, 0), Surface::Other));
+    let line = Mutex::new(ProgressLine::new(narrow(rt.alloc(), 3, 0), Surface::Other));
     let writes = Writes {
         all: AtomicU64::new(0),
         locked: AtomicU64::new(0),
@@ -450,7 +450,7 @@ fn written_until<R: Threads + Wait + Clock + Copy + Send + 'static>(
     let tape = Tape {
         taken: Arc::try_clone(taken)?,
     };
-    let line = Line::new(tape, Surface::Other);
+    let line = ProgressLine::new(tape, Surface::Other);
     let Some(ticker) = Ticker::start(rt, alloc, line, Some(work(sources, None)), pace) else {
         return Err(Fail::from("no ticker"));
     };

@@ -1,5 +1,5 @@
 //! A writer beside which the line may stand.
-use crate::line::Line;
+use crate::line::ProgressLine;
 use std::io;
 use std::io::Write;
 use std::sync::{Mutex, Wait};
@@ -9,7 +9,7 @@ use std::sync::{Mutex, Wait};
 #[derive(Drop)]
 pub struct Beside<'a, W, L, R> {
     inner: W,
-    line: Option<&'a Mutex<Line<L>>>,
+    line: Option<&'a Mutex<ProgressLine<L>>>,
     rt: R,
 }
 
@@ -17,7 +17,7 @@ impl<'a, W, L, R: Wait> Beside<'a, W, L, R> {
     ghost use Rattle.std.specs.Prelude.{◌≡◌};
 
     /// Nothing was written yet.
-    pub fn new(rt: R, inner: W, line: Option<&'a Mutex<Line<L>>>) -> Beside<'a, W, L, R>
+    pub fn new(rt: R, inner: W, line: Option<&'a Mutex<ProgressLine<L>>>) -> Beside<'a, W, L, R>
         ensures { result.inner ≡ inner }
     {
         Beside { inner, line, rt }

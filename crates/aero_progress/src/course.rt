@@ -4,7 +4,7 @@ ghost use Rattle.std.specs.Io.KnownBytes.{Appends};
 ghost use Rattle.aero_progress.specs.declared.reached.Reached.{Reached};
 ghost use Rattle.aero_progress.specs.Courses.{Tells, TellsOf};
 
-use crate::line::{Line, text_of};
+use crate::line::{ProgressLine, text_of};
 use crate::meter::Meter;
 use crate::reached::{Reached, Work};
 use std::alloc::Global;
@@ -78,7 +78,7 @@ impl Course {
         &self,
         clock: &impl Clock,
         alloc: Global,
-        line: &mut Line<W>,
+        line: &mut ProgressLine<W>,
     ) -> io::Result<()>
         ensures { line.old.is_over ≡ false → OnOk result (TellsOf self.now.work line.old.surface (W.contents line.old.writer) (W.contents line.new.writer)) }
     {
@@ -94,7 +94,7 @@ impl Course {
         work: Work,
         clock: &impl Clock,
         alloc: Global,
-        line: &mut Line<W>,
+        line: &mut ProgressLine<W>,
     ) -> io::Result<()>
         ensures { line.old.is_over ≡ false → OnOk result (Tells line.old.surface work (W.contents line.old.writer) (W.contents line.new.writer)) }
     {

@@ -1,6 +1,6 @@
 //! The line on progress: how many sources were read and judged, how many bytes came, and since when, written again in place.
 //!
-//! `Ticker::start` has a thread of its own show a `Line`, first after a while and then at each tick, until `stop` clears
+//! `Ticker::start` has a thread of its own show a `ProgressLine`, first after a while and then at each tick, until `stop` clears
 //! it and ends the thread. A `Metered` reader tells the ticker's `Meter` what was read, and a `Metered` writer which texts
 //! are out. A `Course` makes of that what the line says. Whatever else may come to the same terminal goes through a
 //! `Beside`, which clears the line first.
@@ -8,7 +8,7 @@
 //! None of them changes what is read or written beside the line: each hands its calls on.
 //!
 //! ```text
-//! let line = Line::new(rt.stderr(), Surface::Terminal);
+//! let line = ProgressLine::new(rt.stderr(), Surface::Terminal);
 //! let work = Some(Work { sources: 1, size: None });
 //! let ticker = Ticker::start(rt, rt.alloc(), line, work, Pace { first_after: 2_000, tick: 200 });
 //! let input = Metered::new(rt.stdin(), ticker.as_ref().map(Ticker::meter));
@@ -27,8 +27,8 @@
 //!   a text, of which at most as many sources are judged as there are, of the work that was known from the start, if it was:
 //!   `Course::show`, `work`, `reached`.
 //! - A line that is shown stands, and its text went out whole where the call succeeds. Once it is over none is shown:
-//!   `Line::show`, `shown`, `stands`, `over`.
-//! - What clears it goes out only where it stands: `Line::clear`, `cleared`, `untouched`. `end` clears it too, and then
+//!   `ProgressLine::show`, `shown`, `stands`, `over`.
+//! - What clears it goes out only where it stands: `ProgressLine::clear`, `cleared`, `untouched`. `end` clears it too, and then
 //!   it is over: `cleared`, `is_over`.
 //! - A `Metered` reader, and a writer that is `Beside` the line, read and write as the one within, where its type tells
 //!   its bytes: `read`, `write`, `flush`, by `bytes`.

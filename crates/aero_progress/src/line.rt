@@ -103,22 +103,22 @@ fn append_number(text: &mut Vec<u8>, label: &[u8], number: u64) -> Result<(), Al
 
 /// A line on a writer, which stands there or doesn't. Once it is over it isn't shown again.
 #[derive(Drop)]
-pub struct Line<W> {
+pub struct ProgressLine<W> {
     writer: W,
     surface: Surface,
     stands: bool,
     is_over: bool,
 }
 
-impl<W: Write> Line<W> {
+impl<W: Write> ProgressLine<W> {
     /// No line stands.
-    pub fn new(writer: W, surface: Surface) -> Line<W>
+    pub fn new(writer: W, surface: Surface) -> ProgressLine<W>
         ensures writer { result.writer ≡ writer }
         ensures surface { result.surface ≡ surface }
         ensures stands { result.stands ≡ false }
         ensures is_over { result.is_over ≡ false }
     {
-        Line {
+        ProgressLine {
             writer,
             surface,
             stands: false,

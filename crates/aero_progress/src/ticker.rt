@@ -1,6 +1,6 @@
 //! The thread that writes the line.
 use crate::course::Course;
-use crate::line::Line;
+use crate::line::ProgressLine;
 use crate::meter::Meter;
 use crate::reached::Work;
 use std::alloc::Global;
@@ -27,7 +27,7 @@ pub struct Ticker<W> {
 #[derive(Drop)]
 struct Shared<W> {
     course: Course,
-    line: Mutex<Line<W>>,
+    line: Mutex<ProgressLine<W>>,
     // Told when the line is over.
     ended: Condvar,
 }
@@ -38,7 +38,7 @@ impl<W: Write + Drop + Send + 'static> Ticker<W> {
     pub fn start<R: Threads + Wait + Clock + Copy + Send + 'static>(
         rt: R,
         alloc: Global,
-        line: Line<W>,
+        line: ProgressLine<W>,
         work: Option<Work>,
         pace: Pace,
     ) -> Option<Ticker<W>> {
@@ -59,7 +59,7 @@ impl<W: Write + Drop + Send + 'static> Ticker<W> {
     }
 
     /// The line, for a `Beside`.
-    pub fn line(&self) -> &Mutex<Line<W>> {
+    pub fn line(&self) -> &Mutex<ProgressLine<W>> {
         &self.shared.line
     }
 

@@ -1,7 +1,7 @@
 -- To be believed: Verdict (the verdict on parts under rules), Ordered (the order by lines and steps), Explained (the cycle
 -- that shows a violation), Opened (the blocks that are open), Finding (what is found of a source) and Laws. Also Fed (what a monitor
 -- was fed, and when its verdict is certain) and Actors. What an engine is given and answers stands in aero_engine.
--- For proofs alone: Naming, Limited, Begun, Known, Standing, InOrder, Recorded, Full, Records, Spans, Spots and Parts. Monitored tells how the
+-- For proofs alone: Naming, Limited, Begun, Known, Standing, InOrder, Recorded, InFull, Records, Spans, Spots and Parts. Monitored tells how the
 -- view of Monitor reads its state.
 pub mod Naming
 pub mod Limited
@@ -15,7 +15,7 @@ pub mod Opened
 pub mod InOrder
 pub mod Recorded
 pub mod Swept
-pub mod Full
+pub mod InFull
 pub mod Actors
 pub mod Spots
 pub mod Shown

@@ -6,7 +6,7 @@ ghost use Rattle.aero_model.specs.Exempt.{IsJudgedAs};
 ghost use Rattle.aero_engine.specs.Given.{Given};
 ghost use Rattle.aero_engine.specs.Judging.{IsAdmitted, ComesAfter, Tells};
 ghost use Rattle.aero_verdict.specs.Finding.{IsTraceFinding, on};
-ghost use Rattle.aero_verdict.specs.Full.{StandsForFull, KeepsInFull};
+ghost use Rattle.aero_verdict.specs.InFull.{StandsForFull, KeepsInFull};
 ghost use Rattle.aero_verdict.specs.Ordered.{TellsInOrder};
 ghost use Rattle.aero_verdict.specs.Records.{IsJudged};
 ghost use Rattle.aero_verdict.specs.Verdict.{Rules, under};
@@ -25,12 +25,12 @@ use std::alloc::{AllocError, Global};
 
 /// What judges the events, by first places, what records them, and what keeps their transactions.
 #[derive(Drop)]
-pub struct Full {
+pub struct InFull {
     pub(crate) recorder: Recorder,
     pub(crate) transactions: Transactions,
 }
 
-impl Engine for Full {
+impl Engine for InFull {
     ghost use Rattle.std.specs.Prelude.{true};
 
     ghost stands_for = { StandsForFull };
@@ -41,8 +41,8 @@ impl Engine for Full {
 
     ghost ASKS_LABELS = { true };
 
-    fn new(alloc: Global) -> Full {
-        Full {
+    fn new(alloc: Global) -> InFull {
+        InFull {
             recorder: Recorder::new(alloc),
             transactions: Transactions::new(alloc),
         }
@@ -62,7 +62,7 @@ impl Engine for Full {
 // The thread whose open block closes a cycle with this event, if there is one. The event is recorded, and kept with its
 // transaction.
 fn judge(
-    full: &mut Full,
+    full: &mut InFull,
     line: u32,
     event: &Numbered,
     admitted: Admitted,
@@ -92,12 +92,12 @@ pub fn check_trace_in_full(
 ) -> Result<Finding, AllocError>
     ensures { IfOk result (IsTraceFinding parts.now (on (under limits.now except.now) true true)) }
 {
-    let mut monitor = Monitor::<Full>::new(alloc, limits, except);
+    let mut monitor = Monitor::<InFull>::new(alloc, limits, except);
     feed_all(&mut monitor, parts, except);
     monitor.finish_in_full()
 }
 
-impl Monitor<Full> {
+impl Monitor<InFull> {
     ghost use Rattle.std.specs.Prelude.{true, IfOk};
     ghost use Rattle.aero_verdict.specs.Finding.{IsTraceFinding, on};
 
@@ -120,7 +120,7 @@ impl Monitor<Full> {
     }
 }
 
-impl Full {
+impl InFull {
     ghost use Rattle.std.specs.Prelude.{◌≡◌};
 
     // The record, and the transactions of the events so far.
@@ -128,7 +128,7 @@ impl Full {
         ensures recorder { result.0 ≡ self.recorder }
         ensures transactions { result.1 ≡ self.transactions }
     {
-        let Full {
+        let InFull {
             recorder,
             transactions,
         } = self;

@@ -47,13 +47,13 @@
 //!   where it is a violation, and with the blocks that are open exactly where it is `Pending`. Each of these comes with
 //!   its thread, and with the line and the label of its begin. They are the first 64 in the order of their begins:
 //!   `Monitor::finish_to_explain`. `explain_trace` gives the same of parts at once.
-//! - A monitor of `Full` gives at its end all of these, each with the verdict that it goes with:
+//! - A monitor of `InFull` gives at its end all of these, each with the verdict that it goes with:
 //!   `Monitor::finish_in_full`. `check_trace_in_full` gives the same of parts at once.
 //! - The actor of the event on a line is returned, whatever the limits, if there is one: `actor_at`.
-//! - `InOrder`, first places with the transactions, `Recorder`, with the events, and `Full`, with both, are engines too: of
+//! - `InOrder`, first places with the transactions, `Recorder`, with the events, and `InFull`, with both, are engines too: of
 //!   the events that each is given it tells what the definitions say. By `Engine::judge`, `told`.
 //! - They keep something of each event that they are given, also of the one that closes a cycle: `InOrder` the line and
-//!   the thread of each transaction's first event, `Recorder` each event with its line and its label, `Full` both. By
+//!   the thread of each transaction's first event, `Recorder` each event with its line and its label, `InFull` both. By
 //!   `Engine::judge`, `kept`.
 //! - All parts have exactly one verdict. `Serializable` means that there is no cycle at all, a violation that there is
 //!   one, and with open blocks each cycle passes two of them: `laws`.
@@ -86,7 +86,7 @@ pub use actor::actor_at;
 pub use aero_engine::engine;
 pub use check::{check_trace, check_trace_by};
 pub use explained::check_trace_explained;
-pub use full::{Full, check_trace_in_full};
+pub use full::{InFull, check_trace_in_full};
 pub use in_order::InOrder;
 pub use monitor::{Monitor, feed_all};
 pub use opened::explain_trace;

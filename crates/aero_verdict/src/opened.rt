@@ -16,7 +16,7 @@ use crate::numbering::Numbering;
 use crate::recorder::Recorder;
 use aero_grammar::Parsed;
 use aero_model::{Cycle, Except, Finding, Limits, Numbered, OpenBlock, Verdict, What};
-use aero_witness::{Transactions, has_ended, transactions_of};
+use aero_witness::{TransactionTable, has_ended, transactions_of};
 use std::alloc::{AllocError, Global};
 
 // How many open blocks are told at most: the first in the order of their begins.
@@ -123,7 +123,7 @@ fn open_blocks(
 fn openings(
     alloc: Global,
     events: &[Numbered],
-    transactions: &Transactions,
+    transactions: &TransactionTable,
 ) -> Result<Vec<u32>, AllocError>
     requires few { length events.now < 2 ^ 32 }
     requires of { AreOf events.now transactions.now }
@@ -138,7 +138,7 @@ fn openings(
 }
 
 // Whether the event at this place, which does this, is a begin, and its transaction hasn't ended.
-fn is_opening(events: &[Numbered], transactions: &Transactions, what: What, place: u32) -> bool
+fn is_opening(events: &[Numbered], transactions: &TransactionTable, what: What, place: u32) -> bool
     requires of { AreOf events.now transactions.now }
     requires there { option_map (λ e. e.what) (slice_get events.now place) ≡ Some what }
     ensures { IsTrue result ↔ IsBegunAt events.now place }

@@ -5,7 +5,7 @@ ghost use Rattle.aero_witness.specs.Parts.{AreOf};
 ghost use Rattle.aero_verdict.specs.Spans.{AreLasts, IsSpan, IsSpanOf};
 
 use aero_model::Numbered;
-use aero_witness::{Transactions, Visit, has_ended};
+use aero_witness::{TransactionTable, Visit, has_ended};
 use std::alloc::{AllocError, Global};
 
 /// The place of a transaction's first event and, where it has ended, that of its last one.
@@ -19,7 +19,7 @@ pub(crate) struct Span {
 pub(crate) fn spans_of(
     alloc: Global,
     events: &[Numbered],
-    transactions: &Transactions,
+    transactions: &TransactionTable,
     visits: &[Visit],
 ) -> Result<Vec<Span>, AllocError>
     requires few { length events.now < 2 ^ 32 }
@@ -35,7 +35,7 @@ pub(crate) fn spans_of(
 fn spans_by(
     alloc: Global,
     events: &[Numbered],
-    transactions: &Transactions,
+    transactions: &TransactionTable,
     lasts: &[u32],
     visits: &[Visit],
 ) -> Result<Vec<Span>, AllocError>
@@ -51,7 +51,7 @@ fn spans_by(
     Ok(spans)
 }
 
-fn span_at(events: &[Numbered], transactions: &Transactions, lasts: &[u32], place: u32) -> Span
+fn span_at(events: &[Numbered], transactions: &TransactionTable, lasts: &[u32], place: u32) -> Span
     requires of { AreOf events.now transactions.now }
     requires lasts { AreLasts transactions.now.firsts.items lasts.now }
     requires within { place < length events.now }

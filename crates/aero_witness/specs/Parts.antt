@@ -4,7 +4,7 @@ use Rattle.aero_model.specs.declared.numbered.Numbered.{Numbered}
 use Rattle.aero_model.specs.declared.numbered.What.{What}
 use Rattle.aero_model.specs.Blocks.{is_begin, is_end, depth, blocks, Transaction, Block, transaction}
 use Rattle.aero_witness.specs.declared.transactions.Nest.{Nest}
-use Rattle.aero_witness.specs.declared.transactions.Transactions.{Transactions}
+use Rattle.aero_witness.specs.declared.transactions.TransactionTable.{TransactionTable}
 
 abbrev pub no_nest : Nest
 no_nest = record { depth = 0; first = 0 }
@@ -44,6 +44,6 @@ abbrev pub ended_test : List Nest → ℕ → ℕ → Bool
 ended_test nests t f = not (nat_lt 0 (nest_at nests t).depth && ((nest_at nests t).first == f))
 
 -- all events are known
-pub record AreOf (trace : List Numbered) (all : Transactions) : Type 0 where
+pub record AreOf (trace : List Numbered) (all : TransactionTable) : Type 0 where
   pub firsts : AreFirstsTo trace (length trace) all.firsts.items
   pub nests : AreNests trace (length trace) all.nests.items

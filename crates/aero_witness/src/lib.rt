@@ -54,5 +54,5 @@ pub mod visit;
 
 pub use search::{Shortest, shorten, shortest_cycle, shortest_of};
 pub use telling::{has_ended, is_telling_cycle};
-pub use transactions::{Transactions, transactions_of};
+pub use transactions::{TransactionTable, transactions_of};
 pub use visit::Visit;

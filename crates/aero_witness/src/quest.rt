@@ -3,7 +3,7 @@ ghost use Rattle.std.specs.Prelude.{◌≡◌, ◌<◌, ◌^◌, ◌==◌, ℕ, 
 ghost use Rattle.aero_witness.specs.Quest.{AreNext, IsQuest};
 
 use crate::telling::first_at;
-use crate::transactions::{Transactions, transactions_of};
+use crate::transactions::{TransactionTable, transactions_of};
 use aero_model::Numbered;
 use std::alloc::{AllocError, Global};
 
@@ -11,7 +11,7 @@ use std::alloc::{AllocError, Global};
 // Telling cycles are looked for from the transaction of the event at `begin`, whose first place is `first`.
 #[derive(Drop)]
 pub(crate) struct Quest {
-    pub transactions: Transactions,
+    pub transactions: TransactionTable,
     pub next: Vec<u32>,
     pub begin: u32,
     pub first: u32,

@@ -6,7 +6,7 @@ ghost use Rattle.aero_witness.specs.Reached.{is_noted, reached_at, start_at, Are
 
 use crate::quest::Quest;
 use crate::telling::{first_at, has_ended};
-use crate::transactions::Transactions;
+use crate::transactions::TransactionTable;
 use aero_model::Numbered;
 use std::alloc::{AllocError, Global};
 
@@ -157,7 +157,7 @@ pub(crate) fn enter(
 }
 
 // The first place at which a walk may leave that comes in at this one.
-fn leaves_from(events: &[Numbered], transactions: &Transactions, enters: u32) -> u32
+fn leaves_from(events: &[Numbered], transactions: &TransactionTable, enters: u32) -> u32
     requires of { AreOf events.now transactions.now }
     requires within { enters < length events.now }
     ensures { IsFrom events.now transactions.now.firsts.items enters result }

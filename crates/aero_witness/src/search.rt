@@ -13,7 +13,7 @@ use crate::quest::{Quest, quest_of};
 use crate::reached::{Reached, reached_of};
 use crate::rounds::{Search, begin, next_round};
 use crate::telling::is_telling_cycle;
-use crate::transactions::Transactions;
+use crate::transactions::TransactionTable;
 use crate::visit::Visit;
 use aero_model::Numbered;
 use std::alloc::{AllocError, Global};
@@ -22,7 +22,7 @@ use std::alloc::{AllocError, Global};
 #[derive(Drop)]
 pub struct Shortest {
     pub visits: Vec<Visit>,
-    pub transactions: Transactions,
+    pub transactions: TransactionTable,
 }
 
 /// A telling cycle of all events whose first visit is in the transaction of the event at the place

@@ -8,7 +8,7 @@ ghost use Rattle.aero_witness.specs.Telling.{visit_of, visits_of, IsTellingCycle
 ghost use Rattle.aero_witness.specs.Following.{Follows, AreFollowing};
 
 use crate::conflict::conflict;
-use crate::transactions::{Nest, Transactions, nest_of, transactions_of};
+use crate::transactions::{Nest, TransactionTable, nest_of, transactions_of};
 use crate::visit::Visit;
 use aero_model::Numbered;
 use std::alloc::{AllocError, Global};
@@ -28,7 +28,7 @@ pub fn is_telling_cycle(
 }
 
 // The same, where the transactions are known.
-fn is_cycle(events: &[Numbered], transactions: &Transactions, visits: &[Visit]) -> bool
+fn is_cycle(events: &[Numbered], transactions: &TransactionTable, visits: &[Visit]) -> bool
     requires { AreOf events.now transactions.now }
     ensures { IsTrue result ↔ IsTellingCycle events.now visits.now }
 {
@@ -41,7 +41,7 @@ fn is_cycle(events: &[Numbered], transactions: &Transactions, visits: &[Visit]) 
 // The same of the first visit and the others.
 fn goes_round(
     events: &[Numbered],
-    transactions: &Transactions,
+    transactions: &TransactionTable,
     first: Visit,
     rest: &[Visit],
 ) -> bool
@@ -60,7 +60,7 @@ fn goes_round(
 // The last visit, if a walk goes from the first through all others.
 fn last_of(
     events: &[Numbered],
-    transactions: &Transactions,
+    transactions: &TransactionTable,
     first: Visit,
     rest: &[Visit],
 ) -> Option<Visit>
@@ -79,7 +79,7 @@ fn last_of(
 }
 
 // Whether a walk goes from the first of these to the second.
-fn follows(events: &[Numbered], transactions: &Transactions, first: Visit, second: Visit) -> bool
+fn follows(events: &[Numbered], transactions: &TransactionTable, first: Visit, second: Visit) -> bool
     requires of { AreOf events.now transactions.now }
     requires is { IsVisit events.now (length events.now) (visit_of first) }
     ensures { IsTrue result ↔ Follows events.now (visit_of first) (visit_of second) }
@@ -91,7 +91,7 @@ fn follows(events: &[Numbered], transactions: &Transactions, first: Visit, secon
 }
 
 // Whether it goes from the last back to the first.
-fn closes(events: &[Numbered], transactions: &Transactions, last: Visit, first: Visit) -> bool
+fn closes(events: &[Numbered], transactions: &TransactionTable, last: Visit, first: Visit) -> bool
     requires of { AreOf events.now transactions.now }
     requires last { IsVisit events.now (length events.now) (visit_of last) }
     requires first { IsVisit events.now (length events.now) (visit_of first) }
@@ -101,7 +101,7 @@ fn closes(events: &[Numbered], transactions: &Transactions, last: Visit, first: 
 }
 
 // Whether both places are of one transaction.
-fn is_visit(events: &[Numbered], transactions: &Transactions, visit: Visit) -> bool
+fn is_visit(events: &[Numbered], transactions: &TransactionTable, visit: Visit) -> bool
     requires { AreOf events.now transactions.now }
     ensures { IsTrue result ↔ IsVisit events.now (length events.now) (visit_of visit) }
 {
@@ -113,7 +113,7 @@ fn is_visit(events: &[Numbered], transactions: &Transactions, visit: Visit) -> b
 }
 
 // Whether it leaves no earlier than it enters, or is of a transaction that has ended.
-fn is_forward(events: &[Numbered], transactions: &Transactions, visit: Visit) -> bool
+fn is_forward(events: &[Numbered], transactions: &TransactionTable, visit: Visit) -> bool
     requires of { AreOf events.now transactions.now }
     requires is { IsVisit events.now (length events.now) (visit_of visit) }
     ensures { IsTrue result ↔ IsForward events.now (length events.now) (visit_of visit) }
@@ -122,7 +122,7 @@ fn is_forward(events: &[Numbered], transactions: &Transactions, visit: Visit) ->
 }
 
 // Whether the two are of different transactions.
-fn are_apart(events: &[Numbered], transactions: &Transactions, first: Visit, second: Visit) -> bool
+fn are_apart(events: &[Numbered], transactions: &TransactionTable, first: Visit, second: Visit) -> bool
     requires of { AreOf events.now transactions.now }
     requires first { first.enters < length events.now }
     requires second { second.enters < length events.now }
@@ -132,7 +132,7 @@ fn are_apart(events: &[Numbered], transactions: &Transactions, first: Visit, sec
 }
 
 // Whether both events are of one transaction.
-fn is_one(events: &[Numbered], transactions: &Transactions, first: u32, second: u32) -> bool
+fn is_one(events: &[Numbered], transactions: &TransactionTable, first: u32, second: u32) -> bool
     requires of { AreOf events.now transactions.now }
     requires first { first < length events.now }
     requires second { second < length events.now }
@@ -150,7 +150,7 @@ pub(crate) fn first_at(firsts: &[u32], place: u32) -> u32
 }
 
 /// Whether the transaction of the event at this place, from 0, has ended.
-pub fn has_ended(events: &[Numbered], transactions: &Transactions, place: u32) -> bool
+pub fn has_ended(events: &[Numbered], transactions: &TransactionTable, place: u32) -> bool
     requires of { AreOf events.now transactions.now }
     requires within { place < length events.now }
     ensures { IsTrue result ↔ HasEnded events.now (length events.now) (transaction events.now place) }

@@ -16,13 +16,13 @@ pub struct Nest {
 /// For each event the place of the first event of its transaction, from 0, and for each thread, by its
 /// number, what is open at the end. A thread past the last of `nests` has nothing open.
 #[derive(Drop)]
-pub struct Transactions {
+pub struct TransactionTable {
     pub firsts: Vec<u32>,
     pub nests: Vec<Nest>,
 }
 
 /// The transactions of these events. An `AllocError` where memory is refused.
-pub fn transactions_of(alloc: Global, events: &[Numbered]) -> Result<Transactions, AllocError>
+pub fn transactions_of(alloc: Global, events: &[Numbered]) -> Result<TransactionTable, AllocError>
     requires { length events.now < 2 ^ 32 }
     ensures { IfOk result (AreOf events.now) }
 {
@@ -31,7 +31,7 @@ pub fn transactions_of(alloc: Global, events: &[Numbered]) -> Result<Transaction
     for (place, event) in events.iter().enumerate() {
         firsts.push(step(&mut nests, event, place as u32)?)?;
     }
-    Ok(Transactions { firsts, nests })
+    Ok(TransactionTable { firsts, nests })
 }
 
 // The first place of the transaction of the event at this place, which comes next.

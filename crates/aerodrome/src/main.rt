@@ -30,7 +30,7 @@ use aero_program::output::Output;
 use aero_program::retrying::Retrying;
 use aero_program::sizes::whole_size;
 use aero_progress::beside::Beside;
-use aero_progress::line::{Line, Surface};
+use aero_progress::line::{ProgressLine, Surface};
 use aero_progress::metered::Metered;
 use aero_progress::reached::Work;
 use aero_progress::ticker::{Pace, Ticker};
@@ -64,7 +64,7 @@ fn main(rt: HostRuntime) -> ExitCode {
     } else {
         Surface::Other
     };
-    let line = Line::new(rt.stderr(), surface);
+    let line = ProgressLine::new(rt.stderr(), surface);
     let ticker = ticker_for(rt, rt.alloc(), &asked, line);
     let status = answer_beside(rt, rt.alloc(), asked, streams, ticker.as_ref());
     if let Some(ticker) = ticker {
@@ -96,7 +96,7 @@ fn ticker_for<W, R>(
     rt: R,
     alloc: Global,
     asked: &Result<Config, Stop>,
-    line: Line<W>,
+    line: ProgressLine<W>,
 ) -> Option<Ticker<W>>
 where
     W: Write + Drop + Send + 'static,

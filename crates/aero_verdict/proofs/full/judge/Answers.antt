@@ -5,14 +5,14 @@ use Rattle.aero_engine.specs.Given.{Given}
 use Rattle.aero_engine.specs.Judging.{ComesAfter}
 use Rattle.aero_order.specs.Standing as orders
 use Rattle.aero_shape.specs.declared.admission.Admitted.{Admitted}
-use Rattle.aero_verdict.specs.declared.full.Full.{Full}
-use Rattle.aero_verdict.specs.Full.{StandsForFull}
+use Rattle.aero_verdict.specs.declared.full.InFull.{InFull}
+use Rattle.aero_verdict.specs.InFull.{StandsForFull}
 use Rattle.aero_verdict.specs.InOrder.{came_of}
 use Rattle.aero_verdict.specs.Recorded.{StandsForLeads}
 use Rattle.aero_verdict.proofs.full.judge.Goals as goal
 
 -- what comes after the events for which both stand comes after those for which the record does
-for_record : (full : Full) (h : List Numbered) (e : Numbered) (admitted : Admitted) → ComesAfter (StandsForFull full) h e admitted → ComesAfter (StandsForLeads full.recorder) h e admitted
+for_record : (full : InFull) (h : List Numbered) (e : Numbered) (admitted : Admitted) → ComesAfter (StandsForFull full) h e admitted → ComesAfter (StandsForLeads full.recorder) h e admitted
 for_record full h e admitted after = record { standing = after.standing.0; well_formed = after.well_formed; in_shape = after.in_shape; kind = after.kind }
 
 pub judge-requires : goal.judge-requires

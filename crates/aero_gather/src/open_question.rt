@@ -13,13 +13,13 @@ use std::sync::Arc;
 
 /// An open question, the value that was kept for it, and whether no answer is to be awaited.
 #[derive(Drop)]
-pub struct Slot {
+pub struct OpenQuestion {
     pub question: Arc<Question, Global>,
     pub value: Option<Value>,
     pub missed: bool,
 }
 
-impl Model for Slot {
+impl Model for OpenQuestion {
     ghost use Rattle.std.specs.Arc.{arc_value};
     ghost use Rattle.aero_pieces.specs.Schedule.{Entry};
 
@@ -29,7 +29,7 @@ impl Model for Slot {
 }
 
 // The place of the oldest slot that waits for an answer to the question.
-pub fn oldest_waiting(slots: &[Slot], question: &Question) -> Option<usize>
+pub fn oldest_waiting(slots: &[OpenQuestion], question: &Question) -> Option<usize>
     ensures some { IfSome result (λ place. IsOldestWaiting question.now slots.now place) }
     ensures none { IfNone result (NoneWaits question.now slots.now (length slots.now)) }
 {
@@ -43,7 +43,7 @@ pub fn oldest_waiting(slots: &[Slot], question: &Question) -> Option<usize>
 }
 
 // Whether a slot has the question.
-pub fn has_question(slots: &[Slot], question: &Question) -> bool
+pub fn has_question(slots: &[OpenQuestion], question: &Question) -> bool
     ensures { IsTrue result ↔ IsOpenQuestion question.now slots.now }
 {
     for i in 0..slots.len() {
@@ -56,7 +56,7 @@ pub fn has_question(slots: &[Slot], question: &Question) -> bool
 }
 
 // Notes that no answer is to be awaited, where there is none yet. The answer says whether it is news.
-pub fn miss(slot: &mut Slot) -> bool
+pub fn miss(slot: &mut OpenQuestion) -> bool
     ensures news { IsTrue result ↔ ((slot.old.value ≡ None) × (slot.old.missed ≡ false)) }
     ensures noted { slot.new ≡ if is_none slot.old.value then record slot.old { missed = true } else slot.old }
 {
@@ -67,19 +67,19 @@ pub fn miss(slot: &mut Slot) -> bool
 }
 
 // The slot's question.
-pub fn question_alone(slot: Slot) -> Arc<Question, Global>
+pub fn question_alone(slot: OpenQuestion) -> Arc<Question, Global>
     ensures { arc_value result ≡ slot.question }
 {
-    let Slot { question, .. } = slot;
+    let OpenQuestion { question, .. } = slot;
     question
 }
 
 // The slot's question with the value that was kept, if one was.
-pub fn with_its_value(slot: Slot) -> Option<Settled>
+pub fn with_its_value(slot: OpenQuestion) -> Option<Settled>
     ensures value { option_map (λ settled. settled.value) result ≡ slot.value }
     ensures question { IfSome result (λ settled. arc_value settled.question ≡ slot.question) }
 {
-    let Slot {
+    let OpenQuestion {
         question,
         value,
         ..
@@ -91,7 +91,7 @@ pub fn with_its_value(slot: Slot) -> Option<Settled>
 }
 
 // What is known of an open question.
-pub fn state(slot: &Slot) -> Oldest
+pub fn state(slot: &OpenQuestion) -> Oldest
     ensures { result ≡ state_of slot.now.value slot.now.missed }
 {
     if slot.value.is_some() {

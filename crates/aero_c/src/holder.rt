@@ -10,22 +10,22 @@ use std::mem;
 /// A trace, or none. C sees a pointer and whether there is a trace, and changes neither. All bytes 0 are none.
 #[repr(C)]
 #[derive(Drop)]
-pub struct Monitor {
+pub struct Holder {
     pub pointer: Pointer,
     pub is_held: bool,
     pub ghost told: { is_held ≡ is_some pointer.held },
 }
 
 // Takes the trace out, if there is one.
-pub(crate) fn take(alloc: Global, monitor: &mut Monitor) -> Option<Box<Feed>>
+pub(crate) fn take(alloc: Global, monitor: &mut Holder) -> Option<Box<Feed>>
     ensures held { option_map (λ feed. feed.value) result ≡ monitor.old.pointer.held }
     ensures none { monitor.new.pointer.held ≡ None }
 {
-    let none = Monitor {
+    let none = Holder {
         pointer: Pointer::none(),
         is_held: false,
     };
-    let Monitor { pointer, is_held } = mem::replace(monitor, none);
+    let Holder { pointer, is_held } = mem::replace(monitor, none);
     if is_held {
         return Some(pointer.into_loose(alloc).into_box());
     }
@@ -33,10 +33,10 @@ pub(crate) fn take(alloc: Global, monitor: &mut Monitor) -> Option<Box<Feed>>
 }
 
 // Puts a trace into a monitor that has none.
-pub(crate) fn put(monitor: &mut Monitor, feed: Box<Feed>)
+pub(crate) fn put(monitor: &mut Holder, feed: Box<Feed>)
     ensures { monitor.new.pointer.held ≡ Some feed.value }
 {
-    *monitor = Monitor {
+    *monitor = Holder {
         pointer: Pointer::of(Loose::of(feed)),
         is_held: true,
     };

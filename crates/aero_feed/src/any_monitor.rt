@@ -13,19 +13,19 @@ use std::alloc::{AllocError, Global};
 
 /// A monitor of the parts that a text is cut into.
 #[derive(Drop)]
-pub(crate) enum Judge {
+pub(crate) enum AnyMonitor {
     // It tells the verdict alone.
     Plain(Monitor<Leads>),
     // It also tells what shows a violation.
     Explaining(Box<Monitor<Recorder>, Global>),
 }
 
-impl Judge {
+impl AnyMonitor {
     // One that tells the verdict alone. No part has come.
-    pub(crate) fn plain(alloc: Global, limits: &Limits, except: &Except) -> Judge
+    pub(crate) fn plain(alloc: Global, limits: &Limits, except: &Except) -> AnyMonitor
         ensures { IsUnfed (under limits.now except.now) false result }
     {
-        Judge::Plain(Monitor::new(alloc, limits, except))
+        AnyMonitor::Plain(Monitor::new(alloc, limits, except))
     }
 
     // One that also tells what shows a violation. No part has come. An `AllocError` says that memory was refused.
@@ -33,11 +33,11 @@ impl Judge {
         alloc: Global,
         limits: &Limits,
         except: &Except,
-    ) -> Result<Judge, AllocError>
+    ) -> Result<AnyMonitor, AllocError>
         ensures { IfOk result (IsUnfed (under limits.now except.now) true) }
     {
         let monitor = Monitor::<Recorder>::new(alloc, limits, except);
-        Ok(Judge::Explaining(Box::new(alloc, monitor)?))
+        Ok(AnyMonitor::Explaining(Box::new(alloc, monitor)?))
     }
 
     // Judges the next part, with the same labels as at first.
@@ -51,8 +51,8 @@ impl Judge {
         ensures going_on { IfOk result (λ is_certain. is_certain ≡ false → IsOpen (fed_by self.new).parts (fed_by self.new).rules) }
     {
         match self {
-            Judge::Plain(monitor) => monitor.feed(part, except),
-            Judge::Explaining(monitor) => monitor.feed(part, except),
+            AnyMonitor::Plain(monitor) => monitor.feed(part, except),
+            AnyMonitor::Explaining(monitor) => monitor.feed(part, except),
         }
     }
 
@@ -62,8 +62,8 @@ impl Judge {
         ensures certain { IfSome (fed_by self.now).certain (IsCertain (fed_by self.now).parts (fed_by self.now).rules) }
     {
         match self {
-            Judge::Plain(monitor) => monitor.certain().is_some(),
-            Judge::Explaining(monitor) => monitor.certain().is_some(),
+            AnyMonitor::Plain(monitor) => monitor.certain().is_some(),
+            AnyMonitor::Explaining(monitor) => monitor.certain().is_some(),
         }
     }
 
@@ -72,8 +72,8 @@ impl Judge {
         ensures { IfOk result (ShowsFed (explains_in self.now) (fed_by self.now)) }
     {
         match self {
-            Judge::Plain(_) => Ok(None),
-            Judge::Explaining(monitor) => monitor.explain(),
+            AnyMonitor::Plain(_) => Ok(None),
+            AnyMonitor::Explaining(monitor) => monitor.explain(),
         }
     }
 
@@ -83,8 +83,8 @@ impl Judge {
         ensures own_fault { IfOk result HasOwnFault }
     {
         match self {
-            Judge::Plain(monitor) => monitor.finish(),
-            Judge::Explaining(monitor) => Box::into_inner(monitor).finish(),
+            AnyMonitor::Plain(monitor) => monitor.finish(),
+            AnyMonitor::Explaining(monitor) => Box::into_inner(monitor).finish(),
         }
     }
 }

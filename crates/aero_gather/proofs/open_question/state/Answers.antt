@@ -1,5 +1,5 @@
 use Rattle.std.proofs.Common.{rules}
-use Rattle.aero_gather.proofs.slot.state.Goals as goal
+use Rattle.aero_gather.proofs.open_question.state.Goals as goal
 
 pub returns-then-slot : goal.returns-then-slot
 returns-then-slot c = search rules
