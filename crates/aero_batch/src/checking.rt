@@ -61,15 +61,15 @@ fn check_question(
     parts: Parts,
 ) -> Result<Arc<Question, Global>, AllocError>
     ensures { IfOk result (λ question. arc_value question ≡
-        Question.Check trace parts plan.now.limits plan.now.except plan.now.order plan.now.explain) }
+        Question.Check trace parts plan.now.terms.rules.limits plan.now.terms.rules.labels plan.now.terms.order plan.now.terms.explain) }
 {
     Question::Check {
         trace,
         parsed: parts,
-        limits: plan.limits,
-        except: plan.except.share()?,
-        order: plan.order,
-        explain: plan.explain,
+        limits: *plan.terms.limits(),
+        except: plan.terms.shared_except().share()?,
+        order: plan.terms.order(),
+        explain: plan.terms.explain(),
     }
     .share(alloc)
 }

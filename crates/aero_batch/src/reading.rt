@@ -31,7 +31,7 @@ pub fn read_on<R: Read, H: Helpers, T: Wait>(
 ) -> Result<(), AllocError>
     requires may { MayAsk underway.old }
     requires unread { underway.old.read < vec_len underway.old.tracks }
-    requires within { underway.old.intake.count ≤ setting.now.plan.now.limits.bytes + 1 }
+    requires within { underway.old.intake.count ≤ setting.now.plan.now.terms.rules.limits.bytes + 1 }
     ensures { OnOk result (ReadsOn (terms_of setting.now.plan.now) (seen_by R.remaining reader.old) (seen_by R.remaining reader.new)
         underway.old underway.new) }
 {
@@ -51,10 +51,10 @@ pub fn read_on<R: Read, H: Helpers, T: Wait>(
 fn read_piece<R: Read>(plan: &Plan, reader: &mut Counting<R>, underway: &mut Underway)
     requires reading { underway.old.ended ≡ None }
     requires not_full { length underway.old.intake.held < 2 ^ 18 }
-    requires within { underway.old.intake.count ≤ plan.now.limits.bytes + 1 }
+    requires within { underway.old.intake.count ≤ plan.now.terms.rules.limits.bytes + 1 }
     ensures { ReadsPiece (terms_of plan.now) (seen_by R.remaining reader.old) (seen_by R.remaining reader.new) underway.old underway.new }
 {
-    underway.ended = match underway.intake.take(reader, plan.piece, plan.limits.bytes) {
+    underway.ended = match underway.intake.take(reader, plan.piece, plan.terms.limits().bytes) {
         Taken::Piece => None,
         Taken::Ended(ending) => Some(ending),
     };

@@ -56,7 +56,7 @@ fn new_tracks(alloc: Global, plan: &Plan, sources: usize) -> Result<Vec<Track>, 
 {
     let mut tracks = Vec::with_capacity(alloc, sources)?;
     for i in 0..sources {
-        tracks.push(Track::Arriving(Knowledge::new(alloc, plan.terms()?)))?;
+        tracks.push(Track::Arriving(Knowledge::new(alloc, plan.terms.share()?)))?;
     }
     Ok(tracks)
 }

@@ -3,11 +3,11 @@ use Rattle.std.specs.Prelude.{ℕ, ◌+◌, ◌==◌, if◌then◌else◌, List,
 use Rattle.aero_intake.specs.declared.plan.Keeping.{Keeping}
 use Rattle.aero_intake.specs.declared.plan.Plan.{Plan}
 use Rattle.aero_report.specs.Options.{Note, Options}
-use Rattle.aero_verdict.specs.Finding.{Terms, asking}
+use Rattle.aero_verdict.specs.Finding.{Terms}
 
 -- on which the sources are judged
 abbrev pub terms_of : Plan → Terms
-terms_of plan = asking plan.limits plan.except plan.order plan.explain
+terms_of plan = plan.terms
 
 -- the same, as the summary of a report tells it, with the labels with which no block begins, and the notes on sources
 abbrev pub options_with : Terms → (unused : List (List ℕ)) → (notes : List Note) → Options

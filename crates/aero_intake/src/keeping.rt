@@ -4,10 +4,10 @@ ghost use Rattle.aero_intake.specs.Held.{parts_in, live_in, certain_in, event_co
 ghost use Rattle.aero_verdict.specs.Finding.{Terms as Asked, IsTraceFinding};
 
 use crate::live::Live;
-use crate::terms::Terms;
 use aero_grammar::Parsed;
 use aero_model::Finding;
 use aero_pieces::Parts;
+use aero_verdict::Terms;
 use std::alloc::{AllocError, Global};
 use std::mem;
 

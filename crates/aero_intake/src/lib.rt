@@ -23,8 +23,6 @@
 //! - A cut that is refused changes nothing: `cut`, `refused`. What is passed over counts as having come, and that some
 //!   was is kept: `pass_over`, `has_passed`. After the last block another source may be read, of which nothing has
 //!   come: `finish`, `fresh`.
-//! - The terms of a plan are its limits, its labels, and whether it asks for the order, and for the events of a cycle:
-//!   `Plan::terms`; `Terms::new`, `limits`, `except`, `order`, `explain`.
 //! - A `Live` has exactly the parts that came, in order, on the terms that it began with: `Live::new`, `feed`, `parts`,
 //!   `terms`; `len`. `finish` gives what is found of exactly them, on these terms. So does its `Judge`: `new`, `feed`,
 //!   `feed_rest`, `finish`. After a `feed` that is done either a verdict is certain, or nothing is wrong yet, but for one
@@ -50,7 +48,6 @@ pub mod laws;
 pub mod live;
 pub mod plan;
 pub mod source;
-pub mod terms;
 pub mod track;
 
 pub use intake::Intake;

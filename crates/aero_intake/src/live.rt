@@ -5,9 +5,9 @@ ghost use Rattle.aero_verdict.specs.Finding.{IsTraceFinding};
 ghost use Rattle.aero_intake.specs.Lives.{watched_by};
 
 use crate::judge::Judge;
-use crate::terms::Terms;
 use aero_grammar::Parsed;
 use aero_model::{Except, Finding};
+use aero_verdict::Terms;
 use std::alloc::{AllocError, Global};
 use std::collections::VecDeque;
 use std::marker::Model;

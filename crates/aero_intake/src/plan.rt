@@ -1,10 +1,9 @@
 //! How a run is made.
 ghost use Rattle.std.specs.Prelude.{◌≡◌, ◌<◌, ◌≤◌, ◌^◌, if◌then◌else◌};
 
-use crate::terms::Terms;
 use aero_model::{Limits, Name, SharedExcept};
 use aero_report::{Form, Note, Options};
-use std::alloc::AllocError;
+use aero_verdict::Terms;
 
 /// How many events of a source are kept at most until it is judged. Once more have come its blocks are judged as they
 /// come, and let go. It changes how much memory a run takes, who judges a source, and when, and not what is found.
@@ -30,17 +29,12 @@ impl Keeping {
 }
 
 /// How many workers are to be started, 1 to 16, how many bytes one read asks for at most, 1 to
-/// 1,048,576, the limits of each source, the labels of the blocks that are no transactions, whether
-/// the serial order of a serializable trace is asked for, whether the events of a telling cycle are asked for that
-/// shows a violation, how much is kept of a source where they aren't, and the form of the report.
+/// 1,048,576, on what terms each source is judged, how much is kept of a source, and the form of the report.
 #[derive(Drop)]
 pub struct Plan {
     pub workers: u32,
     pub piece: u32,
-    pub limits: Limits,
-    pub except: SharedExcept,
-    pub order: bool,
-    pub explain: bool,
+    pub terms: Terms,
     pub keeping: Keeping,
     pub form: Form,
     ghost some_workers: { 0 < workers },
@@ -59,7 +53,7 @@ const KEEPING: Keeping = Keeping {
 };
 
 impl Plan {
-    ghost use Rattle.std.specs.Prelude.{◌≡◌, ◌<◌, ◌≤◌, ◌^◌, ◌↔◌, IsSome, IfSome, IfOk, map, true, false};
+    ghost use Rattle.std.specs.Prelude.{◌≡◌, ◌<◌, ◌≤◌, ◌^◌, ◌↔◌, IsSome, IfSome, map, true, false};
     ghost use Rattle.aero_intake.specs.Plans.{IsPlan};
     ghost use Rattle.aero_intake.specs.PlanTerms.{options_in, options_with, terms_of};
     ghost use Rattle.aero_report.specs.Asked.{note_of, options_of};
@@ -67,8 +61,8 @@ impl Plan {
     ghost use Rattle.aero_verdict.specs.Finding.{asking};
 
     /// This plan, or `None` where a number is 0, there are more than 16 workers, or a piece is of
-    /// more than 1,048,576 bytes. Of a source 1,048,576 events are kept at most, and 65,536 of the last one. No
-    /// violation is to be explained, and the report is for people.
+    /// more than 1,048,576 bytes. Of a source 1,048,576 events are kept at most, and 65,536 of the last one. Nothing
+    /// that is found is to be explained, and the report is for people.
     pub fn new(
         workers: u32,
         piece: u32,
@@ -79,10 +73,7 @@ impl Plan {
         ensures within { IsSome result ↔ IsPlan workers piece }
         ensures workers { IfSome result (λ plan. plan.workers ≡ workers) }
         ensures piece { IfSome result (λ plan. plan.piece ≡ piece) }
-        ensures limits { IfSome result (λ plan. plan.limits ≡ limits) }
-        ensures except { IfSome result (λ plan. plan.except ≡ except) }
-        ensures order { IfSome result (λ plan. plan.order ≡ order) }
-        ensures explain { IfSome result (λ plan. plan.explain ≡ false) }
+        ensures terms { IfSome result (λ plan. plan.terms ≡ asking limits except order false) }
         ensures events { IfSome result (λ plan. plan.keeping.events ≡ 2 ^ 20) }
         ensures last_events { IfSome result (λ plan. plan.keeping.last_events ≡ 2 ^ 16) }
         ensures form { IfSome result (λ plan. plan.form ≡ Text) }
@@ -96,10 +87,7 @@ impl Plan {
         Some(Plan {
             workers,
             piece,
-            limits,
-            except,
-            order,
-            explain: false,
+            terms: Terms::new(limits, except, order, false),
             keeping: KEEPING,
             form: Form::Text,
         })
@@ -109,10 +97,7 @@ impl Plan {
     pub fn with_keeping(self, keeping: Keeping) -> Plan
         ensures workers { result.workers ≡ self.workers }
         ensures piece { result.piece ≡ self.piece }
-        ensures limits { result.limits ≡ self.limits }
-        ensures except { result.except ≡ self.except }
-        ensures order { result.order ≡ self.order }
-        ensures explain { result.explain ≡ self.explain }
+        ensures terms { result.terms ≡ self.terms }
         ensures keeping { result.keeping ≡ keeping }
         ensures form { result.form ≡ self.form }
     {
@@ -121,19 +106,16 @@ impl Plan {
         plan
     }
 
-    /// The same plan, by which violations are to be explained.
+    /// The same plan, by which what is found is to be explained.
     pub fn explaining(self) -> Plan
         ensures workers { result.workers ≡ self.workers }
         ensures piece { result.piece ≡ self.piece }
-        ensures limits { result.limits ≡ self.limits }
-        ensures except { result.except ≡ self.except }
-        ensures order { result.order ≡ self.order }
-        ensures explain { result.explain ≡ true }
+        ensures terms { result.terms ≡ record self.terms { explain = true } }
         ensures keeping { result.keeping ≡ self.keeping }
         ensures form { result.form ≡ self.form }
     {
         let mut plan = self;
-        plan.explain = true;
+        plan.terms.ask_for_explanation();
         plan
     }
 
@@ -141,10 +123,7 @@ impl Plan {
     pub fn with_form(self, form: Form) -> Plan
         ensures workers { result.workers ≡ self.workers }
         ensures piece { result.piece ≡ self.piece }
-        ensures limits { result.limits ≡ self.limits }
-        ensures except { result.except ≡ self.except }
-        ensures order { result.order ≡ self.order }
-        ensures explain { result.explain ≡ self.explain }
+        ensures terms { result.terms ≡ self.terms }
         ensures keeping { result.keeping ≡ self.keeping }
         ensures form { result.form ≡ form }
     {
@@ -166,19 +145,12 @@ impl Plan {
         ensures { options_of result ≡ options_with (terms_of self.now) (map (λ label. label.now) unused.now) (map note_of notes.now) }
     {
         Options {
-            limits: &self.limits,
-            except: self.except.get(),
-            order: self.order,
-            explain: self.explain,
+            limits: self.terms.limits(),
+            except: self.terms.except(),
+            order: self.terms.order(),
+            explain: self.terms.explain(),
             unused,
             notes,
         }
-    }
-
-    /// On what terms the sources are judged. An `AllocError` says that the labels have too many holders.
-    pub fn terms(&self) -> Result<Terms, AllocError>
-        ensures { IfOk result (λ terms. terms ≡ asking self.now.limits self.now.except self.now.order self.now.explain) }
-    {
-        Ok(Terms::new(self.limits, self.except.share()?, self.order, self.explain))
     }
 }

@@ -5,10 +5,10 @@ ghost use Rattle.aero_intake.specs.Tracks.{with_part, with_finding, with_value, 
 ghost use Rattle.aero_intake.specs.Tracks.{TakesKnown, GivesParts};
 
 use crate::keeping::{Basis, Held, add_to, basis_of, held_count, is_certain, nothing_held};
-use crate::terms::Terms;
 use aero_grammar::Parsed;
 use aero_model::{Ending, Finding};
 use aero_pieces::{Parts, Value};
+use aero_verdict::Terms;
 use std::alloc::{AllocError, Global};
 use std::marker::Model;
 use std::mem;

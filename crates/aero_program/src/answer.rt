@@ -110,14 +110,14 @@ where
         Err(why) => return tell_unlisted(alloc, asked.list_path(), why, on_terminal, errors),
     };
     let host = Host { rt, alloc };
-    let Ok(sources) = watched(alloc, sources, &plan.except) else {
+    let Ok(sources) = watched(alloc, sources, plan.terms.shared_except()) else {
         return fail(Failure::Memory, errors);
     };
     tell_work(files, &asked, &sources);
     let in_lanes = are_worth_threads(files, &sources);
     let (report, sources) = run_all(host, in_lanes, sources, &mut output.writer, &plan);
     let labels = told_of(
-        plan.except.get().labels(),
+        plan.terms.except().labels(),
         all_read(report.cause, &report.endings),
     );
     let (unused, sources) = unused_labels(alloc, sources, labels);

@@ -147,10 +147,10 @@ impl Config {
     pub fn into_plan(self, alloc: Global) -> Result<(Plan, Sources), AllocError>
         ensures workers { IfOk result (λ made. made.0.workers ≡ self.workers) }
         ensures piece { IfOk result (λ made. made.0.piece ≡ self.piece) }
-        ensures limits { IfOk result (λ made. AreLimitsFor self.long made.0.limits) }
-        ensures except { IfOk result (λ made. made.0.except ≡ listed_by self.except.items self.only.items) }
-        ensures order { IfOk result (λ made. made.0.order ≡ self.order) }
-        ensures explain { IfOk result (λ made. made.0.explain ≡ self.explain) }
+        ensures limits { IfOk result (λ made. AreLimitsFor self.long made.0.terms.rules.limits) }
+        ensures except { IfOk result (λ made. made.0.terms.rules.labels ≡ listed_by self.except.items self.only.items) }
+        ensures order { IfOk result (λ made. made.0.terms.order ≡ self.order) }
+        ensures explain { IfOk result (λ made. made.0.terms.explain ≡ self.explain) }
         ensures form { IfOk result (λ made. made.0.form ≡ form_on self.terminals self.form) }
         ensures files { IfOk result (λ made. made.1 ≡ self.files) }
     {

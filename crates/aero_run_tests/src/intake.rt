@@ -354,10 +354,10 @@ fn a_plan_says_how_much_is_kept(rt: HostRuntime) -> Result<(), Fail> {
 fn a_plan_may_explain_violations(rt: HostRuntime) -> Result<(), Fail> {
     let labels = listed(rt.alloc(), "a").ok_or("labels")?;
     let plan = Plan::new(2, 3, Limits::greatest(), labels, true).ok_or("no plan")?;
-    assert!(rt; !plan.explain && !plan.terms()?.explain());
+    assert!(rt; !plan.terms.explain());
     let plan = plan.explaining();
-    let terms = plan.terms()?;
-    assert!(rt; plan.explain && terms.explain() && terms.order());
+    let terms = plan.terms.share()?;
+    assert!(rt; terms.explain() && terms.order());
     assert_eq!(rt;
         (plan.workers, plan.piece, plan.keeping.most(true)),
         (2, 3, 65_536)

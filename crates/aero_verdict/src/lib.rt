@@ -81,6 +81,7 @@ mod serial;
 mod shown;
 mod spans;
 mod sweep;
+mod terms;
 
 pub use actor::actor_at;
 pub use aero_engine::engine;
@@ -92,3 +93,4 @@ pub use monitor::{Monitor, feed_all};
 pub use opened::explain_trace;
 pub use recorder::Recorder;
 pub use serial::{check_trace_in_order, serial_order};
+pub use terms::Terms;

@@ -53,7 +53,7 @@ returns g c =
     let noted_endings : List (ℕ × Ending) = if config.long then [] else report.endings.items in
     let noted = noted_of_all words left noted_endings report.faults.items in
     let labels : List (List ℕ) = (listed_by config.except.items config.only.items).labels in
-    let labels_are : c.labels.result.now ≡ labels = c.labels.ensures ∙ ap (λ (l : Listed). l.labels) (c.get.ensures ∙ c.in-Ok.ensures.except) in
+    let labels_are : c.labels.result.now ≡ labels = c.labels.ensures ∙ ap (λ (l : Listed). l.labels) (c.except.ensures ∙ c.in-Ok.ensures.except) in
     let listed_are : c.told_of-labels.result.now ≡ (if all_read report.cause report.endings.items then labels else []) =
     c.told_of-labels.ensures ∙ ap (λ b. if b then c.labels.result.now else []) (c.all_read.ensures ∙ ap (all_read report.cause) c.deref-3.ensures.value)
     ∙ ap (λ ls. if all_read report.cause report.endings.items then ls else []) labels_are in
@@ -73,12 +73,12 @@ returns g c =
     let lines = lines_told c.all_lines-lines.result (λ text. text.items) c.all_notes-notes.result (λ ns. map note_of ns.items) lines_of notes
     c.all_lines-lines.ensures.known c.all_lines-lines.ensures.lines told.told in
     inl (judged g.F.Opener.holds (λ input. bytes_left (standing_of g.S.Read.remaining input)) config given
-    c.in-Ok.plan.limits names c.in-Ok-watched.sources.items c.in-Ok-watched.sources.items left
+    c.in-Ok.plan.terms.rules.limits names c.in-Ok-watched.sources.items c.in-Ok-watched.sources.items left
     before
     (record { writer = after; unflushed = c.args.output.now.unflushed.number })
     (shown_by g.O.Write.contents c.flush-flushed.new.self)
     report.endings.items report.faults.items report.counts cause (fault_of error_kind c.flush-flushed.result) c.end_after-end.result _ _ c.finish.result terms form
-    (λ i. asking c.in-Ok.plan.limits (c.in-Ok.ensures.except i) (c.in-Ok.ensures.order i) (c.in-Ok.ensures.explain i)) c.in-Ok.ensures.form c.in-Ok.ensures.limits
+    (λ i. asking c.in-Ok.plan.terms.rules.limits (c.in-Ok.ensures.except i) (c.in-Ok.ensures.order i) (c.in-Ok.ensures.explain i)) c.in-Ok.ensures.form c.in-Ok.ensures.limits
     named seen
     refl
     told.remarks told.are told.shown
