@@ -1,4 +1,4 @@
--- What is known of a block's names: the numbers of the first of them in the trace.
+-- What is known of a chunk's names: the numbers of the first of them in the trace.
 use Rattle.std.specs.Prelude.{◌≡◌, ◌<◌, ℕ, Bool, true, false, List, length, map, bytes_eq, slice_get, slice_index_or, Some, None}
 use Rattle.std.specs.List.{list_any}
 use Rattle.aero_model.specs.declared.numbered.What.{What}
@@ -11,18 +11,18 @@ use Rattle.aero_verdict.specs.declared.known.BlockNames.{BlockNames}
 use Rattle.aero_verdict.specs.declared.known.Exemptions.{Exemptions}
 use Rattle.aero_verdict.specs.declared.known.Known.{Known}
 
--- the block's tables
+-- the chunk's tables
 abbrev pub tables_in : BlockNames → Tables
 tables_in b = record { threads = b.threads.now; variables = b.variables.now; locks = b.locks.now }
 
--- the name at place n of the block's table is among the trace's, and this is its number there
-pub record IsKnown (trace block : List (List ℕ)) (n number : ℕ) : Type 0 where
-  pub listed : list_any (bytes_eq (name_at block n)) trace ≡ true
-  pub number_is : number ≡ number_of trace (name_at block n)
+-- the name at place n of the chunk's table is among the trace's, and this is its number there
+pub record IsKnown (trace chunk : List (List ℕ)) (n number : ℕ) : Type 0 where
+  pub listed : list_any (bytes_eq (name_at chunk n)) trace ≡ true
+  pub number_is : number ≡ number_of trace (name_at chunk n)
 
--- these are the numbers of the block's first names
+-- these are the numbers of the chunk's first names
 abbrev pub AreKnown : List (List ℕ) → List (List ℕ) → List ℕ → Type 0
-AreKnown trace block known = (n number : ℕ) → slice_get known n ≡ Some number → IsKnown trace block n number
+AreKnown trace chunk known = (n number : ℕ) → slice_get known n ≡ Some number → IsKnown trace chunk n number
 
 -- so it is in each name space
 pub record Knows (numbering : Numbering) (tables : Tables) (known : Known) : Type 0 where
@@ -30,9 +30,9 @@ pub record Knows (numbering : Numbering) (tables : Tables) (known : Known) : Typ
   pub variables : AreKnown numbering.variables.names tables.variables known.variables.items
   pub locks : AreKnown numbering.locks.names tables.locks known.locks.items
 
--- of each label of a block, and of none, it is told whether a block that begins so is no transaction
+-- of each label of a chunk, and of none, it is told whether a block that begins so is no transaction
 abbrev pub AreMarked : Listed → List (List ℕ) → Exemptions → Type 0
-AreMarked listed block exempt = (exempt.labels.items ≡ map (λ label. leaves_out listed (Some label)) block) × (exempt.unlabelled ≡ leaves_out listed None)
+AreMarked listed chunk exempt = (exempt.labels.items ≡ map (λ label. leaves_out listed (Some label)) chunk) × (exempt.unlabelled ≡ leaves_out listed None)
 
 -- whether it is told that the begin is exempt
 abbrev pub is_told_exempt : Exemptions → What → Bool
@@ -40,7 +40,7 @@ is_told_exempt exempt (Begin (Some label)) = slice_index_or exempt.labels.items 
 is_told_exempt exempt (Begin None) = exempt.unlabelled
 is_told_exempt exempt _ = false
 
--- the label of the begin, if it has one, is in the block's table
+-- the label of the begin, if it has one, is in the chunk's table
 abbrev pub HasLabel : List (List ℕ) → What → Type 0
 HasLabel labels (Begin (Some label)) = label < length labels
 HasLabel labels _ = Unit {0}

@@ -9,7 +9,7 @@ ghost use Rattle.aero_verdict.specs.Ordered.{is_faultless};
 ghost use Rattle.aero_verdict.specs.Parts.{IsPartExpected, ComesNext, TellsPart};
 
 use crate::checker::{Checker, Stop};
-use crate::known::{BlockNames, told_exemptions};
+use crate::known::{ChunkNames, told_exemptions};
 use crate::monitor::{Monitor, feed_all};
 use aero_engine::Engine;
 use aero_grammar::Parsed;
@@ -28,7 +28,7 @@ use std::alloc::{AllocError, Global};
 /// - `IllFormed`: the first event that is ill-formed, with the number of its line and the first
 ///   cause, in the order of the variants of `ShapeFault`. The limits on threads and names are
 ///   looked at first, and the actor before the target.
-/// - `Violation`: the event with which a cycle closes that begins in an open block, by its line,
+/// - `Violation`: the event with which a cycle closes that begins in an open chunk, by its line,
 ///   with the name of the block's thread and the line on which the block began. Where there are
 ///   several such blocks, the thread is the one that the trace names first.
 /// - `Malformed`: the faulty line, where nothing is wrong with the events, which all stand before
@@ -85,14 +85,14 @@ pub(crate) fn check_part<E: Engine>(
 {
     let most = limits.lines.saturating_sub(lines);
     let exempt = told_exemptions(alloc, &part.labels, except)?;
-    let block = BlockNames {
+    let chunk = ChunkNames {
         threads: &part.threads,
         variables: &part.variables,
         locks: &part.locks,
         labels: &part.labels,
         exempt: &exempt,
     };
-    if let Err((line, stop)) = checker.admit_all(alloc, block, &part.events, lines, most) {
+    if let Err((line, stop)) = checker.admit_all(alloc, chunk, &part.events, lines, most) {
         let verdict = stopped_at(alloc, checker, line, stop)?;
         return Ok(Some(verdict));
     }

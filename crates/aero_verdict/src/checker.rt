@@ -7,7 +7,7 @@ ghost use Rattle.aero_verdict.specs.declared.checker.Stop.{Stop};
 ghost use Rattle.aero_verdict.specs.Known.{tables_in, HasLabel};
 
 use crate::blocks::Blocks;
-use crate::known::{BlockNames, Known};
+use crate::known::{ChunkNames, Known};
 use crate::numbering::Numbering;
 use aero_engine::Engine;
 use aero_grammar::LineEvent;
@@ -36,12 +36,12 @@ pub(crate) struct Checker<E: Engine> {
 
 // The label of the event, if it is a begin with one and the engine asks for labels.
 #[inline(always)]
-fn label_given<E: Engine>(block: BlockNames<'_>, what: What) -> Option<&[u8]>
-    requires { HasLabel block.labels.now what }
-    ensures { IsLabelGiven E.ASKS_LABELS (option_copied result) (label_of (op_of what) (target_in (tables_in block.entry) block.entry.labels.now what)) }
+fn label_given<E: Engine>(chunk: ChunkNames<'_>, what: What) -> Option<&[u8]>
+    requires { HasLabel chunk.labels.now what }
+    ensures { IsLabelGiven E.ASKS_LABELS (option_copied result) (label_of (op_of what) (target_in (tables_in chunk.entry) chunk.entry.labels.now what)) }
 {
     if E::ASKS_LABELS {
-        return block.label(what);
+        return chunk.label(what);
     }
     None
 }
@@ -139,36 +139,36 @@ impl<E: Engine> Checker<E> {
         self.blocks.begin_line(t)
     }
 
-    // Admits the next event, which stands on this line and has these numbers in its block: the
+    // Admits the next event, which stands on this line and has these numbers in its chunk: the
     // thread in whose open block a cycle begins that closes with it, if there is one. Or says why the
     // event is ill-formed, or that memory was refused. No event is admitted after an error or a thread.
     #[inline(always)]
     fn admit(
         &mut self,
         known: &mut Known,
-        block: BlockNames<'_>,
+        chunk: ChunkNames<'_>,
         line: u32,
         event: Numbered,
     ) -> Result<Option<u32>, ShapeFault>
-        requires next { IsExpected (words_of E.stands_for E.keeps) self.old (line, named_in (tables_in block) block.labels.now event) (is_told_exempt block.exempt.now event.what) }
-        requires known { Knows self.old.numbering (tables_in block) known.old }
-        requires labelled { HasLabel block.labels.now event.what }
-        requires named { IsEvent (named_in (tables_in block) block.labels.now event) }
+        requires next { IsExpected (words_of E.stands_for E.keeps) self.old (line, named_in (tables_in chunk) chunk.labels.now event) (is_told_exempt chunk.exempt.now event.what) }
+        requires known { Knows self.old.numbering (tables_in chunk) known.old }
+        requires labelled { HasLabel chunk.labels.now event.what }
+        requires named { IsEvent (named_in (tables_in chunk) chunk.labels.now event) }
         ensures counted { OnOk result (self.new.shape.admitted ≡ self.old.shape.admitted + 1) }
         ensures judged { IfOk result (λ told. (rules : Rules) (events : List (ℕ × Named)) →
-            IsNext (words_of E.stands_for E.keeps) rules self.old events (line, named_in (tables_in block.entry) block.entry.labels.now event) (is_told_exempt block.entry.exempt.now event.what) →
+            IsNext (words_of E.stands_for E.keeps) rules self.old events (line, named_in (tables_in chunk.entry) chunk.entry.labels.now event) (is_told_exempt chunk.entry.exempt.now event.what) →
             Judged (words_of E.stands_for E.keeps) rules self.new events self.old.shape.admitted told) }
         ensures refused { IfErr result (λ fault. (rules : Rules) (events : List (ℕ × Named)) →
-            IsNext (words_of E.stands_for E.keeps) rules self.old events (line, named_in (tables_in block.entry) block.entry.labels.now event) (is_told_exempt block.entry.exempt.now event.what) →
+            IsNext (words_of E.stands_for E.keeps) rules self.old events (line, named_in (tables_in chunk.entry) chunk.entry.labels.now event) (is_told_exempt chunk.entry.exempt.now event.what) →
             Refuses rules self.old events fault) }
-        ensures known { OnOk result (Knows self.new.numbering (tables_in block.entry) known.new) }
+        ensures known { OnOk result (Knows self.new.numbering (tables_in chunk.entry) known.new) }
     {
-        let numbered = self.numbering.number(known, block, event)?;
-        let admitted = self.shape.admit(&numbered, block.is_exempt(event.what))?;
+        let numbered = self.numbering.number(known, chunk, event)?;
+        let admitted = self.shape.admit(&numbered, chunk.is_exempt(event.what))?;
         if self.blocks.count(admitted, numbered.thread, line).is_err() {
             return Err(ShapeFault::Memory);
         }
-        let label = label_given::<E>(block, event.what);
+        let label = label_given::<E>(chunk, event.what);
         match self.engine.judge(line, &numbered, admitted, label) {
             Ok(told) => Ok(told),
             Err(_) => Err(ShapeFault::Memory),
@@ -181,21 +181,21 @@ impl<E: Engine> Checker<E> {
     pub(crate) fn admit_all(
         &mut self,
         alloc: Global,
-        block: BlockNames<'_>,
+        chunk: ChunkNames<'_>,
         events: &[LineEvent],
         before: u32,
         most: u32,
     ) -> Result<(), (u32, Stop)>
-        requires next { AreExpected (words_of E.stands_for E.keeps) self.old block.labels.now block.exempt.now before (up_to most (lines_in (tables_in block) block.labels.now events.now)) }
-        requires labelled { All (λ e. HasLabel block.labels.now e.1.what) events.now }
-        requires named { All (λ e. IsEvent (named_in (tables_in block) block.labels.now e.1)) events.now }
+        requires next { AreExpected (words_of E.stands_for E.keeps) self.old chunk.labels.now chunk.exempt.now before (up_to most (lines_in (tables_in chunk) chunk.labels.now events.now)) }
+        requires labelled { All (λ e. HasLabel chunk.labels.now e.1.what) events.now }
+        requires named { All (λ e. IsEvent (named_in (tables_in chunk) chunk.labels.now e.1)) events.now }
         requires lines { before + most < 2 ^ 32 }
-        ensures counted { OnOk result (self.new.shape.admitted ≡ self.old.shape.admitted + length (up_to most (lines_in (tables_in block.entry) block.entry.labels.now events.now))) }
+        ensures counted { OnOk result (self.new.shape.admitted ≡ self.old.shape.admitted + length (up_to most (lines_in (tables_in chunk.entry) chunk.entry.labels.now events.now))) }
         ensures kept { OnOk result ((rules : Rules) (all : List (ℕ × Named)) →
-            AreNext (words_of E.stands_for E.keeps) rules self.old all block.entry.labels.now block.entry.exempt.now before (up_to most (lines_in (tables_in block.entry) block.entry.labels.now events.now)) → StandsFor (words_of E.stands_for E.keeps) rules self.new all) }
+            AreNext (words_of E.stands_for E.keeps) rules self.old all chunk.entry.labels.now chunk.entry.exempt.now before (up_to most (lines_in (tables_in chunk.entry) chunk.entry.labels.now events.now)) → StandsFor (words_of E.stands_for E.keeps) rules self.new all) }
         ensures stopped { IfErr result (λ stopped. (rules : Rules) (all : List (ℕ × Named)) →
-            AreNext (words_of E.stands_for E.keeps) rules self.old all block.entry.labels.now block.entry.exempt.now before (up_to most (lines_in (tables_in block.entry) block.entry.labels.now events.now)) →
-            StopsIn (words_of E.stands_for E.keeps) rules self.new all self.old.shape.admitted before (up_to most (lines_in (tables_in block.entry) block.entry.labels.now events.now)) stopped.0 stopped.1) }
+            AreNext (words_of E.stands_for E.keeps) rules self.old all chunk.entry.labels.now chunk.entry.exempt.now before (up_to most (lines_in (tables_in chunk.entry) chunk.entry.labels.now events.now)) →
+            StopsIn (words_of E.stands_for E.keeps) rules self.new all self.old.shape.admitted before (up_to most (lines_in (tables_in chunk.entry) chunk.entry.labels.now events.now)) stopped.0 stopped.1) }
     {
         let mut known = Known::new(alloc);
         for event in events {
@@ -204,7 +204,7 @@ impl<E: Engine> Checker<E> {
                 continue;
             }
             let line = before + line;
-            match self.admit(&mut known, block, line, event) {
+            match self.admit(&mut known, chunk, line, event) {
                 Ok(None) => {}
                 Ok(Some(t)) => return Err((line, Stop::Closed(t))),
                 Err(fault) => return Err((line, Stop::Refused(fault))),

@@ -1,4 +1,4 @@
-//! The numbers of a block's names in the trace, each looked up at the event that first has it.
+//! The numbers of a chunk's names in the trace, each looked up at the event that first has it.
 ghost use Rattle.std.specs.Prelude.{◌≡◌, ◌<◌, ◌==◌, ◌++◌, ◌∷◌, [], length, map, Some, if◌then◌else◌, IfOk, IfErr, OnOk};
 ghost use Rattle.aero_model.specs.Exempt.{leaves_out};
 ghost use Rattle.aero_grammar.specs.Tabled.{name_at};
@@ -9,7 +9,7 @@ use aero_model::{Except, ShapeFault, What};
 use aero_names::{NameList, Names, NamesFault};
 use std::alloc::{AllocError, Global};
 
-// Whether a block is no transaction: of each label of a block of lines, where it begins with that, and
+// Whether a block is no transaction: of each label of a chunk of lines, where it begins with that, and
 // where it begins without one.
 #[derive(Drop)]
 pub(crate) struct Exemptions {
@@ -17,9 +17,9 @@ pub(crate) struct Exemptions {
     pub unlabelled: bool,
 }
 
-// The tables of a block of lines, and what its begins say by their labels.
+// The tables of a chunk of lines, and what its begins say by their labels.
 #[derive(Clone, Copy)]
-pub(crate) struct BlockNames<'a> {
+pub(crate) struct ChunkNames<'a> {
     pub threads: &'a NameList,
     pub variables: &'a NameList,
     pub locks: &'a NameList,
@@ -27,7 +27,7 @@ pub(crate) struct BlockNames<'a> {
     pub exempt: &'a Exemptions,
 }
 
-impl<'a> BlockNames<'a> {
+impl<'a> ChunkNames<'a> {
     ghost use Rattle.std.specs.Prelude.{◌≡◌, option_copied};
     ghost use Rattle.aero_model.specs.Exempt.{label_of};
     ghost use Rattle.aero_grammar.specs.Tabled.{op_of, target_in};
@@ -58,7 +58,7 @@ impl<'a> BlockNames<'a> {
     }
 }
 
-// What the labels of a block of lines say. An `AllocError` says that memory was refused, which is asked
+// What the labels of a chunk of lines say. An `AllocError` says that memory was refused, which is asked
 // for where there is a label.
 pub(crate) fn told_exemptions(
     alloc: Global,
@@ -95,7 +95,7 @@ fn is_left_out(labels: &NameList, n: u32, except: &Except) -> bool
     }
 }
 
-// The numbers in the trace of the first names of each of the block's tables.
+// The numbers in the trace of the first names of each of the chunk's tables.
 #[derive(Drop)]
 pub(crate) struct Known {
     pub threads: Vec<u32>,
@@ -120,24 +120,24 @@ impl Known {
     }
 }
 
-// The number in the trace of the name at place `n` of the block's table, or the fault `full` where
+// The number in the trace of the name at place `n` of the chunk's table, or the fault `full` where
 // it is one too many.
 #[inline(always)]
 pub(crate) fn number_known(
     names: &mut Names,
     known: &mut Vec<u32>,
-    block: &NameList,
+    chunk: &NameList,
     n: u32,
     full: ShapeFault,
 ) -> Result<u32, ShapeFault>
-    requires { AreKnown names.old.names block.now known.old.items }
-    ensures ok { IfOk result (λ number. NumbersName names.old names.new (name_at block.now n) number) }
-    ensures err { IfErr result (λ fault. RefusesName names.old (name_at block.now n) full fault) }
-    ensures known { OnOk result (AreKnown names.new.names block.now known.new.items) }
+    requires { AreKnown names.old.names chunk.now known.old.items }
+    ensures ok { IfOk result (λ number. NumbersName names.old names.new (name_at chunk.now n) number) }
+    ensures err { IfErr result (λ fault. RefusesName names.old (name_at chunk.now n) full fault) }
+    ensures known { OnOk result (AreKnown names.new.names chunk.now known.new.items) }
 {
     match known.get(n as usize) {
         Some(number) => Ok(*number),
-        None => number_first(names, known, block, n, full),
+        None => number_first(names, known, chunk, n, full),
     }
 }
 
@@ -145,16 +145,16 @@ pub(crate) fn number_known(
 fn number_first(
     names: &mut Names,
     known: &mut Vec<u32>,
-    block: &NameList,
+    chunk: &NameList,
     n: u32,
     full: ShapeFault,
 ) -> Result<u32, ShapeFault>
-    requires { AreKnown names.old.names block.now known.old.items }
-    ensures ok { IfOk result (λ number. NumbersName names.old names.new (name_at block.now n) number) }
-    ensures err { IfErr result (λ fault. RefusesName names.old (name_at block.now n) full fault) }
-    ensures known { OnOk result (AreKnown names.new.names block.now known.new.items) }
+    requires { AreKnown names.old.names chunk.now known.old.items }
+    ensures ok { IfOk result (λ number. NumbersName names.old names.new (name_at chunk.now n) number) }
+    ensures err { IfErr result (λ fault. RefusesName names.old (name_at chunk.now n) full fault) }
+    ensures known { OnOk result (AreKnown names.new.names chunk.now known.new.items) }
 {
-    let Some(name) = block.name(n) else {
+    let Some(name) = chunk.name(n) else {
         // Never reached: `Parsed` keeps that the names of its events stand in its tables.
         return Err(ShapeFault::Memory);
     };

@@ -1,6 +1,6 @@
 //! The numbers of names: threads, variables and locks each for themselves, in order of first
 //! appearance, and no more of each than the limits allow.
-use crate::known::{BlockNames, Known, number_known};
+use crate::known::{ChunkNames, Known, number_known};
 use crate::named::named;
 use aero_model::{Limits, Name, Numbered, ShapeFault, What};
 use aero_names::Names;
@@ -49,31 +49,31 @@ impl Numbering {
     }
 
     // The event by its numbers in the trace, without a label, of which new names get the next. It comes by its numbers
-    // in its block, whose names these are. The actor comes before the target.
+    // in its chunk, whose names these are. The actor comes before the target.
     //
     // An error is `TooManyThreads` or `TooManyNames` where a name is one too many, or `Memory`.
     #[inline(always)]
     pub(crate) fn number(
         &mut self,
         known: &mut Known,
-        block: BlockNames<'_>,
+        chunk: ChunkNames<'_>,
         event: Numbered,
     ) -> Result<Numbered, ShapeFault>
-        requires { Knows self.old (tables_in block) known.old }
-        ensures ok { IfOk result (λ numbered. NumbersEvent self.old self.new (named_in (tables_in block.entry) block.entry.labels.now event) numbered) }
-        ensures err { IfErr result (λ fault. RefusesEvent self.old (named_in (tables_in block.entry) block.entry.labels.now event) fault) }
-        ensures known { OnOk result (Knows self.new (tables_in block.entry) known.new) }
+        requires { Knows self.old (tables_in chunk) known.old }
+        ensures ok { IfOk result (λ numbered. NumbersEvent self.old self.new (named_in (tables_in chunk.entry) chunk.entry.labels.now event) numbered) }
+        ensures err { IfErr result (λ fault. RefusesEvent self.old (named_in (tables_in chunk.entry) chunk.entry.labels.now event) fault) }
+        ensures known { OnOk result (Knows self.new (tables_in chunk.entry) known.new) }
     {
         let full = ShapeFault::TooManyThreads;
         let threads = &mut self.threads;
         let thread = number_known(
             threads,
             &mut known.threads,
-            block.threads,
+            chunk.threads,
             event.thread,
             full,
         )?;
-        let what = self.number_target(known, block, event.what)?;
+        let what = self.number_target(known, chunk, event.what)?;
         Ok(Numbered { thread, what })
     }
 
@@ -82,13 +82,13 @@ impl Numbering {
     fn number_target(
         &mut self,
         known: &mut Known,
-        block: BlockNames<'_>,
+        chunk: ChunkNames<'_>,
         what: What,
     ) -> Result<What, ShapeFault>
-        requires { Knows self.old (tables_in block) known.old }
-        ensures ok { IfOk result (λ numbered. NumbersTarget self.old self.new (op_of what) (target_in (tables_in block.entry) block.entry.labels.now what) numbered) }
-        ensures err { IfErr result (λ fault. RefusesTarget self.old (op_of what) (target_in (tables_in block.entry) block.entry.labels.now what) fault) }
-        ensures known { OnOk result (Knows self.new (tables_in block.entry) known.new) }
+        requires { Knows self.old (tables_in chunk) known.old }
+        ensures ok { IfOk result (λ numbered. NumbersTarget self.old self.new (op_of what) (target_in (tables_in chunk.entry) chunk.entry.labels.now what) numbered) }
+        ensures err { IfErr result (λ fault. RefusesTarget self.old (op_of what) (target_in (tables_in chunk.entry) chunk.entry.labels.now what) fault) }
+        ensures known { OnOk result (Knows self.new (tables_in chunk.entry) known.new) }
     {
         let many_threads = ShapeFault::TooManyThreads;
         let many_names = ShapeFault::TooManyNames;
@@ -98,7 +98,7 @@ impl Numbering {
                 let number = number_known(
                     names,
                     &mut known.variables,
-                    block.variables,
+                    chunk.variables,
                     x,
                     many_names,
                 )?;
@@ -109,7 +109,7 @@ impl Numbering {
                 let number = number_known(
                     names,
                     &mut known.variables,
-                    block.variables,
+                    chunk.variables,
                     x,
                     many_names,
                 )?;
@@ -117,12 +117,12 @@ impl Numbering {
             }
             What::Acquire(l) => {
                 let names = &mut self.locks;
-                let number = number_known(names, &mut known.locks, block.locks, l, many_names)?;
+                let number = number_known(names, &mut known.locks, chunk.locks, l, many_names)?;
                 Ok(What::Acquire(number))
             }
             What::Release(l) => {
                 let names = &mut self.locks;
-                let number = number_known(names, &mut known.locks, block.locks, l, many_names)?;
+                let number = number_known(names, &mut known.locks, chunk.locks, l, many_names)?;
                 Ok(What::Release(number))
             }
             What::Fork(u) => {
@@ -130,7 +130,7 @@ impl Numbering {
                 let number = number_known(
                     names,
                     &mut known.threads,
-                    block.threads,
+                    chunk.threads,
                     u,
                     many_threads,
                 )?;
@@ -141,7 +141,7 @@ impl Numbering {
                 let number = number_known(
                     names,
                     &mut known.threads,
-                    block.threads,
+                    chunk.threads,
                     u,
                     many_threads,
                 )?;

@@ -12,4 +12,4 @@ returns-in-Some-clause-ok c =
     let at : slice_get numbers c.args.n ≡ Some c.in-Some.number.now =
     slice_get_read numbers (length numbers) c.args.n c.in-Some.number.now refl (ltb-true c.args.n (length numbers) (sym here.0)) here.1 in
     let same = ap (λ ns. slice_get ns c.args.n) c.deref.ensures.value in
-    known_number c.args.names.now c.args.block.now c.args.known.now.items c.args.n c.in-Some.number.now c.requires (sym same ∙ at)
+    known_number c.args.names.now c.args.chunk.now c.args.known.now.items c.args.n c.in-Some.number.now c.requires (sym same ∙ at)
