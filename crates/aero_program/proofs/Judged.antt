@@ -17,7 +17,7 @@ use Rattle.aero_program.specs.declared.command.Config.{Config}
 use Rattle.aero_program.specs.declared.failure.Failure.{Failure}
 use Rattle.aero_program.specs.declared.input.Input.{Input}
 use Rattle.aero_program.specs.declared.stamp.Stamp.{Stamp}
-use Rattle.aero_program.specs.Answers.{Ends, WasJudged, unused_of}
+use Rattle.aero_program.specs.Executed.{Ends, WasJudged, unused_of}
 use Rattle.aero_program.specs.Command.{AreLimitsFor, are_words, form_on, listed_by}
 use Rattle.aero_program.specs.Notes.{AreShown, Remark, label_lines, note_texts, noted_of_all, notes_on}
 use Rattle.aero_program.proofs.Noting.{are_faulty, are_noted}

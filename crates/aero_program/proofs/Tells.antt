@@ -8,7 +8,7 @@ use Rattle.aero_model.specs.CallCounts.{Seen}
 use Rattle.aero_batch.specs.Founds.{Took}
 use Rattle.aero_program.specs.declared.failure.Failure.{Failure}
 use Rattle.aero_program.specs.declared.failure.Failure.TheVariants as failure
-use Rattle.aero_program.specs.Answers.{Ends, Fails}
+use Rattle.aero_program.specs.Executed.{Ends, Fails}
 use Rattle.aero_program.specs.Failure.{failure_status, line_of}
 use Rattle.aero_program.specs.Streams.{IsTold, WasCut}
 

@@ -1,7 +1,7 @@
--- To be believed: Answers (what goes out, and the exit status), with Failure, Status, Streams, Faults, Notes and Looks. Also
+-- To be believed: Executed (what goes out, and the exit status), with Failure, Status, Streams, Faults, Notes and Looks. Also
 -- Command (the limits and the line on progress), Crews (how many workers there are), Inputs (files and standard input), Labels (what an input notes of labels), Sightings and Listing (the names of
 -- the sources), Arguments (the words), Retries and Calls (calls that were interrupted), Starts, Reasons and Sizes. Nothing here serves proofs alone.
-pub mod Answers
+pub mod Executed
 pub mod Arguments
 pub mod Calls
 pub mod Command

@@ -1,7 +1,7 @@
 //! What the program does with what its words ask for, apart from its command line: `main` hands over
 //! the words' meaning and the three streams.
 //!
-//! `words_of` gives the words. `answer` does what they ask for and gives the exit status: it runs over
+//! `words_of` gives the words. `execute` does what they ask for and gives the exit status: it runs over
 //! the sources of `sources_of`, of which each is an `Input`, standard input or a file that is opened
 //! at its first read by an `Opener`. What `notes_of` says of them it tells in the summary as JSON, and then on
 //! standard error. The files may be named in a list (`read_list`). A `Failure` has the line and the status where
@@ -10,13 +10,18 @@
 //! ```text
 //! let mut output = Output::new(rt.stdout());
 //! let mut errors = Counting::new(Retrying::new(rt.stderr()));
-//! answer(rt, rt.alloc(), asked, &FilesOf::new(rt), rt.stdin(), &mut output, &mut errors)
+//! let streams = Streams {
+//!     input: rt.stdin(),
+//!     output: &mut output,
+//!     errors: &mut errors,
+//! };
+//! execute(rt, rt.alloc(), asked, &FilesOf::new(rt), streams)
 //! ```
 //!
 //! # What is proved
 //!
 //! - What goes out on standard output and standard error, and the exit status, are as defined, whatever fails:
-//!   `answer`. No contract says that it returns.
+//!   `execute`. No contract says that it returns.
 //! - The status after a run and a flush, or why the program fails: `status`, `status_after`. The line and the status of
 //!   each failure: `Failure::line`, `status`.
 //! - The texts of words, or the first that isn't UTF-8: `texts_of`. That the word of a refusal isn't: `words_of`. Its lines:
@@ -36,8 +41,8 @@
 //! - An input notes its first three bytes and its first failure: `Input::read`, `start`, `reason`. It notes with which labels
 //!   of its watch no line of the bytes that came begins a block: `Input::read`, `watched`, `seen`; `lacks`.
 //! - Behind the notes on sources those labels are told, in order, that each source lacks, where each was read to its end:
-//!   `lines_on`, `all_read`, `answer`. That a source gets a watch for them, `watched` says.
-//! - Where the flush of standard output fails as that of a pipe whose reader has gone, no line says so: `answer`,
+//!   `lines_on`, `all_read`, `execute`. That a source gets a watch for them, `watched` says.
+//! - Where the flush of standard output fails as that of a pipe whose reader has gone, no line says so: `execute`,
 //!   `status_after`, `Failure::of_write`, `of_cut`.
 //! - The whole size of files is the sum of theirs, where each is known: `whole_size`.
 //! - A call through `Retrying` is done exactly where one call of the stream was done, and once. It fails exactly where
@@ -60,10 +65,10 @@
 //! known, and those of `MeteredFiles` have the bytes of the files within.
 #![tactic(auto)]
 
-pub mod answer;
 pub mod arguments;
 pub mod command;
 pub mod crew;
+pub mod execute;
 pub mod failure;
 pub mod files;
 pub mod input;

@@ -11,9 +11,9 @@ ghost use Rattle.aero_program.specs.Command.{count_named};
 
 use crate::program::streams::{EVER, Flushes, Interrupted, Narrow, Shelf, Text, never_flushed};
 use aero_model::Counting;
-use aero_program::answer::answer;
 use aero_program::arguments::Unread;
 use aero_program::command::{Config, Form, Progress, Refused, Sources, Stop, Terminals};
+use aero_program::execute::{Streams, execute};
 use aero_program::files::{FilesOf, Opener};
 use aero_program::input::Input;
 use aero_program::output::Output;
@@ -140,15 +140,12 @@ where
     let stdin = Interrupted::new(stdin, damage.times);
     let mut output = Output::new(output_of(rt.alloc(), damage));
     let mut errors = Counting::new(Retrying::new(errors_of(rt.alloc(), damage)));
-    let status = answer(
-        rt,
-        rt.alloc(),
-        asked,
-        files,
-        stdin,
-        &mut output,
-        &mut errors,
-    );
+    let streams = Streams {
+        input: stdin,
+        output: &mut output,
+        errors: &mut errors,
+    };
+    let status = execute(rt, rt.alloc(), asked, files, streams);
     let out = output.into_inner().inner.taken;
     let err = errors.into_inner().into_inner().inner.taken;
     out.as_slice() == wanted.0 && err.as_slice() == wanted.1 && status == wanted.2
@@ -550,15 +547,12 @@ fn flushes_of<R: AllocGlobal + Threads + Wait + Copy + Drop + Send + Sync + 'sta
     };
     let mut output = Output::new(never_flushed(rt.alloc()));
     let mut errors = Counting::new(Retrying::new(never_flushed(rt.alloc())));
-    answer(
-        rt,
-        rt.alloc(),
-        asked,
-        &files,
-        stdin,
-        &mut output,
-        &mut errors,
-    );
+    let streams = Streams {
+        input: stdin,
+        output: &mut output,
+        errors: &mut errors,
+    };
+    execute(rt, rt.alloc(), asked, &files, streams);
     (output.into_inner(), errors.into_inner().into_inner())
 }
 

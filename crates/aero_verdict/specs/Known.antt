@@ -7,12 +7,12 @@ use Rattle.aero_model.specs.Exempt.{Listed, leaves_out}
 use Rattle.aero_model.specs.Numbering.{number_of, Tables}
 use Rattle.aero_grammar.specs.Tabled.{name_at}
 use Rattle.aero_verdict.specs.declared.numbering.Numbering.{Numbering}
-use Rattle.aero_verdict.specs.declared.known.BlockNames.{BlockNames}
+use Rattle.aero_verdict.specs.declared.known.ChunkNames.{ChunkNames}
 use Rattle.aero_verdict.specs.declared.known.Exemptions.{Exemptions}
 use Rattle.aero_verdict.specs.declared.known.Known.{Known}
 
 -- the chunk's tables
-abbrev pub tables_in : BlockNames → Tables
+abbrev pub tables_in : ChunkNames → Tables
 tables_in b = record { threads = b.threads.now; variables = b.variables.now; locks = b.locks.now }
 
 -- the name at place n of the chunk's table is among the trace's, and this is its number there

@@ -9,7 +9,7 @@
 //! ```
 //!
 //! The sources are the files that the command line names, or else standard input. `aero_words` reads
-//! the command line, and `aero_program::answer` does what it asks for, beside the line on progress of
+//! the command line, and `aero_program::execute` does what it asks for, beside the line on progress of
 //! `aero_progress`. Names are shown without control characters where standard output is a terminal, and
 //! standard error where that is one.
 //!
@@ -21,10 +21,10 @@
 #![tactic(auto)]
 
 use aero_model::Counting;
-use aero_program::answer::answer;
 use aero_program::arguments::words_of;
 use aero_program::command::{Config, Sources, Stop, TICK, Terminals};
 use aero_program::crew::processors;
+use aero_program::execute::{Streams, execute};
 use aero_program::files::{FilesOf, MeteredFiles};
 use aero_program::output::Output;
 use aero_program::retrying::Retrying;
@@ -49,7 +49,7 @@ const ROOM: usize = 1 << 20;
 fn main(rt: HostRuntime) -> ExitCode {
     keep_freed_memory(rt.alloc());
     // Only main can ask for the three streams: what is generic over the runtime is handed them.
-    let streams = Streams {
+    let standard = Standard {
         input: rt.stdin(),
         output: rt.stdout(),
         errors: rt.stderr(),
@@ -66,7 +66,7 @@ fn main(rt: HostRuntime) -> ExitCode {
     };
     let line = ProgressLine::new(rt.stderr(), surface);
     let ticker = ticker_for(rt, rt.alloc(), &asked, line);
-    let status = answer_beside(rt, rt.alloc(), asked, streams, ticker.as_ref());
+    let status = execute_beside(rt, rt.alloc(), asked, standard, ticker.as_ref());
     if let Some(ticker) = ticker {
         ticker.stop(&rt);
     }
@@ -127,7 +127,7 @@ fn work_of<R: Files + Drop>(rt: R, asked: &Sources) -> Option<Work> {
 
 // The three standard streams.
 #[derive(Drop)]
-struct Streams<I, O, E> {
+struct Standard<I, O, E> {
     input: I,
     output: O,
     errors: E,
@@ -135,11 +135,11 @@ struct Streams<I, O, E> {
 
 // Does what is asked for. Where there is a line on progress, it hears what is read and what is out, and makes room
 // for what is written: standard output may lead to its terminal by way of another program.
-fn answer_beside<I, O, E, L, R>(
+fn execute_beside<I, O, E, L, R>(
     rt: R,
     alloc: Global,
     asked: Result<Config, Stop>,
-    streams: Streams<I, O, E>,
+    standard: Standard<I, O, E>,
     ticker: Option<&Ticker<L>>,
 ) -> u8
 where
@@ -153,10 +153,14 @@ where
 {
     let line = ticker.map(|ticker| ticker.line());
     let meter = ticker.map(|ticker| ticker.meter());
-    let told = Metered::new(streams.output, meter);
+    let told = Metered::new(standard.output, meter);
     let mut output = Output::new(Beside::new(rt, told, line));
-    let mut errors = Counting::new(Retrying::new(Beside::new(rt, streams.errors, line)));
+    let mut errors = Counting::new(Retrying::new(Beside::new(rt, standard.errors, line)));
     let files = MeteredFiles::new(FilesOf::new(rt), meter);
-    let input = Metered::new(streams.input, meter);
-    answer(rt, alloc, asked, &files, input, &mut output, &mut errors)
+    let streams = Streams {
+        input: Metered::new(standard.input, meter),
+        output: &mut output,
+        errors: &mut errors,
+    };
+    execute(rt, alloc, asked, &files, streams)
 }

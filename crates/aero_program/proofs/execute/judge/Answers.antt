@@ -12,7 +12,7 @@ use Rattle.aero_report.specs.Forms.{summary_line_in}
 use Rattle.aero_report.specs.Options.{Note}
 use Rattle.aero_program.proofs.Unused.{found_labels, lines_told, summed_beside, told_labels}
 use Rattle.aero_program.specs.declared.command.Sources.{Sources}
-use Rattle.aero_program.specs.Answers.{Ends, TellsUnlisted}
+use Rattle.aero_program.specs.Executed.{Ends, TellsUnlisted}
 use Rattle.aero_program.specs.Command.{are_words, count_named, list_path, listed_by}
 use Rattle.aero_program.specs.Inputs.{bytes_left, standing_of}
 use Rattle.aero_program.specs.Sightings.{AreNames, AreUnlisted, bytes_known, resighted, source_sightings}
@@ -28,7 +28,7 @@ use denote.Param.{param}
 use denote.Param.Send.{arg_send, param_send, sendable}
 use denote.Struct.Field.{shr_ref_field}
 use mir.Syntax.{named}
-use Rattle.aero_program.proofs.answer.judge.Goals as goal
+use Rattle.aero_program.proofs.execute.judge.Goals as goal
 
 pub returns : goal.returns
 returns g c =

@@ -144,6 +144,6 @@ Judges holds config given shown shown_after told told_after status =
     ⊎ ((shown_after ≡ shown) × (WasUnlisted config given told told_after status ⊎ Fails failure.Memory told told_after status))
 
 -- `holds` says which bytes a file may have that was opened at a path and had a stamp, and `given` is what standard input has, where these are known
-abbrev pub AnswersTo : (holds : List ℕ → Stamp → Option (List ℕ) → Type 0) → Result Config Stop → Option (List ℕ) → Shown → Shown → Seen → Seen → ℕ → Type 0
-AnswersTo holds (Ok config) given shown shown_after told told_after status = Judges holds config given shown shown_after told told_after status
-AnswersTo holds (Err why) given shown shown_after told told_after status = Stops why shown shown_after told told_after status
+abbrev pub Executes : (holds : List ℕ → Stamp → Option (List ℕ) → Type 0) → Result Config Stop → Option (List ℕ) → Shown → Shown → Seen → Seen → ℕ → Type 0
+Executes holds (Ok config) given shown shown_after told told_after status = Judges holds config given shown shown_after told told_after status
+Executes holds (Err why) given shown shown_after told told_after status = Stops why shown shown_after told told_after status

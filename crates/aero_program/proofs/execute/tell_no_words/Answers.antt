@@ -1,7 +1,7 @@
 use Rattle.std.proofs.Common.{subst, sym}
 use Rattle.aero_model.specs.CallCounts.{seen_by}
-use Rattle.aero_program.specs.Answers.{TellsNoWords, TellsWord}
-use Rattle.aero_program.proofs.answer.tell_no_words.Goals as goal
+use Rattle.aero_program.specs.Executed.{TellsNoWords, TellsWord}
+use Rattle.aero_program.proofs.execute.tell_no_words.Goals as goal
 
 pub returns-in-NotUtf8 : goal.returns-in-NotUtf8
 returns-in-NotUtf8 g c =

@@ -2,7 +2,7 @@ use Rattle.std.proofs.Common.{Some, refl, subst, sym}
 use Rattle.aero_batch.specs.declared.outcome.Cause.TheVariants.{Memory}
 use Rattle.aero_batch.specs.Telling.{SumsUp}
 use Rattle.aero_program.proofs.Unused.{takes_nothing}
-use Rattle.aero_program.proofs.answer.refused_after.Goals as goal
+use Rattle.aero_program.proofs.execute.refused_after.Goals as goal
 
 pub returns-in-None-clause-summed : goal.returns-in-None-clause-summed
 returns-in-None-clause-summed c = λ text at. subst (λ o. SumsUp text o at at (Some Memory)) (sym c.in-None.is) (takes_nothing at)

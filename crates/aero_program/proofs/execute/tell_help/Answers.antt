@@ -2,14 +2,14 @@ use Rattle.std.proofs.Common.{◌∙◌, ◌+◌, ap, sym, subst, refl, if◌the
 use Rattle.std.specs.IoError.{error_kind}
 use Rattle.aero_model.specs.CallCounts.{seen_by}
 use Rattle.aero_batch.specs.Founds.{Took}
-use Rattle.aero_program.specs.Answers.{EndsAs, Fails}
+use Rattle.aero_program.specs.Executed.{EndsAs, Fails}
 use Rattle.aero_program.specs.Failure.{cut_failure}
 use Rattle.aero_program.specs.Faults.{fault_of}
 use Rattle.aero_program.specs.Status.{end_of_help}
 use Rattle.aero_program.specs.Streams.{Shown, WasCut, shown_by, written_by}
 use Rattle.aero_program.proofs.Faulting.{is_fault}
 use Rattle.aero_program.proofs.Helping.{helped, help_cut, on_err, on_ok}
-use Rattle.aero_program.proofs.answer.tell_help.Goals as goal
+use Rattle.aero_program.proofs.execute.tell_help.Goals as goal
 
 pub returns-then-is_err : goal.returns-then-is_err
 returns-then-is_err g c =

@@ -1,7 +1,7 @@
 use Rattle.std.proofs.Common.{◌≡◌, ◌∙◌, subst}
 use Rattle.std.specs.Prelude.{IfOk}
 use Rattle.aero_program.proofs.Tells.{is_told, ends_well, ends_failing, ends_cut, fails_unnoted}
-use Rattle.aero_program.proofs.answer.finish.Goals as goal
+use Rattle.aero_program.proofs.execute.finish.Goals as goal
 
 pub returns-in-Err : goal.returns-in-Err
 returns-in-Err g c = λ text are.

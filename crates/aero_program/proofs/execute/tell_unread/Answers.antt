@@ -4,7 +4,7 @@ use Rattle.aero_program.specs.Notes.{note_at, note_text}
 use Rattle.aero_program.specs.Reasons.{reason_words}
 use Rattle.aero_program.specs.Streams.{IsTold}
 use Rattle.aero_program.proofs.Tells.{is_told}
-use Rattle.aero_program.proofs.answer.tell_unread.Goals as goal
+use Rattle.aero_program.proofs.execute.tell_unread.Goals as goal
 
 pub returns : goal.returns
 returns g c =

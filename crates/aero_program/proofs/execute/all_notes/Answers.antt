@@ -2,7 +2,7 @@ use Rattle.std.proofs.Common.{◌∙◌, [], if◌then◌else◌, ap, map, subst
 use Rattle.aero_model.specs.declared.verdict.Ending.{Ending}
 use Rattle.aero_report.specs.Asked.{note_of}
 use Rattle.aero_program.specs.Notes.{AreNotes, noted_of_all}
-use Rattle.aero_program.proofs.answer.all_notes.Goals as goal
+use Rattle.aero_program.proofs.execute.all_notes.Goals as goal
 
 pub returns-in-Ok : goal.returns-in-Ok
 returns-in-Ok g c =

@@ -6,7 +6,7 @@ use Rattle.aero_intake.specs.PlanTerms.{options_with, terms_of}
 use Rattle.aero_report.specs.Asked.{note_of}
 use Rattle.aero_report.specs.Forms.{summary_line_in}
 use Rattle.aero_report.specs.Options.{Options}
-use Rattle.aero_program.proofs.answer.sum_up_with.Goals as goal
+use Rattle.aero_program.proofs.execute.sum_up_with.Goals as goal
 
 pub returns-clause-summed : goal.returns-clause-summed
 returns-clause-summed g c = λ text is.

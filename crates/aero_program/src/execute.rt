@@ -4,7 +4,7 @@ ghost use Rattle.aero_model.specs.CallCounts.{Seen, seen_by};
 ghost use Rattle.aero_batch.specs.Founds.{sighted, Took, WasTold};
 ghost use Rattle.aero_batch.specs.Telling.{SumsUp};
 ghost use Rattle.aero_intake.specs.PlanTerms.{options_with, terms_of};
-ghost use Rattle.aero_program.specs.Answers.{AnswersTo, Ends, Fails, Helps, Judges, Stops, TellsNoWords, TellsUnlisted, TellsWord};
+ghost use Rattle.aero_program.specs.Executed.{Executes, Ends, Fails, Helps, Judges, Stops, TellsNoWords, TellsUnlisted, TellsWord};
 ghost use Rattle.aero_program.specs.declared.failure.Failure.TheVariants.{Memory};
 ghost use Rattle.aero_program.specs.declared.listing.Unlisted.TheVariants.{Unread};
 ghost use Rattle.aero_program.specs.Notes.{AreNotes, label_lines, note_texts, noted_of_all};
@@ -41,6 +41,13 @@ use std::io::{Read, Write};
 use std::sync::Wait;
 use std::thread::Threads;
 
+/// The three standard streams.
+pub struct Streams<'a, S, O: Write, E: Write> {
+    pub input: S,
+    pub output: &'a mut Output<O>,
+    pub errors: &'a mut Counting<Retrying<E>>,
+}
+
 /// Does what the words ask for, and gives the exit status.
 ///
 /// Where they ask for traces to be judged, it judges the files, or standard input where there are
@@ -52,7 +59,7 @@ use std::thread::Threads;
 /// output, which is flushed; why there is nothing to judge, and why the program fails, goes to
 /// standard error. Where standard error takes nothing, the status still tells. A read, a write or a
 /// flush that is interrupted is tried again.
-pub fn answer<
+pub fn execute<
     S: Read + Drop + Send,
     F: Opener + Sizes + Drop + Sync,
     O: Write,
@@ -63,19 +70,36 @@ pub fn answer<
     alloc: Global,
     asked: Result<Config, Stop>,
     files: &F,
-    stdin: S,
-    output: &mut Output<O>,
-    errors: &mut Counting<Retrying<E>>,
+    streams: Streams<'_, S, O, E>,
 ) -> u8
 where
     F::File: Send,
-    ensures { AnswersTo F.holds asked (S.remaining stdin) (shown_by O.contents output.old) (shown_by O.contents output.new)
-        (seen_by (λ w. E.contents (tried_by w)) errors.old) (seen_by (λ w. E.contents (tried_by w)) errors.new) result }
+    ensures { Executes F.holds asked (S.remaining streams.entry.input) (shown_by O.contents streams.entry.output.now) (shown_by O.contents streams.exit.output.now)
+        (seen_by (λ w. E.contents (tried_by w)) streams.entry.errors.now) (seen_by (λ w. E.contents (tried_by w)) streams.exit.errors.now) result }
 {
+    let Streams {
+        input,
+        output,
+        errors,
+    } = streams;
+    let host = Host { rt, alloc };
     match asked {
-        Ok(config) => judge(rt, alloc, config, files, stdin, output, errors),
+        Ok(config) => judge(Place { host, files }, config, input, output, errors),
         Err(stop) => tell_stop(alloc, &stop, output, errors),
     }
+}
+
+// What a run takes time and memory from.
+#[derive(Clone, Copy)]
+struct Host<T> {
+    rt: T,
+    alloc: Global,
+}
+
+// The same, and the files of the machine.
+struct Place<'a, T, F> {
+    host: Host<T>,
+    files: &'a F,
 }
 
 // Judges the sources, and tells what is found.
@@ -86,10 +110,8 @@ fn judge<
     E: Write,
     T: Threads + Wait + Copy + Send + Sync + 'static,
 >(
-    rt: T,
-    alloc: Global,
+    place: Place<'_, T, F>,
     config: Config,
-    files: &F,
     stdin: S,
     output: &mut Output<O>,
     errors: &mut Counting<E>,
@@ -99,6 +121,8 @@ where
     ensures { Judges F.holds config (S.remaining stdin) (shown_by O.contents output.old) (shown_by O.contents output.new)
         (seen_by E.contents errors.old) (seen_by E.contents errors.new) result }
 {
+    let Place { host, files } = place;
+    let alloc = host.alloc;
     let long = config.long;
     let fail_open = config.fail_open;
     let on_terminal = config.terminals.errors;
@@ -109,7 +133,6 @@ where
         Ok(sources) => sources,
         Err(why) => return tell_unlisted(alloc, asked.list_path(), why, on_terminal, errors),
     };
-    let host = Host { rt, alloc };
     let Ok(sources) = watched(alloc, sources, plan.terms.shared_except()) else {
         return fail(Failure::Memory, errors);
     };
@@ -123,7 +146,7 @@ where
     let (unused, sources) = unused_labels(alloc, sources, labels);
     let looker = Looker::new(alloc, files);
     let notes = all_notes(&looker, sources, &report, long, asked.are_words());
-    let beside = Beside { unused, notes };
+    let beside = Asides { unused, notes };
     let cause = sum_up_with(alloc, &plan, &report, &beside, &mut output.writer);
     let flushed = output.flush();
     let end = end_after(cause, &report.counts, &flushed, fail_open);
@@ -135,7 +158,7 @@ where
 // What is told beside the lines of the sources: the labels with which no block begins, and the notes on the sources.
 // `None` says that memory was refused for them.
 #[derive(Drop)]
-struct Beside<'a> {
+struct Asides<'a> {
     unused: Option<Vec<&'a Name>>,
     notes: Option<Vec<Note>>,
 }
@@ -146,7 +169,7 @@ fn sum_up_with<W: Write>(
     alloc: Global,
     plan: &Plan,
     report: &Report,
-    beside: &Beside<'_>,
+    beside: &Asides<'_>,
     writer: &mut Counting<W>,
 ) -> Option<Cause>
     ensures summed { (text : List ℕ) → IfSome beside.now.unused (λ names. IfSome beside.now.notes (λ notes.
@@ -242,13 +265,6 @@ fn told_of(labels: &[Name], all_read: bool) -> &[Name]
     ensures { result.now ≡ (if all_read then labels.now else []) }
 {
     if all_read { labels } else { &[] }
-}
-
-// What a run takes time and memory from.
-#[derive(Clone, Copy)]
-struct Host<T> {
-    rt: T,
-    alloc: Global,
 }
 
 // Writes the lines of the sources: by a thread for each, or in turn.

@@ -2,7 +2,7 @@ use Rattle.std.proofs.Common.{◌∙◌, subst, inl, refl}
 use Rattle.aero_model.specs.CallCounts.{seen_by}
 use Rattle.aero_program.specs.Streams.{IsTold}
 use Rattle.aero_program.proofs.Tells.{is_told}
-use Rattle.aero_program.proofs.answer.tell_odd_word.Goals as goal
+use Rattle.aero_program.proofs.execute.tell_odd_word.Goals as goal
 
 pub returns : goal.returns
 returns g c =

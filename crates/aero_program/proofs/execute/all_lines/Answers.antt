@@ -2,7 +2,7 @@ use Rattle.std.proofs.Common.{◌≡◌, ◌∙◌, ◌++◌, ap, map, subst, sy
 use Rattle.std.specs.Prelude.{IfSome}
 use Rattle.aero_report.specs.Asked.{note_of}
 use Rattle.aero_program.specs.Notes.{label_lines, note_texts}
-use Rattle.aero_program.proofs.answer.all_lines.Goals as goal
+use Rattle.aero_program.proofs.execute.all_lines.Goals as goal
 
 pub returns-clause-lines : goal.returns-clause-lines
 returns-clause-lines c =
