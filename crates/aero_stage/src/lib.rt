@@ -4,7 +4,8 @@
 //! takes jobs until it meets a stop. Each take hands out the front of the queue. Whatever the ends
 //! do, on whatever threads and in whatever order, a job that was posted is in the queue, was taken
 //! back or is in one `Taker`'s hand, each as often as it was posted, and in the order of the posts.
-//! A call that finds the queue full gives the job back. What clauses say of a full or an empty queue
+//! A call that finds the queue full gives the job back. A `Job` is the number and the question of a run: nothing else
+//! goes through such a queue, so it has no type parameter. What clauses say of a full or an empty queue
 //! is said as far as the `Poster` can know: while a `Taker` is out, any queue could be empty for it, and
 //! any to which it has posted as much as there are places could be full.
 //!
