@@ -54,7 +54,10 @@ fn read_piece<R: Read>(plan: &Plan, reader: &mut Counting<R>, underway: &mut Und
     requires within { underway.old.intake.count ≤ plan.now.terms.rules.limits.bytes + 1 }
     ensures { ReadsPiece (terms_of plan.now) (seen_by R.remaining reader.old) (seen_by R.remaining reader.new) underway.old underway.new }
 {
-    underway.ended = match underway.intake.take(reader, plan.piece, plan.terms.limits().bytes) {
+    underway.ended = match underway
+        .intake
+        .take(reader, plan.piece, plan.terms.limits().bytes)
+    {
         Taken::Piece => None,
         Taken::Ended(ending) => Some(ending),
     };

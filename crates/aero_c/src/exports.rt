@@ -5,9 +5,9 @@ ghost use Rattle.aero_c.specs.Statuses.{done, unheld};
 ghost use Rattle.aero_c.specs.Answers.{Answers, BeginsLabelled, IsAsked, Begins, Judges, ShowsHeld};
 
 use crate::beginning::begin;
+use crate::holder::{Holder, put, take};
 use crate::judging::{ask, conclude, feed_piece, show};
 use crate::labels::list;
-use crate::holder::{Holder, put, take};
 use crate::numbers::Numbers;
 use crate::status::{DONE, MANY_LABELS, UNHELD};
 use aero_model::Except;

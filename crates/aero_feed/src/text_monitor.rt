@@ -8,8 +8,8 @@ ghost use Rattle.aero_verdict.specs.Fed.{IsCertain, IsOpen};
 ghost use Rattle.aero_feed.specs.Feeding.{nothing_fed, IsTextVerdict, IsCertainOf, IsOpenText, ShowsText};
 ghost use Rattle.aero_feed.specs.Reads.{fed_by, explains_in, IsJudgedOut};
 
-use crate::ghost_text::GhostText;
 use crate::any_monitor::AnyMonitor;
+use crate::ghost_text::GhostText;
 use aero_grammar::parse_block;
 use aero_lines::Cutter;
 use aero_model::{Cycle, Except, Verdict};

@@ -65,13 +65,7 @@ pub fn execute<
     O: Write,
     E: Write,
     T: Threads + Wait + Copy + Send + Sync + 'static,
->(
-    rt: T,
-    alloc: Global,
-    asked: Result<Config, Stop>,
-    files: &F,
-    streams: Streams<'_, S, O, E>,
-) -> u8
+>(rt: T, alloc: Global, asked: Result<Config, Stop>, files: &F, streams: Streams<'_, S, O, E>) -> u8
 where
     F::File: Send,
     ensures { Executes F.holds asked (S.remaining streams.entry.input) (shown_by O.contents streams.entry.output.now) (shown_by O.contents streams.exit.output.now)

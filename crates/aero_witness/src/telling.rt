@@ -79,7 +79,12 @@ fn last_of(
 }
 
 // Whether a walk goes from the first of these to the second.
-fn follows(events: &[Numbered], transactions: &TransactionTable, first: Visit, second: Visit) -> bool
+fn follows(
+    events: &[Numbered],
+    transactions: &TransactionTable,
+    first: Visit,
+    second: Visit,
+) -> bool
     requires of { AreOf events.now transactions.now }
     requires is { IsVisit events.now (length events.now) (visit_of first) }
     ensures { IsTrue result ↔ Follows events.now (visit_of first) (visit_of second) }
@@ -122,7 +127,12 @@ fn is_forward(events: &[Numbered], transactions: &TransactionTable, visit: Visit
 }
 
 // Whether the two are of different transactions.
-fn are_apart(events: &[Numbered], transactions: &TransactionTable, first: Visit, second: Visit) -> bool
+fn are_apart(
+    events: &[Numbered],
+    transactions: &TransactionTable,
+    first: Visit,
+    second: Visit,
+) -> bool
     requires of { AreOf events.now transactions.now }
     requires first { first.enters < length events.now }
     requires second { second.enters < length events.now }
