@@ -14,11 +14,15 @@ use crate::latest::{Latest, Way, place_of};
 use crate::list::NameList;
 use std::alloc::{AllocError, Global};
 
-// So many names stand in an `IndexMap`: no more than may be passed by heads. A block seldom has more threads.
+// So many names stand in an `IndexMap`: no more than may be passed by heads. A chunk seldom has more threads.
 const MOST_FEW: u32 = 16;
 
-// How many heads there are at first: enough for most blocks.
+// How many heads there are at first: enough for a chunk with few names.
 const FEWEST_HEADS: usize = 2_048;
+
+// Below so many there are four times as many at the next growth, and then twice as many. So a chunk with thousands of names has
+// them linked anew twice.
+const MANY_HEADS: usize = 32_768;
 
 // Whether the list's name with this number is this one.
 #[inline(always)]
@@ -246,10 +250,8 @@ pub(crate) fn grow(
     }
     let places = latest.heads.len();
     let way = if places == 0 { Way::Few } else { Way::Heads };
-    let more = match latest.way {
-        Way::Heads => places.saturating_mul(2).max(FEWEST_HEADS),
-        _ => FEWEST_HEADS,
-    };
+    let factor = if places < MANY_HEADS { 4 } else { 2 };
+    let more = places.saturating_mul(factor).max(FEWEST_HEADS);
     let grown = Latest::with_heads(alloc, way, latest.hashing, more)?;
     let (grown, linked) = tables_from(grown, alloc, names)?;
     *latest = grown;
