@@ -4,7 +4,7 @@ ghost use Rattle.aero_leads.specs.Kept.{rows_in, is_below, thread_row, thread_in
 ghost use Rattle.aero_leads.specs.Listed.{AreListed};
 ghost use Rattle.aero_leads.specs.Lows.{AreLow};
 ghost use Rattle.aero_leads.specs.Passed.{ArePassed, leads_since, passed_of};
-ghost use Rattle.aero_leads.specs.Seen.{AreSeen};
+ghost use Rattle.aero_leads.specs.Seen.{AreKnown};
 ghost use Rattle.aero_leads.specs.Single.{AreSingle};
 
 use crate::last::Last;
@@ -14,7 +14,7 @@ use crate::passed::{
     Passed, forget_places, lower_place, no_place, note_begin, note_gain, passed_before, since,
 };
 use crate::row::{Brought, Lead, Taking, brought_by, gain_all, settle};
-use crate::seen::{Seen, forget_all, has_seen, nothing_seen, see_all, unsee_all};
+use crate::seen::{Seen, forget_all, has_seen, nothing_seen, see_all, see_own, unsee_all};
 use crate::thread;
 use crate::thread::{Thread, leave, put_row, row_of, spread, take_row};
 use std::alloc::{AllocError, Global};
@@ -29,7 +29,7 @@ pub struct Table {
     pub lows: Lows,
     pub passed: Passed,
     ghost listed: { AreListed threads.items led },
-    ghost known: { AreSeen threads.items seen },
+    ghost known: { AreKnown threads.items seen },
     ghost low: { AreLow threads.items lows },
     ghost passing: { ArePassed threads.items passed },
     ghost single: { AreSingle threads.items },
@@ -225,6 +225,7 @@ pub(crate) fn begin(table: &mut Table, t: u32, place: u32) -> Result<(), AllocEr
         forget_places(&mut table.passed);
         return Err(AllocError);
     };
+    see_own(&mut table.seen, t);
     lower(&mut table.lows, t, place);
     note_begin(&mut table.passed, &table.led, t, place);
     Ok(())
@@ -256,7 +257,7 @@ pub(crate) fn end(table: &mut Table, t: u32) -> Result<(), AllocError>
     };
     put_row(&mut table.threads, t, row);
     leave(&mut table.threads, t);
-    unsee_all(&mut table.seen, &table.led, t);
+    unsee_all(&mut table.seen, &table.led, t, !later.is_empty());
     raise_all(&mut table.lows, &table.threads, &table.led, t);
     forget(&mut table.led, t);
     Ok(())

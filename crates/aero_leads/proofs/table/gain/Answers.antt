@@ -1,12 +1,12 @@
-use Rattle.std.proofs.Common.{ap, subst, sym, ◌∙◌, arith}
-use Rattle.std.specs.Prelude.{slice_get}
+use Rattle.std.proofs.Common.{◌≡◌, ap, subst, sym, ◌∙◌, arith}
+use Rattle.std.specs.Prelude.{true, slice_get}
 use Rattle.aero_leads.specs.Kept.{thread_row}
 use Rattle.aero_leads.specs.Passed.{is_early}
-use Rattle.aero_leads.specs.Seen.{AreSeen}
+use Rattle.aero_leads.specs.Seen.{is_whole, AreSeen, IsWhole}
 use Rattle.aero_leads.specs.Single.{IsSingle}
 use Rattle.aero_leads.proofs.Lowering.{low_taken}
 use Rattle.aero_leads.proofs.Passing.{passed_taken}
-use Rattle.aero_leads.proofs.Seeing.{seen_taken}
+use Rattle.aero_leads.proofs.Seeing.{known_taken}
 use Rattle.aero_leads.proofs.Singles.{single_row, single_taken}
 use Rattle.aero_leads.proofs.Takings.{gained}
 use Rattle.aero_leads.proofs.table.gain.Goals as goal
@@ -18,10 +18,13 @@ returns-clause-gains c =
 
 pub invariant_of-table-2-clause-known : goal.invariant_of-table-2-clause-known
 invariant_of-table-2-clause-known c =
-    subst (λ ts. AreSeen ts c.args.table.now.seen → AreSeen ts c.see_all.new.seen) c.deref-2.ensures.value c.see_all.ensures
-    (seen_taken c.args.table.now.threads.items c.put_row.new.threads.items c.args.table.now.seen c.args.t c.args.o c.args.below c.args.place
+    let threads = c.deref-2.ensures.value in
+    known_taken c.args.table.now.threads.items c.put_row.new.threads.items c.args.table.now.seen c.see_all.new.seen c.args.t c.args.o c.args.below c.args.place
     (gained c.args.table.now.threads.items c.take_row-row.new.threads.items c.put_row.new.threads.items c.args.t c.args.o c.args.below c.args.place c.take_row-row.result.items c.gain_all.new.row.items c.row_of-other.result.now
-    c.take_row-row.ensures.row c.take_row-row.ensures.rest (c.row_of-other.ensures ∙ ap (λ xs. thread_row (slice_get xs c.args.o)) c.deref.ensures.value) c.requires.other c.in-Ok.ensures.gains c.put_row.ensures.row) c.args.table.now.known)
+    c.take_row-row.ensures.row c.take_row-row.ensures.rest (c.row_of-other.ensures ∙ ap (λ xs. thread_row (slice_get xs c.args.o)) c.deref.ensures.value) c.requires.other c.in-Ok.ensures.gains c.put_row.ensures.row)
+    (subst (λ ts. AreSeen ts c.args.table.now.seen → AreSeen ts c.see_all.new.seen) threads c.see_all.ensures.so)
+    (subst (λ ts. is_whole c.see_all.new.seen c.args.t ≡ true → IsWhole ts c.see_all.new.seen c.args.t) threads c.see_all.ensures.whole)
+    c.see_all.ensures.others c.see_all.ensures.whole_others c.args.table.now.known
 
 pub invariant_of-table-2-clause-low : goal.invariant_of-table-2-clause-low
 invariant_of-table-2-clause-low c =
