@@ -54,6 +54,7 @@ pub mod leads;
 mod least;
 mod led;
 mod lows;
+mod news;
 mod passed;
 mod row;
 mod seen;

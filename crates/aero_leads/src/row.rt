@@ -1,7 +1,7 @@
 //! Which open blocks lead to a thread, and from which of its events on.
 ghost use Rattle.std.specs.Prelude.{◌≡◌, ◌≢◌, ◌==◌, ◌&&◌, ◌<◌, ◌++◌, ◌∷◌, [], ℕ, true, false, nat_lt, None, Some, OnOk, is_some, slice_get, if◌then◌else◌};
 ghost use Rattle.aero_leads.specs.Kept.{least_in, is_below, absorbed};
-ghost use Rattle.aero_leads.specs.Indexed.{IsIndexed, IsFound, opener_of};
+ghost use Rattle.aero_leads.specs.Indexed.{IsIndexed, IsFound, IsLeadOf, opener_of};
 ghost use Rattle.aero_leads.specs.Listed.{IsListedRow, Grows, followers};
 ghost use Rattle.aero_leads.specs.Single.{IsSingle};
 ghost use Rattle.aero_leads.specs.Steps.{gains, lesser};
@@ -51,6 +51,43 @@ pub(crate) fn has(row: &[Lead], w: u32) -> bool
         }
     }
     false
+}
+
+// The lead of the open block of thread `w`. New leads stand at the end, so that the row is gone through from there.
+fn late_lead_of(row: &[Lead], w: usize) -> Option<Lead>
+    requires { IsSingle row.now }
+    ensures { IsLeadOf row.now w result }
+{
+    let count = row.len();
+    for i in 0..count {
+        let lead = row[count - 1 - i];
+        if lead.opener as usize == w {
+            return Some(lead);
+        }
+    }
+    None
+}
+
+/// The same, where the first lead of all is looked at before: often it is that of the thread's own block.
+pub(crate) fn lead_of(row: &[Lead], w: usize) -> Option<Lead>
+    requires { IsSingle row.now }
+    ensures { IsLeadOf row.now w result }
+{
+    if !row.is_empty() && row[0].opener as usize == w {
+        return Some(row[0]);
+    }
+    late_lead_of(row, w)
+}
+
+/// Whether the open block of thread `w` leads to an event of the row's thread below this place.
+pub(crate) fn led_below(row: &[Lead], w: usize, below: u32) -> bool
+    requires { IsSingle row.now }
+    ensures { result ≡ is_below (least_in row.now w) below }
+{
+    match lead_of(row, w) {
+        Some(lead) => lead.place < below,
+        None => false,
+    }
 }
 
 /// How long a row may be that is looked through for each block of another one.

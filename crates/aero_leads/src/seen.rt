@@ -56,7 +56,18 @@ pub(crate) fn has_seen(seen: &Seen, t: u32, other: &[Lead], below: u32) -> bool
     true
 }
 
-fn openers_of(seen: &Seen, t: u32) -> &[bool]
+/// Whether all blocks that lead to thread `t` are known.
+pub(crate) fn is_whole(seen: &Seen, t: u32) -> bool
+    ensures { result ≡ is_whole seen.now t }
+{
+    match seen.rows.get(t as usize) {
+        Some(row) => row.whole,
+        None => false,
+    }
+}
+
+/// What is known to lead to thread `t`.
+pub(crate) fn openers_of(seen: &Seen, t: u32) -> &[bool]
     ensures { result.now ≡ openers_in (slice_get seen.now.rows.items t) }
 {
     match seen.rows.get(t as usize) {
@@ -65,7 +76,8 @@ fn openers_of(seen: &Seen, t: u32) -> &[bool]
     }
 }
 
-fn is_in(openers: &[bool], w: u32) -> bool
+/// Whether the block of thread `w` is among these.
+pub(crate) fn is_in(openers: &[bool], w: u32) -> bool
     ensures { result ≡ seen_at openers.now w }
 {
     match openers.get(w as usize) {

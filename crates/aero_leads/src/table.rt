@@ -4,17 +4,21 @@ ghost use Rattle.aero_leads.specs.Kept.{rows_in, is_below, thread_row, thread_in
 ghost use Rattle.aero_leads.specs.Listed.{AreListed};
 ghost use Rattle.aero_leads.specs.Lows.{AreLow};
 ghost use Rattle.aero_leads.specs.Passed.{ArePassed, leads_since, passed_of};
-ghost use Rattle.aero_leads.specs.Seen.{AreKnown};
+ghost use Rattle.aero_leads.specs.Seen.{is_whole, AreKnown};
 ghost use Rattle.aero_leads.specs.Single.{AreSingle};
 
 use crate::last::Last;
 use crate::led::{Led, forget, no_block};
 use crate::lows::{Lows, forget_lows, is_low, lower, no_low, raise_all};
+use crate::news::{has_news, has_others};
 use crate::passed::{
     Passed, forget_places, lower_place, no_place, note_begin, note_gain, passed_before, since,
 };
-use crate::row::{Brought, Lead, Taking, brought_by, gain_all, settle};
-use crate::seen::{Seen, forget_all, has_seen, nothing_seen, see_all, see_own, unsee_all};
+use crate::row::{Brought, Lead, SHORT, Taking, brought_by, gain_all, led_below, settle};
+use crate::seen::{
+    Seen, forget_all, has_seen, is_in, is_whole, nothing_seen, openers_of, see_all, see_own,
+    unsee_all,
+};
 use crate::thread;
 use crate::thread::{Thread, leave, put_row, row_of, spread, take_row};
 use std::alloc::{AllocError, Global};
@@ -96,7 +100,16 @@ pub(crate) fn gain(
 fn brings_nothing(table: &Table, t: u32, o: u32, below: u32) -> bool
     ensures { result ≡ true → (w : ℕ) → is_below (rows_in table.now.threads.items o w) below ≡ true → is_some (rows_in table.now.threads.items t w) ≡ true }
 {
-    has_seen(&table.seen, t, row_of(&table.threads, o), below)
+    let other = row_of(&table.threads, o);
+    if !is_whole(&table.seen, o) {
+        return has_seen(&table.seen, t, other, below);
+    }
+    !has_news(
+        openers_of(&table.seen, o),
+        openers_of(&table.seen, t),
+        other,
+        below,
+    )
 }
 
 // What an event of thread `o` below a place brings thread `t`.
@@ -107,7 +120,45 @@ fn brings(table: &Table, t: u32, o: u32, below: u32) -> Brought
 {
     let row = row_of(&table.threads, t);
     let other = row_of(&table.threads, o);
+    if other.len() > SHORT && is_whole(&table.seen, o) {
+        return brings_of_whole(table, t, o, below);
+    }
     brought_by(row, other, t, below)
+}
+
+// The same where all that leads to thread `o` is known: what both threads have is passed over.
+fn brings_of_whole(table: &Table, t: u32, o: u32, below: u32) -> Brought
+    requires { is_whole table.now.seen o ≡ true }
+    ensures closes { result.closes ≡ is_below (rows_in table.now.threads.items o t) below }
+    ensures known { result.news ≡ false → (w : ℕ) → is_below (rows_in table.now.threads.items o w) below ≡ true → is_some (rows_in table.now.threads.items t w) ≡ true }
+{
+    let closes = is_led(table, o, t, below);
+    let news = may_bring(table, t, o, below);
+    Brought { closes, news }
+}
+
+// Whether the open block of thread `w` leads to an event of thread `o` below a place.
+fn is_led(table: &Table, o: u32, w: u32, below: u32) -> bool
+    requires { is_whole table.now.seen o ≡ true }
+    ensures { result ≡ is_below (rows_in table.now.threads.items o w) below }
+{
+    if !is_in(openers_of(&table.seen, o), w) {
+        return false;
+    }
+    led_below(row_of(&table.threads, o), w as usize, below)
+}
+
+// Whether an event of thread `o` below a place may bring thread `t` news. The block of `o` itself is looked at apart: mostly
+// that is what differs, and mostly it began later.
+fn may_bring(table: &Table, t: u32, o: u32, below: u32) -> bool
+    requires { is_whole table.now.seen o ≡ true }
+    ensures { result ≡ false → (w : ℕ) → is_below (rows_in table.now.threads.items o w) below ≡ true → is_some (rows_in table.now.threads.items t w) ≡ true }
+{
+    let mine = openers_of(&table.seen, t);
+    if has_others(openers_of(&table.seen, o), mine, o) {
+        return true;
+    }
+    !is_in(mine, o) && is_led(table, o, o, below)
 }
 
 // Thread t gains what the event, of another thread, brings, where that may be news.
