@@ -46,6 +46,7 @@
 #![tactic(auto)]
 
 mod engine;
+mod gaining;
 mod index;
 mod kept;
 mod last;

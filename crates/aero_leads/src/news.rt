@@ -68,8 +68,8 @@ fn pass_over(theirs: &[bool], mine: &[bool], from: usize) -> usize
     at
 }
 
-// The first opener from this one on that is in one table and not in the other, or one behind all.
-fn next_news(theirs: &[bool], mine: &[bool], from: usize) -> usize
+/// The first opener from this one on that is in one table and not in the other, or one behind all.
+pub(crate) fn next_news(theirs: &[bool], mine: &[bool], from: usize) -> usize
     ensures later { from ≤ result }
     ensures passed { (w : ℕ) → from ≤ w → w < result → seen_at theirs.now w ≡ true → seen_at mine.now w ≡ true }
     ensures here { result < length theirs.now → seen_at mine.now result ≡ false }
@@ -90,6 +90,22 @@ fn is_new(theirs: &[bool], mine: &[bool], at: usize) -> bool
         return theirs[at] && !mine[at];
     }
     theirs[at]
+}
+
+// How many openers are looked up in a row, at most.
+const FEW: usize = 8;
+
+/// Whether no more than a few openers are in one table and not in the other, so that each is looked up, and no row gone through.
+pub(crate) fn differ_little(theirs: &[bool], mine: &[bool]) -> bool {
+    let mut at = 0;
+    for _ in 0..FEW {
+        at = next_news(theirs, mine, at);
+        if at >= theirs.len() {
+            return true;
+        }
+        at += 1;
+    }
+    false
 }
 
 /// Whether an opener is in one table and not in the other, and its block leads below a place of the thread of which this is the row.

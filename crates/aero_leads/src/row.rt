@@ -101,10 +101,11 @@ pub struct Brought {
     pub news: bool,
 }
 
-/// What a thread takes from the row of another: what leads to an event below a place of that one's. It leads to an event at
-/// the other place, and on.
+/// What a thread takes from another one: what leads to an event of that one below a place. It leads to an event at the other
+/// place, and on.
 #[derive(Clone, Copy)]
 pub(crate) struct Taking {
+    pub(crate) from: u32,
     pub(crate) below: u32,
     pub(crate) place: u32,
 }
@@ -188,9 +189,9 @@ pub(crate) fn has_entered(row: &[Lead], index: &Index, w: u32) -> bool
     find(row, index, w).is_some()
 }
 
-// The open block of a thread leads to thread `o`, whose row this is, from this place on. The thread
-// is listed first, so that it is wherever memory is refused.
-fn add(
+/// The open block of a thread leads to thread `o`, whose row this is, from this place on. The thread
+/// is listed first, so that it is wherever memory is refused.
+pub(crate) fn add(
     row: &mut Vec<Lead>,
     o: u32,
     opener: u32,

@@ -9,6 +9,7 @@ use crate::led::{Led, count, follower};
 use crate::row::{Lead, SHORT};
 use crate::thread::{Thread, row_of};
 use std::alloc::{AllocError, Global};
+use std::mem;
 
 /// For each opener, by the thread's number, whether its block is known to lead to one thread. Where the row is whole, no
 /// other block does.
@@ -168,6 +169,7 @@ fn see_each(openers: &mut Vec<bool>, row: &[Lead]) -> bool
 
 // One more opener. Whether this one has a place, and all before it had.
 fn see_too(all: bool, openers: &mut Vec<bool>, opener: u32) -> bool
+    ensures others { (w : ℕ) → w ≢ opener → seen_at openers.new.items w ≡ seen_at openers.old.items w }
     ensures so { (w : ℕ) → seen_at openers.new.items w ≡ true → (seen_at openers.old.items w || (opener == w)) ≡ true }
     ensures kept { (w : ℕ) → seen_at openers.old.items w ≡ true → seen_at openers.new.items w ≡ true }
     ensures before { result ≡ true → all ≡ true }
@@ -178,6 +180,7 @@ fn see_too(all: bool, openers: &mut Vec<bool>, opener: u32) -> bool
 
 // The opener is known, where there is a place for it.
 fn see(openers: &mut Vec<bool>, opener: u32) -> bool
+    ensures others { (w : ℕ) → w ≢ opener → seen_at openers.new.items w ≡ seen_at openers.old.items w }
     ensures so { (w : ℕ) → seen_at openers.new.items w ≡ true → (seen_at openers.old.items w || (opener == w)) ≡ true }
     ensures kept { (w : ℕ) → seen_at openers.old.items w ≡ true → seen_at openers.new.items w ≡ true }
     ensures here { result ≡ true → seen_at openers.new.items opener ≡ true }
@@ -187,6 +190,46 @@ fn see(openers: &mut Vec<bool>, opener: u32) -> bool
         return true;
     }
     false
+}
+
+/// Makes room for so many openers, as far as a row with so many leads may take it, and memory isn't refused.
+pub(crate) fn widen_for(known: &mut SeenRow, openers: usize, leads: usize)
+    ensures same { (w : ℕ) → seen_at known.new.openers.items w ≡ seen_at known.old.openers.items w }
+    ensures whole { known.new.whole ≡ known.old.whole }
+{
+    let places = leads.saturating_mul(PLACES).min(openers);
+    let _ = widen(&mut known.openers, places);
+}
+
+/// Takes out what is known to lead to thread `t`. Of others the same is known.
+pub(crate) fn take_known(seen: &mut Seen, t: u32) -> SeenRow
+    ensures openers { result.openers.items ≡ openers_in (slice_get seen.old.rows.items t) }
+    ensures whole { result.whole ≡ is_whole seen.old t }
+    ensures others { (o w : ℕ) → o ≢ t → is_seen seen.new o w ≡ is_seen seen.old o w }
+    ensures whole_others { (o : ℕ) → o ≢ t → is_whole seen.new o ≡ is_whole seen.old o }
+{
+    let alloc = *seen.rows.allocator();
+    let nothing = SeenRow {
+        openers: Vec::new(alloc),
+        whole: false,
+    };
+    if (t as usize) < seen.rows.len() {
+        return mem::replace(&mut seen.rows[t as usize], nothing);
+    }
+    nothing
+}
+
+/// Gives thread `t` this back.
+pub(crate) fn put_known(seen: &mut Seen, t: u32, known: SeenRow)
+    ensures so { (w : ℕ) → is_seen seen.new t w ≡ true → seen_at known.openers.items w ≡ true }
+    ensures whole { is_whole seen.new t ≡ true → known.whole ≡ true }
+    ensures here { is_whole seen.new t ≡ true → (w : ℕ) → seen_at known.openers.items w ≡ true → is_seen seen.new t w ≡ true }
+    ensures others { (o w : ℕ) → o ≢ t → is_seen seen.new o w ≡ is_seen seen.old o w }
+    ensures whole_others { (o : ℕ) → o ≢ t → is_whole seen.new o ≡ is_whole seen.old o }
+{
+    if (t as usize) < seen.rows.len() {
+        seen.rows[t as usize] = known;
+    }
 }
 
 /// The block of thread `t` begins, and leads to the thread. That is known where there is a place for it, and else the row
@@ -202,7 +245,9 @@ pub(crate) fn see_own(seen: &mut Seen, t: u32)
     }
 }
 
-fn see_one(known: &mut SeenRow, w: u32)
+/// The same of one opener, in a row that was taken out.
+pub(crate) fn see_one(known: &mut SeenRow, w: u32)
+    ensures others { (v : ℕ) → v ≢ w → seen_at known.new.openers.items v ≡ seen_at known.old.openers.items v }
     ensures so { (v : ℕ) → seen_at known.new.openers.items v ≡ true → (seen_at known.old.openers.items v || (w == v)) ≡ true }
     ensures kept { (v : ℕ) → seen_at known.old.openers.items v ≡ true → seen_at known.new.openers.items v ≡ true }
     ensures whole { known.new.whole ≡ true → known.old.whole ≡ true }

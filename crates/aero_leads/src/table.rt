@@ -7,17 +7,17 @@ ghost use Rattle.aero_leads.specs.Passed.{ArePassed, leads_since, passed_of};
 ghost use Rattle.aero_leads.specs.Seen.{is_whole, AreKnown};
 ghost use Rattle.aero_leads.specs.Single.{AreSingle};
 
+use crate::gaining::gain_row;
 use crate::last::Last;
 use crate::led::{Led, forget, no_block};
 use crate::lows::{Lows, forget_lows, is_low, lower, no_low, raise_all};
-use crate::news::{has_news, has_others};
+use crate::news::{differ_little, has_news, has_others};
 use crate::passed::{
     Passed, forget_places, lower_place, no_place, note_begin, note_gain, passed_before, since,
 };
-use crate::row::{Brought, Lead, SHORT, Taking, brought_by, gain_all, led_below, settle};
+use crate::row::{Brought, Lead, SHORT, Taking, brought_by, led_below, settle};
 use crate::seen::{
-    Seen, forget_all, has_seen, is_in, is_whole, nothing_seen, openers_of, see_all, see_own,
-    unsee_all,
+    Seen, forget_all, has_seen, is_in, is_whole, nothing_seen, openers_of, see_own, unsee_all,
 };
 use crate::thread;
 use crate::thread::{Thread, leave, put_row, row_of, spread, take_row};
@@ -79,17 +79,23 @@ pub(crate) fn gain(
     if brings_nothing(table, t, o, below) {
         return Ok(());
     }
-    let mut row = take_row(&mut table.threads, t);
-    let other = row_of(&table.threads, o);
-    let taking = Taking { below, place };
-    let Ok(()) = gain_all(&mut row, t, other, taking, &mut table.led) else {
+    let taking = Taking {
+        from: o,
+        below,
+        place,
+    };
+    let Ok(()) = gain_row(
+        &mut table.threads,
+        &mut table.seen,
+        &mut table.led,
+        t,
+        taking,
+    ) else {
         forget_all(&mut table.seen);
         forget_lows(&mut table.lows);
         forget_places(&mut table.passed);
         return Err(AllocError);
     };
-    put_row(&mut table.threads, t, row);
-    see_all(&mut table.seen, &table.threads, t);
     lower(&mut table.lows, t, place);
     lower_place(&mut table.passed, o, below);
     note_gain(&mut table.passed, &table.led, t, place);
@@ -101,15 +107,12 @@ fn brings_nothing(table: &Table, t: u32, o: u32, below: u32) -> bool
     ensures { result ≡ true → (w : ℕ) → is_below (rows_in table.now.threads.items o w) below ≡ true → is_some (rows_in table.now.threads.items t w) ≡ true }
 {
     let other = row_of(&table.threads, o);
-    if !is_whole(&table.seen, o) {
-        return has_seen(&table.seen, t, other, below);
+    let theirs = openers_of(&table.seen, o);
+    let mine = openers_of(&table.seen, t);
+    if is_whole(&table.seen, o) && differ_little(theirs, mine) {
+        return !has_news(theirs, mine, other, below);
     }
-    !has_news(
-        openers_of(&table.seen, o),
-        openers_of(&table.seen, t),
-        other,
-        below,
-    )
+    has_seen(&table.seen, t, other, below)
 }
 
 // What an event of thread `o` below a place brings thread `t`.
