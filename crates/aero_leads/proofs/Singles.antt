@@ -87,6 +87,18 @@ single_lead (k ∷ ks) (suc i) w l at is one = go (k.opener == w) refl (single_l
 pub some_first : (n : ℕ) → (n == 0) ≡ false → 0 < n
 some_first n h = ⊎_elim (λ e. absurd (both_ways (n == 0) h (eq-eqb n 0 e))) (λ ne. omega (arith, ne)) (cases_eq n 0)
 
+pub none_some : {r : Option ℕ} → r ≡ None → is_some r ≡ false
+none_some h = ap is_some h
+
+-- so what is found is the row's lead
+pub lead_found : (ls : List Lead) (w : ℕ) (i : ℕ) (l : Lead) → slice_get ls i ≡ Some l → opener_of (slice_get ls i) ≡ Some w → IsSingle ls → (l.opener ≡ w) × (least_in ls w ≡ Some l.place)
+lead_found ls w i l at found single =
+    let own = same_Some l.opener w (sym (ap opener_of at) ∙ found) in
+    (own, single_lead ls i w l at own (single w))
+
+pub none_least : (ls : List Lead) (w : ℕ) → is_some (least_in ls w) ≡ false → least_in ls w ≡ None
+none_least ls w h = (none_counted ls w (count_none ls w h)).0
+
 pub none_stands : (ls : List Lead) (w : ℕ) → ((j : ℕ) → ¬ (opener_of (slice_get ls j) ≡ Some w)) → least_in ls w ≡ None
 none_stands [] w none = refl
 none_stands (k ∷ ks) w none = cond-false _ _ _ (ne_eqb k.opener w (λ e. none 0 (ap Some e))) ∙ none_stands ks w (λ j. none (suc j))

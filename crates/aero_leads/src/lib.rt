@@ -45,6 +45,7 @@
 //!   thread's events one does: `laws`.
 #![tactic(auto)]
 
+mod back;
 mod engine;
 mod gaining;
 mod index;

@@ -7,6 +7,7 @@ ghost use Rattle.aero_leads.specs.Passed.{ArePassed, leads_since, passed_of};
 ghost use Rattle.aero_leads.specs.Seen.{is_whole, AreKnown};
 ghost use Rattle.aero_leads.specs.Single.{AreSingle};
 
+use crate::back::least_known;
 use crate::gaining::gain_row;
 use crate::last::Last;
 use crate::led::{Led, forget, no_block};
@@ -273,7 +274,8 @@ pub(crate) fn begin(table: &mut Table, t: u32, place: u32) -> Result<(), AllocEr
     ensures err { OnErr result (HaveSameBlocks table.old.threads.items table.new.threads.items) }
     ensures room { vec_len table.new.threads ≡ vec_len table.old.threads }
 {
-    let Ok(()) = thread::begin(&mut table.threads, t, place) else {
+    let is_new = has_no_own(table, t);
+    let Ok(()) = thread::begin(&mut table.threads, t, place, is_new) else {
         forget_all(&mut table.seen);
         forget_lows(&mut table.lows);
         forget_places(&mut table.passed);
@@ -285,11 +287,22 @@ pub(crate) fn begin(table: &mut Table, t: u32, place: u32) -> Result<(), AllocEr
     Ok(())
 }
 
+// Where it is true, the row of thread `t` is known to have no block of its own.
+fn has_no_own(table: &Table, t: u32) -> bool
+    ensures { result ≡ true → is_some (rows_in table.now.threads.items t t) ≡ false }
+{
+    is_whole(&table.seen, t) && !is_in(openers_of(&table.seen, t), t)
+}
+
 /// The least thread whose open block closes a cycle through that of thread `t`.
 pub(crate) fn least_back(table: &mut Table, t: u32) -> Result<Option<u32>, AllocError>
     ensures least { IfOk result (IsLeastBack (rows_in table.new.threads.items) t) }
     ensures same { table.new.threads ≡ table.old.threads }
 {
+    if is_whole(&table.seen, t) {
+        let into = openers_of(&table.seen, t);
+        return Ok(least_known(&table.threads, t, into, &table.led));
+    }
     thread::least_back(&table.threads, t, &mut table.led)
 }
 
