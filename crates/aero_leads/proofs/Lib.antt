@@ -28,3 +28,4 @@ pub mod Passing
 pub mod Singles
 pub mod LedEvents
 pub mod LeastOf
+pub mod Unknown

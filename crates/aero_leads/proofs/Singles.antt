@@ -1,7 +1,7 @@
 -- Rows have each block once, as they change.
-use Rattle.std.proofs.Common.{◌≡◌, ◌≢◌, ◌⊎◌, inl, inr, ℕ, zero, suc, ◌+◌, ◌<◌, ◌≤◌, List, [], ◌∷◌, ◌++◌, length, Option, Some, None, refl, sym, ap, ap₂, subst, ◌∙◌, arith, get_or}
+use Rattle.std.proofs.Common.{◌≡◌, ◌≢◌, ◌⊎◌, inl, inr, ⊎_elim, ℕ, zero, suc, ◌+◌, ◌<◌, ◌≤◌, List, [], ◌∷◌, ◌++◌, length, Option, Some, None, refl, sym, ap, ap₂, subst, ◌∙◌, arith, get_or}
 use Rattle.std.specs.Prelude.{◌==◌, Bool, true, false, is_some, if◌then◌else◌, slice_get, sum_by, swap_remove}
-use Rattle.std.proofs.lemmas.Bool.{cases_eq, cond-true, cond-false, eq-eqb, ne_eqb, eqb-true}
+use Rattle.std.proofs.lemmas.Bool.{cases_eq, both_ways, cond-true, cond-false, eq-eqb, ne_eqb, eqb-true}
 use Rattle.std.proofs.lemmas.Option.{same_Some, slice_get-get_or}
 use Rattle.std.proofs.lemmas.List.Sums.{sum_by-cons, sum_by-append, sum_by-swap_remove}
 use Rattle.aero_leads.specs.declared.row.Lead.{Lead}
@@ -10,6 +10,7 @@ use Rattle.aero_leads.specs.Indexed.{opener_of}
 use Rattle.aero_leads.specs.Kept.{least_in, thread_row, HasRow}
 use Rattle.aero_leads.specs.Single.{leads_of, IsSingle, AreSingle}
 use Rattle.aero_leads.specs.Steps.{lesser}
+use Rattle.aero_leads.proofs.Leasts.{found_there}
 
 -- a lead of the block counts one, or its place and one
 abbrev counted_as : ℕ → Lead → ℕ
@@ -64,6 +65,43 @@ least_decoded (l ∷ ls) w h = go (l.opener == w) refl (subst (λ n. n ≤ 1) (l
         let same : suc l.place ≡ suc l.place + sum_by (placed w) ls = omega (arith, none.1) in
         ap (lesser (Some l.place)) none.0 ∙ ap decoded same
     go false e k rest = let same : sum_by (placed w) ls ≡ 0 + sum_by (placed w) ls = omega arith in rest (omega (arith, k)) ∙ ap decoded same
+
+-- the place of the one lead of a block is the least
+pub single_lead : (ls : List Lead) (i w : ℕ) (l : Lead) → slice_get ls i ≡ Some l → l.opener ≡ w → leads_of w ls ≤ 1 → least_in ls w ≡ Some l.place
+single_lead [] i w l at is one = cc
+single_lead (k ∷ ks) zero w l at is one =
+    let same : k ≡ l = same_Some k l at in
+    let own : k.opener == w ≡ true = eq-eqb k.opener w (ap (λ (m : Lead). m.opener) same ∙ is) in
+    cond-true _ _ _ own ∙ ap (lesser (Some k.place)) (none_counted ks w (omega (arith, one, leads_cons w k ks, cond-true {A = ℕ} (k.opener == w) 1 0 own))).0 ∙ ap (λ (m : Lead). Some m.place) same
+single_lead (k ∷ ks) (suc i) w l at is one = go (k.opener == w) refl (single_lead ks i w l at is)
+  where
+    there : is_some (least_in ks w) ≡ true
+    there = found_there ks i w (ap opener_of at ∙ ap Some is)
+
+    go : (b : Bool) → k.opener == w ≡ b → (leads_of w ks ≤ 1 → least_in ks w ≡ Some l.place) → (if k.opener == w then lesser (Some k.place) (least_in ks w) else least_in ks w) ≡ Some l.place
+    go true e rest =
+        let none = (none_counted ks w (omega (arith, one, leads_cons w k ks, cond-true {A = ℕ} (k.opener == w) 1 0 e))).0 in
+        let z : true ≡ false = sym there ∙ ap is_some none in cc
+    go false e rest = cond-false _ _ _ e ∙ rest (omega (arith, one, leads_cons w k ks, cond-false {A = ℕ} (k.opener == w) 1 0 e))
+
+pub some_first : (n : ℕ) → (n == 0) ≡ false → 0 < n
+some_first n h = ⊎_elim (λ e. absurd (both_ways (n == 0) h (eq-eqb n 0 e))) (λ ne. omega (arith, ne)) (cases_eq n 0)
+
+pub none_some : {r : Option ℕ} → r ≡ None → is_some r ≡ false
+none_some h = ap is_some h
+
+-- so what is found is the row's lead
+pub lead_found : (ls : List Lead) (w : ℕ) (i : ℕ) (l : Lead) → slice_get ls i ≡ Some l → opener_of (slice_get ls i) ≡ Some w → IsSingle ls → (l.opener ≡ w) × (least_in ls w ≡ Some l.place)
+lead_found ls w i l at found single =
+    let own = same_Some l.opener w (sym (ap opener_of at) ∙ found) in
+    (own, single_lead ls i w l at own (single w))
+
+pub none_least : (ls : List Lead) (w : ℕ) → is_some (least_in ls w) ≡ false → least_in ls w ≡ None
+none_least ls w h = (none_counted ls w (count_none ls w h)).0
+
+pub none_stands : (ls : List Lead) (w : ℕ) → ((j : ℕ) → ¬ (opener_of (slice_get ls j) ≡ Some w)) → least_in ls w ≡ None
+none_stands [] w none = refl
+none_stands (k ∷ ks) w none = cond-false _ _ _ (ne_eqb k.opener w (λ e. none 0 (ap Some e))) ∙ none_stands ks w (λ j. none (suc j))
 
 -- one more at the end
 pub single_pushed : (ls : List Lead) (l : Lead) → is_some (least_in ls l.opener) ≡ false → IsSingle ls → IsSingle (ls ++ l ∷ [])

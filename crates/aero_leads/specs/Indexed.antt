@@ -21,6 +21,11 @@ abbrev pub IsFound : List Lead → ℕ → Option ℕ → Type 0
 IsFound row w None = is_some (least_in row w) ≡ false
 IsFound row w (Some i) = (i < length row) × (opener_of (slice_get row i) ≡ Some w)
 
+-- the row's lead for thread w, or none
+abbrev pub IsLeadOf : List Lead → ℕ → Option Lead → Type 0
+IsLeadOf row w None = least_in row w ≡ None
+IsLeadOf row w (Some l) = (l.opener ≡ w) × (least_in row w ≡ Some l.place)
+
 -- each block of the row stands where it is entered
 abbrev pub IsIndexed : List Lead → Index → Type 0
 IsIndexed row index = (w : ℕ) → is_some (least_in row w) ≡ true → opener_of (slice_get row (place_of index w)) ≡ Some w

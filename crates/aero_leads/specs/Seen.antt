@@ -21,6 +21,23 @@ openers_in (Some r) = r.openers.items
 abbrev pub is_seen : Seen → ℕ → ℕ → Bool
 is_seen seen o w = seen_at (openers_in (slice_get seen.rows.items o)) w
 
+abbrev pub whole_in : Option SeenRow → Bool
+whole_in None = false
+whole_in (Some r) = r.whole
+
+-- whether all blocks that lead to thread o are known to
+abbrev pub is_whole : Seen → ℕ → Bool
+is_whole seen o = whole_in (slice_get seen.rows.items o)
+
 -- what is known is so
 abbrev pub AreSeen : List Thread → Seen → Type 0
 AreSeen threads seen = (o w : ℕ) → is_seen seen o w ≡ true → is_some (rows_in threads o w) ≡ true
+
+-- each block that leads to thread o is known to
+abbrev pub IsWhole : List Thread → Seen → ℕ → Type 0
+IsWhole threads seen o = (w : ℕ) → is_some (rows_in threads o w) ≡ true → is_seen seen o w ≡ true
+
+pub record AreKnown (threads : List Thread) (seen : Seen) : Type 0 where
+  pub so : AreSeen threads seen
+  -- where a row is said to be whole, it is
+  pub whole : (o : ℕ) → is_whole seen o ≡ true → IsWhole threads seen o

@@ -45,7 +45,9 @@
 //!   thread's events one does: `laws`.
 #![tactic(auto)]
 
+mod back;
 mod engine;
+mod gaining;
 mod index;
 mod kept;
 mod last;
@@ -54,6 +56,7 @@ pub mod leads;
 mod least;
 mod led;
 mod lows;
+mod news;
 mod passed;
 mod row;
 mod seen;

@@ -1,5 +1,5 @@
 //! What the open blocks have passed on to the threads that they lead to, so that an end passes on only what came later.
-ghost use Rattle.std.specs.Prelude.{◌≡◌, ◌≢◌, ◌==◌, ◌≤◌, ◌<◌, ℕ, true, None, Some, OnOk, IfOk, vec_len, slice_get, if◌then◌else◌};
+ghost use Rattle.std.specs.Prelude.{◌≡◌, ◌≢◌, ◌==◌, ◌≤◌, ◌<◌, [], ℕ, true, false, None, Some, OnOk, IfOk, vec_len, slice_get, if◌then◌else◌};
 ghost use Rattle.aero_leads.specs.Listed.{is_listed};
 ghost use Rattle.aero_leads.specs.Passed.{passed_of, passed_in, is_early, is_since, leads_since};
 
@@ -128,6 +128,26 @@ pub(crate) fn since(
 ) -> Result<Vec<Lead>, AllocError>
     ensures { IfOk result (λ ls. ls.items ≡ leads_since t place row.now) }
 {
+    if !has_later(row, t, place) {
+        return Ok(Vec::new(alloc));
+    }
+    gather_later(row, t, place, alloc)
+}
+
+// Whether there are any, which is seldom. There is no early exit, so that many leads are looked at together.
+fn has_later(row: &[Lead], t: u32, place: u32) -> bool
+    ensures { result ≡ false → leads_since t place row.now ≡ [] }
+{
+    let mut any = false;
+    for lead in row.iter() {
+        any = any | is_later(*lead, t, place);
+    }
+    any
+}
+
+fn gather_later(row: &[Lead], t: u32, place: u32, alloc: Global) -> Result<Vec<Lead>, AllocError>
+    ensures { IfOk result (λ ls. ls.items ≡ leads_since t place row.now) }
+{
     let mut later = Vec::new(alloc);
     for lead in row.iter() {
         if is_later(*lead, t, place) {
@@ -137,8 +157,9 @@ pub(crate) fn since(
     Ok(later)
 }
 
+#[inline(always)]
 fn is_later(lead: Lead, t: u32, place: u32) -> bool
     ensures { result ≡ is_since t place lead }
 {
-    lead.opener != t && lead.place >= place
+    (lead.opener != t) & (lead.place >= place)
 }

@@ -1,7 +1,7 @@
 //! Which open blocks lead to a thread, and from which of its events on.
 ghost use Rattle.std.specs.Prelude.{◌≡◌, ◌≢◌, ◌==◌, ◌&&◌, ◌<◌, ◌++◌, ◌∷◌, [], ℕ, true, false, nat_lt, None, Some, OnOk, is_some, slice_get, if◌then◌else◌};
 ghost use Rattle.aero_leads.specs.Kept.{least_in, is_below, absorbed};
-ghost use Rattle.aero_leads.specs.Indexed.{IsIndexed, IsFound, opener_of};
+ghost use Rattle.aero_leads.specs.Indexed.{IsIndexed, IsFound, IsLeadOf, opener_of};
 ghost use Rattle.aero_leads.specs.Listed.{IsListedRow, Grows, followers};
 ghost use Rattle.aero_leads.specs.Single.{IsSingle};
 ghost use Rattle.aero_leads.specs.Steps.{gains, lesser};
@@ -53,6 +53,43 @@ pub(crate) fn has(row: &[Lead], w: u32) -> bool
     false
 }
 
+// The place where the open block of thread `w` stands. New leads stand at the end, so that the row is gone through from there.
+fn seek_back(row: &[Lead], w: usize) -> Option<usize>
+    ensures { IsFound row.now w result }
+{
+    let count = row.len();
+    for i in 0..count {
+        let at = count - 1 - i;
+        if row[at].opener as usize == w {
+            return Some(at);
+        }
+    }
+    None
+}
+
+/// The lead of the open block of thread `w`. The first one is looked at before: often it is that of the thread's own block.
+pub(crate) fn lead_of(row: &[Lead], w: usize) -> Option<Lead>
+    requires { IsSingle row.now }
+    ensures { IsLeadOf row.now w result }
+{
+    if !row.is_empty() && row[0].opener as usize == w {
+        return Some(row[0]);
+    }
+    let at = seek_back(row, w)?;
+    Some(row[at])
+}
+
+/// Whether the open block of thread `w` leads to an event of the row's thread below this place.
+pub(crate) fn led_below(row: &[Lead], w: usize, below: u32) -> bool
+    requires { IsSingle row.now }
+    ensures { result ≡ is_below (least_in row.now w) below }
+{
+    match lead_of(row, w) {
+        Some(lead) => lead.place < below,
+        None => false,
+    }
+}
+
 /// How long a row may be that is looked through for each block of another one.
 pub const SHORT: usize = 8;
 
@@ -64,10 +101,11 @@ pub struct Brought {
     pub news: bool,
 }
 
-/// What a thread takes from the row of another: what leads to an event below a place of that one's. It leads to an event at
-/// the other place, and on.
+/// What a thread takes from another one: what leads to an event of that one below a place. It leads to an event at the other
+/// place, and on.
 #[derive(Clone, Copy)]
 pub(crate) struct Taking {
+    pub(crate) from: u32,
     pub(crate) below: u32,
     pub(crate) place: u32,
 }
@@ -151,9 +189,9 @@ pub(crate) fn has_entered(row: &[Lead], index: &Index, w: u32) -> bool
     find(row, index, w).is_some()
 }
 
-// The open block of a thread leads to thread `o`, whose row this is, from this place on. The thread
-// is listed first, so that it is wherever memory is refused.
-fn add(
+/// The open block of a thread leads to thread `o`, whose row this is, from this place on. The thread
+/// is listed first, so that it is wherever memory is refused.
+pub(crate) fn add(
     row: &mut Vec<Lead>,
     o: u32,
     opener: u32,
@@ -308,18 +346,7 @@ fn seek(row: &[Lead], w: u32, hint: usize) -> Option<usize>
     if stands_at(row, last, w) {
         return Some(last);
     }
-    seek_through(row, w)
-}
-
-fn seek_through(row: &[Lead], w: u32) -> Option<usize>
-    ensures { IsFound row.now w result }
-{
-    for i in 0..row.len() {
-        if row[i].opener == w {
-            return Some(i);
-        }
-    }
-    None
+    seek_back(row, w as usize)
 }
 
 // The block of this thread is open no more. It may stand where the hint says.
@@ -344,17 +371,29 @@ fn take_out(row: &mut Vec<Lead>, opener: u32, at: usize)
     row.swap_remove(at);
 }
 
-/// The block of thread `t`, whose row this is, leads from this place on.
-pub(crate) fn open(row: &mut Vec<Lead>, t: u32, place: u32) -> Result<(), AllocError>
+/// The block of thread `t`, whose row this is, leads from this place on. Where it is new, it isn't looked for.
+pub(crate) fn open(row: &mut Vec<Lead>, t: u32, place: u32, is_new: bool) -> Result<(), AllocError>
+    requires { is_new ≡ true → is_some (least_in row.old.items t) ≡ false }
     ensures row { OnOk result ((w : ℕ) → least_in row.new.items w ≡ (if t == w then lesser (least_in row.old.items w) (Some place) else least_in row.old.items w)) }
     ensures others { (w : ℕ) → w ≢ t → least_in row.new.items w ≡ least_in row.old.items w }
     ensures single { IsSingle row.old.items → IsSingle row.new.items }
 {
-    let Some(at) = seek(row, t, 0) else {
+    let Some(at) = seek_unless(is_new, row, t) else {
         return put_lead(row, t, place);
     };
     lower_at(row, at, t, place);
     Ok(())
+}
+
+// The place where the open block of thread `t` stands, where it isn't new.
+fn seek_unless(is_new: bool, row: &[Lead], t: u32) -> Option<usize>
+    requires { is_new ≡ true → is_some (least_in row.now t) ≡ false }
+    ensures { IsFound row.now t result }
+{
+    if is_new {
+        return None;
+    }
+    seek(row, t, 0)
 }
 
 fn put_lead(row: &mut Vec<Lead>, opener: u32, place: u32) -> Result<(), AllocError>
@@ -406,15 +445,25 @@ fn lower_each(row: &mut [Lead], place: u32)
     }
 }
 
+// The place from which on the open block of thread `w`, which stands here, leads to the row's thread.
+fn place_there(row: &[Lead], w: u32, at: usize) -> u32
+    requires found { IsFound row.now w (Some at) }
+    requires single { IsSingle row.now }
+    ensures { Some result ≡ least_in row.now w }
+{
+    row[at].place
+}
+
 /// The block of thread `t`, whose row this is, ends: what led to the block leads to its begin.
 pub(crate) fn settle(row: &mut Vec<Lead>, t: u32)
     requires { IsSingle row.old.items }
     ensures absorbs { (w : ℕ) → least_in row.new.items w ≡ absorbed (least_in row.old.items) (least_in row.old.items) t w }
     ensures single { IsSingle row.new.items }
 {
-    let Some(place) = first(row, t) else {
+    let Some(at) = seek(row, t, 0) else {
         return;
     };
+    let place = place_there(row, t, at);
     lower_each(row, place);
-    drop_opener(row, t, 0);
+    drop_opener(row, t, at);
 }

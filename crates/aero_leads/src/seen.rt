@@ -1,19 +1,22 @@
 //! Which open blocks are known to lead to a thread, so that a long row isn't gone through for each
-//! block that may be new in it.
-ghost use Rattle.std.specs.Prelude.{◌≡◌, ◌==◌, ◌&&◌, ◌||◌, ◌<◌, ℕ, true, false, is_some, OnOk, vec_len, slice_get, if◌then◌else◌};
+//! block that may be new in it. Of most long rows all are known.
+ghost use Rattle.std.specs.Prelude.{◌≡◌, ◌==◌, ◌&&◌, ◌||◌, ◌<◌, ◌≢◌, ℕ, true, false, is_some, OnOk, vec_len, slice_get, if◌then◌else◌};
 ghost use Rattle.aero_leads.specs.Kept.{least_in, is_below};
 ghost use Rattle.aero_leads.specs.Listed.{is_listed};
-ghost use Rattle.aero_leads.specs.Seen.{is_seen, seen_at, openers_in, AreSeen};
+ghost use Rattle.aero_leads.specs.Seen.{is_seen, seen_at, openers_in, is_whole, whole_in, AreSeen, IsWhole};
 
 use crate::led::{Led, count, follower};
 use crate::row::{Lead, SHORT};
 use crate::thread::{Thread, row_of};
 use std::alloc::{AllocError, Global};
+use std::mem;
 
-/// For each opener, by the thread's number, whether its block is known to lead to one thread.
+/// For each opener, by the thread's number, whether its block is known to lead to one thread. Where the row is whole, no
+/// other block does.
 #[derive(Drop)]
 pub struct SeenRow {
     pub openers: Vec<bool>,
+    pub whole: bool,
 }
 
 /// The same for each thread, by its number. Of what isn't known it says nothing.
@@ -24,7 +27,8 @@ pub struct Seen {
 
 /// Nothing is known.
 pub(crate) fn nothing_seen(alloc: Global) -> Seen
-    ensures { (o w : ℕ) → is_seen result o w ≡ false }
+    ensures seen { (o w : ℕ) → is_seen result o w ≡ false }
+    ensures whole { (o : ℕ) → is_whole result o ≡ false }
 {
     Seen {
         rows: Vec::new(alloc),
@@ -33,7 +37,8 @@ pub(crate) fn nothing_seen(alloc: Global) -> Seen
 
 /// Nothing is known any more.
 pub(crate) fn forget_all(seen: &mut Seen)
-    ensures { (o w : ℕ) → is_seen seen.new o w ≡ false }
+    ensures seen { (o w : ℕ) → is_seen seen.new o w ≡ false }
+    ensures whole { (o : ℕ) → is_whole seen.new o ≡ false }
 {
     seen.rows.clear();
 }
@@ -52,7 +57,18 @@ pub(crate) fn has_seen(seen: &Seen, t: u32, other: &[Lead], below: u32) -> bool
     true
 }
 
-fn openers_of(seen: &Seen, t: u32) -> &[bool]
+/// Whether all blocks that lead to thread `t` are known.
+pub(crate) fn is_whole(seen: &Seen, t: u32) -> bool
+    ensures { result ≡ is_whole seen.now t }
+{
+    match seen.rows.get(t as usize) {
+        Some(row) => row.whole,
+        None => false,
+    }
+}
+
+/// What is known to lead to thread `t`.
+pub(crate) fn openers_of(seen: &Seen, t: u32) -> &[bool]
     ensures { result.now ≡ openers_in (slice_get seen.now.rows.items t) }
 {
     match seen.rows.get(t as usize) {
@@ -61,7 +77,8 @@ fn openers_of(seen: &Seen, t: u32) -> &[bool]
     }
 }
 
-fn is_in(openers: &[bool], w: u32) -> bool
+/// Whether the block of thread `w` is among these.
+pub(crate) fn is_in(openers: &[bool], w: u32) -> bool
     ensures { result ≡ seen_at openers.now w }
 {
     match openers.get(w as usize) {
@@ -74,42 +91,59 @@ fn is_in(openers: &[bool], w: u32) -> bool
 const PLACES: usize = 12;
 
 /// What leads to thread `t` is known from now on, where its row is long and memory isn't refused. No more than
-/// twelve bytes are taken for each lead: blocks of threads with a greater number aren't known.
+/// twelve bytes are taken for each lead: blocks of threads with a greater number aren't known, and then the row isn't whole.
 pub(crate) fn see_all(seen: &mut Seen, threads: &[Thread], t: u32)
-    ensures { AreSeen threads.now seen.old → AreSeen threads.now seen.new }
+    ensures so { AreSeen threads.now seen.old → AreSeen threads.now seen.new }
+    ensures whole { is_whole seen.new t ≡ true → IsWhole threads.now seen.new t }
+    ensures others { (o w : ℕ) → o ≢ t → is_seen seen.new o w ≡ is_seen seen.old o w }
+    ensures whole_others { (o : ℕ) → o ≢ t → is_whole seen.new o ≡ is_whole seen.old o }
 {
     let row = row_of(threads, t);
     if row.len() <= SHORT || reach(&mut seen.rows, t).is_err() {
+        break_row(seen, t);
         return;
     }
     let places = row.len().saturating_mul(PLACES).min(threads.len());
-    see_row(&mut seen.rows[t as usize].openers, row, places);
+    see_row(&mut seen.rows[t as usize], row, places);
 }
 
 fn reach(rows: &mut Vec<SeenRow>, t: u32) -> Result<(), AllocError>
     ensures room { OnOk result (t < vec_len rows.new) }
     ensures same { (o : ℕ) → openers_in (slice_get rows.new.items o) ≡ openers_in (slice_get rows.old.items o) }
+    ensures whole { (o : ℕ) → whole_in (slice_get rows.new.items o) ≡ whole_in (slice_get rows.old.items o) }
 {
     let at = t as usize;
     while rows.len() <= at {
         let alloc = *rows.allocator();
         rows.push(SeenRow {
             openers: Vec::new(alloc),
+            whole: false,
         })?;
     }
     Ok(())
 }
 
-// The openers of the row that have a place among so many.
-fn see_row(openers: &mut Vec<bool>, row: &[Lead], places: usize)
-    ensures { (w : ℕ) → seen_at openers.new.items w ≡ true → (seen_at openers.old.items w || is_some (least_in row.now w)) ≡ true }
+// More may lead to thread t than is known.
+fn break_row(seen: &mut Seen, t: u32)
+    ensures seen { (o w : ℕ) → is_seen seen.new o w ≡ is_seen seen.old o w }
+    ensures here { is_whole seen.new t ≡ false }
+    ensures others { (o : ℕ) → o ≢ t → is_whole seen.new o ≡ is_whole seen.old o }
 {
-    if widen(openers, places).is_err() {
+    if (t as usize) < seen.rows.len() {
+        seen.rows[t as usize].whole = false;
+    }
+}
+
+// The openers of the row that have a place among so many.
+fn see_row(known: &mut SeenRow, row: &[Lead], places: usize)
+    ensures so { (w : ℕ) → seen_at known.new.openers.items w ≡ true → (seen_at known.old.openers.items w || is_some (least_in row.now w)) ≡ true }
+    ensures whole { known.new.whole ≡ true → (w : ℕ) → is_some (least_in row.now w) ≡ true → seen_at known.new.openers.items w ≡ true }
+{
+    known.whole = false;
+    if widen(&mut known.openers, places).is_err() {
         return;
     }
-    for lead in row.iter() {
-        see(openers, lead.opener);
-    }
+    known.whole = see_each(&mut known.openers, row);
 }
 
 fn widen(openers: &mut Vec<bool>, places: usize) -> Result<(), AllocError>
@@ -121,41 +155,152 @@ fn widen(openers: &mut Vec<bool>, places: usize) -> Result<(), AllocError>
     Ok(())
 }
 
+// The openers of the row that have a place. Whether all have one.
+fn see_each(openers: &mut Vec<bool>, row: &[Lead]) -> bool
+    ensures so { (w : ℕ) → seen_at openers.new.items w ≡ true → (seen_at openers.old.items w || is_some (least_in row.now w)) ≡ true }
+    ensures whole { result ≡ true → (w : ℕ) → is_some (least_in row.now w) ≡ true → seen_at openers.new.items w ≡ true }
+{
+    let mut all = true;
+    for lead in row.iter() {
+        all = see_too(all, openers, lead.opener);
+    }
+    all
+}
+
+// One more opener. Whether this one has a place, and all before it had.
+fn see_too(all: bool, openers: &mut Vec<bool>, opener: u32) -> bool
+    ensures others { (w : ℕ) → w ≢ opener → seen_at openers.new.items w ≡ seen_at openers.old.items w }
+    ensures so { (w : ℕ) → seen_at openers.new.items w ≡ true → (seen_at openers.old.items w || (opener == w)) ≡ true }
+    ensures kept { (w : ℕ) → seen_at openers.old.items w ≡ true → seen_at openers.new.items w ≡ true }
+    ensures before { result ≡ true → all ≡ true }
+    ensures here { result ≡ true → seen_at openers.new.items opener ≡ true }
+{
+    see(openers, opener) && all
+}
+
 // The opener is known, where there is a place for it.
-fn see(openers: &mut Vec<bool>, opener: u32)
-    ensures { (w : ℕ) → seen_at openers.new.items w ≡ true → (seen_at openers.old.items w || (opener == w)) ≡ true }
+fn see(openers: &mut Vec<bool>, opener: u32) -> bool
+    ensures others { (w : ℕ) → w ≢ opener → seen_at openers.new.items w ≡ seen_at openers.old.items w }
+    ensures so { (w : ℕ) → seen_at openers.new.items w ≡ true → (seen_at openers.old.items w || (opener == w)) ≡ true }
+    ensures kept { (w : ℕ) → seen_at openers.old.items w ≡ true → seen_at openers.new.items w ≡ true }
+    ensures here { result ≡ true → seen_at openers.new.items opener ≡ true }
 {
     if (opener as usize) < openers.len() {
         openers[opener as usize] = true;
+        return true;
+    }
+    false
+}
+
+/// Makes room for so many openers, as far as a row with so many leads may take it, and memory isn't refused.
+pub(crate) fn widen_for(known: &mut SeenRow, openers: usize, leads: usize)
+    ensures same { (w : ℕ) → seen_at known.new.openers.items w ≡ seen_at known.old.openers.items w }
+    ensures whole { known.new.whole ≡ known.old.whole }
+{
+    let places = leads.saturating_mul(PLACES).min(openers);
+    let _ = widen(&mut known.openers, places);
+}
+
+/// Takes out what is known to lead to thread `t`. Of others the same is known.
+pub(crate) fn take_known(seen: &mut Seen, t: u32) -> SeenRow
+    ensures openers { result.openers.items ≡ openers_in (slice_get seen.old.rows.items t) }
+    ensures whole { result.whole ≡ is_whole seen.old t }
+    ensures others { (o w : ℕ) → o ≢ t → is_seen seen.new o w ≡ is_seen seen.old o w }
+    ensures whole_others { (o : ℕ) → o ≢ t → is_whole seen.new o ≡ is_whole seen.old o }
+{
+    let alloc = *seen.rows.allocator();
+    let nothing = SeenRow {
+        openers: Vec::new(alloc),
+        whole: false,
+    };
+    if (t as usize) < seen.rows.len() {
+        return mem::replace(&mut seen.rows[t as usize], nothing);
+    }
+    nothing
+}
+
+/// Gives thread `t` this back.
+pub(crate) fn put_known(seen: &mut Seen, t: u32, known: SeenRow)
+    ensures so { (w : ℕ) → is_seen seen.new t w ≡ true → seen_at known.openers.items w ≡ true }
+    ensures whole { is_whole seen.new t ≡ true → known.whole ≡ true }
+    ensures here { is_whole seen.new t ≡ true → (w : ℕ) → seen_at known.openers.items w ≡ true → is_seen seen.new t w ≡ true }
+    ensures others { (o w : ℕ) → o ≢ t → is_seen seen.new o w ≡ is_seen seen.old o w }
+    ensures whole_others { (o : ℕ) → o ≢ t → is_whole seen.new o ≡ is_whole seen.old o }
+{
+    if (t as usize) < seen.rows.len() {
+        seen.rows[t as usize] = known;
     }
 }
 
-/// The block of thread `w` is open no more: it isn't known to lead to a thread that is listed with it, nor to itself.
-pub(crate) fn unsee_all(seen: &mut Seen, led: &Led, w: u32)
+/// The block of thread `t` begins, and leads to the thread. That is known where there is a place for it, and else the row
+/// isn't whole.
+pub(crate) fn see_own(seen: &mut Seen, t: u32)
+    ensures so { (o w : ℕ) → is_seen seen.new o w ≡ true → (is_seen seen.old o w || ((o == t) && (t == w))) ≡ true }
+    ensures kept { (o w : ℕ) → is_seen seen.old o w ≡ true → is_seen seen.new o w ≡ true }
+    ensures whole { (o : ℕ) → is_whole seen.new o ≡ true → is_whole seen.old o ≡ true }
+    ensures own { is_whole seen.new t ≡ true → is_seen seen.new t t ≡ true }
+{
+    if (t as usize) < seen.rows.len() {
+        see_one(&mut seen.rows[t as usize], t);
+    }
+}
+
+/// The same of one opener, in a row that was taken out.
+pub(crate) fn see_one(known: &mut SeenRow, w: u32)
+    ensures others { (v : ℕ) → v ≢ w → seen_at known.new.openers.items v ≡ seen_at known.old.openers.items v }
+    ensures so { (v : ℕ) → seen_at known.new.openers.items v ≡ true → (seen_at known.old.openers.items v || (w == v)) ≡ true }
+    ensures kept { (v : ℕ) → seen_at known.old.openers.items v ≡ true → seen_at known.new.openers.items v ≡ true }
+    ensures whole { known.new.whole ≡ true → known.old.whole ≡ true }
+    ensures here { known.new.whole ≡ true → seen_at known.new.openers.items w ≡ true }
+{
+    known.whole = see_too(known.whole, &mut known.openers, w);
+}
+
+/// The block of thread `w` is open no more: it isn't known to lead to a thread that is listed with it, nor to itself. The rows
+/// of those that are listed are no longer whole where they may have gained what led to it.
+pub(crate) fn unsee_all(seen: &mut Seen, led: &Led, w: u32, has_gained: bool)
     ensures kept { (o v : ℕ) → is_seen seen.new o v ≡ true → is_seen seen.old o v ≡ true }
     ensures own { is_seen seen.new w w ≡ false }
     ensures listed { (o : ℕ) → is_listed led.now w o ≡ true → is_seen seen.new o w ≡ false }
+    ensures others { (o v : ℕ) → v ≢ w → is_seen seen.new o v ≡ is_seen seen.old o v }
+    ensures whole { (o : ℕ) → is_whole seen.new o ≡ true → is_whole seen.old o ≡ true }
+    ensures gained { has_gained ≡ true → (o : ℕ) → is_listed led.now w o ≡ true → is_whole seen.new o ≡ false }
 {
-    unsee(seen, w, w);
+    unsee(seen, w, w, false);
     let listed = count(led, w);
     for i in 0..listed {
-        unsee(seen, follower(led, w, i), w);
+        unsee(seen, follower(led, w, i), w, has_gained);
     }
 }
 
-// The block of thread w isn't known to lead to thread o.
-fn unsee(seen: &mut Seen, o: u32, w: u32)
+// The block of thread w isn't known to lead to thread o, which may have gained others.
+fn unsee(seen: &mut Seen, o: u32, w: u32, has_gained: bool)
     ensures kept { (u v : ℕ) → is_seen seen.new u v ≡ true → is_seen seen.old u v ≡ true }
     ensures gone { is_seen seen.new o w ≡ false }
+    ensures others { (u v : ℕ) → v ≢ w → is_seen seen.new u v ≡ is_seen seen.old u v }
+    ensures whole { (u : ℕ) → is_whole seen.new u ≡ true → is_whole seen.old u ≡ true }
+    ensures gained { has_gained ≡ true → is_whole seen.new o ≡ false }
 {
     if (o as usize) < seen.rows.len() {
-        leave_out(&mut seen.rows[o as usize].openers, w);
+        leave_out(&mut seen.rows[o as usize], w, has_gained);
     }
 }
 
-fn leave_out(openers: &mut [bool], w: u32)
+fn leave_out(known: &mut SeenRow, w: u32, has_gained: bool)
+    ensures kept { (v : ℕ) → seen_at known.new.openers.items v ≡ true → seen_at known.old.openers.items v ≡ true }
+    ensures gone { seen_at known.new.openers.items w ≡ false }
+    ensures others { (v : ℕ) → v ≢ w → seen_at known.new.openers.items v ≡ seen_at known.old.openers.items v }
+    ensures whole { known.new.whole ≡ true → known.old.whole ≡ true }
+    ensures gained { has_gained ≡ true → known.new.whole ≡ false }
+{
+    unset(&mut known.openers, w);
+    known.whole = known.whole && !has_gained;
+}
+
+fn unset(openers: &mut [bool], w: u32)
     ensures kept { (v : ℕ) → seen_at openers.new v ≡ true → seen_at openers.old v ≡ true }
     ensures gone { seen_at openers.new w ≡ false }
+    ensures others { (v : ℕ) → v ≢ w → seen_at openers.new v ≡ seen_at openers.old v }
 {
     if (w as usize) < openers.len() {
         openers[w as usize] = false;

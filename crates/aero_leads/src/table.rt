@@ -4,17 +4,22 @@ ghost use Rattle.aero_leads.specs.Kept.{rows_in, is_below, thread_row, thread_in
 ghost use Rattle.aero_leads.specs.Listed.{AreListed};
 ghost use Rattle.aero_leads.specs.Lows.{AreLow};
 ghost use Rattle.aero_leads.specs.Passed.{ArePassed, leads_since, passed_of};
-ghost use Rattle.aero_leads.specs.Seen.{AreSeen};
+ghost use Rattle.aero_leads.specs.Seen.{is_whole, AreKnown};
 ghost use Rattle.aero_leads.specs.Single.{AreSingle};
 
+use crate::back::least_known;
+use crate::gaining::gain_row;
 use crate::last::Last;
 use crate::led::{Led, forget, no_block};
 use crate::lows::{Lows, forget_lows, is_low, lower, no_low, raise_all};
+use crate::news::{differ_little, has_news, has_others};
 use crate::passed::{
     Passed, forget_places, lower_place, no_place, note_begin, note_gain, passed_before, since,
 };
-use crate::row::{Brought, Lead, Taking, brought_by, gain_all, settle};
-use crate::seen::{Seen, forget_all, has_seen, nothing_seen, see_all, unsee_all};
+use crate::row::{Brought, Lead, SHORT, Taking, brought_by, led_below, settle};
+use crate::seen::{
+    Seen, forget_all, has_seen, is_in, is_whole, nothing_seen, openers_of, see_own, unsee_all,
+};
 use crate::thread;
 use crate::thread::{Thread, leave, put_row, row_of, spread, take_row};
 use std::alloc::{AllocError, Global};
@@ -29,7 +34,7 @@ pub struct Table {
     pub lows: Lows,
     pub passed: Passed,
     ghost listed: { AreListed threads.items led },
-    ghost known: { AreSeen threads.items seen },
+    ghost known: { AreKnown threads.items seen },
     ghost low: { AreLow threads.items lows },
     ghost passing: { ArePassed threads.items passed },
     ghost single: { AreSingle threads.items },
@@ -75,17 +80,23 @@ pub(crate) fn gain(
     if brings_nothing(table, t, o, below) {
         return Ok(());
     }
-    let mut row = take_row(&mut table.threads, t);
-    let other = row_of(&table.threads, o);
-    let taking = Taking { below, place };
-    let Ok(()) = gain_all(&mut row, t, other, taking, &mut table.led) else {
+    let taking = Taking {
+        from: o,
+        below,
+        place,
+    };
+    let Ok(()) = gain_row(
+        &mut table.threads,
+        &mut table.seen,
+        &mut table.led,
+        t,
+        taking,
+    ) else {
         forget_all(&mut table.seen);
         forget_lows(&mut table.lows);
         forget_places(&mut table.passed);
         return Err(AllocError);
     };
-    put_row(&mut table.threads, t, row);
-    see_all(&mut table.seen, &table.threads, t);
     lower(&mut table.lows, t, place);
     lower_place(&mut table.passed, o, below);
     note_gain(&mut table.passed, &table.led, t, place);
@@ -96,7 +107,13 @@ pub(crate) fn gain(
 fn brings_nothing(table: &Table, t: u32, o: u32, below: u32) -> bool
     ensures { result ≡ true → (w : ℕ) → is_below (rows_in table.now.threads.items o w) below ≡ true → is_some (rows_in table.now.threads.items t w) ≡ true }
 {
-    has_seen(&table.seen, t, row_of(&table.threads, o), below)
+    let other = row_of(&table.threads, o);
+    let theirs = openers_of(&table.seen, o);
+    let mine = openers_of(&table.seen, t);
+    if is_whole(&table.seen, o) && differ_little(theirs, mine) {
+        return !has_news(theirs, mine, other, below);
+    }
+    has_seen(&table.seen, t, other, below)
 }
 
 // What an event of thread `o` below a place brings thread `t`.
@@ -107,7 +124,45 @@ fn brings(table: &Table, t: u32, o: u32, below: u32) -> Brought
 {
     let row = row_of(&table.threads, t);
     let other = row_of(&table.threads, o);
+    if other.len() > SHORT && is_whole(&table.seen, o) {
+        return brings_of_whole(table, t, o, below);
+    }
     brought_by(row, other, t, below)
+}
+
+// The same where all that leads to thread `o` is known: what both threads have is passed over.
+fn brings_of_whole(table: &Table, t: u32, o: u32, below: u32) -> Brought
+    requires { is_whole table.now.seen o ≡ true }
+    ensures closes { result.closes ≡ is_below (rows_in table.now.threads.items o t) below }
+    ensures known { result.news ≡ false → (w : ℕ) → is_below (rows_in table.now.threads.items o w) below ≡ true → is_some (rows_in table.now.threads.items t w) ≡ true }
+{
+    let closes = is_led(table, o, t, below);
+    let news = may_bring(table, t, o, below);
+    Brought { closes, news }
+}
+
+// Whether the open block of thread `w` leads to an event of thread `o` below a place.
+fn is_led(table: &Table, o: u32, w: u32, below: u32) -> bool
+    requires { is_whole table.now.seen o ≡ true }
+    ensures { result ≡ is_below (rows_in table.now.threads.items o w) below }
+{
+    if !is_in(openers_of(&table.seen, o), w) {
+        return false;
+    }
+    led_below(row_of(&table.threads, o), w as usize, below)
+}
+
+// Whether an event of thread `o` below a place may bring thread `t` news. The block of `o` itself is looked at apart: mostly
+// that is what differs, and mostly it began later.
+fn may_bring(table: &Table, t: u32, o: u32, below: u32) -> bool
+    requires { is_whole table.now.seen o ≡ true }
+    ensures { result ≡ false → (w : ℕ) → is_below (rows_in table.now.threads.items o w) below ≡ true → is_some (rows_in table.now.threads.items t w) ≡ true }
+{
+    let mine = openers_of(&table.seen, t);
+    if has_others(openers_of(&table.seen, o), mine, o) {
+        return true;
+    }
+    !is_in(mine, o) && is_led(table, o, o, below)
 }
 
 // Thread t gains what the event, of another thread, brings, where that may be news.
@@ -219,15 +274,24 @@ pub(crate) fn begin(table: &mut Table, t: u32, place: u32) -> Result<(), AllocEr
     ensures err { OnErr result (HaveSameBlocks table.old.threads.items table.new.threads.items) }
     ensures room { vec_len table.new.threads ≡ vec_len table.old.threads }
 {
-    let Ok(()) = thread::begin(&mut table.threads, t, place) else {
+    let is_new = has_no_own(table, t);
+    let Ok(()) = thread::begin(&mut table.threads, t, place, is_new) else {
         forget_all(&mut table.seen);
         forget_lows(&mut table.lows);
         forget_places(&mut table.passed);
         return Err(AllocError);
     };
+    see_own(&mut table.seen, t);
     lower(&mut table.lows, t, place);
     note_begin(&mut table.passed, &table.led, t, place);
     Ok(())
+}
+
+// Where it is true, the row of thread `t` is known to have no block of its own.
+fn has_no_own(table: &Table, t: u32) -> bool
+    ensures { result ≡ true → is_some (rows_in table.now.threads.items t t) ≡ false }
+{
+    is_whole(&table.seen, t) && !is_in(openers_of(&table.seen, t), t)
 }
 
 /// The least thread whose open block closes a cycle through that of thread `t`.
@@ -235,6 +299,10 @@ pub(crate) fn least_back(table: &mut Table, t: u32) -> Result<Option<u32>, Alloc
     ensures least { IfOk result (IsLeastBack (rows_in table.new.threads.items) t) }
     ensures same { table.new.threads ≡ table.old.threads }
 {
+    if is_whole(&table.seen, t) {
+        let into = openers_of(&table.seen, t);
+        return Ok(least_known(&table.threads, t, into, &table.led));
+    }
     thread::least_back(&table.threads, t, &mut table.led)
 }
 
@@ -256,7 +324,7 @@ pub(crate) fn end(table: &mut Table, t: u32) -> Result<(), AllocError>
     };
     put_row(&mut table.threads, t, row);
     leave(&mut table.threads, t);
-    unsee_all(&mut table.seen, &table.led, t);
+    unsee_all(&mut table.seen, &table.led, t, !later.is_empty());
     raise_all(&mut table.lows, &table.threads, &table.led, t);
     forget(&mut table.led, t);
     Ok(())

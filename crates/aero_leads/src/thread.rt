@@ -70,9 +70,15 @@ pub(crate) fn row_of(threads: &[Thread], o: u32) -> &[Lead]
     }
 }
 
-/// Thread `t` begins a block at this place.
-pub(crate) fn begin(threads: &mut Vec<Thread>, t: u32, place: u32) -> Result<(), AllocError>
+/// Thread `t` begins a block at this place. Where it is new, its row has none of its own.
+pub(crate) fn begin(
+    threads: &mut Vec<Thread>,
+    t: u32,
+    place: u32,
+    is_new: bool,
+) -> Result<(), AllocError>
     requires actor { t < vec_len threads.old }
+    requires new { is_new ≡ true → is_some (rows_in threads.old.items t t) ≡ false }
     requires count { thread_begins (slice_get threads.old.items t) < 2 ^ 32 - 1 }
     ensures begins { OnOk result (BeginsBlock threads.old.items threads.new.items t place) }
     ensures err { OnErr result (HaveSameBlocks threads.old.items threads.new.items) }
@@ -81,7 +87,7 @@ pub(crate) fn begin(threads: &mut Vec<Thread>, t: u32, place: u32) -> Result<(),
     ensures room { vec_len threads.new ≡ vec_len threads.old }
 {
     let thread = &mut threads[t as usize];
-    open(&mut thread.row, t, place)?;
+    open(&mut thread.row, t, place, is_new)?;
     thread.in_block = true;
     thread.begins += 1;
     Ok(())

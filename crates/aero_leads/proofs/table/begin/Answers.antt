@@ -1,11 +1,13 @@
 use Rattle.std.proofs.Common.{sym}
 use Rattle.aero_leads.proofs.Lowering.{low_begun}
 use Rattle.aero_leads.proofs.Passing.{passed_begun}
-use Rattle.aero_leads.proofs.Seeing.{seen_begun}
+use Rattle.aero_leads.proofs.Seeing.{known_begun}
 use Rattle.aero_leads.proofs.table.begin.Goals as goal
 
 pub invariant_of-table-2-clause-known : goal.invariant_of-table-2-clause-known
-invariant_of-table-2-clause-known c = seen_begun c.args.table.now.threads.items c.begin.new.threads.items c.args.table.now.seen c.args.t c.args.place c.in-Ok.ensures.begins c.args.table.now.known
+invariant_of-table-2-clause-known c =
+    known_begun c.args.table.now.threads.items c.begin.new.threads.items c.args.table.now.seen c.see_own.new.seen c.args.t c.args.place c.in-Ok.ensures.begins
+    c.see_own.ensures.so c.see_own.ensures.kept c.see_own.ensures.whole c.see_own.ensures.own c.args.table.now.known
 
 pub invariant_of-table-2-clause-low : goal.invariant_of-table-2-clause-low
 invariant_of-table-2-clause-low c =

@@ -1,11 +1,11 @@
 use Rattle.std.proofs.Common.{ap, sym, subst, ◌∙◌}
-use Rattle.std.specs.Prelude.{if◌then◌else◌, is_some, slice_get}
+use Rattle.std.specs.Prelude.{if◌then◌else◌, not, is_some, slice_get}
 use Rattle.aero_leads.specs.Kept.{least_in, rows_in, thread_row, absorbed}
 use Rattle.aero_leads.specs.Listed.{is_listed}
 use Rattle.aero_leads.specs.Passed.{passed_of}
 use Rattle.aero_leads.specs.Single.{IsSingle}
 use Rattle.aero_leads.proofs.Ends.{ends_all}
-use Rattle.aero_leads.proofs.Seeing.{listed_ended, seen_ended}
+use Rattle.aero_leads.proofs.Seeing.{empty_of, listed_ended, known_ended}
 use Rattle.aero_leads.proofs.Lowering.{low_ended}
 use Rattle.aero_leads.proofs.Passing.{passed_ended, since_own, since_spreads}
 use Rattle.aero_leads.proofs.Singles.{single_row, single_rows, single_taken}
@@ -33,9 +33,12 @@ invariant_of-table-2 c =
       listed = listed_ended c.args.table.now.threads.items c.take_row-row.new.threads.items c.spread.new.threads.items c.put_row.new.threads.items c.leave.new.threads.items c.args.t
           c.take_row-row.result.items c.settle.new.row.items c.args.table.now.led c.spread.new.led c.forget.new.led c.args.table.now.listed
           c.take_row-row.ensures.row c.take_row-row.ensures.rest c.settle.ensures.absorbs c.spread.ensures.listed c.spread.ensures.grows c.put_row.ensures.row c.leave.ensures.rows c.forget.ensures ends;
-      known = seen_ended c.args.table.now.threads.items c.leave.new.threads.items c.spread.new.led c.args.table.now.seen c.unsee_all.new.seen c.args.t ends
+      known = known_ended c.args.table.now.threads.items c.leave.new.threads.items c.spread.new.led c.args.table.now.seen c.unsee_all.new.seen c.args.t c.in_ok-later.later.items (not c.is_empty.result) ends
           (λ o w ne some. c.spread.ensures.grows w o (c.args.table.now.listed o w ne some))
-          c.unsee_all.ensures.kept c.unsee_all.ensures.own c.unsee_all.ensures.listed c.args.table.now.known;
+          c.unsee_all.ensures.kept c.unsee_all.ensures.own c.unsee_all.ensures.listed c.unsee_all.ensures.others c.unsee_all.ensures.whole c.unsee_all.ensures.gained
+          (empty_of c.is_empty.result _ c.in_ok-later.later.items c.is_empty.ensures (sym c.in_ok-later.later.ok.0))
+          (λ o w ne. ap (λ xs. absorbed (least_in xs) (rows_in c.args.table.now.threads.items o) c.args.t w) c.in_ok-later.ensures ∙ since_spreads c.args.table.now.threads.items c.args.table.now.passed c.args.t o w ne c.args.table.now.passing)
+          c.args.table.now.known;
       low = low_ended c.args.table.now.threads.items c.leave.new.threads.items c.deref-2.result.now c.args.table.now.lows c.raise_all.new.lows c.args.t c.deref-2.ensures.value ends c.raise_all.ensures.kept c.args.table.now.low;
       passing = passed_ended c.args.table.now.threads.items c.leave.new.threads.items c.args.table.now.passed c.args.t ends c.args.table.now.passing;
       single = single_rows c.put_row.new.threads.items c.leave.new.threads.items c.leave.ensures.lists (single_row c.spread.new.threads.items c.put_row.new.threads.items c.args.t c.settle.new.row.items c.put_row.ensures.row c.settle.ensures.single c.spread.ensures.single);

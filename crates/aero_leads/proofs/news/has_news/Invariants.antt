@@ -1,0 +1,13 @@
+use Rattle.std.proofs.Common.{◌≡◌, ℕ, ◌<◌, ◌-◌}
+use Rattle.std.specs.Prelude.{true, length}
+use Rattle.aero_leads.specs.Kept.{least_in, is_below}
+use Rattle.aero_leads.specs.Seen.{seen_at}
+use Rattle.aero_leads.proofs.news.has_news.Given as goal
+
+abbrev pub invariant-loop-at : goal.invariant-loop-at
+invariant-loop-at l = record {
+  known : (w : ℕ) → w < l.at → seen_at l.theirs w ≡ true → is_below (least_in l.other w) l.below ≡ true → seen_at l.mine w ≡ true;
+}
+
+abbrev pub decreases-loop-at : goal.decreases-loop-at
+decreases-loop-at l = length l.theirs - l.at
