@@ -41,11 +41,12 @@ use std::io::{Read, Write};
 use std::sync::Wait;
 use std::thread::Threads;
 
-/// The three standard streams.
+/// The three standard streams. At the return of a function that takes them, contracts see standard output as `exit.0`, and
+/// standard error as `exit.1.0`.
 pub struct Streams<'a, S, O: Write, E: Write> {
-    pub input: S,
     pub output: &'a mut Output<O>,
     pub errors: &'a mut Counting<Retrying<E>>,
+    pub input: S,
 }
 
 /// Does what the words ask for, and gives the exit status.
@@ -68,13 +69,13 @@ pub fn execute<
 >(rt: T, alloc: Global, asked: Result<Config, Stop>, files: &F, streams: Streams<'_, S, O, E>) -> u8
 where
     F::File: Send,
-    ensures { Executes F.holds asked (S.remaining streams.entry.input) (shown_by O.contents streams.entry.output.now) (shown_by O.contents streams.exit.output.now)
-        (seen_by (λ w. E.contents (tried_by w)) streams.entry.errors.now) (seen_by (λ w. E.contents (tried_by w)) streams.exit.errors.now) result }
+    ensures { Executes F.holds asked (S.remaining streams.entry.input) (shown_by O.contents streams.entry.output.now) (shown_by O.contents streams.exit.0.now)
+        (seen_by (λ w. E.contents (tried_by w)) streams.entry.errors.now) (seen_by (λ w. E.contents (tried_by w)) streams.exit.1.0.now) result }
 {
     let Streams {
-        input,
         output,
         errors,
+        input,
     } = streams;
     let host = Host { rt, alloc };
     match asked {

@@ -11,9 +11,9 @@
 //! let mut output = Output::new(rt.stdout());
 //! let mut errors = Counting::new(Retrying::new(rt.stderr()));
 //! let streams = Streams {
-//!     input: rt.stdin(),
 //!     output: &mut output,
 //!     errors: &mut errors,
+//!     input: rt.stdin(),
 //! };
 //! execute(rt, rt.alloc(), asked, &FilesOf::new(rt), streams)
 //! ```

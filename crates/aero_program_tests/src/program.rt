@@ -141,9 +141,9 @@ where
     let mut output = Output::new(output_of(rt.alloc(), damage));
     let mut errors = Counting::new(Retrying::new(errors_of(rt.alloc(), damage)));
     let streams = Streams {
-        input: stdin,
         output: &mut output,
         errors: &mut errors,
+        input: stdin,
     };
     let status = execute(rt, rt.alloc(), asked, files, streams);
     let out = output.into_inner().inner.taken;
@@ -548,9 +548,9 @@ fn flushes_of<R: AllocGlobal + Threads + Wait + Copy + Drop + Send + Sync + 'sta
     let mut output = Output::new(never_flushed(rt.alloc()));
     let mut errors = Counting::new(Retrying::new(never_flushed(rt.alloc())));
     let streams = Streams {
-        input: stdin,
         output: &mut output,
         errors: &mut errors,
+        input: stdin,
     };
     execute(rt, rt.alloc(), asked, &files, streams);
     (output.into_inner(), errors.into_inner().into_inner())

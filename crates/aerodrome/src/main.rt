@@ -158,9 +158,9 @@ where
     let mut errors = Counting::new(Retrying::new(Beside::new(rt, standard.errors, line)));
     let files = MeteredFiles::new(FilesOf::new(rt), meter);
     let streams = Streams {
-        input: Metered::new(standard.input, meter),
         output: &mut output,
         errors: &mut errors,
+        input: Metered::new(standard.input, meter),
     };
     execute(rt, alloc, asked, &files, streams)
 }
