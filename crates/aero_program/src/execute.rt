@@ -41,12 +41,18 @@ use std::io::{Read, Write};
 use std::sync::Wait;
 use std::thread::Threads;
 
-/// The three standard streams. At the return of a function that takes them, contracts see standard output as `exit.0`, and
-/// standard error as `exit.1.0`.
-pub struct Streams<'a, S, O: Write, E: Write> {
+/// What a run takes time, threads and memory from.
+#[derive(Clone, Copy)]
+pub struct Host<T> {
+    pub rt: T,
+    pub alloc: Global,
+}
+
+/// The streams that the program writes to. At the return of a function that takes them, contracts see standard output as
+/// `exit.0`, and standard error as `exit.1.0`.
+pub struct Streams<'a, O: Write, E: Write> {
     pub output: &'a mut Output<O>,
     pub errors: &'a mut Counting<Retrying<E>>,
-    pub input: S,
 }
 
 /// Does what the words ask for, and gives the exit status.
@@ -66,32 +72,20 @@ pub fn execute<
     O: Write,
     E: Write,
     T: Threads + Wait + Copy + Send + Sync + 'static,
->(rt: T, alloc: Global, asked: Result<Config, Stop>, files: &F, streams: Streams<'_, S, O, E>) -> u8
+>(host: Host<T>, asked: Result<Config, Stop>, files: &F, stdin: S, streams: Streams<'_, O, E>) -> u8
 where
     F::File: Send,
-    ensures { Executes F.holds asked (S.remaining streams.entry.input) (shown_by O.contents streams.entry.output.now) (shown_by O.contents streams.exit.0.now)
+    ensures { Executes F.holds asked (S.remaining stdin) (shown_by O.contents streams.entry.output.now) (shown_by O.contents streams.exit.0.now)
         (seen_by (λ w. E.contents (tried_by w)) streams.entry.errors.now) (seen_by (λ w. E.contents (tried_by w)) streams.exit.1.0.now) result }
 {
-    let Streams {
-        output,
-        errors,
-        input,
-    } = streams;
-    let host = Host { rt, alloc };
+    let Streams { output, errors } = streams;
     match asked {
-        Ok(config) => judge(Place { host, files }, config, input, output, errors),
-        Err(stop) => tell_stop(alloc, &stop, output, errors),
+        Ok(config) => judge(Place { host, files }, config, stdin, output, errors),
+        Err(stop) => tell_stop(host.alloc, &stop, output, errors),
     }
 }
 
-// What a run takes time and memory from.
-#[derive(Clone, Copy)]
-struct Host<T> {
-    rt: T,
-    alloc: Global,
-}
-
-// The same, and the files of the machine.
+// What a run takes time, threads and memory from, and the files of the machine.
 struct Place<'a, T, F> {
     host: Host<T>,
     files: &'a F,

@@ -10,12 +10,9 @@
 //! ```text
 //! let mut output = Output::new(rt.stdout());
 //! let mut errors = Counting::new(Retrying::new(rt.stderr()));
-//! let streams = Streams {
-//!     output: &mut output,
-//!     errors: &mut errors,
-//!     input: rt.stdin(),
-//! };
-//! execute(rt, rt.alloc(), asked, &FilesOf::new(rt), streams)
+//! let host = Host { rt, alloc: rt.alloc() };
+//! let streams = Streams { output: &mut output, errors: &mut errors };
+//! execute(host, asked, &FilesOf::new(rt), rt.stdin(), streams)
 //! ```
 //!
 //! # What is proved

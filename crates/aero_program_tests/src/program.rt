@@ -13,7 +13,7 @@ use crate::program::streams::{EVER, Flushes, Interrupted, Narrow, Shelf, Text, n
 use aero_model::Counting;
 use aero_program::arguments::Unread;
 use aero_program::command::{Config, Form, Progress, Refused, Sources, Stop, Terminals};
-use aero_program::execute::{Streams, execute};
+use aero_program::execute::{Host, Streams, execute};
 use aero_program::files::{FilesOf, Opener};
 use aero_program::input::Input;
 use aero_program::output::Output;
@@ -143,9 +143,12 @@ where
     let streams = Streams {
         output: &mut output,
         errors: &mut errors,
-        input: stdin,
     };
-    let status = execute(rt, rt.alloc(), asked, files, streams);
+    let host = Host {
+        rt,
+        alloc: rt.alloc(),
+    };
+    let status = execute(host, asked, files, stdin, streams);
     let out = output.into_inner().inner.taken;
     let err = errors.into_inner().into_inner().inner.taken;
     out.as_slice() == wanted.0 && err.as_slice() == wanted.1 && status == wanted.2
@@ -550,9 +553,12 @@ fn flushes_of<R: AllocGlobal + Threads + Wait + Copy + Drop + Send + Sync + 'sta
     let streams = Streams {
         output: &mut output,
         errors: &mut errors,
-        input: stdin,
     };
-    execute(rt, rt.alloc(), asked, &files, streams);
+    let host = Host {
+        rt,
+        alloc: rt.alloc(),
+    };
+    execute(host, asked, &files, stdin, streams);
     (output.into_inner(), errors.into_inner().into_inner())
 }
 

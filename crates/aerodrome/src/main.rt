@@ -24,7 +24,7 @@ use aero_model::Counting;
 use aero_program::arguments::words_of;
 use aero_program::command::{Config, Sources, Stop, TICK, Terminals};
 use aero_program::crew::processors;
-use aero_program::execute::{Streams, execute};
+use aero_program::execute::{Host, Streams, execute};
 use aero_program::files::{FilesOf, MeteredFiles};
 use aero_program::output::Output;
 use aero_program::retrying::Retrying;
@@ -157,10 +157,10 @@ where
     let mut output = Output::new(Beside::new(rt, told, line));
     let mut errors = Counting::new(Retrying::new(Beside::new(rt, standard.errors, line)));
     let files = MeteredFiles::new(FilesOf::new(rt), meter);
+    let input = Metered::new(standard.input, meter);
     let streams = Streams {
         output: &mut output,
         errors: &mut errors,
-        input: Metered::new(standard.input, meter),
     };
-    execute(rt, alloc, asked, &files, streams)
+    execute(Host { rt, alloc }, asked, &files, input, streams)
 }
