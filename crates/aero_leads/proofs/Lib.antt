@@ -22,6 +22,7 @@ pub mod ThreadSteps
 pub mod Ends
 pub mod Seeing
 pub mod Lowering
+pub mod Rising
 pub mod Compacting
 pub mod Backs
 pub mod Passing

@@ -56,7 +56,7 @@ led_lesser : (r : Option ℕ) (p : ℕ) → is_led r p ≡ true → lesser r (So
 led_lesser None p h = let z : false ≡ true = h in cc
 led_lesser (Some q) p h = let le = leb-true q p h in ap Some (omega (arith, le))
 
-lesser_of : (a b : Option ℕ) (p : ℕ) → lesser a b ≡ Some p → (a ≡ Some p) ⊎ (b ≡ Some p)
+pub lesser_of : (a b : Option ℕ) (p : ℕ) → lesser a b ≡ Some p → (a ≡ Some p) ⊎ (b ≡ Some p)
 lesser_of None b p h = inr h
 lesser_of (Some q) None p h = inl h
 lesser_of (Some q) (Some r) p h = go (cases_lt q r)

@@ -1,8 +1,8 @@
 -- What is known to lead to a thread stays so, until a block ends.
-use Rattle.std.proofs.Common.{◌≡◌, ◌≢◌, ◌⊎◌, inl, inr, ⊎_elim, ℕ, ◌+◌, add-one, take, List, [], ◌∷◌, Option, Some, None, refl, sym, ap, ◌∙◌, arith}
-use Rattle.std.specs.Prelude.{◌==◌, ◌&&◌, ◌||◌, not, length, Bool, true, false, is_some, if◌then◌else◌, slice_get}
+use Rattle.std.proofs.Common.{◌≡◌, ◌≢◌, ◌⊎◌, inl, inr, ⊎_elim, ℕ, ◌+◌, add-one, take, List, [], Option, Some, None, refl, sym, ap, subst, ◌∙◌}
+use Rattle.std.specs.Prelude.{◌==◌, ◌&&◌, ◌||◌, Bool, true, false, is_some, if◌then◌else◌, slice_get}
 use Rattle.std.specs.List.{list_any}
-use Rattle.std.proofs.lemmas.Bool.{cases_Bool, cases_eq, both_ways, cond-true, cond-false, eqb-true, eq-eqb, ne_eqb, or_cases}
+use Rattle.std.proofs.lemmas.Bool.{cases_Bool, cases_eq, both_ways, cond-true, cond-false, eq-eqb, ne_eqb, and_parts, or_cases, or_left, or_right}
 use Rattle.aero_leads.specs.declared.row.Lead.{Lead}
 use Rattle.aero_leads.specs.declared.thread.Thread.{Thread}
 use Rattle.aero_leads.specs.declared.led.Led.{Led}
@@ -13,29 +13,111 @@ use Rattle.aero_leads.specs.Seen.{is_seen, is_whole, AreSeen, IsWhole, AreKnown}
 use Rattle.aero_leads.specs.Steps.{gains, lesser}
 use Rattle.aero_leads.proofs.ThreadSteps.{any_take_next}
 
--- what wasn't so before isn't so where nothing became so
-stays_false : (a b : Bool) → (a ≡ true → b ≡ true) → b ≡ false → a ≡ false
-stays_false true b h f = let z : true ≡ false = sym (h refl) ∙ f in cc
-stays_false false b h f = refl
+-- the ending thread's own row, to which nothing is handed on
+module _ (start new : Seen) (w : ℕ) (later : List Lead)
+    (so : (v : ℕ) → is_seen new w v ≡ true → (is_seen start w v || (is_seen start w w && is_some (least_in [] v))) ≡ true)
+    (kept : (v : ℕ) → v ≢ w → is_seen start w v ≡ true → is_seen new w v ≡ true)
+    (whole : is_whole new w ≡ true → is_whole start w ≡ true)
+    (others : (o v : ℕ) → o ≢ w → is_seen new o v ≡ is_seen start o v)
+    (whole_others : (o : ℕ) → o ≢ w → is_whole new o ≡ is_whole start o) where
+  pub so_first : (o v : ℕ) → is_seen new o v ≡ true → (is_seen start o v || (is_seen start o w && is_some (least_in later v))) ≡ true
+  so_first o v h = or_left (is_seen start o v) _ (go (cases_eq o w))
+    where
+      here : is_seen new w v ≡ true → is_seen start w v ≡ true
+      here k = ⊎_elim (λ e. e) (λ e. let z : false ≡ true = (and_parts _ _ e).1 in cc) (or_cases _ _ (so v k))
 
--- one more thread that is listed with block w
-pub unseen_next : (now new : Seen) (us : List ℕ) (i u w : ℕ) → slice_get us i ≡ Some u → ((o v : ℕ) → is_seen new o v ≡ true → is_seen now o v ≡ true) → is_seen new u w ≡ false
-    → ((o : ℕ) → list_any (λ x. x == o) (take i us) ≡ true → is_seen now o w ≡ false)
-    → (o : ℕ) → list_any (λ x. x == o) (take (i + 1) us) ≡ true → is_seen new o w ≡ false
-unseen_next now new us i u w at kept gone so_far o h =
-    ⊎_elim (λ k. stays_false (is_seen new o w) (is_seen now o w) (kept o w) (so_far o k)) (λ k. ap (λ x. is_seen new x w) (sym (eqb-true u o k)) ∙ gone)
-    (or_cases _ _ (sym (ap (λ j. list_any (λ x. x == o) (take j us)) (add-one i) ∙ any_take_next (λ x. x == o) us i u at) ∙ h))
+      go : (o ≡ w) ⊎ (o ≢ w) → is_seen start o v ≡ true
+      go (inl e) = ap (λ x. is_seen start x v) e ∙ here (sym (ap (λ x. is_seen new x v) e) ∙ h)
+      go (inr ne) = sym (others o v ne) ∙ h
 
-pub unseen_still : (now new : Seen) (w : ℕ) → ((o v : ℕ) → is_seen new o v ≡ true → is_seen now o v ≡ true) → is_seen now w w ≡ false → is_seen new w w ≡ false
-unseen_still now new w kept = stays_false (is_seen new w w) (is_seen now w w) (kept w w)
+  pub kept_first : (o v : ℕ) → v ≢ w → is_seen start o v ≡ true → is_seen new o v ≡ true
+  kept_first o v ne h = ⊎_elim (λ e. ap (λ x. is_seen new x v) e ∙ kept v ne (sym (ap (λ x. is_seen start x v) e) ∙ h)) (λ other. others o v other ∙ h) (cases_eq o w)
 
--- the same of rows that are whole
-pub unwhole_next : (now new : Seen) (us : List ℕ) (i u : ℕ) → slice_get us i ≡ Some u → ((o : ℕ) → is_whole new o ≡ true → is_whole now o ≡ true) → is_whole new u ≡ false
-    → ((o : ℕ) → list_any (λ x. x == o) (take i us) ≡ true → is_whole now o ≡ false)
-    → (o : ℕ) → list_any (λ x. x == o) (take (i + 1) us) ≡ true → is_whole new o ≡ false
-unwhole_next now new us i u at kept gone so_far o h =
-    ⊎_elim (λ k. stays_false (is_whole new o) (is_whole now o) (kept o) (so_far o k)) (λ k. ap (is_whole new) (sym (eqb-true u o k)) ∙ gone)
-    (or_cases _ _ (sym (ap (λ j. list_any (λ x. x == o) (take j us)) (add-one i) ∙ any_take_next (λ x. x == o) us i u at) ∙ h))
+  pub whole_first : (o : ℕ) → is_whole new o ≡ true → is_whole start o ≡ true
+  whole_first o h = ⊎_elim (λ e. ap (is_whole start) e ∙ whole (sym (ap (is_whole new) e) ∙ h)) (λ ne. sym (whole_others o ne) ∙ h) (cases_eq o w)
+
+-- one more thread that is listed with block w, which is open no more
+module _ (start now new : Seen) (us : List ℕ) (i u w : ℕ) (later : List Lead) (at : slice_get us i ≡ Some u)
+    (so : (v : ℕ) → is_seen new u v ≡ true → (is_seen now u v || (is_seen now u w && is_some (least_in later v))) ≡ true)
+    (kept : (v : ℕ) → v ≢ w → is_seen now u v ≡ true → is_seen new u v ≡ true)
+    (gone : is_seen new u w ≡ false)
+    (whole : is_whole new u ≡ true → is_whole now u ≡ true)
+    (handed : is_seen now u w ≡ true → is_whole new u ≡ true → (v : ℕ) → v ≢ w → is_some (least_in later v) ≡ true → is_seen new u v ≡ true)
+    (others : (o v : ℕ) → o ≢ u → is_seen new o v ≡ is_seen now o v)
+    (whole_others : (o : ℕ) → o ≢ u → is_whole new o ≡ is_whole now o) where
+  -- the threads that were visited before, and now
+  abbrev before : ℕ → Bool
+  before o = list_any (λ x. x == o) (take i us)
+
+  abbrev visited : ℕ → Bool
+  visited o = list_any (λ x. x == o) (take (i + 1) us)
+
+  is_next : (o : ℕ) → visited o ≡ (before o || (u == o))
+  is_next o = ap (λ j. list_any (λ x. x == o) (take j us)) (add-one i) ∙ any_take_next (λ x. x == o) us i u at
+
+  visited_other : (o : ℕ) → o ≢ u → visited o ≡ before o
+  visited_other o ne = is_next o ∙ ap (λ b. before o || b) (ne_eqb u o (λ e. ne (sym e))) ∙ same (before o)
+    where
+      same : (b : Bool) → (b || false) ≡ b
+      same true = refl
+      same false = refl
+
+  pub so_next : ((o v : ℕ) → is_seen now o v ≡ true → (is_seen start o v || (is_seen start o w && is_some (least_in later v))) ≡ true)
+      → (o v : ℕ) → is_seen new o v ≡ true → (is_seen start o v || (is_seen start o w && is_some (least_in later v))) ≡ true
+  so_next so_far o v h = go (cases_eq o u)
+    where
+      both_true : (a b : Bool) → a ≡ true → b ≡ true → (a && b) ≡ true
+      both_true true b e f = f
+      both_true false b e f = e
+
+      led_there : is_seen now o w ≡ true → is_seen start o w ≡ true
+      led_there k = ⊎_elim (λ e. e) (λ e. (and_parts _ _ e).0) (or_cases _ _ (so_far o w k))
+
+      go : (o ≡ u) ⊎ (o ≢ u) → (is_seen start o v || (is_seen start o w && is_some (least_in later v))) ≡ true
+      go (inl e) =
+          ⊎_elim (so_far o v)
+          (λ k. let parts = and_parts _ _ k in or_right (is_seen start o v) _ (both_true (is_seen start o w) _ (led_there parts.0) parts.1))
+          (or_cases _ _ (subst (λ x. is_seen new x v ≡ true → (is_seen now x v || (is_seen now x w && is_some (least_in later v))) ≡ true) (sym e) (so v) h))
+      go (inr ne) = so_far o v (sym (others o v ne) ∙ h)
+
+  pub kept_next : ((o v : ℕ) → v ≢ w → is_seen start o v ≡ true → is_seen now o v ≡ true) → (o v : ℕ) → v ≢ w → is_seen start o v ≡ true → is_seen new o v ≡ true
+  kept_next so_far o v ne h = go (cases_eq o u)
+    where
+      go : (o ≡ u) ⊎ (o ≢ u) → is_seen new o v ≡ true
+      go (inl e) = ap (λ x. is_seen new x v) e ∙ kept v ne (sym (ap (λ x. is_seen now x v) e) ∙ so_far o v ne h)
+      go (inr other) = others o v other ∙ so_far o v ne h
+
+  gone_or : (o : ℕ) → (o ≢ u → is_seen now o w ≡ false) → is_seen new o w ≡ false
+  gone_or o before_it = ⊎_elim (λ e. ap (λ x. is_seen new x w) e ∙ gone) (λ ne. others o w ne ∙ before_it ne) (cases_eq o u)
+
+  pub own_next : is_seen now w w ≡ false → is_seen new w w ≡ false
+  own_next h = gone_or w (λ _. h)
+
+  pub listed_next : ((o : ℕ) → before o ≡ true → is_seen now o w ≡ false) → (o : ℕ) → visited o ≡ true → is_seen new o w ≡ false
+  listed_next so_far o h = gone_or o (λ ne. so_far o (sym (visited_other o ne) ∙ h))
+
+  whole_before : (o : ℕ) → is_whole new o ≡ true → is_whole now o ≡ true
+  whole_before o h = ⊎_elim (λ e. ap (is_whole now) e ∙ whole (sym (ap (is_whole new) e) ∙ h)) (λ ne. sym (whole_others o ne) ∙ h) (cases_eq o u)
+
+  pub whole_next : ((o : ℕ) → is_whole now o ≡ true → is_whole start o ≡ true) → (o : ℕ) → is_whole new o ≡ true → is_whole start o ≡ true
+  whole_next so_far o h = so_far o (whole_before o h)
+
+  pub still_next : ((o : ℕ) → o ≢ w → before o ≡ false → is_seen now o w ≡ is_seen start o w) → (o : ℕ) → o ≢ w → visited o ≡ false → is_seen new o w ≡ is_seen start o w
+  still_next so_far o nw h = others o w other ∙ so_far o nw (sym (visited_other o other) ∙ h)
+    where
+      other : o ≢ u
+      other e = both_ways (visited o) h (is_next o ∙ or_right (before o) _ (eq-eqb u o (sym e)))
+
+  pub handed_next :
+      ((o : ℕ) → o ≢ w → before o ≡ false → is_seen now o w ≡ is_seen start o w)
+      → ((o v : ℕ) → o ≢ w → before o ≡ true → is_seen start o w ≡ true → is_whole now o ≡ true → v ≢ w → is_some (least_in later v) ≡ true → is_seen now o v ≡ true)
+      → (o v : ℕ) → o ≢ w → visited o ≡ true → is_seen start o w ≡ true → is_whole new o ≡ true → v ≢ w → is_some (least_in later v) ≡ true → is_seen new o v ≡ true
+  handed_next still so_far o v nw h led all nv some = go (cases_eq o u) (cases_Bool (before o))
+    where
+      go : (o ≡ u) ⊎ (o ≢ u) → (before o ≡ true) ⊎ (before o ≡ false) → is_seen new o v ≡ true
+      go (inr ne) _ = others o v ne ∙ so_far o v nw (sym (visited_other o ne) ∙ h) led (whole_before o all) nv some
+      go (inl e) (inl b) = ap (λ x. is_seen new x v) e ∙ kept v nv (sym (ap (λ x. is_seen now x v) e) ∙ so_far o v nw b led (whole_before o all) nv some)
+      go (inl e) (inr b) = ap (λ x. is_seen new x v) e ∙ handed (sym (ap (λ x. is_seen now x w) e) ∙ still o nw b ∙ led) (sym (ap (is_whole new) e) ∙ all) v nv some
 
 -- threads whose rows stand
 pub known_same : (old new : List Thread) (seen : Seen) → ((o w : ℕ) → rows_in new o w ≡ rows_in old o w) → AreKnown old seen → AreKnown new seen
@@ -108,18 +190,32 @@ known_begun old new was now t n begins seen kept whole own are = record {
     go o w h some (inl e) (inr ne) = by_old o w h some (ap (λ b. (o == t) && b) (ne_eqb t w ne) ∙ no_more (o == t))
     go o w h some (inr ne) _ = by_old o w h some (ap (λ b. b && (t == w)) (ne_eqb o t ne))
 
--- at an end each row that has the block loses it, and no other
-pub seen_ended : (old new : List Thread) (led : Led) (was now : Seen) (t : ℕ) → EndsBlock old new t → AreListed old led
-    → ((o v : ℕ) → is_seen now o v ≡ true → is_seen was o v ≡ true) → is_seen now t t ≡ false → ((o : ℕ) → is_listed led t o ≡ true → is_seen now o t ≡ false)
-    → AreSeen old was → AreSeen new now
-seen_ended old new led was now t ends listed kept own gone h o w k = go (cases_eq w t)
+-- At an end each row that has the block loses it, and gains what is handed on. Where all of that is known, a row that was whole
+-- still is.
+pub known_ended : (old new : List Thread) (led : Led) (was now : Seen) (t : ℕ) (later : List Lead) → EndsBlock old new t → AreListed old led
+    → ((o v : ℕ) → is_seen now o v ≡ true → (is_seen was o v || (is_seen was o t && is_some (least_in later v))) ≡ true)
+    → ((o v : ℕ) → v ≢ t → is_seen was o v ≡ true → is_seen now o v ≡ true)
+    → is_seen now t t ≡ false → ((o : ℕ) → is_listed led t o ≡ true → is_seen now o t ≡ false)
+    → ((o : ℕ) → is_whole now o ≡ true → is_whole was o ≡ true)
+    → ((o v : ℕ) → o ≢ t → is_listed led t o ≡ true → is_seen was o t ≡ true → is_whole now o ≡ true → v ≢ t → is_some (least_in later v) ≡ true → is_seen now o v ≡ true)
+    → ((v : ℕ) → is_some (least_in later v) ≡ true → is_some (rows_in old t v) ≡ true)
+    → ((o w : ℕ) → o ≢ t → absorbed (least_in later) (rows_in old o) t w ≡ absorbed (rows_in old t) (rows_in old o) t w)
+    → AreKnown old was → AreKnown new now
+known_ended old new led was now t later ends listed so kept own gone whole handed part spreads are = record {
+  so = λ o w k. there o w k (cases_eq w t);
+  whole = λ o h w some. known o w h some (cases_eq w t) (cases_eq o t) (cases_Bool (is_some (rows_in old o w)));
+}
   where
-    there : is_some (rows_in old o w) ≡ true
-    there = h o w (kept o w k)
+    left : (o w : ℕ) → w ≢ t → rows_in new o w ≡ (if is_some (rows_in old t w) then lesser (rows_in old o w) (rows_in old o t) else rows_in old o w)
+    left o w ne = ends.rows o w ∙ cond-false (w == t) _ _ (ne_eqb w t ne)
 
-    none_seen : (o ≡ t) ⊎ (o ≢ t) → w ≡ t → is_seen now o w ≡ false
-    none_seen (inl e) f = ap (is_seen now o) f ∙ ap (λ x. is_seen now x t) e ∙ own
-    none_seen (inr ne) f = ap (is_seen now o) f ∙ gone o (listed o t (λ e. ne (sym e)) (ap (λ x. is_some (rows_in old o x)) (sym f) ∙ there))
+    -- what is known to lead to a thread isn't the block
+    led_there : (o : ℕ) → is_seen now o t ≡ true → is_some (rows_in old o t) ≡ true
+    led_there o k = are.so o t (⊎_elim (λ e. e) (λ e. (and_parts _ _ e).0) (or_cases _ _ (so o t k)))
+
+    none_seen : (o : ℕ) → (o ≡ t) ⊎ (o ≢ t) → is_seen now o t ≡ true → is_seen now o t ≡ false
+    none_seen o (inl e) k = ap (λ x. is_seen now x t) e ∙ own
+    none_seen o (inr ne) k = gone o (listed o t (λ e. ne (sym e)) (led_there o k))
 
     more : (c : Bool) (r q : Option ℕ) → is_some r ≡ true → is_some (if c then lesser r q else r) ≡ true
     more true None q e = let z : false ≡ true = e in cc
@@ -127,66 +223,36 @@ seen_ended old new led was now t ends listed kept own gone h o w k = go (cases_e
     more true (Some p) (Some n) e = refl
     more false r q e = e
 
-    go : (w ≡ t) ⊎ (w ≢ t) → is_some (rows_in new o w) ≡ true
-    go (inl e) = absurd (both_ways (is_seen now o w) (none_seen (cases_eq o t) e) k)
-    go (inr ne) = ap is_some (ends.rows o w ∙ cond-false (w == t) _ _ (ne_eqb w t ne)) ∙ more (is_some (rows_in old t w)) (rows_in old o w) (rows_in old o t) there
+    either : (r q : Option ℕ) → is_some q ≡ true → is_some (lesser r q) ≡ true
+    either None q e = e
+    either (Some p) None e = refl
+    either (Some p) (Some n) e = refl
 
-pub empty_of : (b : Bool) (n : ℕ) (ls : List Lead) → b ≡ (n == 0) → length ls ≡ n → not b ≡ false → ls ≡ []
-empty_of b n [] is count none = refl
-empty_of true n (l ∷ ls) is count none = let zero : n ≡ 0 = eqb-true n 0 (sym is) in absurd (omega (arith, zero, count))
-empty_of false n (l ∷ ls) is count none = let z : true ≡ false = none in cc
+    there : (o w : ℕ) → is_seen now o w ≡ true → (w ≡ t) ⊎ (w ≢ t) → is_some (rows_in new o w) ≡ true
+    there o w k (inl e) = let here = sym (ap (is_seen now o) e) ∙ k in absurd (both_ways (is_seen now o t) (none_seen o (cases_eq o t) here) here)
+    there o w k (inr ne) =
+        ap is_some (left o w ne)
+        ∙ ⊎_elim
+        (λ e. more (is_some (rows_in old t w)) (rows_in old o w) (rows_in old o t) (are.so o w e))
+        (λ e. let parts = and_parts _ _ e in ap is_some (cond-true (is_some (rows_in old t w)) _ _ (part w parts.1)) ∙ either (rows_in old o w) (rows_in old o t) (are.so o t parts.0))
+        (or_cases _ _ (so o w k))
 
--- A row is still whole that loses the block alone: the ending thread's own, that of a thread that isn't listed, and each where
--- nothing was left to be passed on.
-pub known_ended : (old new : List Thread) (led : Led) (was now : Seen) (t : ℕ) (later : List Lead) (has_gained : Bool) → EndsBlock old new t → AreListed old led
-    → ((o v : ℕ) → is_seen now o v ≡ true → is_seen was o v ≡ true) → is_seen now t t ≡ false → ((o : ℕ) → is_listed led t o ≡ true → is_seen now o t ≡ false)
-    → ((o v : ℕ) → v ≢ t → is_seen now o v ≡ is_seen was o v)
-    → ((o : ℕ) → is_whole now o ≡ true → is_whole was o ≡ true)
-    → (has_gained ≡ true → (o : ℕ) → is_listed led t o ≡ true → is_whole now o ≡ false)
-    → (has_gained ≡ false → later ≡ [])
-    → ((o w : ℕ) → o ≢ t → absorbed (least_in later) (rows_in old o) t w ≡ absorbed (rows_in old t) (rows_in old o) t w)
-    → AreKnown old was → AreKnown new now
-known_ended old new led was now t later has_gained ends listed kept own gone others whole gained nothing spreads are = record {
-  so = seen_ended old new led was now t ends listed kept own gone are.so;
-  whole = λ o h w some. go o w h some (cases_eq w t) (cases_eq o t);
-}
-  where
-    -- what had no lead to w still has none
-    stays : (o w : ℕ) → w ≢ t → (rows_in old o t ≡ None) ⊎ (o ≡ t) → is_some (rows_in new o w) ≡ true → is_some (rows_in old o w) ≡ true
-    stays o w ne how some = pick (is_some (rows_in old t w)) refl how (sym (ap is_some (ends.rows o w ∙ cond-false (w == t) _ _ (ne_eqb w t ne))) ∙ some)
-      where
-        no_more : (r q : Option ℕ) → q ≡ None → is_some (lesser r q) ≡ true → is_some r ≡ true
-        no_more None None e k = k
-        no_more (Some p) q e k = refl
-        no_more None (Some q) e k = let z : Some q ≡ None = e in cc
+    -- a lead that is new in another thread's row was handed on
+    new_lead : (c : Bool) (r q : Option ℕ) → is_some r ≡ false → is_some (if c then lesser r q else r) ≡ true → (c ≡ true) × (is_some q ≡ true)
+    new_lead true None q none k = (refl, k)
+    new_lead true (Some p) q none k = let z : true ≡ false = none in cc
+    new_lead false r q none k = absurd (both_ways (is_some r) none k)
 
-        pick : (c : Bool) → is_some (rows_in old t w) ≡ c → (rows_in old o t ≡ None) ⊎ (o ≡ t) → is_some (if c then lesser (rows_in old o w) (rows_in old o t) else rows_in old o w) ≡ true → is_some (rows_in old o w) ≡ true
-        pick true e (inl none) k = no_more (rows_in old o w) (rows_in old o t) none k
-        pick true e (inr same) k = ap (λ u. is_some (rows_in old u w)) same ∙ e
-        pick false e _ k = k
-
-    none_left : (o w : ℕ) → w ≢ t → o ≢ t → later ≡ [] → is_some (rows_in new o w) ≡ true → is_some (rows_in old o w) ≡ true
-    none_left o w ne other none some =
-        sym (ap is_some (ends.rows o w ∙ sym (spreads o w other) ∙ ap (λ ls. absorbed (least_in ls) (rows_in old o) t w) none ∙ cond-false (w == t) _ _ (ne_eqb w t ne))) ∙ some
-
-    unled : (o : ℕ) → o ≢ t → is_listed led t o ≡ false → rows_in old o t ≡ None
-    unled o other unlisted = pick (rows_in old o t) refl
-      where
-        pick : (r : Option ℕ) → rows_in old o t ≡ r → r ≡ None
-        pick None e = refl
-        pick (Some p) e = absurd (both_ways (is_listed led t o) unlisted (listed o t (λ f. other (sym f)) (ap is_some e)))
-
-    had : (o w : ℕ) → is_whole now o ≡ true → is_some (rows_in new o w) ≡ true → w ≢ t → (o ≡ t) ⊎ (o ≢ t) → is_some (rows_in old o w) ≡ true
-    had o w h some ne (inl e) = stays o w ne (inr e) some
-    had o w h some ne (inr other) =
-        ⊎_elim
-        (λ g. ⊎_elim (λ l. absurd (both_ways (is_whole now o) (gained g o l) h)) (λ l. stays o w ne (inl (unled o other l)) some) (cases_Bool (is_listed led t o)))
-        (λ g. none_left o w ne other (nothing g) some)
-        (cases_Bool has_gained)
-
-    go : (o w : ℕ) → is_whole now o ≡ true → is_some (rows_in new o w) ≡ true → (w ≡ t) ⊎ (w ≢ t) → (o ≡ t) ⊎ (o ≢ t) → is_seen now o w ≡ true
-    go o w h some (inl e) _ = absurd (both_ways _ (ap is_some (ends.rows o w ∙ cond-true (w == t) _ _ (eq-eqb w t e))) some)
-    go o w h some (inr ne) how = others o w ne ∙ are.whole o (whole o h) w (had o w h some ne how)
+    known : (o w : ℕ) → is_whole now o ≡ true → is_some (rows_in new o w) ≡ true → (w ≡ t) ⊎ (w ≢ t) → (o ≡ t) ⊎ (o ≢ t) → (is_some (rows_in old o w) ≡ true) ⊎ (is_some (rows_in old o w) ≡ false) → is_seen now o w ≡ true
+    known o w h some (inl e) _ _ = let z : false ≡ true = sym (ap is_some (ends.rows o w ∙ cond-true (w == t) _ _ (eq-eqb w t e))) ∙ some in cc
+    known o w h some (inr ne) _ (inl had) = kept o w ne (are.whole o (whole o h) w had)
+    known o w h some (inr ne) (inl e) (inr none) =
+        let led = (new_lead (is_some (rows_in old t w)) (rows_in old o w) (rows_in old o t) none (sym (ap is_some (left o w ne)) ∙ some)).0 in
+        absurd (both_ways (is_some (rows_in old o w)) none (ap (λ u. is_some (rows_in old u w)) e ∙ led))
+    known o w h some (inr ne) (inr other) (inr none) =
+        let new_one = new_lead (is_some (least_in later w)) (rows_in old o w) (rows_in old o t) none
+        (sym (ap is_some (ends.rows o w ∙ sym (spreads o w other) ∙ cond-false (w == t) _ _ (ne_eqb w t ne))) ∙ some) in
+        handed o w other (listed o t (λ e. other (sym e)) new_one.1) (are.whole o (whole o h) t new_one.1) h ne new_one.0
 
 -- and each thread that still has a row for an open block is listed with it
 pub listed_ended : (before taken spread put after : List Thread) (t : ℕ) (row settled : List Lead) (led more fewer : Led)

@@ -48,6 +48,7 @@
 mod back;
 mod engine;
 mod gaining;
+mod highs;
 mod index;
 mod kept;
 mod last;

@@ -58,9 +58,9 @@ pub(crate) fn lower(lows: &mut Lows, t: u32, place: u32)
 /// thread's, may begin later. What was kept for them stays true.
 pub(crate) fn raise_all(lows: &mut Lows, threads: &[Thread], led: &Led, w: u32)
     ensures kept { (o : ℕ) → IsLow threads.now lows.old o → IsLow threads.now lows.new o }
-    ensures own { IsLow threads.now lows.new w }
+    ensures own { length (thread_row (slice_get threads.now w)) ≤ 32 → IsLow threads.now lows.new w }
 {
-    raise(lows, threads, w);
+    raise_seldom(lows, threads, w);
     let listed = count(led, w);
     for i in 0..listed {
         raise_seldom(lows, threads, follower(led, w, i));

@@ -1,8 +1,11 @@
 //! What the open blocks have passed on to the threads that they lead to, so that an end passes on only what came later.
-ghost use Rattle.std.specs.Prelude.{◌≡◌, ◌≢◌, ◌==◌, ◌≤◌, ◌<◌, [], ℕ, true, false, None, Some, OnOk, IfOk, vec_len, slice_get, if◌then◌else◌};
+ghost use Rattle.std.specs.Prelude.{◌≡◌, ◌≢◌, ◌==◌, ◌≤◌, ◌<◌, ◌&&◌, not, nat_lt, [], ℕ, true, false, None, Some, OnOk, IfOk, vec_len, slice_get, if◌then◌else◌};
 ghost use Rattle.aero_leads.specs.Listed.{is_listed};
-ghost use Rattle.aero_leads.specs.Passed.{passed_of, passed_in, is_early, is_since, leads_since};
+ghost use Rattle.aero_leads.specs.Highs.{IsHigh};
+ghost use Rattle.aero_leads.specs.Passed.{passed_of, passed_in, is_early, leads_since};
+ghost use Rattle.aero_leads.specs.Single.{IsSingle};
 
+use crate::highs::is_up_to;
 use crate::led::{Led, count};
 use crate::row::Lead;
 use std::alloc::{AllocError, Global};
@@ -119,19 +122,33 @@ fn reach(places: &mut Vec<u32>, t: u32) -> Result<(), AllocError>
     Ok(())
 }
 
-/// The leads of this row, of which none is of thread `t`, from this place or a later one on.
+/// The leads of this row, of which none is of thread `t`, from this place or a later one on. None in the row is above the high
+/// place, where one is known.
 pub(crate) fn since(
     row: &[Lead],
+    high: Option<u32>,
     t: u32,
     place: u32,
     alloc: Global,
 ) -> Result<Vec<Lead>, AllocError>
+    requires single { IsSingle row.now }
+    requires high { IsHigh row.now high }
     ensures { IfOk result (λ ls. ls.items ≡ leads_since t place row.now) }
 {
+    if comes_before(high, place) {
+        return Ok(Vec::new(alloc));
+    }
     if !has_later(row, t, place) {
         return Ok(Vec::new(alloc));
     }
     gather_later(row, t, place, alloc)
+}
+
+// Where it is true, all leads of a row that has no place above the high one come before this one.
+fn comes_before(high: Option<u32>, place: u32) -> bool
+    ensures { result ≡ true → (p : ℕ) → is_early high p ≡ true → p < place }
+{
+    place > 0 && is_up_to(high, place - 1)
 }
 
 // Whether there are any, which is seldom. There is no early exit, so that many leads are looked at together.
@@ -140,7 +157,7 @@ fn has_later(row: &[Lead], t: u32, place: u32) -> bool
 {
     let mut any = false;
     for lead in row.iter() {
-        any = any | is_later(*lead, t, place);
+        any = any | is_later(lead.opener, lead.place, t, place);
     }
     any
 }
@@ -150,7 +167,7 @@ fn gather_later(row: &[Lead], t: u32, place: u32, alloc: Global) -> Result<Vec<L
 {
     let mut later = Vec::new(alloc);
     for lead in row.iter() {
-        if is_later(*lead, t, place) {
+        if is_later(lead.opener, lead.place, t, place) {
             later.push(*lead)?;
         }
     }
@@ -158,8 +175,8 @@ fn gather_later(row: &[Lead], t: u32, place: u32, alloc: Global) -> Result<Vec<L
 }
 
 #[inline(always)]
-fn is_later(lead: Lead, t: u32, place: u32) -> bool
-    ensures { result ≡ is_since t place lead }
+fn is_later(opener: u32, from: u32, t: u32, place: u32) -> bool
+    ensures { result ≡ (not (opener == t) && not (nat_lt from place)) }
 {
-    (lead.opener != t) & (lead.place >= place)
+    (opener != t) & (from >= place)
 }

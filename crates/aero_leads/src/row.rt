@@ -1,11 +1,13 @@
 //! Which open blocks lead to a thread, and from which of its events on.
 ghost use Rattle.std.specs.Prelude.{◌≡◌, ◌≢◌, ◌==◌, ◌&&◌, ◌<◌, ◌++◌, ◌∷◌, [], ℕ, true, false, nat_lt, None, Some, OnOk, is_some, slice_get, if◌then◌else◌};
 ghost use Rattle.aero_leads.specs.Kept.{least_in, is_below, absorbed};
+ghost use Rattle.aero_leads.specs.Highs.{IsHigh};
 ghost use Rattle.aero_leads.specs.Indexed.{IsIndexed, IsFound, IsLeadOf, opener_of};
 ghost use Rattle.aero_leads.specs.Listed.{IsListedRow, Grows, followers};
 ghost use Rattle.aero_leads.specs.Single.{IsSingle};
 ghost use Rattle.aero_leads.specs.Steps.{gains, lesser};
 
+use crate::highs::is_up_to;
 use crate::index::{Index, enter, place_at};
 use crate::led::{Entry, Led, note};
 use std::alloc::AllocError;
@@ -454,16 +456,31 @@ fn place_there(row: &[Lead], w: u32, at: usize) -> u32
     row[at].place
 }
 
-/// The block of thread `t`, whose row this is, ends: what led to the block leads to its begin.
-pub(crate) fn settle(row: &mut Vec<Lead>, t: u32)
-    requires { IsSingle row.old.items }
+// The same. None in the row is above the high place, where one is known.
+fn lower_later(row: &mut [Lead], place: u32, high: Option<u32>)
+    requires { IsHigh row.old high }
+    ensures lowers { (w : ℕ) → least_in row.new w ≡ (if is_some (least_in row.old w) then lesser (least_in row.old w) (Some place) else least_in row.old w) }
+    ensures single { IsSingle row.old → IsSingle row.new }
+{
+    if !is_up_to(high, place) {
+        lower_each(row, place);
+    }
+}
+
+/// The block of thread `t`, whose row this is, ends: what led to the block leads to its begin. None in the row is above the
+/// high place, where one is known. Returns from which place on the block led, if it did.
+pub(crate) fn settle(row: &mut Vec<Lead>, t: u32, high: Option<u32>) -> Option<u32>
+    requires single { IsSingle row.old.items }
+    requires high { IsHigh row.old.items high }
+    ensures own { result ≡ least_in row.old.items t }
     ensures absorbs { (w : ℕ) → least_in row.new.items w ≡ absorbed (least_in row.old.items) (least_in row.old.items) t w }
     ensures single { IsSingle row.new.items }
 {
     let Some(at) = seek(row, t, 0) else {
-        return;
+        return None;
     };
     let place = place_there(row, t, at);
-    lower_each(row, place);
+    lower_later(row, place, high);
     drop_opener(row, t, at);
+    Some(place)
 }

@@ -157,6 +157,7 @@ fn widen(openers: &mut Vec<bool>, places: usize) -> Result<(), AllocError>
 
 // The openers of the row that have a place. Whether all have one.
 fn see_each(openers: &mut Vec<bool>, row: &[Lead]) -> bool
+    ensures kept { (w : ℕ) → seen_at openers.old.items w ≡ true → seen_at openers.new.items w ≡ true }
     ensures so { (w : ℕ) → seen_at openers.new.items w ≡ true → (seen_at openers.old.items w || is_some (least_in row.now w)) ≡ true }
     ensures whole { result ≡ true → (w : ℕ) → is_some (least_in row.now w) ≡ true → seen_at openers.new.items w ≡ true }
 {
@@ -256,45 +257,51 @@ pub(crate) fn see_one(known: &mut SeenRow, w: u32)
     known.whole = see_too(known.whole, &mut known.openers, w);
 }
 
-/// The block of thread `w` is open no more: it isn't known to lead to a thread that is listed with it, nor to itself. The rows
-/// of those that are listed are no longer whole where they may have gained what led to it.
-pub(crate) fn unsee_all(seen: &mut Seen, led: &Led, w: u32, has_gained: bool)
-    ensures kept { (o v : ℕ) → is_seen seen.new o v ≡ true → is_seen seen.old o v ≡ true }
+/// The block of thread `w` is open no more: it isn't known to lead to a thread that is listed with it, nor to itself. To a
+/// thread to which it led these lead as well, from now on. That is known where there is a place for it, and else the row isn't
+/// whole.
+pub(crate) fn unsee_all(seen: &mut Seen, led: &Led, w: u32, later: &[Lead])
+    ensures so { (o v : ℕ) → is_seen seen.new o v ≡ true → (is_seen seen.old o v || (is_seen seen.old o w && is_some (least_in later.now v))) ≡ true }
+    ensures kept { (o v : ℕ) → v ≢ w → is_seen seen.old o v ≡ true → is_seen seen.new o v ≡ true }
     ensures own { is_seen seen.new w w ≡ false }
     ensures listed { (o : ℕ) → is_listed led.now w o ≡ true → is_seen seen.new o w ≡ false }
-    ensures others { (o v : ℕ) → v ≢ w → is_seen seen.new o v ≡ is_seen seen.old o v }
     ensures whole { (o : ℕ) → is_whole seen.new o ≡ true → is_whole seen.old o ≡ true }
-    ensures gained { has_gained ≡ true → (o : ℕ) → is_listed led.now w o ≡ true → is_whole seen.new o ≡ false }
+    ensures handed { (o v : ℕ) → o ≢ w → is_listed led.now w o ≡ true → is_seen seen.old o w ≡ true → is_whole seen.new o ≡ true → v ≢ w → is_some (least_in later.now v) ≡ true → is_seen seen.new o v ≡ true }
 {
-    unsee(seen, w, w, false);
+    unsee(seen, w, w, &[]);
     let listed = count(led, w);
     for i in 0..listed {
-        unsee(seen, follower(led, w, i), w, has_gained);
+        unsee(seen, follower(led, w, i), w, later);
     }
 }
 
-// The block of thread w isn't known to lead to thread o, which may have gained others.
-fn unsee(seen: &mut Seen, o: u32, w: u32, has_gained: bool)
-    ensures kept { (u v : ℕ) → is_seen seen.new u v ≡ true → is_seen seen.old u v ≡ true }
+// The block of thread w isn't known to lead to thread o. If it was, these are, as far as there is a place for them.
+fn unsee(seen: &mut Seen, o: u32, w: u32, later: &[Lead])
+    ensures so { (v : ℕ) → is_seen seen.new o v ≡ true → (is_seen seen.old o v || (is_seen seen.old o w && is_some (least_in later.now v))) ≡ true }
+    ensures kept { (v : ℕ) → v ≢ w → is_seen seen.old o v ≡ true → is_seen seen.new o v ≡ true }
     ensures gone { is_seen seen.new o w ≡ false }
-    ensures others { (u v : ℕ) → v ≢ w → is_seen seen.new u v ≡ is_seen seen.old u v }
-    ensures whole { (u : ℕ) → is_whole seen.new u ≡ true → is_whole seen.old u ≡ true }
-    ensures gained { has_gained ≡ true → is_whole seen.new o ≡ false }
+    ensures whole { is_whole seen.new o ≡ true → is_whole seen.old o ≡ true }
+    ensures handed { is_seen seen.old o w ≡ true → is_whole seen.new o ≡ true → (v : ℕ) → v ≢ w → is_some (least_in later.now v) ≡ true → is_seen seen.new o v ≡ true }
+    ensures others { (u v : ℕ) → u ≢ o → is_seen seen.new u v ≡ is_seen seen.old u v }
+    ensures whole_others { (u : ℕ) → u ≢ o → is_whole seen.new u ≡ is_whole seen.old u }
 {
     if (o as usize) < seen.rows.len() {
-        leave_out(&mut seen.rows[o as usize], w, has_gained);
+        hand_on(&mut seen.rows[o as usize], w, later);
     }
 }
 
-fn leave_out(known: &mut SeenRow, w: u32, has_gained: bool)
-    ensures kept { (v : ℕ) → seen_at known.new.openers.items v ≡ true → seen_at known.old.openers.items v ≡ true }
+// The same in the row of thread o.
+fn hand_on(known: &mut SeenRow, w: u32, later: &[Lead])
+    ensures so { (v : ℕ) → seen_at known.new.openers.items v ≡ true → (seen_at known.old.openers.items v || (seen_at known.old.openers.items w && is_some (least_in later.now v))) ≡ true }
+    ensures kept { (v : ℕ) → v ≢ w → seen_at known.old.openers.items v ≡ true → seen_at known.new.openers.items v ≡ true }
     ensures gone { seen_at known.new.openers.items w ≡ false }
-    ensures others { (v : ℕ) → v ≢ w → seen_at known.new.openers.items v ≡ seen_at known.old.openers.items v }
     ensures whole { known.new.whole ≡ true → known.old.whole ≡ true }
-    ensures gained { has_gained ≡ true → known.new.whole ≡ false }
+    ensures handed { seen_at known.old.openers.items w ≡ true → known.new.whole ≡ true → (v : ℕ) → v ≢ w → is_some (least_in later.now v) ≡ true → seen_at known.new.openers.items v ≡ true }
 {
-    unset(&mut known.openers, w);
-    known.whole = known.whole && !has_gained;
+    if is_in(&known.openers, w) {
+        known.whole = see_each(&mut known.openers, later) && known.whole;
+        unset(&mut known.openers, w);
+    }
 }
 
 fn unset(openers: &mut [bool], w: u32)

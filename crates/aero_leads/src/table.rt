@@ -3,12 +3,14 @@ ghost use Rattle.std.specs.Prelude.{◌≡◌, ◌≢◌, ◌∷◌, ◌++◌, �
 ghost use Rattle.aero_leads.specs.Kept.{rows_in, is_below, thread_row, thread_in_block, thread_begins, thread_acted, leads_to, leads_to_any, if_any, TakesAll, TakesRow, HaveSameBlocks, AreSameThreads, BeginsBlock, EndsBlock, IsLeastBack};
 ghost use Rattle.aero_leads.specs.Listed.{AreListed};
 ghost use Rattle.aero_leads.specs.Lows.{AreLow};
+ghost use Rattle.aero_leads.specs.Highs.{AreHigh};
 ghost use Rattle.aero_leads.specs.Passed.{ArePassed, leads_since, passed_of};
 ghost use Rattle.aero_leads.specs.Seen.{is_whole, AreKnown};
 ghost use Rattle.aero_leads.specs.Single.{AreSingle};
 
 use crate::back::least_known;
 use crate::gaining::gain_row;
+use crate::highs::{Highs, forget_highs, high_place, no_high, raise_high, settle_high};
 use crate::last::Last;
 use crate::led::{Led, forget, no_block};
 use crate::lows::{Lows, forget_lows, is_low, lower, no_low, raise_all};
@@ -25,17 +27,19 @@ use crate::thread::{Thread, leave, put_row, row_of, spread, take_row};
 use std::alloc::{AllocError, Global};
 
 /// The threads, by their numbers. With each open block the other threads are listed to whose events
-/// it leads. What is seen, what is low and what was passed on are parts of what the rows say.
+/// it leads. What is seen, what is low or high and what was passed on are parts of what the rows say.
 #[derive(Drop)]
 pub struct Table {
     pub threads: Vec<Thread>,
     pub led: Led,
     pub seen: Seen,
     pub lows: Lows,
+    pub highs: Highs,
     pub passed: Passed,
     ghost listed: { AreListed threads.items led },
     ghost known: { AreKnown threads.items seen },
     ghost low: { AreLow threads.items lows },
+    ghost high: { AreHigh threads.items highs },
     ghost passing: { ArePassed threads.items passed },
     ghost single: { AreSingle threads.items },
 }
@@ -49,6 +53,7 @@ pub(crate) fn no_thread(alloc: Global) -> Table
         led: no_block(alloc),
         seen: nothing_seen(alloc),
         lows: no_low(alloc),
+        highs: no_high(alloc),
         passed: no_place(alloc),
     }
 }
@@ -94,10 +99,12 @@ pub(crate) fn gain(
     ) else {
         forget_all(&mut table.seen);
         forget_lows(&mut table.lows);
+        forget_highs(&mut table.highs);
         forget_places(&mut table.passed);
         return Err(AllocError);
     };
     lower(&mut table.lows, t, place);
+    raise_high(&mut table.highs, t, place);
     lower_place(&mut table.passed, o, below);
     note_gain(&mut table.passed, &table.led, t, place);
     Ok(())
@@ -278,11 +285,13 @@ pub(crate) fn begin(table: &mut Table, t: u32, place: u32) -> Result<(), AllocEr
     let Ok(()) = thread::begin(&mut table.threads, t, place, is_new) else {
         forget_all(&mut table.seen);
         forget_lows(&mut table.lows);
+        forget_highs(&mut table.highs);
         forget_places(&mut table.passed);
         return Err(AllocError);
     };
     see_own(&mut table.seen, t);
     lower(&mut table.lows, t, place);
+    raise_high(&mut table.highs, t, place);
     note_begin(&mut table.passed, &table.led, t, place);
     Ok(())
 }
@@ -315,17 +324,19 @@ pub(crate) fn end(table: &mut Table, t: u32) -> Result<(), AllocError>
 {
     let later = not_passed(table, t)?;
     let mut row = take_row(&mut table.threads, t);
-    settle(&mut row, t);
+    let own = settle(&mut row, t, high_place(&table.highs, t));
     let Ok(()) = spread(&mut table.threads, &later, t, &mut table.led) else {
         forget_all(&mut table.seen);
         forget_lows(&mut table.lows);
+        forget_highs(&mut table.highs);
         forget_places(&mut table.passed);
         return Err(AllocError);
     };
     put_row(&mut table.threads, t, row);
     leave(&mut table.threads, t);
-    unsee_all(&mut table.seen, &table.led, t, !later.is_empty());
+    unsee_all(&mut table.seen, &table.led, t, &later);
     raise_all(&mut table.lows, &table.threads, &table.led, t);
+    settle_high(&mut table.highs, t, own);
     forget(&mut table.led, t);
     Ok(())
 }
@@ -336,7 +347,8 @@ fn not_passed(table: &Table, t: u32) -> Result<Vec<Lead>, AllocError>
 {
     let alloc = *table.threads.allocator();
     let place = passed_before(&table.passed, t);
-    let later = since(row_of(&table.threads, t), t, place, alloc)?;
+    let high = high_place(&table.highs, t);
+    let later = since(row_of(&table.threads, t), high, t, place, alloc)?;
     Ok(later)
 }
 

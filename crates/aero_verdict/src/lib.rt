@@ -55,6 +55,7 @@
 //! - They keep something of each event that they are given, also of the one that closes a cycle: `InOrder` the line and
 //!   the thread of each transaction's first event, `Recorder` each event with its line and its label, `InFull` both. By
 //!   `Engine::judge`, `kept`.
+//! - The terms on which a source is judged are those that were given: `Terms::new`, and each of its calls.
 //! - All parts have exactly one verdict. `Serializable` means that there is no cycle at all, a violation that there is
 //!   one, and with open blocks each cycle passes two of them: `laws`.
 #![tactic(auto)]

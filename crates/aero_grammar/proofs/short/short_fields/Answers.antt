@@ -1,4 +1,4 @@
-use Rattle.std.proofs.Common.{◌≡◌, ◌<◌, ◌+◌, ◌-◌, take, drop, length, arith, sym, ap, ◌∙◌}
+use Rattle.std.proofs.Common.{◌≡◌, ◌<◌, ◌+◌, ◌-◌, take, drop, arith, sym, ap, ◌∙◌}
 use Rattle.aero_grammar.specs.Meaning.{is_bar}
 use Rattle.aero_grammar.proofs.Places.{list_any_found}
 use Rattle.aero_grammar.proofs.CommonShape.{found_near, ends_near, field_between}

@@ -11,6 +11,7 @@ loop-lead-preserved c =
     let l = get_or c.args.row.now c.loop-lead.lead-index (lead 0 0) in
     let at = slice_get-get_or c.args.row.now c.loop-lead.lead-index (lead 0 0) c.loop-lead-test.true in
     record {
+      kept = λ w h. c.see_too-all.ensures.kept w (c.loop-lead.invariant.kept w h);
       here = λ w h.
           ⊎_elim
           (λ was. ⊎_elim (λ before. or_left _ _ before) (λ k. or_right (seen_at c.args.openers.now.items w) _ (some_next c.args.row.now c.loop-lead.lead-index l w at ∙ or_right (l.opener == w) _ k)) (or_cases _ _ (c.loop-lead.invariant.here w was)))

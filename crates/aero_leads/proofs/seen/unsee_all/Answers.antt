@@ -1,17 +1,43 @@
-use Rattle.std.proofs.Common.{◌∙◌}
+use Rattle.std.proofs.Common.{◌≡◌}
+use Rattle.std.specs.Prelude.{true, false}
 use Rattle.aero_leads.specs.Listed.{followers}
-use Rattle.aero_leads.proofs.Seeing.{unseen_next, unseen_still, unwhole_next}
+use Rattle.aero_leads.proofs.Seeing.{so_first, kept_first, whole_first, so_next, kept_next, own_next, listed_next, whole_next, still_next, handed_next}
 use Rattle.aero_leads.proofs.seen.unsee_all.Goals as goal
+
+pub loop-i-init : goal.loop-i-init
+loop-i-init c =
+    record {
+      so = so_first c.args.seen.now c.unsee.new.seen c.args.w c.args.later.now c.unsee.ensures.so c.unsee.ensures.kept c.unsee.ensures.whole c.unsee.ensures.others c.unsee.ensures.whole_others;
+      kept = kept_first c.args.seen.now c.unsee.new.seen c.args.w c.args.later.now c.unsee.ensures.so c.unsee.ensures.kept c.unsee.ensures.whole c.unsee.ensures.others c.unsee.ensures.whole_others;
+      own = c.unsee.ensures.gone;
+      gone = λ o h. let z : false ≡ true = h in cc;
+      whole = whole_first c.args.seen.now c.unsee.new.seen c.args.w c.args.later.now c.unsee.ensures.so c.unsee.ensures.kept c.unsee.ensures.whole c.unsee.ensures.others c.unsee.ensures.whole_others;
+      still = λ o ne _. c.unsee.ensures.others o c.args.w ne;
+      handed = λ o v _ h. let z : false ≡ true = h in cc;
+    }
 
 pub loop-i-preserved : goal.loop-i-preserved
 loop-i-preserved c =
     record {
-      kept = λ o v h. c.loop-i.invariant.kept o v (c.unsee-in-loop-i.ensures.kept o v h);
-      own = unseen_still c.loop-i.seen c.unsee-in-loop-i.new.seen c.args.w c.unsee-in-loop-i.ensures.kept c.loop-i.invariant.own;
-      listed = unseen_next c.loop-i.seen c.unsee-in-loop-i.new.seen (followers c.args.led.now c.args.w) c.loop-i.i c.follower.result c.args.w
-          c.follower.ensures c.unsee-in-loop-i.ensures.kept c.unsee-in-loop-i.ensures.gone c.loop-i.invariant.listed;
-      others = λ o v ne. c.unsee-in-loop-i.ensures.others o v ne ∙ c.loop-i.invariant.others o v ne;
-      whole = λ o h. c.loop-i.invariant.whole o (c.unsee-in-loop-i.ensures.whole o h);
-      gained = λ gained. unwhole_next c.loop-i.seen c.unsee-in-loop-i.new.seen (followers c.args.led.now c.args.w) c.loop-i.i c.follower.result
-          c.follower.ensures c.unsee-in-loop-i.ensures.whole (c.unsee-in-loop-i.ensures.gained gained) (c.loop-i.invariant.gained gained);
+      so = so_next c.args.seen.now c.loop-i.seen c.unsee-in-loop-i.new.seen (followers c.args.led.now c.args.w) c.loop-i.i c.follower.result c.args.w c.args.later.now c.follower.ensures
+          c.unsee-in-loop-i.ensures.so c.unsee-in-loop-i.ensures.kept c.unsee-in-loop-i.ensures.gone c.unsee-in-loop-i.ensures.whole c.unsee-in-loop-i.ensures.handed c.unsee-in-loop-i.ensures.others c.unsee-in-loop-i.ensures.whole_others
+          c.loop-i.invariant.so;
+      kept = kept_next c.args.seen.now c.loop-i.seen c.unsee-in-loop-i.new.seen (followers c.args.led.now c.args.w) c.loop-i.i c.follower.result c.args.w c.args.later.now c.follower.ensures
+          c.unsee-in-loop-i.ensures.so c.unsee-in-loop-i.ensures.kept c.unsee-in-loop-i.ensures.gone c.unsee-in-loop-i.ensures.whole c.unsee-in-loop-i.ensures.handed c.unsee-in-loop-i.ensures.others c.unsee-in-loop-i.ensures.whole_others
+          c.loop-i.invariant.kept;
+      own = own_next c.args.seen.now c.loop-i.seen c.unsee-in-loop-i.new.seen (followers c.args.led.now c.args.w) c.loop-i.i c.follower.result c.args.w c.args.later.now c.follower.ensures
+          c.unsee-in-loop-i.ensures.so c.unsee-in-loop-i.ensures.kept c.unsee-in-loop-i.ensures.gone c.unsee-in-loop-i.ensures.whole c.unsee-in-loop-i.ensures.handed c.unsee-in-loop-i.ensures.others c.unsee-in-loop-i.ensures.whole_others
+          c.loop-i.invariant.own;
+      gone = listed_next c.args.seen.now c.loop-i.seen c.unsee-in-loop-i.new.seen (followers c.args.led.now c.args.w) c.loop-i.i c.follower.result c.args.w c.args.later.now c.follower.ensures
+          c.unsee-in-loop-i.ensures.so c.unsee-in-loop-i.ensures.kept c.unsee-in-loop-i.ensures.gone c.unsee-in-loop-i.ensures.whole c.unsee-in-loop-i.ensures.handed c.unsee-in-loop-i.ensures.others c.unsee-in-loop-i.ensures.whole_others
+          c.loop-i.invariant.gone;
+      whole = whole_next c.args.seen.now c.loop-i.seen c.unsee-in-loop-i.new.seen (followers c.args.led.now c.args.w) c.loop-i.i c.follower.result c.args.w c.args.later.now c.follower.ensures
+          c.unsee-in-loop-i.ensures.so c.unsee-in-loop-i.ensures.kept c.unsee-in-loop-i.ensures.gone c.unsee-in-loop-i.ensures.whole c.unsee-in-loop-i.ensures.handed c.unsee-in-loop-i.ensures.others c.unsee-in-loop-i.ensures.whole_others
+          c.loop-i.invariant.whole;
+      still = still_next c.args.seen.now c.loop-i.seen c.unsee-in-loop-i.new.seen (followers c.args.led.now c.args.w) c.loop-i.i c.follower.result c.args.w c.args.later.now c.follower.ensures
+          c.unsee-in-loop-i.ensures.so c.unsee-in-loop-i.ensures.kept c.unsee-in-loop-i.ensures.gone c.unsee-in-loop-i.ensures.whole c.unsee-in-loop-i.ensures.handed c.unsee-in-loop-i.ensures.others c.unsee-in-loop-i.ensures.whole_others
+          c.loop-i.invariant.still;
+      handed = handed_next c.args.seen.now c.loop-i.seen c.unsee-in-loop-i.new.seen (followers c.args.led.now c.args.w) c.loop-i.i c.follower.result c.args.w c.args.later.now c.follower.ensures
+          c.unsee-in-loop-i.ensures.so c.unsee-in-loop-i.ensures.kept c.unsee-in-loop-i.ensures.gone c.unsee-in-loop-i.ensures.whole c.unsee-in-loop-i.ensures.handed c.unsee-in-loop-i.ensures.others c.unsee-in-loop-i.ensures.whole_others
+          c.loop-i.invariant.still c.loop-i.invariant.handed;
     }

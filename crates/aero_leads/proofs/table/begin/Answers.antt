@@ -1,6 +1,7 @@
 use Rattle.std.proofs.Common.{sym}
 use Rattle.aero_leads.proofs.Lowering.{low_begun}
 use Rattle.aero_leads.proofs.Passing.{passed_begun}
+use Rattle.aero_leads.proofs.Rising.{high_begun}
 use Rattle.aero_leads.proofs.Seeing.{known_begun}
 use Rattle.aero_leads.proofs.table.begin.Goals as goal
 
@@ -12,6 +13,11 @@ invariant_of-table-2-clause-known c =
 pub invariant_of-table-2-clause-low : goal.invariant_of-table-2-clause-low
 invariant_of-table-2-clause-low c =
     low_begun c.args.table.now.threads.items c.begin.new.threads.items c.args.table.now.lows c.lower.new.lows c.args.t c.args.place c.in-Ok.ensures.begins c.lower.ensures.less c.lower.ensures.place c.args.table.now.low
+
+pub invariant_of-table-2-clause-high : goal.invariant_of-table-2-clause-high
+invariant_of-table-2-clause-high c =
+    high_begun c.args.table.now.threads.items c.begin.new.threads.items c.args.table.now.highs c.raise_high.new.highs c.args.t c.args.place c.in-Ok.ensures.begins
+    c.raise_high.ensures.more c.raise_high.ensures.place c.args.table.now.high
 
 pub invariant_of-table-2-clause-passing : goal.invariant_of-table-2-clause-passing
 invariant_of-table-2-clause-passing c =

@@ -1,6 +1,6 @@
 use Rattle.std.proofs.Common.{◌+◌, sym, subst}
 use Rattle.aero_verdict.specs.Records.{AreBegunTo}
-use Rattle.aero_verdict.proofs.Opening.{none_begun, begun_more}
+use Rattle.aero_verdict.proofs.Opening.{begun_more}
 use Rattle.aero_verdict.proofs.opened.openings.Goals as goal
 
 pub loop-place-preserved : goal.loop-place-preserved

@@ -1,4 +1,3 @@
-use Rattle.std.proofs.Common.{refl}
 use Rattle.aero_words.proofs.words.settle.Goals as goal
 
 pub returns : goal.returns
