@@ -1,12 +1,12 @@
-#: make                       proves what the program needs, and builds bin/aerodrome; wants the kit's command rt on the path
-#: make try                   judges a lost update, or TRACE=FILE, in a minute and without a proof; wants rt too
-#: make logger                builds what logs C, C++ and Rust programs, with gcc or clang alone
-#: make java                  builds what logs Java programs, with a JDK, ASM and jarjar (java/build says where Debian has them)
-#: make library               proves the library for C, and builds it; wants rt and ar
-#: make install PREFIX=DIR    puts what is built, scripts, manual pages, docs and examples into DIR (/usr/local)
-#: make uninstall PREFIX=DIR  removes what make install put there, and nothing else
-#: make test                  the gate: every proof, every test, every case, every page
-#: make clean                 removes what was built, and what is kept of proofs
+#: make                       proves and builds the program, bin/aerodrome; needs the kit's command rt on the path, and 10 GB of disk
+#: make try TRACE=FILE        judges a log in two or three minutes, without a proof; without TRACE a lost update; needs rt too
+#: make logger                builds the logger for C, C++ and Rust programs; needs only gcc or clang, and binutils
+#: make java                  builds the agent that logs Java programs; needs a JDK, ASM and jarjar (README.md names Debian's packages)
+#: make library               proves and builds the library for C; needs rt and ar
+#: make install PREFIX=DIR    installs the program, scripts, logger, manual pages, pages for users and examples into DIR (default: /usr/local)
+#: make uninstall PREFIX=DIR  removes the files that make install put there, and nothing else
+#: make test                  runs the gate: every proof, test and case, and the examples of the pages
+#: make clean                 removes everything that was built, and everything that is kept of proofs
 PREFIX ?= /usr/local
 # What `make try` judges.
 TRACE ?= examples/withdraw.std
@@ -15,31 +15,37 @@ CRATES := $(filter-out %_tests crates/aero_c,$(wildcard crates/*))
 SOURCES := HANDLES crates.txt $(shell find $(wildcard $(CRATES:=/src) $(CRATES:=/specs) $(CRATES:=/proofs)) -type f)
 LIBRARY := $(shell find $(wildcard crates/aero_c/src crates/aero_c/specs crates/aero_c/proofs) -type f)
 
+COMMANDS := bin/aerodrome-merge bin/aerodrome-refine bin/aerodrome-page bin/aerodrome-sarif
 LOGGER := $(wildcard logger/*)
+WRAPPERS := bin/aerodrome-cc bin/aerodrome-c++ bin/aerodrome-rustc bin/aerodrome-places
 JAVA := java/build $(wildcard java/src/aerodrome/table java/src/aerodrome/*.java java/src/aerodrome/*/*.java)
 
 .PHONY: all help try library logger java test install files uninstall clean
 
-all: bin/aerodrome
+all: bin/aerodrome $(COMMANDS)
+
+# The scripts in bin/ have the names that they have when they are installed.
+bin/aerodrome-merge bin/aerodrome-refine: bin/aerodrome-%: tools/%
+	@mkdir -p bin && ln -sf ../$< $@
+
+bin/aerodrome-page bin/aerodrome-sarif: bin/%: view/%
+	@mkdir -p bin && ln -sf ../$< $@
 
 help:
 	@sed -n 's/^#: //p' $(firstword $(MAKEFILE_LIST))
 
-# The program as it would be built, run on one trace. A run that has ended is a good one, whatever the verdict.
+# The program as it would be built, run on one trace.
+try: export TRACE := $(TRACE)
 try:
-	@command -v rt > /dev/null || { tools/build; exit 1; }
-	@echo "nothing is proved here: this runs the program on $(TRACE), with checks in the place of proofs, in about a minute"
-	@mkdir -p out && cd crates/aerodrome && \
-	{ rt try --data $(notdir $(TRACE))=$(abspath $(TRACE)) -- --explain $(notdir $(TRACE)) || :; } | tee ../../out/try.log
-	@grep -q '^run=ended ' out/try.log
+	@tools/try "$$TRACE"
 
 bin/aerodrome: $(SOURCES)
 	@tools/build
 
-# The wrappers aerodrome-cc and aerodrome-c++ into bin/, the library that they link into lib/aerodrome.
-logger: lib/aerodrome/libaerodrome-log.a
+# The wrappers and aerodrome-places into bin/, and the object that the wrappers link into lib/aerodrome.
+logger: $(WRAPPERS) lib/aerodrome/aerodrome-log.o
 
-lib/aerodrome/libaerodrome-log.a: $(LOGGER)
+$(WRAPPERS) lib/aerodrome/aerodrome-log.o &: $(LOGGER)
 	@logger/build .
 
 # The agent for Java, into lib/aerodrome.
@@ -66,27 +72,24 @@ uninstall:
 
 # What make install puts where.
 # (bash looks for a command's completions in a file of the command's name)
+files: TO := $(DESTDIR)$(PREFIX)
 files:
-	install -D -m 755 bin/aerodrome $(DESTDIR)$(PREFIX)/bin/aerodrome
-	install -D -m 755 tools/merge $(DESTDIR)$(PREFIX)/bin/aerodrome-merge
-	install -D -m 755 tools/refine $(DESTDIR)$(PREFIX)/bin/aerodrome-refine
-	install -D -m 755 -t $(DESTDIR)$(PREFIX)/bin view/aerodrome-page view/aerodrome-sarif
-	install -D -m 644 -t $(DESTDIR)$(PREFIX)/lib/aerodrome/aerodrome_view view/aerodrome_view/*.py view/aerodrome_view/page.css
-	install -D -m 644 -t $(DESTDIR)$(PREFIX)/share/man/man1 docs/*.1
-	install -D -m 644 completions/aerodrome.bash $(DESTDIR)$(PREFIX)/share/bash-completion/completions/aerodrome
-	install -D -m 644 completions/aerodrome.bash $(DESTDIR)$(PREFIX)/share/bash-completion/completions/aerodrome-merge
-	install -D -m 644 completions/aerodrome.bash $(DESTDIR)$(PREFIX)/share/bash-completion/completions/aerodrome-refine
-	install -D -m 644 completions/aerodrome.bash $(DESTDIR)$(PREFIX)/share/bash-completion/completions/aerodrome-page
-	install -D -m 644 completions/aerodrome.bash $(DESTDIR)$(PREFIX)/share/bash-completion/completions/aerodrome-sarif
-	install -D -m 644 completions/_aerodrome $(DESTDIR)$(PREFIX)/share/zsh/site-functions/_aerodrome
-	@for file in $(wildcard README.md CHANGELOG.md docs/*.md docs/*.png examples/* examples/*/*); do \
-	[ ! -f $$file ] || install -D -m 644 $$file $(DESTDIR)$(PREFIX)/share/doc/aerodrome/$$file; done
+	install -D -m 755 bin/aerodrome "$(TO)/bin/aerodrome"
+	install -D -m 755 tools/merge "$(TO)/bin/aerodrome-merge"
+	install -D -m 755 tools/refine "$(TO)/bin/aerodrome-refine"
+	install -D -m 755 -t "$(TO)/bin" view/aerodrome-page view/aerodrome-sarif
+	install -D -m 644 -t "$(TO)/lib/aerodrome/aerodrome_view" view/aerodrome_view/*.py view/aerodrome_view/page.css
+	install -D -m 644 -t "$(TO)/share/man/man1" docs/*.1
+	@for command in aerodrome aerodrome-merge aerodrome-refine aerodrome-page aerodrome-sarif; do \
+	install -D -m 644 completions/aerodrome.bash "$(TO)/share/bash-completion/completions/$$command"; done
+	install -D -m 644 completions/_aerodrome "$(TO)/share/zsh/site-functions/_aerodrome"
+	tools/user-pages "$(TO)/share/doc/aerodrome"
 	@if [ -f lib/aerodrome/libaerodrome.a ]; then \
-	install -D -m 644 lib/aerodrome/libaerodrome.a $(DESTDIR)$(PREFIX)/lib/aerodrome/libaerodrome.a; \
-	install -D -m 644 include/aerodrome.h $(DESTDIR)$(PREFIX)/include/aerodrome.h; fi
+	install -D -m 644 lib/aerodrome/libaerodrome.a "$(TO)/lib/aerodrome/libaerodrome.a"; \
+	install -D -m 644 include/aerodrome.h "$(TO)/include/aerodrome.h"; fi
 	@if [ -f lib/aerodrome/aerodrome-agent.jar ]; then \
-	install -D -m 644 lib/aerodrome/aerodrome-agent.jar $(DESTDIR)$(PREFIX)/share/java/aerodrome-agent.jar; fi
-	@if command -v $${CC:-gcc} > /dev/null; then logger/build $(DESTDIR)$(PREFIX); \
+	install -D -m 644 lib/aerodrome/aerodrome-agent.jar "$(TO)/share/java/aerodrome-agent.jar"; fi
+	@if command -v $${CC:-gcc} > /dev/null; then logger/build "$(TO)"; \
 	else echo "no $${CC:-gcc} here: the logger isn't installed"; fi
 
 clean:

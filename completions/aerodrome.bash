@@ -24,7 +24,11 @@ _aerodrome() {
     case $before in
         --workers) COMPREPLY=($(compgen -W '1 2 4 8 16' -- "$word")) ;;
         --format) COMPREPLY=($(compgen -W 'text json' -- "$word")) ;;
-        --folder | --root) COMPREPLY=($(compgen -A directory -- "$word")) ;;
+        --folder | --root)
+            # (so that bash quotes blanks, and writes a / after a folder)
+            compopt -o filenames 2> /dev/null
+            mapfile -t COMPREPLY < <(compgen -A directory -- "$word")
+            ;;
         --piece | --except | --only | --files0-from | --label | --output | --context | --pictures | --rows) ;;
         *)
             case $word in

@@ -7,6 +7,7 @@ enum { SEQUENTIAL = __ATOMIC_SEQ_CST };
 /* The statement `work`, which an operation on `at` of the type consists of, and its line. */
 #define LOGGED(type, operation, at, work) \
     aero_may_be_cancelled(); \
+    aero_may_stir(); \
     if (!aero_enter()) { work; } \
     else { \
         if (UNLIKELY(aero_me.jumped)) aero_left(FRAME); \
@@ -14,7 +15,7 @@ enum { SEQUENTIAL = __ATOMIC_SEQ_CST };
         int locks = aero_me.locking.what, gives = UNLIKELY(locks) && aero_gives_back((uintptr_t)(at), HERE); \
         work; \
         if (LIKELY(!locks) || !(gives || aero_takes((uintptr_t)(at), *(operation) == 'w', HERE))) \
-            aero_span(operation, (uintptr_t)(at), sizeof(type), HERE); \
+            aero_span(operation, PLAIN, (uintptr_t)(at), sizeof(type), HERE); \
         aero_unlock(); \
         aero_leave(); \
     }

@@ -2,6 +2,7 @@
 #include "log.h"
 
 #include <setjmp.h>
+#include <string.h>
 
 /* Of a frame's block, in the log: it was split where it waits, and is to begin again. */
 enum { CLOSED, OPEN, SPLIT };
@@ -21,6 +22,17 @@ static int has_room(struct thread *me) {
  * which std::thread calls it. */
 static int is_start(const struct thread *me) { return me->number != 1 && me->depth == me->leading; }
 
+/* Whether it is a test of Rust: its thread starts with a closure that stands in the function itself, f::{{closure}}, and that calls
+ * it. */
+static int is_test(const struct thread *me, const struct code *function) {
+    static const char closure[] = "::{{closure}}";
+    if (me->number == 1 || me->depth != me->leading + 1) return 0;
+    const struct code *start = me->frames[me->depth - 1].function;
+    const char *label = function->label, *around = start ? start->label : NULL;
+    size_t length = strlen(label);
+    return around && !strncmp(label, around, length) && !strcmp(around + length, closure);
+}
+
 /* In the runtime, events have the place from where other code has called that. */
 static void note_outside(struct thread *me, const struct frame *top, int is_runtime) {
     if (is_runtime && me->depth == me->leading) me->leading++;
@@ -35,7 +47,7 @@ static void push(const struct code *function, uintptr_t frame, uintptr_t call) {
     if (!has_room(me)) return;
     struct frame *top = &me->frames[me->depth];
     int kind = function ? atomic_load_explicit(&function->kind, memory_order_relaxed) : 0;
-    int block = kind & IS_BLOCK && (!is_start(me) || aero_starts_are_blocks());
+    int block = kind & IS_BLOCK && (aero_starts_are_blocks() || !(is_start(me) || is_test(me, function)));
     *top = (struct frame){frame, function, call, me->outside, CLOSED};
     if (UNLIKELY(kind & IS_RUNTIME || me->outside)) note_outside(me, top, kind & IS_RUNTIME);
     me->depth++;
@@ -68,13 +80,18 @@ void aero_left(uintptr_t frame) {
     while (me->depth && me->frames[me->depth - 1].at < frame) pop(0);
 }
 
+int aero_has_entered;
+
 /* What no hooked function has called, as main or what a thread starts with, has its own place. */
 EXPORT void __tsan_func_entry(void *caller) {
     aero_may_be_cancelled();
     if (!aero_enter()) return;
     if (UNLIKELY(aero_me.jumped)) aero_left(FRAME + 1);
+    if (UNLIKELY(!aero_has_entered)) aero_has_entered = 1;
     push(aero_function(HERE), FRAME, aero_me.depth ? (uintptr_t)caller : HERE);
+    int begins = UNLIKELY(aero_stirs) && aero_me.depth && aero_me.frames[aero_me.depth - 1].block == OPEN;
     aero_leave();
+    if (UNLIKELY(begins)) aero_may_stir();
 }
 EXPORT void __tsan_func_exit(void) {
     if (!aero_enter()) return;
@@ -101,11 +118,11 @@ void aero_forget_blocks(void) {
 
 /* ---- blocks that are split */
 
-static void end_for_a_wait(struct thread *me) {
+static void end_here(struct thread *me, int as) {
     for (size_t place = me->depth; place > 0; place--) {
         struct frame *it = &me->frames[place - 1];
         if (it->block != OPEN) continue;
-        it->block = SPLIT;
+        it->block = as;
         aero_line("end", NULL, 0, NULL, it->call);
     }
 }
@@ -118,20 +135,58 @@ static void begin_again(struct thread *me) {
     }
 }
 void aero_split_blocks(int begins) {
-    if (!aero_settings.splits) return;
+    if (!aero_settings.splits_waits) return;
     aero_lock();
     if (begins) begin_again(&aero_me);
-    else end_for_a_wait(&aero_me);
+    else end_here(&aero_me, SPLIT);
     aero_unlock();
+}
+void aero_split_at_thread(void) {
+    if (aero_settings.splits_threads) end_here(&aero_me, CLOSED);
 }
 
 /* ---- longjmp */
 
+/* Where the stack ends that a jump goes back to; 0: it isn't known. The C library has it in the buffer, turned by 17 bits and
+ * mixed with a number that each process has. */
+static uintptr_t stack_of(const struct __jmp_buf_tag *to) {
+#ifdef __x86_64__
+    uintptr_t kept = (uintptr_t)to->__jmpbuf[6], secret;
+    __asm__("mov %%fs:0x30, %0" : "=r"(secret));
+    return (kept >> 17 | kept << 47) ^ secret;
+#else
+    (void)to;
+    return 0;
+#endif
+}
+
+/* A signal handler may have a stack of its own: the function that a jump goes back to is the one that lies next above. */
+static void leave_until(uintptr_t stack) {
+    struct thread *me = &aero_me;
+    uintptr_t next = UINTPTR_MAX;
+    size_t kept = 0;
+    for (size_t place = 0; place < me->depth; place++) {
+        uintptr_t at = me->frames[place].at;
+        if (at < stack || at > next) continue;
+        next = at;
+        kept = place + 1;
+    }
+    while (me->depth > kept) pop(0);
+}
+
+static void jumps_to(const struct __jmp_buf_tag *to) {
+    uintptr_t stack = stack_of(to);
+    if (aero_me.busy) aero_interrupted();
+    if (!stack) aero_me.jumped = 1;
+    if (!stack || !aero_enter()) return;
+    leave_until(stack);
+    aero_leave();
+}
+
 #define JUMP(name, buffer) \
     EXPORT void name(buffer to, int value) { \
         REAL(void, name, buffer, int) \
-        aero_me.jumped = 1; \
-        if (aero_me.busy) aero_interrupted(); \
+        jumps_to(to); \
         real(to, value); \
         __builtin_unreachable(); \
     }

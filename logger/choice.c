@@ -1,13 +1,15 @@
 /* Which functions are atomic blocks, by AERODROME_BLOCKS:
  *
  *   f,g        these, with a comma or a newline between two. A name is that in the log (Bank::pay) or that of the symbol
- *              (_ZN4Bank3payEl); in one, * stands for any text: Bank::*,-Bank::audit
+ *              (_ZN4Bank3payEl); in one, * stands for any text: Bank::*,-Bank::audit. A library's own are libbank.so:f,
+ *              also where it is loaded later. A function without a name is called as in the log: program+0x1234
  *   -f,g       all that are blocks without the variable, but these
  *   all        each function; all,-f but for f
  *   none       none
+ *   @FILE      what the file says, with one name a line, and # before lines that say nothing; -@FILE: all but these
  *
  * Without it all are but main, those that threads start with (blocks.c), the bodies of OpenMP's teams, and the functions of std::
- * and of the C++ runtime, for Rust those of std, core and alloc. */
+ * and of the C++ runtime, for Rust those of std, core and alloc. A function without a name may be any of these, so it is none. */
 #include "log.h"
 
 #include <stdio.h>
@@ -15,11 +17,14 @@
 
 static enum { USUAL, ALL, ONLY_LISTED } base;
 static struct name {
+    const char *file;                /* of that library's functions, NULL: of any */
+    size_t file_length;
     const char *text;
     size_t length;
     int leaves_out, is_found;
 } *names;
 static size_t name_count;
+static int is_unreadable;            /* the program's names are needed, and it has none */
 
 int aero_starts_are_blocks(void) { return base != USUAL; }
 
@@ -43,8 +48,12 @@ static int matches(const char *name, size_t length, const char *text) {
     }
     return 1;
 }
-static int is_called(const struct name *name, const char *label, const char *symbol) {
-    return matches(name->text, name->length, label) || matches(name->text, name->length, symbol);
+static int is_in_file(const struct name *name, const char *file) {
+    return !name->file || (strlen(file) == name->file_length && !memcmp(file, name->file, name->file_length));
+}
+static int is_called(const struct name *name, const char *label, const char *symbol, const char *file) {
+    if (!is_in_file(name, file)) return 0;
+    return matches(name->text, name->length, label) || (symbol && matches(name->text, name->length, symbol));
 }
 
 /* ---- functions of the C++ runtime */
@@ -64,7 +73,8 @@ static int is_of_std(const char *symbol) {
 }
 static int is_of_runtime(const char *label, const char *symbol) {
     static const char *const heads[] = {"_GLOBAL__", "__cxx_global_", "__static_initialization", "__tls_init", "__cxa_",
-                                        "__gthread_", "__clang_call_terminate", "__rust", "TLS init function for ", "TLS wrapper function for "};
+                                        "__gthread_", "__clang_call_terminate", "__rust", "TLS init function for ",
+                                        "TLS wrapper function for "};
     for (size_t one = 0; one < sizeof heads / sizeof *heads; one++)
         if (begins(label, heads[one]) || begins(symbol, heads[one])) return 1;
     return aero_is_rust(symbol) ? aero_is_of_rust_library(label) : is_of_std(symbol);
@@ -78,18 +88,18 @@ static int is_of_team(const char *symbol) {
     return strstr(symbol, "._omp_fn.") || strstr(symbol, "._omp_cpyfn.") || strstr(symbol, ".omp_outlined");
 }
 
-int aero_kind(const char *label, const char *symbol) {
-    int runtime = is_of_runtime(label, symbol), locks = aero_is_rust(symbol) ? aero_lock_function(label) : 0;
-    int block = base == ALL || (base == USUAL && !runtime && !is_main(label, symbol) && !is_of_team(symbol));
+int aero_kind(const char *label, const char *symbol, const char *file) {
+    int runtime = symbol && is_of_runtime(label, symbol), locks = symbol && aero_is_rust(symbol) ? aero_lock_function(label) : 0;
+    int block = base == ALL || (base == USUAL && symbol && !runtime && !is_main(label, symbol) && !is_of_team(symbol));
     for (size_t one = 0; one < name_count; one++)
-        if (is_called(&names[one], label, symbol)) {
+        if (is_called(&names[one], label, symbol, file)) {
             block = !names[one].leaves_out;
             if (!block) break;
         }
     return (block ? IS_BLOCK : 0) | (runtime ? IS_RUNTIME : 0) | locks * LOCK_FUNCTION;
 }
 
-/* ---- the variable */
+/* ---- names of a list */
 
 /* How long the name is with which the list begins. A comma within brackets, as in pair<int, long>::get, belongs to it. */
 static size_t name_length(const char *list) {
@@ -107,56 +117,137 @@ static int is_word(const char *list, const char *word) {
     return name_length(list) == strlen(word) && begins(list, word);
 }
 
+/* libbank.so:f: where the name of a library stands before a single colon, what is behind it begins. */
+static size_t behind_file(const char *text, size_t length) {
+    const char *colon = memchr(text, ':', length), *dot = memmem(text, length, ".so", 3);
+    if (!colon || !dot || dot > colon || colon[1] == ':') return 0;
+    return (size_t)(colon - text) + 1;
+}
+
+static struct name name_in(const char *text, size_t length, int leaves_out) {
+    size_t file = behind_file(text, length);
+    return (struct name){file ? text : NULL, file ? file - 1 : 0, text + file, length - file, leaves_out, 0};
+}
+
 /* Puts the names of the list down, and says whether there was memory for them. */
 static int take_names(const char *list, int all_leave_out) {
     names = aero_pages((strlen(list) / 2 + 1) * sizeof *names);
     while (names && *list) {
         int minus = *list == '-';
         size_t length = name_length(list += minus);
-        if (length) names[name_count++] = (struct name){list, length, minus || all_leave_out, 0};
+        if (length) names[name_count++] = name_in(list, length, minus || all_leave_out);
         list += length + (list[length] != 0);
     }
     return names != NULL;
 }
 
-static int find_names(const char *label, const char *symbol) {
+static int find_names(const char *label, const char *symbol, const char *file) {
     size_t found = 0;
     for (size_t one = 0; one < name_count; one++) {
-        if (!names[one].is_found) names[one].is_found = is_called(&names[one], label, symbol);
+        if (!names[one].is_found) names[one].is_found = is_called(&names[one], label, symbol, file);
         found += names[one].is_found != 0;
     }
     return found < name_count;
 }
 
-static void tell_unknown(const char *list, const struct name *name) {
+static int is_address(const struct name *name) { return memmem(name->text, name->length, "+0x", 3) != NULL; }
+
+static void tell_unknown(const struct name *name, const char *so) {
     char what[256], why[256];
-    snprintf(what, sizeof what, "AERODROME_BLOCKS=%.180s", list);
-    snprintf(why, sizeof why, "no function is called %.*s: nothing is logged", name->length < 150 ? (int)name->length : 150,
-             name->text);
+    snprintf(what, sizeof what, "AERODROME_BLOCKS=%.180s", aero_settings.blocks);
+    snprintf(why, sizeof why, "no function is called %.*s: %s", name->length < 150 ? (int)name->length : 150, name->text, so);
     aero_say(what, why);
 }
 
-/* What a pattern would leave out needn't be there. */
-static int has_unknown_name(const char *list) {
-    if (name_count) aero_each_function(find_names);
+/* The first name that no function has, of those of the file's functions, or, by NULL, of all that may be there by now. What a
+ * pattern would leave out needn't be there. */
+static const struct name *unknown_name(const char *file) {
     for (size_t one = 0; one < name_count; one++) {
         const struct name *name = &names[one];
-        if (name->is_found || (name->leaves_out && memchr(name->text, '*', name->length))) continue;
-        tell_unknown(list, name);
-        return 1;
+        int is_wanted = file ? name->file && is_in_file(name, file) : !name->file || aero_is_loaded(name->file, name->file_length);
+        if (!is_wanted || name->is_found || is_address(name)) continue;
+        if (!name->leaves_out || !memchr(name->text, '*', name->length)) return name;
     }
-    return 0;
+    return NULL;
 }
 
-int aero_choose_blocks(const char *blocks) {
+int aero_knows_blocks(void) {
+    if (is_unreadable) return 0;
+    if (name_count) aero_each_function(NULL, find_names);
+    const struct name *unknown = unknown_name(NULL);
+    if (unknown) tell_unknown(unknown, "nothing is logged");
+    return !unknown;
+}
+
+void aero_look_for_blocks(const char *file) {
+    if (!unknown_name(file)) return;
+    aero_each_function(file, find_names);
+    const struct name *unknown = unknown_name(file);
+    if (!unknown) return;
+    tell_unknown(unknown, "the rest isn't logged");
+    aero_lock();
+    aero_flush();
+    atomic_store(&aero_state, OFF);
+    aero_unlock();
+}
+
+void aero_tell_never_loaded(void) {
+    char what[256];
+    for (size_t one = 0; one < name_count; one++) {
+        const struct name *name = &names[one];
+        if (!name->file || name->leaves_out || name->is_found) continue;
+        snprintf(what, sizeof what, "AERODROME_BLOCKS=%.180s", aero_settings.blocks);
+        aero_say(what, "a library of a name in it was never loaded");
+        return;
+    }
+}
+
+/* Whoever says which functions are blocks doesn't need the names of others. */
+void aero_lacks_main(const char *file) {
+    if (base != USUAL) return;
+    is_unreadable = 1;
+    aero_say(file, "it is stripped, so that main and std:: can't be told from its other functions: nothing is logged, "
+                   "unless AERODROME_BLOCKS is all, none or a list of blocks");
+}
+void aero_lacks_name(const char *file) {
+    if (base == USUAL) aero_say(file, "it is stripped: its functions that have no name are no blocks");
+}
+void aero_lacks_file(const char *file) {
+    if (base == USUAL) aero_say(file, "the file can't be read, so its functions have no names: they are no blocks");
+}
+
+/* ---- the variable */
+
+/* The lines of the file, but for those that begin with #, behind `head`; NULL: it can't be read. */
+static char *lines_of(const char *path, const char *head) {
+    struct image file = aero_image(path);
+    char *text = file.bytes ? aero_pages(file.size + 2) : NULL, *to = text ? aero_put_text(text, head) : NULL;
+    int is_new = 1, is_comment = 0;
+    for (size_t place = 0; text && place < file.size; place++) {
+        char byte = file.bytes[place];
+        if (is_new) is_comment = byte == '#';
+        is_new = byte == '\n';
+        if (!is_comment && byte != '\r' && !(is_new && to > text && to[-1] == '\n')) *to++ = byte;
+    }
+    aero_drop_image(file);
+    return text;
+}
+
+int aero_read_blocks(const char *blocks) {
     if (!blocks) return 1;
-    int all = is_word(blocks, "all");
-    base = all ? ALL : *blocks == '-' ? USUAL : ONLY_LISTED;
-    if (is_word(blocks, "none") && !blocks[4]) return 1;
-    const char *list = all ? blocks + 3 + (blocks[3] != 0) : blocks;
-    if (!take_names(list, *blocks == '-')) {
-        aero_say("AERODROME_BLOCKS", "out of memory: nothing is logged");
+    int minus = *blocks == '-', is_file = blocks[minus] == '@';
+    const char *said = is_file ? lines_of(blocks + minus + 1, minus ? "-" : "") : blocks;
+    if (!said || !said[strspn(said, "-\n")]) {
+        char what[256];
+        snprintf(what, sizeof what, "AERODROME_BLOCKS=%.180s", blocks);
+        aero_say(what, said ? "it has no name: nothing is logged" : "the file is empty or can't be read: nothing is logged");
         return 0;
     }
-    return !has_unknown_name(blocks);
+    int all = is_word(said, "all");
+    base = all ? ALL : *said == '-' ? USUAL : ONLY_LISTED;
+    if (is_word(said, "none") && !said[4 + (said[4] == '\n')]) return 1;
+    const char *list = all ? said + 3 + (said[3] != 0) : said;
+    if (take_names(list, *said == '-')) return 1;
+    aero_say("AERODROME_BLOCKS", "out of memory: nothing is logged");
+    return 0;
 }

@@ -10,6 +10,15 @@
 
 pid_t aero_owner;
 
+/* A log without a line, or without blocks, would be taken for one without a violation. Of children of fork many do nothing but
+ * call exec. */
+static void tell_of_little(void) {
+    if (!aero_has_lines() && !aero_remove()) aero_clear();
+    if (aero_is_child()) return;
+    if (!aero_has_lines()) aero_say("nothing is logged", "no code that aerodrome-cc has compiled did anything");
+    else if (!aero_has_entered) aero_say("no block is logged", "no function that aerodrome-cc has compiled was called");
+}
+
 /* A signal handler may have come into the logger, and hold its lock already: then what was being written out goes on, and the
  * line that was begun isn't written. A child that shares the program's memory, by vfork(), ends without ending the log. */
 void aero_finish(void) {
@@ -19,7 +28,11 @@ void aero_finish(void) {
     if (!aero_me.number) aero_number(aero_next_number());
     if (!writes) aero_lock();
     aero_flush();
-    if (atomic_load(&aero_state) == ON) aero_end_thread();
+    if (atomic_load(&aero_state) == ON) {
+        aero_end_thread();
+        aero_tell_never_loaded();
+        tell_of_little();
+    }
     aero_flush();
     atomic_store(&aero_state, OFF);
     aero_close();

@@ -52,11 +52,16 @@ static void put_within(char *to, const char *text, size_t most) {
     *to = 0;
 }
 
-/* A suffix of the compiler or of a version, as in pay.constprop.0 and environ@GLIBC, goes. */
+/* A suffix of the compiler or of a version, as in pay.constprop.0 and environ@GLIBC, goes. The parts of a coroutine, as in
+ * _Z4loopPZ4loopvE13_Z4loopv.Frame.actor, have it in the midst of their names too. */
 static char *readable_cpp(const char *symbol, int is_function) {
+    int is_mangled = __cxa_demangle && !strncmp(symbol, "_Z", 2);
+    char *whole = is_mangled && strstr(symbol, ".Frame.") ? __cxa_demangle(symbol, NULL, NULL, NULL) : NULL;
+    char *clone = whole ? strstr(whole, " [clone ") : NULL;
     size_t length = strcspn(symbol, ".@");
-    char *plain = length ? strndup(symbol, length) : strdup(symbol);
-    char *readable = plain && __cxa_demangle && !strncmp(plain, "_Z", 2) ? __cxa_demangle(plain, NULL, NULL, NULL) : NULL;
+    char *plain = whole ? NULL : length ? strndup(symbol, length) : strdup(symbol);
+    char *readable = whole || !plain || !is_mangled ? whole : __cxa_demangle(plain, NULL, NULL, NULL);
+    if (clone) *clone = 0;
     if (!readable) return plain;
     free(plain);
     if (is_function) cut_parameters(readable);

@@ -96,6 +96,7 @@ static int is_had(int result) { return result == 0 || result == EOWNERDEAD; }
 #define ACQUIRE(name, how, arguments, ...) \
     EXPORT int name(__VA_ARGS__) { \
         REAL(int, name, __VA_ARGS__) \
+        aero_may_stir(); \
         int result = real arguments; \
         if (is_had(result)) aero_acquired((uintptr_t)lock, how, HERE); \
         return result; \
@@ -139,7 +140,7 @@ struct wait {
     enum holding how;
 };
 static void split(int begins) {
-    if (!aero_settings.splits || !aero_enter()) return;
+    if (!aero_settings.splits_waits || !aero_enter()) return;
     aero_split_blocks(begins);
     aero_leave();
 }

@@ -21,7 +21,8 @@
  *   entry and exit of a function that is a block       begin(NAME), end
  *   OpenMP, as gcc compiles it                         openmp.c says what
  *
- * X is a global variable's name, with +N for the N-th byte in it, and @ADDRESS where several have that name; else an address.
+ * X is the name of a global variable of the program or a library, with +N for the N-th byte in it, and @ADDRESS where others have
+ * that name; else an address. parts.c says which bytes are one variable.
  * Memory that is allocated again is a new variable, ADDRESS.N. Threads are T1 (main), T2, ..; no number is used again.
  *
  * The place in the code is `program+0x1234`, and the tool aerodrome-places puts FILE:LINE there afterwards. So the program
@@ -34,13 +35,14 @@
  *
  * The end. At exit, _exit, quick_exit, abort, a failed assert and a signal that ends the process, the ending thread's blocks are
  * ended, and the log is written out; then the command behind `|` is waited for. Blocks of other threads stay open. exec writes the
- * log out. A process that SIGKILL ends loses what the buffer holds (up to 1 MiB); the file ends with a whole line.
+ * log out, and so does a system call by syscall() or prctl() that ends or restricts the process (calls.c). A process that SIGKILL
+ * or an exit of its own machine code ends loses what the buffer holds (up to 1 MiB); the file ends with a whole line, unless the
+ * signal came while it was written.
  *
  *   fork()       the child logs nothing; where the target has %p it begins a log of its own, in which it is T1. The parent goes on.
  *   signals      a handler's events are its thread's. Those of one that interrupts the logger itself aren't logged. Where such a
  *                one leaves by longjmp, the event that was about to be logged isn't; while the log is written out, it ends.
- *   longjmp      the functions that it leaves end at the next access, entry or exit. C++ exceptions and pthread_exit end
- *                the blocks that they leave.
+ *   longjmp      the functions that it leaves end there. C++ exceptions and pthread_exit end the blocks that they leave.
  *   a thread that ends within blocks or with locks: they are ended and released there.
  *   errors       one line on standard error, and the program goes on unlogged. What was written ends with a whole line.
  */
@@ -62,7 +64,7 @@
 #define LOG_BUFFER (1 << 20)
 
 atomic_int aero_state;
-int aero_grain = 8;
+int aero_grain;
 __thread struct thread aero_me;
 
 lock_word aero_log_lock;
@@ -122,6 +124,8 @@ void aero_empty(void) {
     atomic_store(&last_number, 0);
 }
 
+int aero_has_lines(void) { return used || written; }
+
 void aero_write_to(const char *said) {
     target = said;
     int64_t most = aero_settings.limit;
@@ -143,6 +147,7 @@ static void cut(void) {
 void aero_stop(const char *why) {
     char text[256];
     used = sent = 0;
+    aero_clear();
     if (atomic_exchange(&aero_state, OFF) != ON) return;
     snprintf(text, sizeof text, "%.200s: the rest isn't logged", why);
     aero_say(target, text);
@@ -188,6 +193,7 @@ void aero_flush(void) {
     for (size_t one = 0; one < sizeof through / sizeof *through; one++)
         if (!sigismember(&before, through[one])) sigdelset(&masked, through[one]);
     flushing = 1;
+    aero_clear();
     if (!write_out(&masked)) {
         int why = errno;
         cut();

@@ -17,16 +17,17 @@
 #define EXPORT __attribute__((visibility("default"), weak)) ALIGNED
 /* Code written in assembly may call C with a stack that isn't aligned, where it knows that the functions need none aligned; with
  * their hooks they would. */
-#if defined(__x86_64__) || defined(__i386__)
+#ifdef __x86_64__
 #define ALIGNED __attribute__((force_align_arg_pointer))
 #else
 #define ALIGNED
 #endif
+_Static_assert(sizeof(uintptr_t) == 8, "addresses have 64 bits");
 #define LIKELY(condition) __builtin_expect(!!(condition), 1)
 #define UNLIKELY(condition) __builtin_expect(!!(condition), 0)
-/* Where the caller of the function goes on, and where the function's own frame lies. */
+/* Where the caller of the function goes on, and where its stack ends at the call. */
 #define HERE ((uintptr_t)__builtin_return_address(0))
-#define FRAME ((uintptr_t)__builtin_frame_address(0))
+#define FRAME ((uintptr_t)__builtin_dwarf_cfa())
 
 /* The next function of that name behind the program's own: that of the C library. */
 void *aero_next(const char *name, const char *version);
@@ -42,7 +43,7 @@ void *aero_next(const char *name, const char *version);
 /* A function that was entered. */
 struct code;
 struct frame {
-    uintptr_t at;                    /* where its hook's frame lay */
+    uintptr_t at;                    /* where its stack ended at its entry */
     const struct code *function;     /* NULL where memory was refused */
     uintptr_t call;                  /* where it was called */
     uintptr_t outside;               /* what `outside` of the thread was before */
@@ -69,7 +70,7 @@ struct thread {
     int number;              /* from 1; 0: it has none yet */
     volatile int busy;       /* in the logger: what a signal handler does meanwhile isn't logged */
     int error;               /* errno as the program had it */
-    int jumped;              /* functions may have been left without their hook: by longjmp, or by exec in a child of vfork */
+    int jumped;              /* functions may have been left without their hook, as by exec in a child of vfork */
     int cancels;             /* asynchronous cancelling was asked for; threads.c */
     int has_end;             /* what it has left open is ended with it */
     int length;
@@ -84,8 +85,9 @@ struct thread {
 };
 extern __thread struct thread aero_me;
 
-/* A lock. Who waits long for it sleeps. The two have a line of the cache each: threads that wait look at the first one all the
- * time, and who lets go looks at the second one. */
+/* own_locks.c */
+/* A lock of the logger's own. Who waits long for it sleeps. The two have a line of the cache each: threads that wait look at the
+ * first one all the time, and who lets go looks at the second one. */
 typedef struct {
     _Alignas(64) atomic_int owner;       /* the number of the thread that holds it, or 0 */
     _Alignas(64) atomic_int sleepers;    /* 1: some may sleep */
@@ -108,7 +110,7 @@ static inline int aero_has(lock_word *lock) { return atomic_load(&lock->owner) =
 /* log.c */
 enum { OFF, ON };
 extern atomic_int aero_state;        /* OFF before the start, after the end, and in a child of fork() that isn't logged */
-extern int aero_grain;               /* bytes of a variable */
+extern int aero_grain;               /* bytes of a variable; 0: as they are accessed */
 extern lock_word aero_log_lock;
 static inline void aero_lock(void) { aero_take(&aero_log_lock); }
 static inline void aero_unlock(void) { aero_let_go(&aero_log_lock); }
@@ -121,6 +123,7 @@ void aero_stop(const char *why);     /* says why on standard error; the log's lo
 void aero_flush(void);               /* writes out what is there; the log's lock is held */
 void aero_write_to(const char *target);
 void aero_empty(void);               /* drops what the buffer has, and begins to count anew */
+int aero_has_lines(void);            /* whether a line was written, or is in the buffer */
 void *aero_pages(size_t bytes);      /* zeroed memory, or NULL */
 void aero_free_pages(void *at, size_t bytes);
 /* Makes room for one item of `size` bytes more behind `count` of them, and says whether there is some. */
@@ -164,6 +167,8 @@ int aero_is_kept(const struct kept *file);     /* whether the number still is th
 int aero_target_is_of_process(const char *said);    /* whether each process has a target of its own, by %p */
 const char *aero_target(const char *said);     /* with the process's number in the place of each %p */
 int aero_open(const char *target);             /* opens the log, and says whether it could */
+void aero_clear(void);                         /* takes away what says that nothing is written yet */
+int aero_remove(void);                         /* removes the file, which has no line, and says whether it did */
 void aero_close(void);                         /* closes the log; its lock is held */
 void aero_end_command(int waits);              /* lets go of the command that reads it, and waits for its end, if it is to */
 int aero_is_read_by_command(void);
@@ -171,11 +176,19 @@ int aero_is_read_by_command(void);
 /* settings.c */
 struct settings {
     const char *target, *blocks;
-    int grain, fresh, places, splits;
-    int64_t limit;                   /* -1: not said */
+    int grain, fresh, places, splits_waits, splits_threads;
+    int64_t limit, stir;             /* -1: not said */
 };
 extern struct settings aero_settings;
 int aero_read_settings(const char *target);    /* from the environment; whether they can be used, else it says why not */
+
+/* stir.c */
+extern int aero_stirs;
+void aero_stir_start(void);
+void aero_stir(void);
+static inline void aero_may_stir(void) {
+    if (UNLIKELY(aero_stirs)) aero_stir();
+}
 
 /* start.c */
 void aero_start(void);
@@ -187,14 +200,21 @@ void aero_finish(void);
 void aero_take_signal_stack(void);             /* for the calling thread */
 void aero_drop_signal_stack(void);
 
+/* calls.c */
+void aero_calls_start(void);
+
 /* processes.c */
 void aero_processes_start(void);
+int aero_is_child(void);                       /* of fork, with a log of its own */
+void aero_forked_apart(void);                  /* a child that the C library's fork hasn't made; its parent goes on with the log */
+int aero_before_exec(void);
+void aero_behind_exec(int entered);            /* it has failed */
 
 /* names.c */
 extern lock_word aero_names_lock;
 enum { IS_BLOCK = 1, IS_RUNTIME = 2, LOCK_FUNCTION = 4 };    /* and LOCK_FUNCTION times what aero_lock_function says */
 struct code {
-    uintptr_t at;
+    _Atomic uintptr_t at;            /* 0: other code is there by now */
     _Atomic(const char *) label;     /* of the function that it lies in; NULL: not looked up yet */
     atomic_int kind;
     unsigned length;                 /* of place */
@@ -202,18 +222,20 @@ struct code {
 };
 #define MOST_NAME 255
 void aero_names_start(void);
+void aero_library_loaded(uintptr_t code);             /* that has code there: its names are read */
+int aero_is_loaded(const char *file, size_t length);  /* whether that of a library is called so */
 void aero_lock_names(void);
 void aero_unlock_names(void);
 const struct code *aero_code(uintptr_t at);           /* NULL where memory is refused */
 const struct code *aero_function(uintptr_t at);       /* with its label and its kind */
-/* Calls `each` with the label and the symbol of each function that has hooks, until it returns 0. */
-void aero_each_function(int (*each)(const char *label, const char *symbol));
+/* Calls `each` with the label, the symbol and the object's file of each function that has hooks, of the file or of all by NULL,
+ * until it returns 0. */
+void aero_each_function(const char *file, int (*each)(const char *label, const char *symbol, const char *file));
 char *aero_put_hex(char *to, uintptr_t number);
 char *aero_put_text(char *to, const char *text);
 char *aero_put_variable(char *to, uintptr_t address);
-/* Where the variable that has the byte at the address begins and ends. */
-uintptr_t aero_variable_start(uintptr_t address);
-uintptr_t aero_variable_end(uintptr_t address);
+/* Where the global variable that has the byte begins and ends; 0 and UINTPTR_MAX where there is none. */
+void aero_symbol_bounds(uintptr_t address, uintptr_t *from, uintptr_t *to);
 
 /* labels.c */
 /* Puts the name of the symbol as the log has it, of at most `most` bytes, with a byte 0 behind it. */
@@ -225,38 +247,57 @@ struct symbol {
     uintptr_t at, size;
     const char *name;
     int several;             /* others have the name too */
+    int again;               /* others were there before, and are gone */
 };
 struct table {
     struct symbol *symbols;  /* in the order of their addresses, no two at one */
     size_t count;
 };
-/* A file that is mapped, as long as the program runs. */
+/* A file that is mapped. */
 struct image {
     const char *bytes;       /* NULL: none */
     size_t size;
 };
 struct image aero_image(const char *path);
+void aero_drop_image(struct image image);
 struct table aero_symbols(struct image image, unsigned kind, uintptr_t bias);
-int aero_has_hooks(struct image image);        /* whether code in it calls the logger */
+struct image aero_names_of(struct image image, const char *path);    /* that which has its names: a debug file's, or itself */
+int aero_wants_hooks(struct image image);      /* whether code in the library calls the logger */
 const struct symbol *aero_symbol_at(const struct table *table, uintptr_t address);
 void aero_sort_symbols(struct table *table);
 
 /* memory.c */
 void aero_memory_start(void);
-void aero_span(const char *operation, uintptr_t address, size_t bytes, uintptr_t code);    /* the log's lock is held */
+/* What parts.c keeps of the eight bytes at the address; NULL where there's no memory. The log's lock is held. */
+uint16_t *aero_parts_at(uintptr_t address);
 void aero_renew(uintptr_t from, uintptr_t to);        /* what lies there is new variables */
 uint32_t aero_generation(uintptr_t address);          /* how often it was renewed */
 
+/* parts.c */
+/* A copy may be of several variables at a time. */
+enum access { PLAIN, COPY };
+/* The lines of an access; the log's lock is held. */
+void aero_span(const char *operation, enum access how, uintptr_t address, size_t bytes, uintptr_t code);
+
 /* choice.c */
-int aero_choose_blocks(const char *blocks);           /* whether each name is that of a function; else it says which isn't */
-int aero_kind(const char *label, const char *symbol);
+int aero_read_blocks(const char *blocks);             /* whether the list can be read */
+int aero_knows_blocks(void);                          /* whether each name is that of a function; else it says which isn't */
+void aero_look_for_blocks(const char *file);          /* the same of a library that was loaded; where one isn't, the log ends */
+void aero_lacks_main(const char *file);               /* the program has no function of that name */
+void aero_lacks_name(const char *file);               /* a function that was entered has none */
+void aero_lacks_file(const char *file);               /* a library with hooks can't be read, so no function of it has a name */
+void aero_tell_never_loaded(void);                    /* which libraries names are of that weren't there, in lines */
+int aero_kind(const char *label, const char *symbol, const char *file);    /* symbol: NULL where it has no name */
 int aero_starts_are_blocks(void);                     /* whether the functions are that threads start with */
 
 /* blocks.c */
+extern int aero_has_entered;                          /* a function that has hooks */
 void aero_left(uintptr_t frame);                      /* ends the blocks of functions below the frame */
 void aero_end_blocks(void);                           /* ends all of the calling thread's; the log's lock is held */
 void aero_forget_blocks(void);                        /* as the log that they began in isn't written here */
 void aero_split_blocks(int begins);                   /* ends them where they are to be split, and then begins them again */
+/* Ends them where a thread starts or is joined, if they are to; the log's lock is held. */
+void aero_split_at_thread(void);
 
 /* threads.c */
 void aero_threads_start(void);

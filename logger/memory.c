@@ -18,6 +18,8 @@ extern void *__real_memmove(void *, const void *, size_t), *__real_memset(void *
 struct leaf {
     uint32_t units[1 << (LEAF_BITS - UNIT_BITS)];
     uint32_t pages[1 << (LEAF_BITS - PAGE_BITS)];
+    uint16_t parts[1 << (LEAF_BITS - 3)];                /* parts.c */
+    unsigned char has_parts[1 << (LEAF_BITS - PAGE_BITS)];
 };
 static _Atomic(struct leaf *) leaves[1 << (47 - LEAF_BITS)];
 static int with_fresh;
@@ -42,6 +44,26 @@ static uint32_t *page_of(struct leaf *leaf, uintptr_t address) {
     return &leaf->pages[address >> PAGE_BITS & ((1 << (LEAF_BITS - PAGE_BITS)) - 1)];
 }
 
+static size_t part_of(uintptr_t address) { return address >> 3 & ((1 << (LEAF_BITS - 3)) - 1); }
+static unsigned char *has_parts(struct leaf *leaf, uintptr_t address) {
+    return &leaf->has_parts[address >> PAGE_BITS & ((1 << (LEAF_BITS - PAGE_BITS)) - 1)];
+}
+
+uint16_t *aero_parts_at(uintptr_t address) {
+    struct leaf *leaf = leaf_of(address, 1);
+    if (!leaf) return NULL;
+    unsigned char *has = has_parts(leaf, address);
+    if (UNLIKELY(!*has)) *has = 1;
+    return &leaf->parts[part_of(address)];
+}
+
+/* What lies there, a unit or a page, has no parts any more. */
+static void forget_parts(struct leaf *leaf, uintptr_t from, uintptr_t bytes, int whole) {
+    if (LIKELY(!*has_parts(leaf, from))) return;
+    for (uintptr_t byte = 0; byte < bytes; byte += 8) leaf->parts[part_of(from + byte)] = 0;
+    if (whole) *has_parts(leaf, from) = 0;
+}
+
 uint32_t aero_generation(uintptr_t address) {
     struct leaf *leaf = leaf_of(address, 0);
     return leaf ? *unit_of(leaf, address) + *page_of(leaf, address) : 0;
@@ -55,6 +77,7 @@ void aero_renew(uintptr_t from, uintptr_t to) {
         int whole = !(from & (page - 1)) && to - from >= page;
         if (!leaf) return;
         ++*(whole ? page_of(leaf, from) : unit_of(leaf, from));
+        forget_parts(leaf, from, whole ? page : unit, whole);
         from += whole ? page : unit;
     }
 }
@@ -91,18 +114,12 @@ EXPORT void *mmap64(void *wanted, size_t bytes, int protection, int flags, int f
 
 /* ---- accesses */
 
-void aero_span(const char *operation, uintptr_t address, size_t bytes, uintptr_t code) {
-    uintptr_t end = address + bytes;
-    for (address = aero_variable_start(address); address < end; address = aero_variable_end(address))
-        aero_line(operation, "", address, NULL, code);
-}
-
-static void access_at(const char *operation, uintptr_t address, size_t bytes, uintptr_t code, uintptr_t frame) {
+static void access_at(const char *operation, enum access how, uintptr_t address, size_t bytes, uintptr_t code, uintptr_t frame) {
     aero_may_be_cancelled();
     if (!aero_enter()) return;
     if (UNLIKELY(aero_me.jumped)) aero_left(frame);
     aero_lock();
-    aero_span(operation, address, bytes, code);
+    aero_span(operation, how, address, bytes, code);
     aero_unlock();
     aero_leave();
 }
@@ -114,39 +131,41 @@ static void range_at(const char *operation, uintptr_t address, size_t bytes, uin
     for (uintptr_t end = address + bytes; address < end;) {
         uintptr_t stop = end - address > step ? (address & -step) + step : end;
         aero_lock();
-        aero_span(operation, address, stop - address, code);
+        aero_span(operation, COPY, address, stop - address, code);
         aero_unlock();
         address = stop;
     }
     aero_leave();
 }
 
-#define ACCESS(name, operation, bytes) \
-    EXPORT void name(void *at) { access_at(operation, (uintptr_t)at, bytes, HERE, FRAME); }
-#define ACCESS_FROM(name, operation, bytes) \
-    EXPORT void name(void *at, void *code) { access_at(operation, (uintptr_t)at, bytes, (uintptr_t)code, FRAME); }
-#define ACCESSES(kind, bytes) \
-    ACCESS(__tsan_##kind##read##bytes, "r", bytes) \
-    ACCESS(__tsan_##kind##write##bytes, "w", bytes) \
-    ACCESS(__tsan_##kind##read_write##bytes, "w", bytes) \
-    ACCESS_FROM(__tsan_##kind##read##bytes##_pc, "r", bytes) \
-    ACCESS_FROM(__tsan_##kind##write##bytes##_pc, "w", bytes)
-#define ALL_ACCESSES(bytes) \
-    ACCESSES(, bytes) ACCESSES(volatile_, bytes) ACCESSES(unaligned_, bytes) ACCESSES(unaligned_volatile_, bytes)
-ALL_ACCESSES(1)
-ALL_ACCESSES(2)
-ALL_ACCESSES(4)
-ALL_ACCESSES(8)
-ALL_ACCESSES(16)
+#define ACCESS(name, operation, how, bytes) \
+    EXPORT void name(void *at) { access_at(operation, how, (uintptr_t)at, bytes, HERE, FRAME); }
+#define ACCESS_FROM(name, operation, how, bytes) \
+    EXPORT void name(void *at, void *code) { access_at(operation, how, (uintptr_t)at, bytes, (uintptr_t)code, FRAME); }
+#define ACCESSES(kind, how, bytes) \
+    ACCESS(__tsan_##kind##read##bytes, "r", how, bytes) \
+    ACCESS(__tsan_##kind##write##bytes, "w", how, bytes) \
+    ACCESS(__tsan_##kind##read_write##bytes, "w", how, bytes) \
+    ACCESS_FROM(__tsan_##kind##read##bytes##_pc, "r", how, bytes) \
+    ACCESS_FROM(__tsan_##kind##write##bytes##_pc, "w", how, bytes)
+/* Eight bytes that needn't lie as a number does may be two of four bytes, in a structure that is copied. */
+#define ALL_ACCESSES(bytes, unaligned) \
+    ACCESSES(, PLAIN, bytes) ACCESSES(volatile_, PLAIN, bytes) \
+    ACCESSES(unaligned_, unaligned, bytes) ACCESSES(unaligned_volatile_, unaligned, bytes)
+ALL_ACCESSES(1, PLAIN)
+ALL_ACCESSES(2, PLAIN)
+ALL_ACCESSES(4, PLAIN)
+ALL_ACCESSES(8, COPY)
+ALL_ACCESSES(16, COPY)
 
 EXPORT void __tsan_read_range(void *at, size_t bytes) { range_at("r", (uintptr_t)at, bytes, HERE); }
 EXPORT void __tsan_write_range(void *at, size_t bytes) { range_at("w", (uintptr_t)at, bytes, HERE); }
 EXPORT void __tsan_read_range_pc(void *at, size_t bytes, void *code) { range_at("r", (uintptr_t)at, bytes, (uintptr_t)code); }
 EXPORT void __tsan_write_range_pc(void *at, size_t bytes, void *code) { range_at("w", (uintptr_t)at, bytes, (uintptr_t)code); }
-EXPORT void __tsan_vptr_read(void **at) { access_at("r", (uintptr_t)at, sizeof *at, HERE, FRAME); }
+EXPORT void __tsan_vptr_read(void **at) { access_at("r", PLAIN, (uintptr_t)at, sizeof *at, HERE, FRAME); }
 EXPORT void __tsan_vptr_update(void **at, void *value) {
     (void)value;
-    access_at("w", (uintptr_t)at, sizeof *at, HERE, FRAME);
+    access_at("w", PLAIN, (uintptr_t)at, sizeof *at, HERE, FRAME);
 }
 
 /* ---- copies */
@@ -161,7 +180,7 @@ static void *filled(void *to, int value, size_t bytes, uintptr_t code) {
     return __real_memset(to, value, bytes);
 }
 /* What __memcpy_chk and the like check, that the target has room, is left to them. */
-#define COPY(name) \
+#define COPIES(name) \
     EXPORT void *__wrap_##name(void *to, const void *from, size_t bytes) { return copied(to, from, bytes, HERE); } \
     EXPORT void *__tsan_##name(void *to, const void *from, size_t bytes) { return copied(to, from, bytes, HERE); } \
     extern void *__real___##name##_chk(void *, const void *, size_t, size_t); \
@@ -169,8 +188,8 @@ static void *filled(void *to, int value, size_t bytes, uintptr_t code) {
         if (bytes > room) return __real___##name##_chk(to, from, bytes, room); \
         return copied(to, from, bytes, HERE); \
     }
-COPY(memcpy)
-COPY(memmove)
+COPIES(memcpy)
+COPIES(memmove)
 extern void *__real___memset_chk(void *, int, size_t, size_t);
 EXPORT void *__wrap_memset(void *to, int value, size_t bytes) { return filled(to, value, bytes, HERE); }
 EXPORT void *__tsan_memset(void *to, int value, size_t bytes) { return filled(to, value, bytes, HERE); }

@@ -4,23 +4,36 @@
 #include <elf.h>
 #include <link.h>
 #include <signal.h>
+#include <stdio.h>
 #include <stdlib.h>
 #include <string.h>
 #include <unistd.h>
 
-/* The program, or a library that was loaded. */
+/* The program, which is the first one, or a library that was loaded. */
 struct object {
     uintptr_t low, high, bias;
+    uintptr_t head;          /* where the first bytes of its file lie; 0: nowhere */
     char name[64];           /* of its file, without folders */
     char *path;
-    struct table functions;
-    int has_functions;       /* they were looked for */
+    struct table functions;  /* those of code that has hooks */
+    int is_read;             /* they were looked for */
+    int is_missing;          /* the file isn't there, or is another one by now */
+    int is_told;             /* that some have no name */
 };
-#define MOST_OBJECTS 256
+#define MOST_OBJECTS 4096
 static struct object objects[MOST_OBJECTS];
 static int object_count;
-static struct table variables;          /* those of the program, by their addresses in memory */
-static uintptr_t variables_low, variables_high;
+
+/* The global variables of an object, from the first byte to the last one. The log's lock is held where these change, or are
+ * looked at. */
+struct region {
+    uintptr_t low, high;
+    struct table table;
+    const struct symbol **by_name;
+};
+static struct region regions[MOST_OBJECTS];     /* by their addresses */
+static int region_count;
+static const struct symbol *recent;             /* the variable that was asked for last */
 
 #define CODE_BITS 20
 #define MOST_TRIES 64
@@ -83,6 +96,12 @@ struct search {
     struct object *found;
     char path[4096];
 };
+static uintptr_t head_of(const struct dl_phdr_info *info) {
+    for (int place = 0; place < info->dlpi_phnum; place++)
+        if (info->dlpi_phdr[place].p_type == PT_LOAD && !info->dlpi_phdr[place].p_offset)
+            return info->dlpi_addr + info->dlpi_phdr[place].p_vaddr;
+    return 0;
+}
 static int look_into(struct dl_phdr_info *info, size_t size, void *data) {
     struct search *search = data;
     (void)size;
@@ -90,72 +109,234 @@ static int look_into(struct dl_phdr_info *info, size_t size, void *data) {
         const ElfW(Phdr) *part = &info->dlpi_phdr[place];
         uintptr_t low = info->dlpi_addr + part->p_vaddr;
         if (part->p_type != PT_LOAD || search->at < low || search->at - low >= part->p_memsz) continue;
-        *search->found = (struct object){.low = low, .high = low + part->p_memsz, .bias = info->dlpi_addr};
+        *search->found = (struct object){.low = low, .high = low + part->p_memsz, .bias = info->dlpi_addr, .head = head_of(info)};
         strncpy(search->path, info->dlpi_name, sizeof search->path - 1);
         return 1;
     }
     return 0;
 }
 
+/* Whether some object has the address in memory now; `search` says which. */
+static int is_in_memory(uintptr_t at, struct search *search, struct object *found) {
+    search->at = at;
+    search->found = found;
+    search->path[0] = 0;
+    return dl_iterate_phdr(look_into, search);
+}
+
+/* Whether it is the file that lies in memory there: its first bytes say where its tables are. */
+static int is_file_of(const struct object *object, struct image image) {
+    const size_t bytes = sizeof(ElfW(Ehdr));
+    return image.bytes && image.size >= bytes && object->head && !memcmp((const void *)object->head, image.bytes, bytes);
+}
+
+/* The path of the file that is mapped at the address; an empty one where there is none. */
+static void put_path_at(uintptr_t at, char *path, size_t most) {
+    FILE *maps = fopen("/proc/self/maps", "re");
+    char line[4300];
+    *path = 0;
+    while (maps && fgets(line, sizeof line, maps)) {
+        uintptr_t low, high;
+        int behind = 0;
+        if (sscanf(line, "%lx-%lx %*s %*s %*s %*s %n", &low, &high, &behind) < 2 || at - low >= high - low) continue;
+        line[strcspn(line, "\n")] = 0;
+        snprintf(path, most, "%s", line + behind);
+        break;
+    }
+    if (maps) fclose(maps);
+}
+
+/* The program has no path of its own in the list of what is loaded. /proc/self/exe leads to its file, also where that was deleted
+ * since, but not where ld.so was called to load it. Puts the path as it is shown, and returns the one to open. */
+static const char *find_program(const struct object *program, char *shown, size_t most) {
+    static const char exe[] = "/proc/self/exe", deleted[] = " (deleted)";
+    struct image image = aero_image(exe);
+    int is_exe = is_file_of(program, image);
+    aero_drop_image(image);
+    if (!is_exe) {
+        put_path_at(program->head, shown, most);
+        return shown;
+    }
+    ssize_t length = readlink(exe, shown, most - 1);
+    shown[length > 0 ? length : 0] = 0;
+    char *end = strstr(shown, deleted);
+    if (end && !end[sizeof deleted - 1]) *end = 0;
+    return exe;
+}
+
+/* A place for an object: that of one that isn't there any more, or else a new one; NULL: there are too many. */
+static struct object *place_for_object(void) {
+    for (int place = 0; place < object_count; place++)
+        if (objects[place].low == objects[place].high) return &objects[place];
+    return object_count < MOST_OBJECTS ? &objects[object_count++] : NULL;
+}
+
 /* The object whose code has the address, or NULL; the lock of the names is held. */
 static struct object *object_at(uintptr_t at) {
     static struct search search;
+    struct object now;
     for (int place = 0; place < object_count; place++)
         if (at - objects[place].low < objects[place].high - objects[place].low) return &objects[place];
-    if (object_count == MOST_OBJECTS) return NULL;
-    search = (struct search){.at = at, .found = &objects[object_count]};
-    if (!dl_iterate_phdr(look_into, &search)) return NULL;
-    ssize_t length = *search.path ? 0 : readlink("/proc/self/exe", search.path, sizeof search.path - 1);
-    if (length > 0) search.path[length] = 0;
+    if (!is_in_memory(at, &search, &now)) return NULL;
+    const char *path = *search.path ? search.path : find_program(&now, search.path, sizeof search.path);
     const char *folder = strrchr(search.path, '/'), *shown = folder ? folder + 1 : search.path;
-    struct object *object = &objects[object_count++];
-    for (size_t place = 0; shown[place] && place < sizeof object->name - 1; place++)
-        object->name[place] = aero_fitting(shown[place]);
-    object->path = keep_text(length ? "/proc/self/exe" : search.path);
+    struct object *object = place_for_object();
+    if (!object) return NULL;
+    for (size_t place = 0; shown[place] && place < sizeof now.name - 1; place++) now.name[place] = aero_fitting(shown[place]);
+    now.path = keep_text(path);
+    *object = now;
     return object;
 }
-
-/* The functions of an object whose code has hooks; the lock of the names is held. */
-static const struct table *functions_of(struct object *object) {
-    if (object->has_functions || !object->path) return &object->functions;
-    struct image image = aero_image(object->path);
-    if (aero_has_hooks(image)) object->functions = aero_symbols(image, STT_FUNC, object->bias);
-    object->has_functions = 1;
-    return &object->functions;
+static int is_program(const struct object *object) {
+    return (uintptr_t)aero_names_start - object->low < object->high - object->low;
 }
 
-/* ---- global variables of the program */
+static int has_main(const struct table *functions) {
+    for (size_t place = 0; place < functions->count; place++)
+        if (!strcmp(functions->symbols[place].name, "main")) return 1;
+    return 0;
+}
+
+/* Reads the functions of an object whose code has hooks, and returns its variables; the lock of the names is held. */
+static struct table read_object(struct object *object) {
+    if (object->is_read || !object->path) return (struct table){NULL, 0};
+    object->is_read = 1;
+    struct image image = aero_image(object->path);
+    object->is_missing = !is_file_of(object, image);
+    if (object->is_missing || (!is_program(object) && !aero_wants_hooks(image))) {
+        aero_drop_image(image);
+        image = (struct image){NULL, 0};
+    }
+    if (image.bytes) image = aero_names_of(image, object->path);
+    object->functions = aero_symbols(image, STT_FUNC, object->bias);
+    if (is_program(object) && !has_main(&object->functions)) aero_lacks_main(object->name);
+    return aero_symbols(image, STT_OBJECT, object->bias);
+}
+
+/* ---- global variables */
 
 static int by_name(const void *one, const void *other) {
-    const struct symbol *a = one, *b = other;
-    return strcmp(a->name, b->name);
+    return strcmp((*(const struct symbol *const *)one)->name, (*(const struct symbol *const *)other)->name);
 }
 
-static void name_variables(void) {
-    struct symbol *symbols = variables.symbols;
-    char name[256];
-    for (size_t place = 0; place < variables.count; place++) {
-        aero_put_label(name, symbols[place].name, 0, 200);
-        const char *kept = keep_text(name);
-        if (kept) symbols[place].name = kept;
-        else symbols[place].several = 1;
+/* Puts the names as the log has them in the place of the symbols', and says whether there was memory for that. */
+static int make_readable(struct table table) {
+    enum { MOST = 200 };
+    char *room = aero_pages(table.count * (MOST + 1)), *to = room;
+    for (size_t place = 0; room && place < table.count; place++) {
+        aero_put_label(to, table.symbols[place].name, 0, MOST);
+        table.symbols[place].name = to;
+        to += strlen(to) + 1;
     }
-    qsort(symbols, variables.count, sizeof *symbols, by_name);
-    for (size_t place = 1; place < variables.count; place++)
-        if (!strcmp(symbols[place - 1].name, symbols[place].name)) symbols[place - 1].several = symbols[place].several = 1;
-    aero_sort_symbols(&variables);
-    if (!variables.count) return;
-    const struct symbol *last = &symbols[variables.count - 1];
-    variables_low = symbols[0].at;
-    variables_high = last->at + last->size;
+    return room != NULL;
+}
+
+/* A name that others have too, in the same object or in one that was there before, has its address behind it. */
+static void tell_apart(struct region *region) {
+    size_t count = region->table.count;
+    for (size_t place = 0; place < count; place++) region->by_name[place] = &region->table.symbols[place];
+    qsort(region->by_name, count, sizeof *region->by_name, by_name);
+    for (size_t place = 0; place < count; place++) {
+        struct symbol *it = (struct symbol *)region->by_name[place];
+        int is_as_next = place + 1 < count && !by_name(&region->by_name[place], &region->by_name[place + 1]);
+        int is_as_before = place > 0 && !by_name(&region->by_name[place - 1], &region->by_name[place]);
+        it->several = is_as_next || is_as_before;
+        for (int one = 0; one < region_count && !it->several; one++)
+            it->several = bsearch(&region->by_name[place], regions[one].by_name, regions[one].table.count,
+                                  sizeof *region->by_name, by_name) != NULL;
+    }
+}
+
+/* What lay there before is gone: what lies there now are new variables. Says whether there were some. */
+static int forget_regions(uintptr_t low, uintptr_t high) {
+    int kept = 0, before = region_count;
+    for (int place = 0; place < region_count; place++)
+        if (regions[place].low >= high || regions[place].high <= low) regions[kept++] = regions[place];
+    if (kept < before) aero_renew(low, high);
+    region_count = kept;
+    recent = NULL;
+    return kept < before;
+}
+
+static void add_variables(struct table table) {
+    struct region region = {0, 0, table, NULL};
+    if (table.count) region.by_name = aero_pages(table.count * sizeof *region.by_name);
+    if (!region.by_name || !make_readable(table)) return;
+    region.low = table.symbols[0].at;
+    for (size_t place = 0; place < table.count; place++) {
+        uintptr_t end = table.symbols[place].at + table.symbols[place].size;
+        if (end > region.high) region.high = end;
+    }
+    aero_lock();
+    int again = forget_regions(region.low, region.high);
+    aero_unlock();
+    for (size_t place = 0; place < table.count; place++) table.symbols[place].again = again;
+    tell_apart(&region);
+    aero_lock();
+    if (region_count < MOST_OBJECTS) {
+        int place = region_count++;
+        for (; place > 0 && regions[place - 1].low > region.low; place--) regions[place] = regions[place - 1];
+        regions[place] = region;
+    }
+    aero_unlock();
+}
+
+static int know_object(struct dl_phdr_info *info, size_t size, void *unused) {
+    (void)size, (void)unused;
+    for (int place = 0; place < info->dlpi_phnum; place++)
+        if (info->dlpi_phdr[place].p_type == PT_LOAD && info->dlpi_phdr[place].p_flags & PF_X) {
+            object_at(info->dlpi_addr + info->dlpi_phdr[place].p_vaddr);
+            return 0;
+        }
+    return 0;
 }
 
 void aero_names_start(void) {
     aero_lock_names();
-    const struct object *program = object_at((uintptr_t)aero_names_start);
-    if (program && program->path) variables = aero_symbols(aero_image(program->path), STT_OBJECT, program->bias);
-    if (variables.symbols) name_variables();
+    object_at((uintptr_t)aero_names_start);
+    dl_iterate_phdr(know_object, NULL);
+    int count = object_count;
     aero_unlock_names();
+    for (int place = 0; place < count; place++) {
+        aero_lock_names();
+        struct table variables = read_object(&objects[place]);
+        aero_unlock_names();
+        add_variables(variables);
+    }
+}
+
+/* ---- libraries that dlopen loads */
+
+/* Where another library lay before, what is known of its code goes. */
+static void forget_replaced(uintptr_t at) {
+    static struct search search;
+    struct object now;
+    if (!is_in_memory(at, &search, &now)) return;
+    for (int place = 0; place < object_count; place++) {
+        struct object *it = &objects[place];
+        int is_same = it->low == now.low && it->high == now.high && it->path && !strcmp(it->path, search.path);
+        if (is_same || is_program(it) || it->low >= now.high || it->high <= now.low) continue;
+        for (size_t slot = 0; slot < (size_t)1 << CODE_BITS; slot++) {
+            struct code *code = atomic_load(&codes[slot]);
+            if (code && code->at - it->low < it->high - it->low) atomic_store(&code->at, 0);
+        }
+        it->low = it->high = 0;
+    }
+}
+
+void aero_library_loaded(uintptr_t code) {
+    if (code - objects[0].low < objects[0].high - objects[0].low) return;
+    aero_lock_names();
+    forget_replaced(code);
+    struct object *object = object_at(code);
+    int is_new = object && !object->is_read;
+    struct table variables = is_new ? read_object(object) : (struct table){NULL, 0};
+    int is_missing = object && object->is_missing && !object->is_told;
+    if (is_missing) object->is_told = 1;
+    aero_unlock_names();
+    if (is_missing) aero_lacks_file(object->name);
+    add_variables(variables);
+    if (is_new && object->functions.count) aero_look_for_blocks(object->name);
 }
 
 /* ---- code */
@@ -178,7 +359,7 @@ static struct code *new_code(uintptr_t at) {
     size_t length = (size_t)(end - place);
     struct code *code = keep(sizeof *code + length);
     if (!code) return NULL;
-    code->at = at;
+    atomic_init(&code->at, at);
     code->length = (unsigned)length;
     for (size_t byte = 0; byte < length; byte++) code->place[byte] = place[byte];
     return code;
@@ -190,10 +371,10 @@ const struct code *aero_code(uintptr_t at) {
         _Atomic(struct code *) *slot = &codes[(first + tries) & ((1 << CODE_BITS) - 1)];
         struct code *code = atomic_load_explicit(slot, memory_order_acquire);
         if (LIKELY(code && code->at == at)) return code;
-        if (code) continue;
+        if (code && code->at) continue;
         aero_lock_names();
         code = atomic_load_explicit(slot, memory_order_acquire);
-        if (!code) atomic_store_explicit(slot, code = new_code(at), memory_order_release);
+        if (!code || !code->at) atomic_store_explicit(slot, code = new_code(at), memory_order_release);
         aero_unlock_names();
         if (!code || code->at == at) return code;
     }
@@ -207,13 +388,16 @@ const struct code *aero_function(uintptr_t at) {
     char nameless[128], label[MOST_NAME + 1];
     aero_lock_names();
     struct object *object = object_at(at);
-    const struct symbol *symbol = object ? aero_symbol_at(functions_of(object), at) : NULL;
+    const struct symbol *symbol = object ? aero_symbol_at(&object->functions, at) : NULL;
+    int is_first = object && !symbol && !object->is_told;
+    if (is_first) object->is_told = 1;
     *put_place(nameless, at) = 0;
     aero_unlock_names();
+    if (is_first) aero_lacks_name(object->name);
     const char *name = symbol ? symbol->name : nameless;
     if (symbol) aero_put_label(label, name, 1, MOST_NAME);
     else *aero_put_text(label, name) = 0;
-    int kind = aero_kind(label, name);
+    int kind = aero_kind(label, symbol ? name : NULL, object ? object->name : "");
     aero_lock_names();
     const char *kept = atomic_load(&code->label) ? atomic_load(&code->label) : keep_text(label);
     if (kept) atomic_store(&code->kind, kind);
@@ -222,48 +406,44 @@ const struct code *aero_function(uintptr_t at) {
     return kept ? code : NULL;
 }
 
-static int know_object(struct dl_phdr_info *info, size_t size, void *unused) {
-    (void)size, (void)unused;
-    for (int place = 0; place < info->dlpi_phnum; place++)
-        if (info->dlpi_phdr[place].p_type == PT_LOAD && info->dlpi_phdr[place].p_flags & PF_X) {
-            object_at(info->dlpi_addr + info->dlpi_phdr[place].p_vaddr);
-            return 0;
-        }
+int aero_is_loaded(const char *file, size_t length) {
+    for (int place = 0; place < object_count; place++)
+        if (strlen(objects[place].name) == length && !memcmp(objects[place].name, file, length)) return 1;
     return 0;
 }
-void aero_each_function(int (*each)(const char *label, const char *symbol)) {
+
+void aero_each_function(const char *file, int (*each)(const char *label, const char *symbol, const char *file)) {
     char label[MOST_NAME + 1];
-    aero_lock_names();
-    dl_iterate_phdr(know_object, NULL);
-    for (int place = 0; place < object_count; place++) functions_of(&objects[place]);
-    aero_unlock_names();
     for (int place = 0; place < object_count; place++) {
+        if (file && strcmp(file, objects[place].name)) continue;
         const struct table *functions = &objects[place].functions;
         for (size_t one = 0; one < functions->count; one++) {
             aero_put_label(label, functions->symbols[one].name, 1, MOST_NAME);
-            if (!each(label, functions->symbols[one].name)) return;
+            if (!each(label, functions->symbols[one].name, objects[place].name)) return;
         }
     }
 }
 
-/* ---- variables; the log's lock is held */
+/* ---- names of variables; the log's lock is held */
 
 static const struct symbol *variable_at(uintptr_t address) {
-    static const struct symbol *recent;
-    if (LIKELY(address - variables_low >= variables_high - variables_low)) return NULL;
-    if (!recent || address - recent->at >= recent->size) recent = aero_symbol_at(&variables, address);
-    return recent;
+    if (LIKELY(recent && address - recent->at < recent->size)) return recent;
+    int low = 0, high = region_count;
+    while (low < high) {
+        int middle = (low + high) / 2;
+        if (regions[middle].low <= address) low = middle + 1;
+        else high = middle;
+    }
+    if (!low || address >= regions[low - 1].high) return NULL;
+    const struct symbol *it = aero_symbol_at(&regions[low - 1].table, address);
+    if (it) recent = it;
+    return it;
 }
 
-uintptr_t aero_variable_start(uintptr_t address) {
+void aero_symbol_bounds(uintptr_t address, uintptr_t *from, uintptr_t *to) {
     const struct symbol *it = variable_at(address);
-    uintptr_t from = it ? it->at : 0;
-    return from + ((address - from) & -(uintptr_t)aero_grain);
-}
-uintptr_t aero_variable_end(uintptr_t address) {
-    const struct symbol *it = variable_at(address);
-    uintptr_t end = aero_variable_start(address) + (uintptr_t)aero_grain;
-    return it && end > it->at + it->size ? it->at + it->size : end;
+    *from = it ? it->at : 0;
+    *to = it ? it->at + it->size : UINTPTR_MAX;
 }
 
 static char *put_number(char *to, uintptr_t number) {
@@ -281,6 +461,7 @@ char *aero_put_variable(char *to, uintptr_t address) {
         to = aero_put_text(to, it->name);
         if (address != it->at) *to++ = '+', to = put_number(to, address - it->at);
         if (it->several) *to++ = '@', to = aero_put_hex(to, it->at);
+        if (UNLIKELY(it->again)) *to++ = '.', to = put_number(to, aero_generation(address) + 1);
         return to;
     }
     to = aero_put_hex(aero_put_text(to, "0x"), address);

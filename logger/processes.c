@@ -8,6 +8,9 @@
 /* ---- fork */
 
 static int forked_within;                /* by a signal handler that has come into the logger */
+static int is_child;
+
+int aero_is_child(void) { return is_child; }
 
 /* The log is written out first, as the parent may end without a word, by daemon(). */
 static void before_fork(void) {
@@ -34,6 +37,7 @@ static void in_parent(void) {
 static void log_child(void) {
     const char *target = aero_target(aero_settings.target);
     aero_owner = getpid();
+    is_child = 1;
     aero_number(aero_next_number());
     aero_me.holds = 0;
     aero_forget_blocks();
@@ -58,11 +62,28 @@ static void in_child(void) {
 }
 void aero_processes_start(void) { pthread_atfork(before_fork, in_parent, in_child); }
 
+/* ---- children that another way has made, without what pthread_atfork has */
+
+/* The buffer's lines are the parent's, and other threads, which may hold the logger's locks, aren't there. */
+void aero_forked_apart(void) {
+    if (aero_log.number < 0 || getpid() == aero_owner) return;
+    atomic_store(&aero_state, OFF);
+}
+
+EXPORT pid_t _Fork(void) {
+    REAL(pid_t, _Fork, void)
+    pid_t child = real ? real() : fork();
+    if (!child) aero_forked_apart();
+    return child;
+}
+
 /* ---- exec */
+
+static int is_removed;                   /* the log, as it had no line yet */
 
 /* Another program may take this one's place: what is there is written out, and nobody logs more before that has failed. In a child
  * of vfork() the parent has left what the child has entered, and goes on with the log. */
-static int before_exec(void) {
+int aero_before_exec(void) {
     if (getpid() != aero_owner) {
         aero_me.jumped = 1;
         return 0;
@@ -70,23 +91,27 @@ static int before_exec(void) {
     if (!aero_enter()) return 0;
     aero_lock();
     aero_flush();
+    is_removed = !aero_has_lines() && aero_remove();
     return 1;
 }
-static int behind_exec(int entered, int result) {
-    if (entered) {
-        int error = errno;
-        aero_unlock();
-        aero_leave();
-        errno = error;
+void aero_behind_exec(int entered) {
+    if (!entered) return;
+    int error = errno;
+    if (is_removed) {
+        aero_close();
+        if (!aero_open(aero_target(aero_settings.target))) atomic_store(&aero_state, OFF);
     }
-    return result;
+    aero_unlock();
+    aero_leave();
+    errno = error;
 }
 
 #define EXEC(name, arguments, ...) \
     EXPORT int name(__VA_ARGS__) { \
         REAL(int, name, __VA_ARGS__) \
-        int entered = before_exec(); \
-        return behind_exec(entered, real arguments); \
+        int entered = aero_before_exec(), result = real arguments; \
+        aero_behind_exec(entered); \
+        return result; \
     }
 EXEC(execv, (path, words), const char *path, char *const words[])
 EXEC(execvp, (path, words), const char *path, char *const words[])

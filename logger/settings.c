@@ -3,8 +3,10 @@
  *   AERODROME_LOG      a path, or `|COMMAND`, which sh runs with the log as its standard input. %p is the process's number.
  *                      Without it nothing is logged
  *   AERODROME_BLOCKS   which functions are blocks; choice.c says how
- *   AERODROME_SPLIT    waits: a block ends where it waits on a condition variable, and another one begins behind that
- *   AERODROME_GRAIN    bytes of one variable: 1, 2, 4, 8 (8)
+ *   AERODROME_SPLIT    waits: a block ends where it waits on a condition variable, and another one begins behind that.
+ *                      threads: a block ends where it starts or joins a thread, and none begins behind that
+ *   AERODROME_STIR     a number, from which follows where threads let others run (stir.c)
+ *   AERODROME_GRAIN    bytes of one variable: 1, 2, 4, 8; without it they are as they are accessed (parts.c)
  *   AERODROME_FRESH    0: memory that is allocated again has the old names (1)
  *   AERODROME_PLACES   0: no places in the code (1)
  *   AERODROME_LIMIT    at most so many bytes are written, 0: any number (1G; for a pipe 0). K, M and G are 2^10, 2^20 and 2^30
@@ -48,22 +50,34 @@ static const char *text_of(const char *variable) {
 /* Sets the number to that which the variable says, and says whether it is one of those that are wanted, in `bits`. */
 static int is_one_of(const char *variable, unsigned bits, const char *wanted, int *number) {
     const char *text = text_of(variable);
-    int64_t said = text ? number_in(text) : *number;
+    if (!text) return 1;
+    int64_t said = number_in(text);
     if (said < 0 || said > 31 || !(bits >> said & 1)) return refuses(variable, text, wanted);
     *number = (int)said;
     return 1;
 }
 
+/* Reads the words, of which one is enough. */
+static int is_split(const char *text) {
+    static const char *const both[] = {"waits,threads", "threads,waits"};
+    int is_both = !strcmp(text, both[0]) || !strcmp(text, both[1]);
+    aero_settings.splits_waits = is_both || !strcmp(text, "waits");
+    aero_settings.splits_threads = is_both || !strcmp(text, "threads");
+    return aero_settings.splits_waits || aero_settings.splits_threads;
+}
+
 int aero_read_settings(const char *target) {
     struct settings *it = &aero_settings;
-    *it = (struct settings){.target = target, .grain = 8, .fresh = 1, .places = 1, .limit = -1};
+    *it = (struct settings){.target = target, .fresh = 1, .places = 1, .stir = -1, .limit = -1};
     it->blocks = text_of("AERODROME_BLOCKS");
-    const char *split = text_of("AERODROME_SPLIT"), *limit = text_of("AERODROME_LIMIT");
+    const char *split = text_of("AERODROME_SPLIT"), *limit = text_of("AERODROME_LIMIT"),
+               *stir = text_of("AERODROME_STIR");
+    if (!strcmp(target, "|")) return refuses("AERODROME_LOG", target, "a command behind |");
     if (!is_one_of("AERODROME_GRAIN", 1 << 1 | 1 << 2 | 1 << 4 | 1 << 8, "1, 2, 4 or 8", &it->grain)) return 0;
     if (!is_one_of("AERODROME_FRESH", 1 << 0 | 1 << 1, "0 or 1", &it->fresh)) return 0;
     if (!is_one_of("AERODROME_PLACES", 1 << 0 | 1 << 1, "0 or 1", &it->places)) return 0;
-    if (split && strcmp(split, "waits")) return refuses("AERODROME_SPLIT", split, "waits");
-    it->splits = split != NULL;
+    if (split && !is_split(split)) return refuses("AERODROME_SPLIT", split, "waits, threads or waits,threads");
+    if (stir && (it->stir = number_in(stir)) < 0) return refuses("AERODROME_STIR", stir, "a number");
     if (limit && (it->limit = number_in(limit)) < 0)
         return refuses("AERODROME_LIMIT", limit, "a number of bytes, as 4096, 500K, 20M or 1G,");
     return 1;

@@ -11,8 +11,10 @@ void aero_start(void) {
     aero_number(aero_next_number());
     aero_grain = aero_settings.grain;
     aero_memory_start();
+    aero_stir_start();
+    if (!aero_read_blocks(aero_settings.blocks)) return;
     aero_names_start();
-    if (!aero_choose_blocks(aero_settings.blocks)) return;
+    if (!aero_knows_blocks()) return;
     const char *target = aero_target(said);
     if (!aero_open(target)) return;
     aero_write_to(target);
@@ -21,5 +23,14 @@ void aero_start(void) {
     aero_ends_start();
     atomic_store(&aero_state, ON);
 }
-__attribute__((constructor(101))) static void early(void) { aero_start(); }
-EXPORT void __tsan_init(void) { aero_start(); }
+__attribute__((constructor(101))) static void early(void) {
+    aero_calls_start();
+    aero_start();
+}
+/* Each file of code that has hooks calls it at its start, also where dlopen loads it. */
+EXPORT void __tsan_init(void) {
+    aero_start();
+    if (!aero_enter()) return;
+    aero_library_loaded(HERE);
+    aero_leave();
+}

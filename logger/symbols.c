@@ -1,9 +1,11 @@
-/* Symbol tables of the program and its libraries, as their files have them. */
+/* Symbol tables of the program and its libraries, as their files have them, or files of debugging information that belong to
+ * those. */
 #include "log.h"
 
 #include <elf.h>
 #include <fcntl.h>
 #include <link.h>
+#include <stdio.h>
 #include <stdlib.h>
 #include <string.h>
 #include <sys/mman.h>
@@ -47,25 +49,46 @@ struct image aero_image(const char *path) {
     return at == MAP_FAILED ? (struct image){NULL, 0} : (struct image){at, (size_t)is.st_size};
 }
 
-static const ElfW(Shdr) *section_of(struct image image, unsigned type) {
+void aero_drop_image(struct image image) {
+    if (image.bytes) munmap((void *)image.bytes, image.size);
+}
+
+/* The sections, and how many; NULL and 0 where it is no such file. */
+static const ElfW(Shdr) *sections_of(struct image image, int *count) {
     const ElfW(Ehdr) *head = (const void *)image.bytes;
+    *count = 0;
     if (!head || image.size < sizeof *head || memcmp(head->e_ident, ELFMAG, SELFMAG)) return NULL;
-    if (head->e_shentsize != sizeof(ElfW(Shdr))) return NULL;
-    if (head->e_shoff + (size_t)head->e_shnum * sizeof(ElfW(Shdr)) > image.size) return NULL;
-    const ElfW(Shdr) *sections = (const void *)(image.bytes + head->e_shoff);
-    for (int place = 0; place < head->e_shnum; place++)
-        if (sections[place].sh_type == type && sections[place].sh_offset + sections[place].sh_size <= image.size)
-            return &sections[place];
+    if (head->e_shentsize != sizeof(ElfW(Shdr)) || head->e_shoff > image.size) return NULL;
+    if ((image.size - head->e_shoff) / sizeof(ElfW(Shdr)) < head->e_shnum) return NULL;
+    *count = head->e_shnum;
+    return (const void *)(image.bytes + head->e_shoff);
+}
+static int is_within(struct image image, const ElfW(Shdr) *section) {
+    if (section->sh_type == SHT_NOBITS || section->sh_offset > image.size) return 0;
+    return section->sh_size <= image.size - section->sh_offset;
+}
+static const ElfW(Shdr) *section_of(struct image image, unsigned type) {
+    int count;
+    const ElfW(Shdr) *sections = sections_of(image, &count);
+    for (int place = 0; place < count; place++)
+        if (sections[place].sh_type == type && is_within(image, &sections[place])) return &sections[place];
     return NULL;
+}
+
+/* The text at the place in the section of texts with that number; an empty one where the file has none. */
+static const char *text_at(struct image image, unsigned number, size_t place) {
+    int count;
+    const ElfW(Shdr) *sections = sections_of(image, &count), *it = &sections[number];
+    if (number >= (unsigned)count || !is_within(image, it) || place >= it->sh_size) return "";
+    const char *text = image.bytes + it->sh_offset + place;
+    return memchr(text, 0, it->sh_size - place) ? text : "";
 }
 
 /* Calls `each` with each symbol of the section and its name, until it returns 0; and says whether it never did. */
 static int all_of(struct image image, const ElfW(Shdr) *section, int (*each)(const ElfW(Sym) *, const char *, void *), void *with) {
     const ElfW(Sym) *symbols = (const void *)(image.bytes + section->sh_offset);
-    const ElfW(Shdr) *sections = (const void *)(image.bytes + ((const ElfW(Ehdr) *)image.bytes)->e_shoff);
-    const char *names = image.bytes + sections[section->sh_link].sh_offset;
     for (size_t place = 0; place < section->sh_size / sizeof *symbols; place++)
-        if (!each(&symbols[place], names + symbols[place].st_name, with)) return 0;
+        if (!each(&symbols[place], text_at(image, section->sh_link, symbols[place].st_name), with)) return 0;
     return 1;
 }
 
@@ -81,7 +104,7 @@ static int gather(const ElfW(Sym) *it, const char *name, void *with) {
     struct gathering *to = with;
     if ((it->st_info & 15) != to->kind || it->st_shndx == SHN_UNDEF || !*name) return 1;
     if (to->kind == STT_OBJECT && !it->st_size) return 1;
-    to->table.symbols[to->table.count++] = (struct symbol){it->st_value + to->bias, it->st_size, name, 0};
+    to->table.symbols[to->table.count++] = (struct symbol){it->st_value + to->bias, it->st_size, name, 0, 0};
     return 1;
 }
 
@@ -98,12 +121,80 @@ struct table aero_symbols(struct image image, unsigned kind, uintptr_t bias) {
 /* ---- hooks */
 
 static int is_no_hook(const ElfW(Sym) *it, const char *name, void *with) {
-    (void)it, (void)with;
-    return strcmp(name, "__tsan_func_entry") != 0;
+    (void)with;
+    return it->st_shndx != SHN_UNDEF || strcmp(name, "__tsan_func_entry") != 0;
 }
 
-/* A library has the hook among those that it wants, and the program among those that it offers. */
-int aero_has_hooks(struct image image) {
+/* A library has the hook among those that it wants. The program has the logger itself, whatever it offers. */
+int aero_wants_hooks(struct image image) {
     const ElfW(Shdr) *section = section_of(image, SHT_DYNSYM);
     return section && !all_of(image, section, is_no_hook, NULL);
+}
+
+/* ---- names that stand in a file of their own, from which strip has taken them out */
+
+/* The section of that name, or NULL. */
+static const ElfW(Shdr) *section_called(struct image image, const char *name) {
+    int count;
+    const ElfW(Shdr) *sections = sections_of(image, &count);
+    for (int place = 0; place < count; place++) {
+        unsigned names = ((const ElfW(Ehdr) *)image.bytes)->e_shstrndx;
+        int is_called = !strcmp(text_at(image, names, sections[place].sh_name), name);
+        if (is_called && is_within(image, &sections[place])) return &sections[place];
+    }
+    return NULL;
+}
+
+/* The build id, in hexadecimal digits; an empty text where there is none. */
+static void put_build_id(char *to, size_t most, struct image image) {
+    const ElfW(Shdr) *section = section_called(image, ".note.gnu.build-id");
+    *to = 0;
+    if (!section || section->sh_size < sizeof(ElfW(Nhdr)) + 4) return;
+    const ElfW(Nhdr) *note = (const void *)(image.bytes + section->sh_offset);
+    const unsigned char *id = (const unsigned char *)(note + 1) + 4;
+    if (2 * note->n_descsz >= most || sizeof *note + 4 + note->n_descsz > section->sh_size) return;
+    for (size_t byte = 0; byte < note->n_descsz; byte++) sprintf(to + 2 * byte, "%02x", id[byte]);
+}
+
+static uint32_t sum_of(struct image image) {
+    uint32_t sum = ~0u;
+    for (size_t byte = 0; byte < image.size; byte++) {
+        sum ^= (unsigned char)image.bytes[byte];
+        for (int bit = 0; bit < 8; bit++) sum = sum >> 1 ^ (sum & 1 ? 0xedb88320u : 0);
+    }
+    return ~sum;
+}
+
+/* The image of the file if it has names and is of the same build, which the build id says, or else the file's sum. */
+static struct image names_in(const char *path, const char *id, const uint32_t *sum) {
+    char other[128];
+    struct image image = aero_image(path);
+    if (!image.bytes) return image;
+    put_build_id(other, sizeof other, image);
+    int is_same = *id ? !strcmp(id, other) : sum && sum_of(image) == *sum;
+    if (is_same && section_of(image, SHT_SYMTAB)) return image;
+    aero_drop_image(image);
+    return (struct image){NULL, 0};
+}
+
+/* Where debuggers look: by the build id, and beside the file by the name in .gnu_debuglink, behind which its sum stands. */
+struct image aero_names_of(struct image image, const char *path) {
+    static const char *const wheres[] = {"%.*s/%s", "%.*s/.debug/%s", "/usr/lib/debug%.*s/%s"};
+    char id[128], whole[4096], file[8192];
+    struct image found = {NULL, 0};
+    if (!image.bytes || section_of(image, SHT_SYMTAB)) return image;
+    put_build_id(id, sizeof id, image);
+    snprintf(file, sizeof file, "/usr/lib/debug/.build-id/%.2s/%s.debug", id, *id ? id + 2 : "");
+    if (*id) found = names_in(file, id, NULL);
+    const ElfW(Shdr) *link = section_called(image, ".gnu_debuglink");
+    const char *name = link ? image.bytes + link->sh_offset : NULL;
+    int is_whole = link && link->sh_size >= 8 && memchr(name, 0, link->sh_size - 4);
+    if (found.bytes || !is_whole || !realpath(path, whole)) return found.bytes ? found : image;
+    const uint32_t *sum = (const void *)(name + link->sh_size - 4);
+    int folder = (int)(strrchr(whole, '/') - whole);
+    for (size_t one = 0; one < sizeof wheres / sizeof *wheres && !found.bytes; one++) {
+        snprintf(file, sizeof file, wheres[one], folder, whole, name);
+        found = names_in(file, id, sum);
+    }
+    return found.bytes ? found : image;
 }

@@ -89,6 +89,7 @@ static void thread_line(const char *operation, int number, uintptr_t code) {
     if (!aero_enter()) return;
     snprintf(name, sizeof name, "T%d", number);
     aero_lock();
+    aero_split_at_thread();
     aero_line(operation, "", 0, name, code);
     aero_unlock();
     aero_leave();

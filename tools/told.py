@@ -7,8 +7,9 @@ import re
 import shutil
 
 NO_RT = (
-    "no command rt on the path: it is of the Rattle kit, whose version here is rattle-kit-13f (`rt version` says it). "
-    "Whoever gave you this source has the kit; put the kit's bin/ on the path."
+    "no command rt on the path. It belongs to the Rattle kit, version rattle-kit-13f (`rt version` prints the version), which isn't "
+    "public: ask whoever gave you this source. Then put the kit's folder bin/ on your path. "
+    "`make logger` and `make java` don't need it."
 )
 
 # What a command of the kit says where all is well. Any other line is shown.

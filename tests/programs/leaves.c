@@ -1,6 +1,8 @@
 /* Blocks that are left without a return, and a lock that stays held.
  *
  *   leaves jump     longjmp out of two blocks
+ *   leaves sigjump  siglongjmp, and _longjmp, out of two blocks
+ *   leaves handler  siglongjmp out of a block that a signal handler is, on a stack of its own, which lies above the thread's
  *   leaves exit     pthread_exit out of two blocks
  *   leaves lock     a thread ends with a robust mutex, which another one then takes
  *   leaves cancel   a thread is cancelled where it waits on a condition variable
@@ -14,12 +16,14 @@
 #include <stdio.h>
 #include <stdlib.h>
 #include <string.h>
+#include <sys/mman.h>
 #include <sys/wait.h>
 #include <unistd.h>
 
 static pthread_mutex_t lock = PTHREAD_MUTEX_INITIALIZER, robust;
 static pthread_cond_t never = PTHREAD_COND_INITIALIZER;
 static long count;
+enum { STACK = 1 << 20 };
 static jmp_buf back;
 
 static void add(void) {
@@ -38,6 +42,53 @@ static void *jump(void *unused) {
         if (!setjmp(back)) jumps();
     add();
     return unused;
+}
+
+static sigjmp_buf back_with_signals;
+static void sigjump_out(void) {
+    add();
+    siglongjmp(back_with_signals, 1);
+}
+static void sigjumps(void) { sigjump_out(); }
+static void plain_jump_out(void) {
+    add();
+    _longjmp(back, 1);
+}
+static void plain_jumps(void) { plain_jump_out(); }
+static void *sigjump(void *unused) {
+    for (volatile int times = 0; times < 5; times++)
+        if (!sigsetjmp(back_with_signals, 1)) sigjumps();
+    add();
+    for (volatile int times = 0; times < 5; times++)
+        if (!setjmp(back)) plain_jumps();
+    add();
+    return unused;
+}
+
+static void handle_and_leave(int number) {
+    add();
+    siglongjmp(back_with_signals, number);
+}
+static void raise_signal(void) { raise(SIGUSR2); }
+static void *leave_handler(void *above) {
+    const stack_t own = {.ss_sp = above, .ss_size = STACK};
+    struct sigaction action = {.sa_handler = handle_and_leave, .sa_flags = SA_ONSTACK};
+    sigaltstack(&own, NULL);
+    sigaction(SIGUSR2, &action, NULL);
+    for (volatile int times = 0; times < 5; times++)
+        if (!sigsetjmp(back_with_signals, 1)) raise_signal();
+    add();
+    return NULL;
+}
+/* The thread's stack is the lower half. */
+static void run_below(void) {
+    pthread_t thread;
+    pthread_attr_t attributes;
+    char *low = mmap(NULL, 2 * STACK, PROT_READ | PROT_WRITE, MAP_PRIVATE | MAP_ANONYMOUS, -1, 0);
+    pthread_attr_init(&attributes);
+    pthread_attr_setstack(&attributes, low, STACK);
+    pthread_create(&thread, &attributes, leave_handler, low + STACK);
+    pthread_join(thread, NULL);
 }
 
 static void exit_out(void) {
@@ -108,6 +159,8 @@ static void quit(void) { exit(5); }
 int main(int words, char **word) {
     const char *way = words > 1 ? word[1] : "";
     if (!strcmp(way, "jump")) run(jump, 0);
+    if (!strcmp(way, "sigjump")) run(sigjump, 0);
+    if (!strcmp(way, "handler")) run_below();
     if (!strcmp(way, "exit")) run(exits, 0);
     if (!strcmp(way, "lock")) lock_of_the_dead();
     if (!strcmp(way, "cancel")) run(waits, 1);

@@ -3,6 +3,8 @@
  *   others system    forks, so that its log is written out, runs itself by system, as `others nothing`, and adds ten times more
  *   others fork      goes to another folder, where three children add ten times each, one of them from a thread of its own that has
  *                    been in a block at the fork
+ *   others apart     a child by each call that makes one without what pthread_atfork has; each adds so often that its log would be
+ *                    written out; then it adds ten times more
  *   others spawn     starts programs by posix_spawn, and by vfork and exec in a function of its own; adds ten times more
  *   others daemon    becomes a daemon, whose parent ends within the C library, and says so by the file `done`
  *   others FORM      calls exec..: l, lp, le, v, vp, ve, vpe, fe, at
@@ -10,10 +12,12 @@
 #define _GNU_SOURCE
 #include <fcntl.h>
 #include <pthread.h>
+#include <signal.h>
 #include <spawn.h>
 #include <stdio.h>
 #include <stdlib.h>
 #include <string.h>
+#include <sys/syscall.h>
 #include <sys/wait.h>
 #include <unistd.h>
 
@@ -66,6 +70,16 @@ static void fork_three(void) {
     pthread_join(thread, NULL);
 }
 
+static void fork_apart(void) {
+    for (int way = 0; way < 3; way++) {
+        pid_t child = way == 0 ? _Fork() : way == 1 ? (pid_t)syscall(SYS_fork) : (pid_t)syscall(SYS_clone, SIGCHLD, 0, 0, 0, 0);
+        for (int times = 0; !child && times < 1000; times++) add_ten_times();
+        if (!child) exit(0);
+        waitpid(child, NULL, 0);
+    }
+    add_ten_times();
+}
+
 static void replace(void) {
     execv("/bin/true", words);
     _exit(1);
@@ -107,6 +121,7 @@ int main(int count_of_words, char **word) {
     add_ten_times();
     if (!strcmp(what, "system")) run_by_system();
     else if (!strcmp(what, "fork")) fork_three();
+    else if (!strcmp(what, "apart")) fork_apart();
     else if (!strcmp(what, "spawn")) spawn();
     else if (!strcmp(what, "daemon")) become_daemon();
     else if (!strcmp(what, "fails")) execl("/no/such/program", "program", NULL), add_ten_times();

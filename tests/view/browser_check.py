@@ -23,6 +23,8 @@ HERE = """(() => {
     return `${all.indexOf(one)} ${style.outlineStyle === 'none' ? 'unseen' : 'seen'}`;
 })()"""
 ROWS = "[...document.querySelectorAll('.traces tbody tr')].filter((one) => one.getBoundingClientRect().height).length"
+ALL_ROWS = "document.querySelectorAll('.traces tbody tr').length"
+CHOSEN = "document.querySelector('input:checked').id"
 CLOSED = """[...document.querySelectorAll('details')]
     .filter((one) => !one.lastElementChild.checkVisibility()).length"""
 
@@ -67,6 +69,17 @@ def choices(browser):
     return rows
 
 
+def rows_in_print(browser):
+    """The choices by which paper, where nothing can be chosen, would not have each trace."""
+    chosen, wanted = browser.tell(CHOSEN), browser.tell(ALL_ROWS)
+    for kind in ("all", "violations", "faults", "opens", "serializables"):
+        browser.tell(f"document.querySelector('#show-{kind}').checked = true")
+        shown = browser.tell(ROWS)
+        if shown != wanted:
+            yield f"{shown} of {wanted} traces are shown if {kind} is chosen"
+    browser.tell(f"document.querySelector('#{chosen}').checked = true")
+
+
 def faults(browser, path):
     for width in (390, 1280):
         for scheme in ("light", "dark"):
@@ -82,6 +95,7 @@ def faults(browser, path):
     yield from (f"print: {fault}" for fault in looks(browser, width))
     if browser.tell(CLOSED):
         yield "print: something is closed"
+    yield from (f"print: {fault}" for fault in rows_in_print(browser))
     if not browser.pdf().startswith(b"%PDF"):
         yield "print: no PDF"
     browser.media()

@@ -39,7 +39,7 @@ def article(finding: Finding, number: int, options: Options, asked: Asked, sourc
         '<a href="#traces">To the traces</a></p>\n'
     )
     if not finding.cycle:
-        return head + "<p>The report has no cycle: it was made without <code>--explain</code>.</p>\n</article>\n"
+        return head + "<p>The report shows no cycle, because it was made without <code>--explain</code>.</p>\n</article>\n"
     context = min(asked.context, max(0, MOST_LINES // len(finding.cycle) - 1) // 2)
     seen = Seen(why_not="the traces weren't read")
     if not asked.no_traces:
@@ -51,7 +51,7 @@ def article(finding: Finding, number: int, options: Options, asked: Asked, sourc
     scrolls = f' tabindex="0" role="region" aria-label="Picture {number}"' if width > MOST_STILL else ""
     figure = f'<figure><div class="scroll"{scrolls}>{drawn}</div><figcaption>{legend(sheet.arrows)}</figcaption></figure>\n'
     told, do = why(finding, sheet.arrows, is_wide), advice(finding, sheet.arrows, options)
-    parts = f"{told}{figure}{do}" if is_wide else f'{figure}<div class="why">{told}{do}</div>\n'
+    parts = f"{figure}{told}{do}" if is_wide else f'{figure}<div class="why">{told}{do}</div>\n'
     body = f'<div class="{"wide" if is_wide else "beside"}">\n{parts}{events(finding, seen, sources)}</div>\n'
     return head + body + excerpt(finding, seen, number) + "</article>\n"
 
@@ -69,7 +69,7 @@ def why(finding: Finding, arrows: list[Arrow], is_wide: bool) -> str:
     box = '<div class="box" tabindex="0" role="region" aria-label="Reasons">' if is_wide else "<div>"
     detours = "".join(f"<p>{detour}</p>\n" for detour in words.detours(finding, code))
     return (
-        f'<h3>Why no serial order is left</h3>\n{box}<ol class="steps">\n{steps}</ol></div>\n'
+        f'<h3>Why no serial order is possible</h3>\n{box}<ol class="steps">\n{steps}</ol></div>\n'
         f"<p><strong>{words.conclusion(finding, code)}</strong></p>\n{detours}"
     )
 
@@ -81,11 +81,11 @@ def advice(finding: Finding, arrows: list[Arrow], options: Options) -> str:
     at_home = {arrow.kind for arrow in arrows if begun in (arrow.before.first, arrow.after.first)}
     told = "<p>Hold one lock for the whole block.</p>\n"
     if {"fork", "join"} & at_home:
-        told = "<p>The block starts threads, or waits for them: such blocks are seldom meant to be atomic.</p>\n"
+        told = "<p>The block starts threads, or waits for them. Such blocks are seldom meant to be atomic.</p>\n"
     if finding.label is None:
-        told += "<p>It has no label, so it can't be left out: let its begin be logged as <code>begin(LABEL)</code>.</p>\n"
+        told += "<p>The block has no label, so you can't leave it out. Log its begin as <code>begin(LABEL)</code> first.</p>\n"
     elif not is_text(finding.label):
-        told += "<p>Its label isn't UTF-8 and can't be a word, so it can't be left out.</p>\n"
+        told += "<p>The label of the block isn't UTF-8, so no option can leave it out.</p>\n"
     else:
         told += without(finding.label, options, file)
     if finding.source != b"-":
@@ -93,7 +93,7 @@ def advice(finding: Finding, arrows: list[Arrow], options: Options) -> str:
         which = f"{min(begun, lines[0])},{lines[-1]}p"
         if len(lines) < MOST_SED:
             which = ";".join(f"{line}p" for line in lines)
-        told += "<p>The lines of the cycle, whole:</p>\n" + command(f"sed -n '{which}' {file}")
+        told += "<p>To print the whole lines of the cycle:</p>\n" + command(f"sed -n '{which}' {file}")
     return f"<h3>What to do</h3>\n{told}"
 
 
@@ -103,12 +103,12 @@ def without(label: bytes, options: Options, file: str) -> str:
     if options.only:
         kept = [option_of("--only", other) for other in options.only if other != label]
         if not kept:
-            return "<p>No other label stands behind <code>--only</code>: without it no block would have to be atomic.</p>\n"
-        told = "Or, if it isn't meant to be atomic, leave its label out of those of <code>--only</code>:"
+            return "<p>This is the only label of <code>--only</code>. Without it no block would have to be atomic.</p>\n"
+        told = "Or, if the block isn't meant to be atomic, omit its label from <code>--only</code>:"
         return f"<p>{told}</p>\n{command(' '.join([*words_of, *kept, file]))}"
     words_of += [option_of("--except", other) for other in (*options.excepted, label)]
     too = " too" if options.excepted else ""
-    return f"<p>Or, if it isn't meant to be atomic, leave it out{too}:</p>\n{command(' '.join([*words_of, file]))}"
+    return f"<p>Or, if the block isn't meant to be atomic, leave it out{too}:</p>\n{command(' '.join([*words_of, file]))}"
 
 
 def command(line: str) -> str:
@@ -175,6 +175,6 @@ def excerpt(finding: Finding, seen: Seen, number: int) -> str:
         )
     opened = ' open="open"' if number <= MOST_EXCERPTS and len(finding.cycle) <= MOST_OPEN else ""
     return (
-        f"<details{opened}><summary>The trace round them</summary>\n"
+        f"<details{opened}><summary>The trace around these events</summary>\n"
         f'<table class="excerpt"><tbody>\n{rows}</tbody></table></details>\n'
     )

@@ -55,6 +55,8 @@ def run(name: str, usage: str, words: list[str], further: tuple[str, ...], make:
             write(lambda out: out.write(usage), "")
             return 0
         asked = settle(words, (*FLAGS, *TEXTS, *further))
+        if asked.root and not os.path.isdir(asked.root):
+            raise Refused(f"--root: no folder {told(asked.root)}")
         with unnamed("wb+") as kept, unnamed() as whole:
             make(asked, Report(lines_of(asked.report), kept), whole)
             whole.seek(0)
@@ -68,7 +70,7 @@ def run(name: str, usage: str, words: list[str], further: tuple[str, ...], make:
     except (Failed, MemoryError) as why:
         return say(name, str(why) or "out of memory", FAILED)
     except OSError as why:
-        return say(name, f"what is read or made can't be kept: {why.strerror}", FAILED)
+        return say(name, f"a temporary file can't be written: {why.strerror}", FAILED)
     return 0
 
 
@@ -86,7 +88,7 @@ def settle(words: list[str], options: tuple[str, ...]) -> Asked:
         elif not word.startswith("-") or word == "-":
             reports.append(word)
         elif option not in options or option in FLAGS and equals:
-            raise Refused(f"no option {told(word)} (a REPORT of such a name stands behind --)")
+            raise Refused(f"no option {told(word)} (if it is a REPORT, write -- before it)")
         elif option in FLAGS:
             setattr(asked, FLAGS[option], True)
         else:
@@ -99,13 +101,13 @@ def settle(words: list[str], options: tuple[str, ...]) -> Asked:
 
 def set_value(asked: Asked, option: str, value: str | None) -> None:
     if value is None:
-        raise Refused(f"{option} wants a value")
+        raise Refused(f"{option} needs a value")
     if option in TEXTS:
         setattr(asked, TEXTS[option], value)
     elif value.isascii() and value.isdigit() and len(value) < 10 and int(value) <= MOST:
         setattr(asked, NUMBERS[option], int(value))
     else:
-        raise Refused(f"{option}: no number up to {MOST}: {told(value)}")
+        raise Refused(f"{option} needs a number up to {MOST}: {told(value)}")
 
 
 def told(word: str) -> str:

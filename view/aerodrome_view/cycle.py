@@ -59,7 +59,7 @@ def events_of(of: Json) -> tuple[Event, ...]:
     if any(not here and not further for here, further in zip(moves, moves[1:])):
         raise ValueError("a cycle with three events of one transaction in a row")
     if any(move and before.line >= after.line for move, before, after in zip(moves, cycle, cycle[1:])):
-        raise ValueError("a cycle with a conflict that goes back")
+        raise ValueError("a cycle with a conflict that goes back in time")
     return cycle
 
 
@@ -95,11 +95,11 @@ def transactions_of(of: Json, cycle: tuple[Event, ...], closing: Closing) -> dic
     for one, visit in zip(told, visits):
         _check_visit(one, visit, closing.line)
         if one is not told[0] and visit[0].line > visit[-1].line and one.end is None:
-            raise ValueError("a cycle that goes back through another open block")
+            raise ValueError("a cycle that goes back in time in another open block")
     _check_blamed(of, told[0])
     by_first = {one.first: one for one in sorted(told, key=lambda one: one.first)}
     if any(by_first[one.first] != one for one in told):
-        raise ValueError("a transaction that is told in two ways")
+        raise ValueError("a transaction that is described in two ways")
     _check_threads(list(by_first.values()))
     _check_closing(closing, cycle[-1], told)
     return by_first
@@ -108,7 +108,7 @@ def transactions_of(of: Json, cycle: tuple[Event, ...], closing: Closing) -> dic
 def _transaction(of: Json) -> Transaction:
     is_block = of.get("block")
     if not isinstance(is_block, bool):
-        raise ValueError("a transaction of which it isn't told whether it is a block")
+        raise ValueError("a transaction without a member that tells whether it is a block")
     if not is_block and ("label" in of or "end" in of):
         raise ValueError("an event by itself with a label or an end")
     label, end = name(of, "label") if "label" in of else None, line(of, "end") if "end" in of else None
@@ -127,17 +127,17 @@ def _check_visit(one: Transaction, visit: list[Event], last: int) -> None:
     if not one.is_block and any(event.line != one.first for event in visit):
         raise ValueError("an event by itself with further events")
     if one.end is not None and not max(one.first + 1, *(event.line for event in visit)) <= one.end <= last:
-        raise ValueError("a block with an end before its events or behind the violation")
+        raise ValueError("a block with an end before its events or after the violation")
     for event in visit if one.is_block else ():
         is_begin = (event.op, event.target) == ("begin", one.label)
         if event.line == one.first and not is_begin or event.line == one.end and event.op != "end":
-            raise ValueError("a block with another event than its begin or its end")
+            raise ValueError("a block whose first or last event isn't its begin or its end")
 
 
 def _check_blamed(of: Json, one: Transaction) -> None:
     label = name(of, "label") if "label" in of else None
     if not one.is_block or one.end is not None or (one.thread, one.label) != (name(of, "thread"), label):
-        raise ValueError("a named block that isn't the open one of the cycle")
+        raise ValueError("a named block that isn't the open block of the cycle")
 
 
 def _check_threads(told: list[Transaction]) -> None:
@@ -155,4 +155,4 @@ def _check_closing(closing: Closing, back: Event, told: list[Transaction]) -> No
     is_back = (closing.line, closing.thread, closing.op, closing.target) == (back.line, back.thread, back.op, back.target)
     is_end = closing.op == "end" and any((one.end, one.thread) == (closing.line, closing.thread) for one in told)
     if not is_back and not (is_end and back.line < closing.line):
-        raise ValueError("a closing event that doesn't close the cycle")
+        raise ValueError("a closing event that doesn't complete the cycle")

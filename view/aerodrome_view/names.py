@@ -39,12 +39,12 @@ def is_text(name: bytes) -> bool:
 
 
 def word_of_shell(name: bytes) -> str:
-    """A name as bash, ksh and zsh read it: in quotes where it needs some, and with nothing in it that can't be seen."""
+    """A name as a word for bash, ksh and zsh: in quotes if it needs them, and without invisible characters."""
     text = shown(name)
     if not is_text(name) or text != name.decode():
         quoted = name.replace(b"\\", b"\\\\").replace(b"'", b"\\'")
         return "$'" + "".join(chr(byte) if 31 < byte < 127 else f"\\{byte:03o}" for byte in quoted) + "'"
-    if text and all(char.isalnum() or char in "_.,:+@%/=-" for char in text):
+    if text and text[0] != "=" and all(char.isalnum() or char in "_.,:+@%/=-" for char in text):
         return text
     return "'" + text.replace("'", "'\\''") + "'"
 

@@ -16,27 +16,28 @@ from .sources import Sources
 from .trace import look
 from .words import counted
 
-USAGE = """Makes a page to look at of a report: one HTML file, with a picture of the cycle of each violation.
+USAGE = """Makes a web page of a report: one HTML file, with a picture of the cycle of each violation.
 
   aerodrome-page [OPTION..] [--] [REPORT]
 
-REPORT is what `aerodrome --format json --explain` wrote: a file or a pipe. Without it, or as -, it is standard input. It may be
-several reports, one after the other. The traces are read where they lie, for the places in the code and the lines round a cycle.
+REPORT is the output of `aerodrome --format json --explain`: a file or a pipe. Without REPORT, or if it is -, standard input is
+read. REPORT may contain several reports, one after another. For places in the code, and for the lines around the events of a
+cycle, the traces are read too.
 
-  -o, --output FILE   writes to FILE, not to standard output
+  -o, --output FILE   write to FILE, not to standard output
   --folder DIR        the names of traces are relative to DIR
-  --root DIR          shows the source lines of the files below DIR
-  --no-traces         reads no trace: for a report of which nobody knows who made it
-  --context N         shows N lines of the trace round each event (2)
-  --pictures N        draws the first N violations (200)
-  --rows N            lists the first N serializable traces (2000)
-  -h, --help          prints this
+  --root DIR          show source lines from the files below DIR
+  --no-traces         don't read the traces: use this if you don't know who made the report
+  --context N         show N lines of the trace around each event (2)
+  --pictures N        draw the first N violations (200)
+  --rows N            list the first N serializable traces (2000)
+  -h, --help          print this help
 
 The exit status:
-  0  the page is written; also after --help
-  3  the command line was refused, or REPORT can't be read or isn't whole
-  4  memory ran out, or the page couldn't be written, or what is read or made couldn't be kept
-With status 3 no page is begun. Standard error says what is wrong.
+  0  the page was written; also after --help
+  3  the command line was refused, or REPORT can't be read or is incomplete
+  4  memory ran out, or the page or a temporary file couldn't be written
+If the status is 3 or 4, standard error has the reason. If it is 3, no page is written.
 """
 OPTIONS = ("--context", "--pictures", "--rows")
 KIND_OF = {"serializable": "serializables", "open": "opens", "violation": "violations", **dict.fromkeys(FAULTS, "faults")}
@@ -57,8 +58,8 @@ HEADS = "".join(
     for kind in words.KINDS
 )
 FOOTER = (
-    "The numbers in a picture are those of the sentences. A box is a block, from its first line to its end; one with a "
-    "dashed foot hadn't ended yet. Lines that play no part are folded."
+    "The numbers in a picture are the numbers of the sentences. A box is a block, from its first line to its end; a dashed "
+    "foot means that the block hadn't ended yet. Lines that aren't part of the cycle are folded."
 )
 
 
@@ -114,18 +115,19 @@ class Page:
             f'<header>\n<h1>{title}</h1>\n<p class="dim">Does each atomic block behave as if it had run alone? '
             f"This is what <code>aerodrome</code> found.</p>\n</header>\n<main>\n{tiles(tally)}{self.unused()}{blames(self.blamed)}"
             '<table class="traces" id="traces"><caption>Traces</caption><thead><tr><th scope="col">Trace</th>'
-            '<th scope="col">Verdict</th><th scope="col">What it says</th></tr></thead>\n<tbody>\n'
+            '<th scope="col">Verdict</th><th scope="col">What it means</th></tr></thead>\n<tbody>\n'
         )
         pour(self.rows, out)
         left_out = tally.of["serializable"] - self.listed
         if left_out:
-            further = counted(left_out, "further trace")
+            further = counted(left_out, "more trace")
             out.write(row("serializables", further, "serializable", "Not listed here (--rows)."))
         out.write("</tbody></table>\n")
         pour(self.articles, out)
         without = tally.of["violations"] - self.pictures
         if without:
-            out.write(f"<p>{counted(without, 'further violation')}: in the table alone (--pictures).</p>\n")
+            are = "is" if without == 1 else "are"
+            out.write(f"<p>{counted(without, 'more violation')} {are} only in the table (--pictures).</p>\n")
         out.write(f"</main>\n<footer>{FOOTER}</footer>\n</body>\n</html>\n")
 
 
@@ -147,7 +149,7 @@ def headline(tally: Tally) -> str:
     if of["faults"]:
         return f"No violation, but {of['faults']:,} of {traces} couldn't be judged"
     if of["open"]:
-        return f"No violation so far, in {traces}"
+        return f"No violation found, but {of['open']:,} of {traces} {'has' if of['open'] == 1 else 'have'} open blocks"
     return f"No violation: {traces}, all serializable" if of["traces"] else "No trace was judged"
 
 
@@ -175,7 +177,7 @@ def blames(labels: Counter[bytes]) -> str:
         for label, count in labels.most_common(MOST_BLAMED)
     )
     left = len(labels) - MOST_BLAMED
-    more = f'<p class="dim">and {counted(left, "further block")}</p>' if left > 0 else ""
+    more = f'<p class="dim">and {counted(left, "more block")}</p>' if left > 0 else ""
     return f'<table class="blames"><caption>Blocks that violations blame</caption><tbody>{rows}</tbody></table>{more}\n'
 
 

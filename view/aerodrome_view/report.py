@@ -57,24 +57,26 @@ class Finding:
 
 @dataclass(frozen=True)
 class Options:
-    """What a run was told, as its summary has it: which blocks are no transactions (those of `excepted`, or all but those of
-    `only`), with which of these labels no block began, and how many bytes a source may have; and what it notes of lines, by
-    their sources and numbers."""
+    """The options of a run, from its summary: which blocks are left out (those of `excepted`, or all except those of `only`),
+    with which of these labels no block begins, and how many bytes an input may have. Also the notes of the summary, by the name
+    of the input and the number of the line, or 0 for the last note that isn't about a line (if an input couldn't be read, this
+    is the reason); and the program's version."""
 
     excepted: tuple[bytes, ...] = ()
     only: tuple[bytes, ...] = ()
     unused: tuple[bytes, ...] = ()
     most_bytes: int = MOST_BYTES
     notes: dict[tuple[bytes, int], bytes] = field(default_factory=dict)
+    version: str = ""
 
     @property
     def is_long(self) -> bool:
         return self.most_bytes > MOST_BYTES
 
     def noted(self, finding: Finding) -> Finding:
-        """The finding, where its fault's words are those of the summary's note on the line, if there is one: it says more."""
+        """The finding on a faulty or broken input, with the words of the summary's note on it, if there is one: they say more."""
         note = self.notes.get((finding.source, finding.counts.get("line", 0)))
-        return replace(finding, note=note) if note and finding.fault else finding
+        return replace(finding, note=note) if note and (finding.fault or finding.verdict == "broken") else finding
 
 
 @dataclass
@@ -107,10 +109,10 @@ class Report:
                 self.options.append(told.options)
                 since = Tally()
             else:
-                raise NoReport(_wrong(at, "the summary counts other sources than stand before it"))
+                raise NoReport(_wrong(at, "the counts of the summary aren't those of the lines before it"))
             kept.write(text)
         if since.of["traces"] or not self.options:
-            raise NoReport(f"no summary behind line {at}: is the report whole, and of --format json?")
+            raise NoReport(f"no summary after line {at}: is the report complete, and was it made with --format json?")
 
     def unused(self) -> list[bytes]:
         """The labels that runs were given, and with which no block began in any of these."""
@@ -141,16 +143,16 @@ def _told(text: bytes, at: int) -> Finding | Summary:
     try:
         of = json.loads(text)
         if not isinstance(of, dict):
-            raise ValueError("no object")
+            raise ValueError("it isn't an object")
         return _summary(of) if "traces" in of else _finding(of)
     except (json.JSONDecodeError, UnicodeError, RecursionError):
-        raise NoReport(_wrong(at, "no JSON")) from None
+        raise NoReport(_wrong(at, "it isn't JSON")) from None
     except ValueError as why:
         raise NoReport(_wrong(at, str(why))) from None
 
 
 def _wrong(at: int, why: str) -> str:
-    return f"line {at} is none of --format json: {why}"
+    return f"line {at} isn't a line of --format json: {why}"
 
 
 def _summary(of: Json) -> Summary:
@@ -158,21 +160,22 @@ def _summary(of: Json) -> Summary:
     if not isinstance(limits, dict):
         raise ValueError("no object limits")
     if excepted and only or len(excepted + only) > MOST_LABELS:
-        raise ValueError("labels of except and only that no run takes")
-    options = Options(excepted, only, names(of, "unused"), number(limits, "bytes", 1), _notes(of))
+        raise ValueError("labels of except and only that no run accepts")
+    version = word(of, "version") if "version" in of else ""
+    options = Options(excepted, only, names(of, "unused"), number(limits, "bytes", 1), _notes(of), version)
     return Summary({key: number(of, key) for key in SUMMARY}, options)
 
 
 def _notes(of: Json) -> dict[tuple[bytes, int], bytes]:
-    """The notes of a summary on lines; none where it has no notes."""
+    """The notes of a summary, by input and line, or line 0."""
     notes = parts(of, "notes") if "notes" in of else []
-    return {(name(note, "source"), line(note, "line")): name(note, "note") for note in notes if "line" in note}
+    return {(name(note, "source"), line(note, "line") if "line" in note else 0): name(note, "note") for note in notes}
 
 
 def _finding(of: Json) -> Finding:
     verdict = word(of, "verdict")
     if verdict not in COUNTS:
-        raise ValueError("a verdict that isn't known")
+        raise ValueError("an unknown verdict")
     is_violation, is_line_faulty = verdict == "violation", verdict in ("malformed", "ill-formed")
     cycle, transactions, closing = _cycle(of) if is_violation and "cycle" in of else ((), {}, None)
     return Finding(
@@ -194,7 +197,7 @@ def _opened(of: Json) -> tuple[OpenBlock, ...]:
     """The first open blocks, in the order of their begins, and no more than there are."""
     blocks = tuple(_open_block(block) for block in parts(of, "opened"))
     if len(blocks) > number(of, "open") or any(one.line >= next.line for one, next in zip(blocks, blocks[1:])):
-        raise ValueError("open blocks that don't stand in the order of their begins, or more than there are")
+        raise ValueError("open blocks that aren't in the order of their begins, or too many of them")
     return blocks
 
 

@@ -7,62 +7,65 @@ from typing import IO, Any
 from urllib.parse import quote
 
 from . import words
-from .command import Asked, run
+from .command import Asked, run, say
 from .flow import Flow, Places, message
 from .names import plain
 from .report import Finding, Options, Report
 from .sources import Sources
 from .trace import Seen, look
 
-USAGE = """Makes a SARIF 2.1.0 log of a report, for code scanning and for the viewers of editors.
+NAME = "aerodrome-sarif"
+USAGE = """Makes a SARIF 2.1.0 log of a report, for code scanning services and for editors.
 
   aerodrome-sarif [OPTION..] [--] [REPORT]
 
-REPORT is what `aerodrome --format json --explain` wrote: a file or a pipe. Without it, or as -, it is standard input. It may be
-several reports, one after the other. A violation has the place where its block begins in the code, if the trace has places as
-FILE:LINE, and else its line of the trace. The traces are read where they lie.
+REPORT is the output of `aerodrome --format json --explain`: a file or a pipe. Without REPORT, or if it is -, standard input is
+read. REPORT may contain several reports, one after another. The log has the first 25,000 results. The location of a violation is
+the place in the code where the block begins, if the trace has places of the form FILE:LINE, and otherwise a line of the trace.
+For this the traces are read too.
 
-  -o, --output FILE   writes to FILE, not to standard output
+  -o, --output FILE   write to FILE, not to standard output
   --folder DIR        the names of traces are relative to DIR
-  --root DIR          files below DIR have names relative to DIR
-  --no-traces         reads no trace: for a report of which nobody knows who made it
-  -h, --help          prints this
+  --root DIR          give files below DIR names relative to DIR
+  --no-traces         don't read the traces: use this if you don't know who made the report
+  -h, --help          print this help
 
 The exit status:
-  0  the log is written; also after --help
-  3  the command line was refused, or REPORT can't be read or isn't whole
-  4  memory ran out, or the log couldn't be written, or what is read or made couldn't be kept
-With status 3 no log is begun. Standard error says what is wrong.
+  0  the log was written; also after --help
+  3  the command line was refused, or REPORT can't be read or is incomplete
+  4  memory ran out, or the log or a temporary file couldn't be written
+If the status is 3 or 4, standard error has the reason. If it is 3, no log is written.
 """
 Json = dict[str, Any]
 RULES = {  # by verdict: the rule's name, its level, what it says, and what to do
     "violation": (
         "NotAtomic",
         "error",
-        "A block isn't atomic: no serial order of the blocks has the trace's conflicts the same way round.",
-        "Hold one lock for the whole block, or leave the block out by aerodrome --except LABEL if it isn't meant to be atomic.",
+        "A block isn't atomic: no serial order of the blocks keeps the conflicting events of the trace in their order.",
+        "Hold one lock for the whole block. If the block isn't meant to be atomic, leave it out with aerodrome --except LABEL.",
     ),
-    "malformed": ("Malformed", "error", "A line of the trace is neither blank nor an event.", "Mend what wrote the trace."),
+    "malformed": ("Malformed", "error", "A line of the trace is neither blank nor an event.", "Correct the logger that wrote the trace."),
     "ill-formed": (
         "IllFormed",
         "error",
-        "An event can't stand where it does, as a release of a lock that isn't held.",
-        "Log each event in the order in which it happened, and use no name again.",
+        "An event is impossible after the events before it, for example a release of a lock that isn't held.",
+        "Log the events in the order in which they happened, and give two threads or locks different names.",
     ),
-    "broken": ("Broken", "error", "The trace couldn't be opened or read.", "Standard error of aerodrome says why."),
-    "too large": ("TooLarge", "error", "The trace has more than 2^30 bytes.", "Judge it by aerodrome --long."),
+    "broken": ("Broken", "error", "The trace couldn't be opened or read.", "See the reason in the message of the result."),
+    "too large": ("TooLarge", "error", "The trace has more than 2^30 bytes.", "Judge the trace with aerodrome --long."),
     "open": (
         "OpenBlocks",
         "note",
-        "Nothing is wrong so far, but blocks have no end, and a cycle through two of them can hide.",
+        "No violation was found, but blocks have no end. A cycle that goes back in time in two or more of them may be hidden.",
         "Log an end on each way out of a block.",
     ),
 }
 VERDICTS = list(RULES)
 MOST_REASONS = 20  # in a message
+MOST_RESULTS = 25_000  # in a log: code hosts take no more
 
 
-def driver() -> Json:
+def driver(version: str) -> Json:
     rules = [
         {
             "id": verdict.replace(" ", "-"),
@@ -74,7 +77,7 @@ def driver() -> Json:
         }
         for verdict, (name, level, says, do) in RULES.items()
     ]
-    return {"driver": {"name": "aerodrome", "rules": rules}}
+    return {"driver": {"name": "aerodrome", **({"version": version} if version else {}), "rules": rules}}
 
 
 def result_of(finding: Finding, options: Options, asked: Asked, sources: Sources) -> Json:
@@ -102,18 +105,18 @@ def result_of(finding: Finding, options: Options, asked: Asked, sources: Sources
 
 
 def told_of(finding: Finding, options: Options) -> str:
-    """What is found, with each reason, up to some twenty."""
+    """The finding, with its reasons, up to twenty."""
     told = [words.sentence(finding, options, plain)]
     if finding.cycle:
         reasons = list(words.reasons(finding, plain))
         left = len(reasons) - MOST_REASONS
-        told += reasons[:MOST_REASONS] + [f"And {words.counted(left, 'further conflict')}."] * (left > 0)
+        told += reasons[:MOST_REASONS] + [f"And {words.counted(left, 'more conflict')}."] * (left > 0)
         told += [*words.detours(finding, plain), words.conclusion(finding, plain)]
     return " ".join(told)
 
 
 def fingerprint(finding: Finding, seen: Seen) -> str:
-    """What stays the same from run to run: the label, and the operations with their places in the code, or what they act on."""
+    """A hash of what stays the same in each run: the label, and each operation with its place in the code or else its target."""
     of = hashlib.sha256(repr((finding.verdict, finding.fault, finding.label)).encode())
     for event in finding.cycle:
         of.update(repr((event.op, seen.location_of(event.line) or event.target)).encode())
@@ -121,19 +124,26 @@ def fingerprint(finding: Finding, seen: Seen) -> str:
 
 
 def make(asked: Asked, report: Report, whole: IO[str]) -> None:
-    sources = Sources(asked.root)
+    sources, version = Sources(asked.root), report.options[-1].version
     whole.write('{"$schema":"https://json.schemastore.org/sarif-2.1.0.json","version":"2.1.0","runs":[{"tool":')
-    whole.write(json.dumps(driver()))
+    whole.write(json.dumps(driver(version)))
     if asked.root:
-        whole.write(',"originalUriBaseIds":' + json.dumps({"%SRCROOT%": {"uri": f"file://{quote(sources.root)}/"}}))
+        whole.write(',"originalUriBaseIds":' + json.dumps({"%SRCROOT%": {"uri": f"file://{quote(sources.root.rstrip(b'/'))}/"}}))
     whole.write(',"columnKind":"unicodeCodePoints","results":[')
-    between = "\n"
+    written = left_out = 0
     for finding, options in report.findings():
-        if finding.verdict in RULES:
-            whole.write(between + json.dumps(result_of(finding, options, asked, sources)))
-            between = ",\n"
+        if finding.verdict not in RULES:
+            continue
+        if written == MOST_RESULTS:
+            left_out += 1
+            continue
+        whole.write(",\n" if written else "\n")
+        whole.write(json.dumps(result_of(finding, options, asked, sources)))
+        written += 1
     whole.write("\n]}]}\n")
+    if left_out:
+        say(NAME, f"{words.counted(left_out, 'result')} left out, because code hosts accept at most {MOST_RESULTS:,} in a log", 0)
 
 
 def main(given: list[str]) -> int:
-    return run("aerodrome-sarif", USAGE, given, (), make)
+    return run(NAME, USAGE, given, (), make)

@@ -97,7 +97,7 @@ class Sheet:
     def svg(self, width: float, height: float, parts: list[str]) -> str:
         label = (
             f"Picture of a cycle of {len(self.arrows)} conflicts between {len(self.finding.transactions)} transactions of "
-            f"{len(self.threads)} threads, as the sentences tell it"
+            f"{len(self.threads)} threads, which the sentences describe"
         )
         return (
             f'<svg role="img" aria-label="{label}" viewBox="0 0 {width:.0f} {height:.0f}" width="{width:.0f}" '

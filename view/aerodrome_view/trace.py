@@ -58,12 +58,12 @@ def look(finding: Finding, folder: str, context: int = 0) -> Seen:
         with _opened(os.path.join(folder, os.fsdecode(finding.source))) as file:
             seen = Seen(dict(_read(file, wanted.union(told))))
     except (EOFError, zlib.error, gzip.BadGzipFile):
-        return Seen(why_not="its zipped form isn't whole")
+        return Seen(why_not="its compressed form is incomplete")
     except (OSError, ValueError) as why:
         return Seen(why_not=f"it couldn't be read: {getattr(why, 'strerror', None) or why}")
     for line, parts in sorted(told.items()):
         if parts_of(seen.lines.get(line, b"")) != parts:
-            return Seen(why_not=f"line {line} of the file doesn't hold the event that was judged")
+            return Seen(why_not=f"line {line} of the file isn't the event that was judged")
     return seen
 
 
@@ -81,7 +81,7 @@ def _opened(path: str) -> io.BufferedReader:
     is_zipped = not os.path.exists(path) and os.path.exists(path + ".gz")
     place = path + ".gz" if is_zipped else path
     if not stat.S_ISREG(os.stat(place).st_mode):
-        raise OSError("it is no plain file")
+        raise OSError("it isn't a plain file")
     return io.BufferedReader(gzip.open(place) if is_zipped else open(place, "rb", buffering=0), PIECE)  # type: ignore
 
 

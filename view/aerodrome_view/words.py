@@ -1,4 +1,4 @@
-"""The words for a finding, plain or with names that are dressed up: verdicts, faults, and why no serial order is left."""
+"""The words for a finding, with names that `dress` shows: verdicts, faults, and why there is no serial order."""
 from __future__ import annotations
 
 from dataclasses import dataclass
@@ -12,6 +12,7 @@ Dress = Callable[[bytes], str]
 
 MOST_LABELS = 8  # of those with which no block begins
 MOST_OPENED = 5  # of the blocks that didn't end
+MOST_DETOURS = 3  # blocks with a sentence of their own that a cycle leaves earlier than it enters them
 
 KINDS = {  # of conflicts, each with its name
     "write-read": "write, then read",
@@ -20,24 +21,24 @@ KINDS = {  # of conflicts, each with its name
     "lock": "release, then acquire",
     "fork": "fork or join",
     "join": "fork or join",
-    "thread": "one thread",
+    "thread": "same thread",
     "other": "another conflict",
 }
 KIND_OF = {("w", "r"): "write-read", ("r", "w"): "read-write", ("w", "w"): "write-write", ("rel", "acq"): "lock"}
-MOSTLY = {  # why an event mostly can't stand where it does
-    "TooManyThreads": "names aren't used again in a thread pool",
-    "TooManyNames": "memory that is allocated again has new names",
-    "ThreadJoined": "a thread's name is used again",
-    "LockHeldByOther": "the acquire is logged before the lock is had, or the release after it is given back",
-    "LockNotHeld": "logging began while the lock was held, or another thread releases it, as a semaphore",
-    "ForkStarted": "the fork is logged after the thread has begun",
-    "EndWithoutBegin": "logging began within a block",
+MOSTLY = {  # the usual reasons why an event is impossible
+    "TooManyThreads": "the threads of a pool get new names again and again",
+    "TooManyNames": "memory gets a new name each time it is allocated again",
+    "ThreadJoined": "a thread's name is used again for another thread",
+    "LockHeldByOther": "an acquire is logged before the thread has the lock, or a release after it has given the lock back",
+    "LockNotHeld": "logging began while the lock was held, or another thread releases it, as with a semaphore",
+    "ForkStarted": "the fork is logged after the new thread has begun",
+    "EndWithoutBegin": "logging began inside a block",
 }
 
 
 @dataclass(frozen=True)
 class Arrow:
-    """A conflict of two events that follow each other in a cycle: the transaction of the first has to come first."""
+    """A conflict of two events that follow each other in a cycle: the transaction of the first event must come first."""
 
     number: int
     before: Event
@@ -49,9 +50,8 @@ def unused(labels: list[bytes], dress: Dress) -> str:
     """That no block begins with these labels."""
     said = ", ".join(dress(b"begin(" + label + b")") for label in labels[:MOST_LABELS])
     left = len(labels) - MOST_LABELS
-    more = f" and {counted(left, 'further label')}" if left > 0 else ""
-    ask = "Is the label" if len(labels) == 1 else "Are the labels"
-    return f"No block begins with {said}{more}. {ask} spelt as in the log?"
+    more = f" and {counted(left, 'more label')}" if left > 0 else ""
+    return f"No block begins with {said}{more}. Perhaps {'the label is' if len(labels) == 1 else 'these labels are'} mistyped."
 
 
 def arrows_of(cycle: tuple[Event, ...]) -> list[Arrow]:
@@ -72,14 +72,14 @@ def kind_of(before: Event, after: Event) -> str:
 
 
 def roles_of(arrows: list[Arrow]) -> dict[int, str]:
-    """By line, the numbers of the arrows that come in and go out there."""
+    """By line, the numbers of the arrows that end and begin there."""
     into = {arrow.after.line: f"\u2192{arrow.number}" for arrow in arrows}
     out = {arrow.before.line: f"{arrow.number}\u2192" for arrow in arrows}
     return {line: f"{into.get(line, '')} {out.get(line, '')}".strip() for line in into.keys() | out.keys()}
 
 
 def action_of(event: Event, dress: Dress = shown) -> str:
-    """What an event does, as a trace has it behind the thread."""
+    """The operation of an event, as it is written in a trace after the thread."""
     return event.op if event.target is None else f"{event.op}({dress(event.target)})"
 
 
@@ -100,7 +100,7 @@ def capital(text: str) -> str:
 
 
 def because(arrow: Arrow, dress: Dress) -> str:
-    """Why the first transaction has to come first."""
+    """Why the first transaction must come first."""
     before, after = arrow.before, arrow.after
     first, second, what = dress(before.thread), dress(after.thread), dress(before.target or b"")
     here, there = f"on line {before.line}", f"on line {after.line}"
@@ -108,18 +108,18 @@ def because(arrow: Arrow, dress: Dress) -> str:
         "write-read": f"{first} writes {what} {here}, before {second} reads it {there}",
         "read-write": f"{first} reads {what} {here}, before {second} writes it {there}",
         "write-write": f"{first} writes {what} {here}, before {second} writes it {there}",
-        "lock": f"{first} releases {what} {here}, and {second} acquires it {there}",
-        "fork": f"{first} starts {second} {here}, before all that {second} does, as {there}",
-        "join": f"{second} waits {there} for the end of {first}, and so for all that {first} does, as {here}",
-        "thread": f"{first} comes to line {before.line} before line {after.line}",
+        "lock": f"{first} releases {what} {here}, before {second} acquires it {there}",
+        "fork": f"{first} starts {second} {here}, before everything that {second} does, for example {there}",
+        "join": f"{second} waits {there} for the end of {first}, after everything that {first} does, for example {here}",
+        "thread": f"{first} does the event on line {before.line} before the one on line {after.line}",
         "other": f"line {before.line} conflicts with line {after.line}",
     }[arrow.kind]
 
 
 def reasons(finding: Finding, dress: Dress, is_apart: bool = False) -> Iterator[str]:
-    """A sentence for each conflict of a cycle, in its order: together they leave no serial order.
+    """A sentence for each conflict of a cycle, in its order: together they rule out every serial order.
 
-    Where each is read apart from the others, none refers to one before it.
+    If each is read by itself (`is_apart`), none refers to a sentence before it.
     """
     arrows, of = arrows_of(finding.cycle), finding.transactions
     blamed = named(of[finding.counts["begun"]], dress)
@@ -136,73 +136,93 @@ def reasons(finding: Finding, dress: Dress, is_apart: bool = False) -> Iterator[
 def conclusion(finding: Finding, dress: Dress) -> str:
     if len(arrows_of(finding.cycle)) > 2:
         return f"So {named(finding.transactions[finding.counts['begun']], dress)} would have to come before itself."
-    return "No serial order has both."
+    return "No serial order satisfies both."
 
 
 def detours(finding: Finding, dress: Dress) -> Iterator[str]:
-    """A sentence for each block but the blamed one that is left by an earlier event than it is entered."""
-    for entered, left in zip(finding.cycle[1:], finding.cycle[2:-1]):
-        if entered.first == left.first and entered.line > left.line:
-            one = finding.transactions[left.first]
-            yield (
-                f"{capital(named(one, dress))} is left on line {left.line} and entered later, on line {entered.line}. "
-                f"That counts since it has ended (line {one.end}): a serial order has it as one whole."
-            )
+    """Sentences on the blocks, except the blamed one, that the cycle leaves by an earlier event than it enters them: one for each of a
+    few, and one for all if there are more."""
+    pairs = zip(finding.cycle[1:], finding.cycle[2:-1])
+    found = [(entered, left) for entered, left in pairs if entered.first == left.first and entered.line > left.line]
+    for entered, left in found[: MOST_DETOURS if len(found) <= MOST_DETOURS else 0]:
+        one = finding.transactions[left.first]
+        yield (
+            f"The cycle enters {named(one, dress)} on line {entered.line}, and leaves it on line {left.line}, which is earlier. "
+            f"This counts because the block has ended (line {one.end}): a serial order keeps it in one piece."
+        )
+    if len(found) > MOST_DETOURS:
+        entered, left = found[0]
+        yield (
+            f"The cycle leaves {counted(len(found), 'block')} on an earlier line than it enters them. For example, it enters "
+            f"{named(finding.transactions[left.first], dress)} on line {entered.line}, and leaves it on line {left.line}. "
+            "This counts because these blocks have ended: a serial order keeps each of them in one piece."
+        )
 
 
 def sentence(finding: Finding, options: Options, dress: Dress, quote: Dress = shown) -> str:
-    """What the report says of a source, in a sentence or two. Words of the program are told by `quote`."""
+    """The verdict of the report on a trace, in a sentence or two. `quote` shows the program's own words."""
     counts, verdict = finding.counts, finding.verdict
     if verdict == "violation":
         label = "" if finding.label is None else f" {dress(finding.label)}"
         return (
             f"The block{label} of {dress(finding.thread)} from line {counts['begun']} isn't atomic: "
-            f"line {counts['line']} closes a cycle through it{ending(finding, dress)}."
+            f"line {counts['line']} completes a cycle through it{ending(finding, dress)}."
         )
     if verdict in ("malformed", "ill-formed"):
         return faulty(finding, dress, quote)
     if verdict == "broken":
+        why = f": {quote(finding.note)}." if finding.note else ". A note on standard error gave the reason."
         if not counts["bytes"]:
-            return "It couldn't be opened, or the first read failed. Standard error said why."
-        return f"A read failed after {counted(counts['bytes'], 'byte')}. Standard error said why."
+            return f"It couldn't be opened, or the first read failed{why}"
+        return f"A read failed after {counted(counts['bytes'], 'byte')}{why}"
     if verdict == "too large":
-        advice = "" if options.is_long else " --long judges sources of any size."
+        advice = "" if options.is_long else " With --long any size is accepted."
         return f"It has more than {power(options.most_bytes)} bytes.{advice}"
     size = f"{counted(counts['events'], 'event')}, {counted(counts['blocks'], 'block')}"
     if verdict == "open":
-        told = still_open(finding, dress)
-        return f"Nothing is wrong so far, but {counted(counts['open'], 'block')} of {counts['blocks']:,} didn't end ({size}){told}."
+        return unfinished(finding, dress)
+    if not counts["blocks"]:
+        return f"There was no block to check ({size})."
     return f"Each block behaves as if it had run alone ({size})."
 
 
+def unfinished(finding: Finding, dress: Dress) -> str:
+    """That no violation was found, but blocks are open; and if there are several, that they may hide one."""
+    counts = finding.counts
+    events, blocks = counted(counts["events"], "event"), counted(counts["blocks"], "block")
+    have = "has" if counts["open"] == 1 else "have"
+    hidden = " A cycle that goes back in time in two or more of them may be hidden." if counts["open"] > 1 else ""
+    return f"No violation was found in {events}, but {counts['open']:,} of {blocks} {have} no end{still_open(finding, dress)}.{hidden}"
+
+
 def still_open(finding: Finding, dress: Dress) -> str:
-    """Which blocks didn't end, where the report has them: the first few."""
+    """The first few blocks that didn't end, if the report has them."""
     told = [
         f"{'a block' if block.label is None else dress(block.label)} of {dress(block.thread)} from line {block.line}"
         for block in finding.opened[:MOST_OPENED]
     ]
     left = finding.counts["open"] - len(told)
-    more = f" and {counted(left, 'further block')}" if left else ""
+    more = f" and {counted(left, 'more block')}" if left else ""
     return f": {', '.join(told)}{more}" if told else ""
 
 
 def ending(finding: Finding, dress: Dress) -> str:
-    """What more there is to say where a cycle is closed by the end of a block."""
+    """The addition for a cycle that the end of a block completes."""
     if finding.closing is None or finding.closing.op != "end":
         return ""
-    return f", as a block of {dress(finding.closing.thread)} has ended there"
+    return f", because a block of {dress(finding.closing.thread)} ended there"
 
 
 def faulty(finding: Finding, dress: Dress, quote: Dress) -> str:
-    """What is wrong with a line, in the words of the program where the report has them."""
+    """The fault of a line, in the words of the program if the report has them."""
     line, name = finding.counts["line"], dress(finding.fault.encode())
     note = f": {quote(finding.note)}" if finding.note else ""
     if finding.verdict == "malformed":
-        return f"Line {line} is no event{note} ({name})."
+        return f"Line {line} isn't an event{note} ({name})."
     mostly = MOSTLY.get(finding.fault, "")
-    return f"The event on line {line} can't stand there{note} ({name}).{f' Often because {mostly}.' if mostly else ''}"
+    return f"The event on line {line} is impossible there{note} ({name}).{f' This often happens because {mostly}.' if mostly else ''}"
 
 
 def power(number: int) -> str:
-    """A number, of which a power of two is told as such."""
+    """A number; a power of two is written as one."""
     return f"{number:,}" if number & (number - 1) else f"2^{number.bit_length() - 1}"

@@ -5,7 +5,7 @@ use Rattle.aero_batch.specs.declared.underway.Underway.{Underway}
 use Rattle.aero_intake.specs.declared.track.Track.{Track}
 use Rattle.aero_intake.specs.declared.track.Track.TheVariants as tracks
 use Rattle.aero_batch.specs.Alone.{GoesOnAlone, IsFound, TellsOf}
-use Rattle.aero_batch.specs.Founds.{Sighted}
+use Rattle.aero_batch.specs.Founds.{Sighted, whose}
 use Rattle.aero_batch.specs.Holding.{nothing_known}
 use Rattle.aero_batch.specs.Steps.{IsStart, Steps}
 use Rattle.aero_intake.specs.Source.{WasRead}
@@ -49,7 +49,7 @@ begun_alone terms old p start few few_bytes = record {
   names = refl;
 }
 
-pub step_alone : (terms : Terms) (old now after : List Sighted) (p q : Underway) → Steps terms now after p q → map (λ x. x.name) after ≡ map (λ x. x.name) now →
+pub step_alone : (terms : Terms) (old now after : List Sighted) (p q : Underway) → Steps terms now after p q → map whose after ≡ map whose now →
     GoesOnAlone terms old now p → GoesOnAlone terms old after q
 step_alone terms old now after p q steps names goes =
     let next = step_goes terms old now after p q goes.tale steps goes.names goes.holds goes.counted in

@@ -9,7 +9,6 @@ use Rattle.std.proofs.lemmas.List.{append-nil, length-append}
 use Rattle.aero_model.specs.declared.verdict.Ending.{Ending}
 use Rattle.aero_model.specs.declared.verdict.Ending.TheVariants.{Whole, Broken, TooLarge}
 use Rattle.aero_model.specs.declared.verdict.Finding.TheVariants as findings
-use Rattle.aero_model.specs.CallCounts.{Seen}
 use Rattle.aero_grammar.specs.Reading.{reading_of}
 use Rattle.aero_lines.specs.Cutting.{nothing_yet, block_of}
 use Rattle.aero_pieces.specs.declared.question.Question.{Question}
@@ -21,7 +20,7 @@ use Rattle.aero_batch.specs.Holding.{Holds, HasEnded, HasCome, HasComeFrom, noth
 use Rattle.aero_batch.specs.Inquiries.{Inquired, AreApart, all_open}
 use Rattle.aero_intake.specs.Held.{Known, IsDecisive}
 use Rattle.aero_intake.specs.Intake.{Taking, IsTaken, HaveCome, with_passing, fed_all}
-use Rattle.aero_intake.specs.Source.{WasRead}
+use Rattle.aero_intake.specs.Source.{Sight, WasRead}
 use Rattle.aero_batch.specs.Steps.{TakesPiece, NotesEnding, CutsHeld, PassesOver, PassesOn, IsReadFrom, DecidesThere, HasDecided, HasEnough, IsWanted}
 use Rattle.aero_batch.specs.Steps.{with_block, last_of, ended_track}
 use Rattle.aero_intake.specs.Stories.{Story, AreEnough, BeginAlike, IsTracked, AreTracked, changed}
@@ -95,18 +94,18 @@ block_count p None blocks is = is ∙ ap length (sym (append-nil blocks))
 block_count p (Some b) blocks is = omega (arith, is, length-append blocks (b ∷ []))
 
 -- what has come of the source whose reader was used
-come_on : (terms : Terms) (old now after : List Sighted) (place : ℕ) (before_read after_read : Seen) (bytes more : List ℕ) (was is : Option Ending) →
+come_on : (terms : Terms) (old now after : List Sighted) (place : ℕ) (before_read after_read : Sight) (bytes more : List ℕ) (was is : Option Ending) →
     IsReadFrom now after place before_read after_read →
-    ((first : Seen) → HasCome first before_read terms.rules.limits.bytes bytes was → HasCome first after_read terms.rules.limits.bytes more is) →
+    ((first : Sight) → HasCome first before_read terms.rules.limits.bytes bytes was → HasCome first after_read terms.rules.limits.bytes more is) →
     HasComeFrom terms old now place bytes was → HasComeFrom terms old after place more is
 come_on terms old now after place before_read after_read bytes more was is from goes come before last was_there is_there =
     let same : record { name = from.was.name; reader = after_read } ≡ last =
     the_some (record { name = from.was.name; reader = after_read }) last (sym from.is_there ∙ is_there) in
-    let mid = subst (λ (x : Seen). HasCome before.reader x terms.rules.limits.bytes bytes was) from.used (come before from.was was_there from.was_there) in
+    let mid = subst (λ (x : Sight). HasCome before.reader x terms.rules.limits.bytes bytes was) from.used (come before from.was was_there from.was_there) in
     subst (λ (x : Sighted). HasCome before.reader x.reader terms.rules.limits.bytes more is) same (goes before.reader mid)
 
 -- a piece comes, and is held
-pub taking_holds : (terms : Terms) (old now after : List Sighted) (p q : Underway) (tale : ℕ → Story) (before_read after_read : Seen) →
+pub taking_holds : (terms : Terms) (old now after : List Sighted) (p q : Underway) (tale : ℕ → Story) (before_read after_read : Sight) →
     IsReadFrom now after p.read before_read after_read → p.ended ≡ None → TakesPiece terms before_read after_read p q → Holds terms old now p tale →
     Holds terms old after q tale
 taking_holds terms old now after p q tale before_read after_read from reading takes holds =
@@ -133,7 +132,7 @@ taking_holds terms old now after p q tale before_read after_read from reading ta
     })
 
 -- the reading ends
-pub noting_holds : (terms : Terms) (old now after : List Sighted) (p q : Underway) (tale : ℕ → Story) (before_read after_read : Seen) →
+pub noting_holds : (terms : Terms) (old now after : List Sighted) (p q : Underway) (tale : ℕ → Story) (before_read after_read : Sight) →
     IsReadFrom now after p.read before_read after_read → p.ended ≡ None → NotesEnding terms before_read after_read p q → Holds terms old now p tale →
     Holds terms old after q tale
 noting_holds terms old now after p q tale before_read after_read from reading notes holds =
@@ -158,7 +157,7 @@ noting_holds terms old now after p q tale before_read after_read from reading no
     })
 
 -- what is held is cut
-pub cutting_holds : (terms : Terms) (old now after : List Sighted) (p q : Underway) (tale : ℕ → Story) (before_read after_read : Seen) →
+pub cutting_holds : (terms : Terms) (old now after : List Sighted) (p q : Underway) (tale : ℕ → Story) (before_read after_read : Sight) →
     IsReadFrom now after p.read before_read after_read → after_read ≡ before_read → CutsHeld p q → Holds terms old now p tale →
     (new : ℕ → Story) × Holds terms old after q new × ((s : ℕ) → s < p.read → new s ≡ tale s)
 cutting_holds terms old now after p q tale before_read after_read from unread cuts holds =
@@ -177,7 +176,7 @@ cutting_holds terms old now after p q tale before_read after_read from unread cu
     let come : HasComeFrom terms old after p.read (concat pieces ++ []) p.ended =
     come_on terms old now after p.read before_read after_read bytes (concat pieces ++ []) p.ended p.ended from
     (λ first come. subst (λ bs. HasCome first after_read limit bs p.ended) (sym (cut_bytes (tale p.read).pieces p.intake.held))
-    (subst (λ (x : Seen). HasCome first x limit bytes p.ended) (sym unread) come))
+    (subst (λ (x : Sight). HasCome first x limit bytes p.ended) (sym unread) come))
     holds.come in (
       new,
       record {
@@ -211,7 +210,7 @@ cutting_holds terms old now after p q tale before_read after_read from unread cu
     )
 
 -- what is held is passed over
-pub passing_over_holds : (terms : Terms) (old now after : List Sighted) (p q : Underway) (tale : ℕ → Story) (before_read after_read : Seen) →
+pub passing_over_holds : (terms : Terms) (old now after : List Sighted) (p q : Underway) (tale : ℕ → Story) (before_read after_read : Sight) →
     IsReadFrom now after p.read before_read after_read → after_read ≡ before_read → PassesOver p q → Holds terms old now p tale →
     (new : ℕ → Story) × Holds terms old after q new × ((s : ℕ) → s < p.read → new s ≡ tale s)
 passing_over_holds terms old now after p q tale before_read after_read from unread passes holds =
@@ -231,7 +230,7 @@ passing_over_holds terms old now after p q tale before_read after_read from unre
     let come : HasComeFrom terms old after p.read (concat pieces ++ []) p.ended =
     come_on terms old now after p.read before_read after_read bytes (concat pieces ++ []) p.ended p.ended from
     (λ first come. subst (λ bs. HasCome first after_read limit bs p.ended) (sym (cut_bytes (tale p.read).pieces p.intake.held))
-    (subst (λ (x : Seen). HasCome first x limit bytes p.ended) (sym unread) come))
+    (subst (λ (x : Sight). HasCome first x limit bytes p.ended) (sym unread) come))
     holds.come in (
       new,
       subst (λ (m : Underway). Holds terms old after m new) (sym passes.new_is)
@@ -307,7 +306,7 @@ ended_tracked terms p tale ending o all cut enough taken is_count blocks tracked
     ]
 
 -- the sources that have ended, the one that was being read among them
-ended_before : (terms : Terms) (old now after : List Sighted) (p : Underway) (tale : ℕ → Story) (before_read after_read : Seen) (ending : Ending)
+ended_before : (terms : Terms) (old now after : List Sighted) (p : Underway) (tale : ℕ → Story) (before_read after_read : Sight) (ending : Ending)
     (first : Sighted) (story : Story) (new : ℕ → Story) →
     slice_get old p.read ≡ Some first → IsReadFrom now after p.read before_read after_read →
     WasRead first.reader after_read terms.rules.limits.bytes (concat (tale p.read).pieces) ending →
@@ -339,7 +338,7 @@ empty [] none = refl
 empty (x ∷ xs) none = absurd (omega (arith, none))
 
 -- the source is passed on from
-pub passing_holds : (terms : Terms) (old now after : List Sighted) (p q : Underway) (tale : ℕ → Story) (before_read after_read : Seen) (first : Sighted) →
+pub passing_holds : (terms : Terms) (old now after : List Sighted) (p q : Underway) (tale : ℕ → Story) (before_read after_read : Sight) (first : Sighted) →
     slice_get old p.read ≡ Some first → IsReadFrom now after p.read before_read after_read → after_read ≡ before_read → PassesOn p q →
     Holds terms old now p tale → (new : ℕ → Story) × Holds terms old after q new × ((s : ℕ) → s < p.read → new s ≡ tale s)
 passing_holds terms old now after p q tale before_read after_read first was from unread passes holds =
@@ -352,7 +351,7 @@ passing_holds terms old now after p q tale before_read after_read first was from
     let bytes_are : concat pieces ++ p.intake.held ≡ concat pieces = ap (λ h. concat pieces ++ h) (empty p.intake.held passes.none_held)
     ∙ append-nil (concat pieces) in
     let read : WasRead first.reader after_read limit (concat pieces) ending =
-    subst (λ (x : Seen). WasRead first.reader x limit (concat pieces) ending) (from.used ∙ sym unread)
+    subst (λ (x : Sight). WasRead first.reader x limit (concat pieces) ending) (from.used ∙ sym unread)
     (subst (λ bs. WasRead first.reader from.was.reader limit bs ending) bytes_are
     (subst (λ e. HasCome first.reader from.was.reader limit (concat pieces ++ p.intake.held) e) passes.ended (holds.come first from.was was from.was_there))) in
     let mid : Story = with_pieces (tale p.read) pieces o in

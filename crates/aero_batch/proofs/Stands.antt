@@ -23,7 +23,7 @@ use Rattle.aero_batch.specs.declared.told.Told.{Told}
 use Rattle.aero_intake.specs.declared.track.Track.{Track}
 use Rattle.aero_intake.specs.declared.track.Track.TheVariants as tracks
 use Rattle.aero_batch.specs.Faults.{fault_of}
-use Rattle.aero_batch.specs.Founds.{Sighted, Found, IsFoundAt, AreOfTheFirst, told, ending_of, faulty_line, lines_of_all, counts_of_all, Took, IsNextText}
+use Rattle.aero_batch.specs.Founds.{Sighted, whose, Found, IsFoundAt, AreOfTheFirst, told, ending_of, faulty_line, lines_of_all, counts_of_all, Took, IsNextText}
 use Rattle.aero_batch.specs.Founds.{WasCutOff, IsWritten, WasRunTo, WasTold, no_text}
 use Rattle.aero_batch.specs.Holding.{Holds, HasComeFrom, Counted, AreTold, Tells, Stands, HasNumbers, IsBegun, nothing_known}
 use Rattle.aero_batch.specs.Inquiries.{Inquired, AreApart, all_open, open_count}
@@ -120,19 +120,19 @@ pub took_nothing : (before mid after : Seen) (text : List ℕ) → Took before m
 took_nothing before mid after text first then = subst (λ t. Took before after t) (append-nil text) (took_more before mid after text [] first then)
 
 -- a source keeps its name
-name_then : (old now : List Sighted) (s : ℕ) (b : Sighted) {name : List ℕ} → map (λ x. x.name) now ≡ map (λ x. x.name) old → slice_get old s ≡ Some b →
+name_then : (old now : List Sighted) (s : ℕ) (b : Sighted) {name : List ℕ} → map whose now ≡ map whose old → slice_get old s ≡ Some b →
     ((x : Sighted) → slice_get now s ≡ Some x → x.name ≡ name) → b.name ≡ name
 name_then old [] s b names was named = absurd (no_less old s b names was)
   where
-    no_less : (old : List Sighted) (s : ℕ) (b : Sighted) → [] ≡ map (λ x. x.name) old → slice_get old s ≡ Some b → ⊥
+    no_less : (old : List Sighted) (s : ℕ) (b : Sighted) → [] ≡ map whose old → slice_get old s ≡ Some b → ⊥
     no_less [] s b names was = cc (was)
     no_less (c ∷ old) s b names was = cc (names)
 name_then [] (x ∷ now) s b names was named = cc (was)
 name_then (c ∷ old) (x ∷ now) zero b names was named =
-    let first : x.name ≡ c.name = cc names in
-    sym (first ∙ ap (λ (y : Sighted). y.name) (the_some c b was)) ∙ named x refl
+    let first : whose x ≡ whose c = cc names in
+    sym (ap (λ w. w.0) first ∙ ap (λ (y : Sighted). y.name) (the_some c b was)) ∙ named x refl
 name_then (c ∷ old) (x ∷ now) (suc s) b names was named =
-    let rest : map (λ y. y.name) now ≡ map (λ y. y.name) old = cc names in
+    let rest : map whose now ≡ map whose old = cc names in
     name_then old now s b rest was named
 
 -- one more source is told
@@ -178,7 +178,7 @@ told_stands terms form old now before mid after p a b bytes ending finding name 
 
 stopped : (terms : Terms) (form : Form) (old now now' : List Sighted) (before mid after : Seen) (p : Underway) (a : Told)
     (st : Stands terms form old now before mid p a) (cause : Option Cause) →
-    ((s : ℕ) → s < p.read → slice_get now' s ≡ slice_get now s) → map (λ x. x.name) now' ≡ map (λ x. x.name) now →
+    ((s : ℕ) → s < p.read → slice_get now' s ≡ slice_get now s) → map whose now' ≡ map whose now →
     IsWritten terms form no_text old now' st.founds before after cause → WasTold terms form old now' before after a.endings.items a.faults.items a.counts cause
 stopped terms form old now now' before mid after p a st cause same names written = record {
   founds = st.founds;
@@ -196,7 +196,7 @@ stopped terms form old now now' before mid after p a st cause same names written
 
 pub memory_stops : (terms : Terms) (form : Form) (old now now' : List Sighted) (before mid after : Seen) (p : Underway) (a : Told) →
     Stands terms form old now before mid p a →
-    ((s : ℕ) → s < p.read → slice_get now' s ≡ slice_get now s) → map (λ x. x.name) now' ≡ map (λ x. x.name) now → Took mid after [] →
+    ((s : ℕ) → s < p.read → slice_get now' s ≡ slice_get now s) → map whose now' ≡ map whose now → Took mid after [] →
     WasTold terms form old now' before after a.endings.items a.faults.items a.counts (Some Memory)
 memory_stops terms form old now now' before mid after p a st same names took =
     stopped terms form old now now' before mid after p a st (Some Memory) same names
@@ -280,7 +280,7 @@ pub record Goes (terms : Terms) (old after : List Sighted) (p q : Underway) (tal
 
 -- One step keeps what holds of the sources.
 pub step_goes : (terms : Terms) (old now after : List Sighted) (p q : Underway) (tale : ℕ → Story) → Steps terms now after p q →
-    map (λ x. x.name) now ≡ map (λ x. x.name) old → Holds terms old now p tale → Counted terms (length old) p → Goes terms old after p q tale
+    map whose now ≡ map whose old → Holds terms old now p tale → Counted terms (length old) p → Goes terms old after p q tale
 step_goes terms old now after p q tale (inl is) names holds counted = record {
   new = tale;
   holds = subst (λ l. Holds terms old l q tale) (sym is.0) (settling_holds terms old now is.1 p q tale is.2 holds);
@@ -298,7 +298,7 @@ step_goes terms old now after p q tale (inr (inl is)) names holds counted = reco
 step_goes terms old now after p q tale (inr (inr is)) names holds counted = go is.reads
   where
     same_length : length now ≡ length old
-    same_length = sym (length-map now (λ x. x.name)) ∙ (ap length names ∙ length-map old (λ x. x.name))
+    same_length = sym (length-map now whose) ∙ (ap length names ∙ length-map old whose)
 
     go : ReadsOn terms is.before_read is.after_read p q → Goes terms old after p q tale
     go (inl (reading, inl takes)) = record {
@@ -347,7 +347,7 @@ step_goes terms old now after p q tale (inr (inr is)) names holds counted = go i
 
 -- One step keeps what holds.
 pub step_stands : (terms : Terms) (form : Form) (old now after : List Sighted) (before mid : Seen) (p q : Underway) (a : Told) → Steps terms now after p q →
-    map (λ x. x.name) after ≡ map (λ x. x.name) now →
+    map whose after ≡ map whose now →
     Stands terms form old now before mid p a → Stands terms form old after before mid q a
 step_stands terms form old now after before mid p q a steps names st =
     let goes = step_goes terms old now after p q st.tale steps st.names st.holds st.counted in
@@ -517,7 +517,7 @@ pub all_done : (terms : Terms) (form : Form) (old now : List Sighted) (before mi
 all_done terms form old now before mid p a all st =
     let told_all : length st.founds ≡ length old =
     sym (a.endings.ok.0 ∙ (ap length st.are_told.endings ∙ length-map st.founds ending_of))
-    ∙ (all ∙ (sym (length-map now (λ x. x.name)) ∙ (ap length st.names ∙ length-map old (λ x. x.name)))) in
+    ∙ (all ∙ (sym (length-map now whose) ∙ (ap length st.names ∙ length-map old whose))) in
     stopped terms form old now now before mid mid p a st None (λ s less. refl) refl
     (told_all, subst (λ text. Took before mid text) (sym (append-nil (lines_of_all form st.founds))) st.are_told.took)
 

@@ -2,7 +2,7 @@
 use Rattle.std.proofs.Common.{◌≡◌, ℕ, suc, ◌+◌, ◌<◌, ◌≤◌, List, [], ◌∷◌, length, Option, Some, None, refl, sym, ◌∙◌, ap, subst, arith}
 use Rattle.std.proofs.lemmas.List.{length_push, length-append}
 use Rattle.aero_model.specs.declared.verdict.Ending.{Ending}
-use Rattle.aero_model.specs.CallCounts.{Seen}
+use Rattle.aero_intake.specs.Source.{Sight}
 use Rattle.aero_grammar.specs.Reading.{Reading}
 use Rattle.aero_lines.specs.Cutting.{block_of}
 use Rattle.aero_pieces.specs.declared.question.Question.{Question}
@@ -114,7 +114,7 @@ block_more p (Some b) = (
   refl,
 )
 
-pub taking_counted : (terms : Terms) (n : ℕ) (p q : Underway) (before after : Seen) → TakesPiece terms before after p q → Counted terms n p → Counted terms n q
+pub taking_counted : (terms : Terms) (n : ℕ) (p q : Underway) (before after : Sight) → TakesPiece terms before after p q → Counted terms n p → Counted terms n q
 taking_counted terms n p q before after is c =
     subst (λ (m : Underway). Counted terms n m) (sym is.new_is)
     (record {
@@ -129,7 +129,7 @@ taking_counted terms n p q before after is c =
       asked = c.asked;
     })
 
-pub noting_counted : (terms : Terms) (n : ℕ) (p q : Underway) (before after : Seen) → NotesEnding terms before after p q → Counted terms n p → Counted terms n q
+pub noting_counted : (terms : Terms) (n : ℕ) (p q : Underway) (before after : Sight) → NotesEnding terms before after p q → Counted terms n p → Counted terms n q
 noting_counted terms n p q before after is c =
     subst (λ (m : Underway). Counted terms n m) (sym is.new_is)
     (record {

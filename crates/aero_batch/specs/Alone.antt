@@ -3,7 +3,7 @@ use Rattle.std.specs.Prelude.{◌≡◌, ℕ, List, map, length, ⊤}
 use Rattle.aero_intake.specs.declared.track.Track.{Track}
 use Rattle.aero_intake.specs.declared.track.Track.TheVariants.{Arriving, Arrived, Checking, Found}
 use Rattle.aero_batch.specs.declared.underway.Underway.{Underway}
-use Rattle.aero_batch.specs.Founds.{Sighted, IsFoundAt, ending_of}
+use Rattle.aero_batch.specs.Founds.{Sighted, whose, IsFoundAt, ending_of}
 use Rattle.aero_batch.specs.Founds as founds
 use Rattle.aero_batch.specs.Holding.{Holds, Counted}
 use Rattle.aero_intake.specs.Stories.{Story}
@@ -28,4 +28,4 @@ pub record GoesOnAlone (terms : Terms) (old now : List Sighted) (p : Underway) :
   pub tale : ℕ → Story
   pub holds : Holds terms old now p tale
   pub counted : Counted terms (length old) p
-  pub names : map (λ s. s.name) now ≡ map (λ s. s.name) old
+  pub names : map whose now ≡ map whose old

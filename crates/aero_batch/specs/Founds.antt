@@ -4,7 +4,7 @@ use Rattle.std.specs.Io.KnownBytes.{Appends}
 use Rattle.aero_model.specs.declared.verdict.Counts.{Counts}
 use Rattle.aero_model.specs.declared.verdict.Ending.{Ending}
 use Rattle.aero_model.specs.declared.verdict.Finding.{Finding}
-use Rattle.aero_model.specs.CallCounts.{Seen, seen_by}
+use Rattle.aero_model.specs.CallCounts.{Seen}
 use Rattle.aero_report.specs.declared.form.Form.{Form}
 use Rattle.aero_report.specs.Forms.{source_line_in, source_lines_in, summary_line_in}
 use Rattle.aero_report.specs.Texts.{counts_of}
@@ -12,19 +12,23 @@ use Rattle.aero_batch.specs.Faults.{fault_of}
 use Rattle.aero_batch.specs.declared.outcome.Cause.{Cause}
 use Rattle.aero_batch.specs.declared.outcome.Cause.TheVariants.{Memory, Write}
 use Rattle.aero_batch.specs.declared.outcome.FaultyLine.{FaultyLine}
-use Rattle.aero_intake.specs.declared.source.Source.{Source}
+use Rattle.aero_intake.specs.declared.source.SourceOf.{SourceOf}
 use Rattle.aero_intake.specs.PlanTerms.{options_in}
-use Rattle.aero_intake.specs.Source.{WasRead}
+use Rattle.aero_intake.specs.Source.{Origin, Sight, WasRead, origin_in}
 use Rattle.aero_verdict.specs.Finding.{Terms, IsFinding}
 
 -- a source at a moment, as contracts see it: its name, and its reader
 pub record Sighted : Type 0 where
   pub name : List ℕ
-  pub reader : Seen
+  pub reader : Sight
 
--- `known` is the reader's own word for the bytes that it has left
-abbrev pub sighted : {R : Type 0} → (R → Option (List ℕ)) → Source R → Sighted
-sighted known source = record { name = source.name.items; reader = seen_by known source.reader }
+-- `sight` is what contracts see of a reader
+abbrev pub sighted : {R : Type 0} → (R → Sight) → SourceOf R → Sighted
+sighted sight source = record { name = source.name.items; reader = sight source.reader }
+
+-- its name, and what its reader was made for, if the reader says so
+abbrev pub whose : Sighted → List ℕ × Option Origin
+whose s = (s.name, origin_in s.reader)
 
 -- what was found of a source: the bytes that came, how they ended, and what is said of them
 pub record Found : Type 0 where
@@ -102,7 +106,7 @@ pub record WasRunTo (terms : Terms) (form : Form) (last : Counts → List ℕ) (
     (faults : List (Option FaultyLine)) (counts : Counts) (cause : Option Cause) : Type 0 where
   pub founds : List Found
   pub found : AreOfTheFirst terms old new founds
-  pub names : map (λ s. s.name) new ≡ map (λ s. s.name) old
+  pub names : map whose new ≡ map whose old
   pub ended : endings ≡ map ending_of founds
   pub faulty : faults ≡ map faulty_line founds
   pub counted : counts ≡ counts_of_all founds

@@ -7,9 +7,9 @@ use Rattle.aero_report.specs.Texts.{no_counts}
 use Rattle.aero_report.specs.declared.form.Form.{Form}
 use Rattle.aero_batch.specs.declared.underway.Underway.{Underway}
 use Rattle.aero_batch.specs.declared.told.Told.{Told}
-use Rattle.aero_batch.specs.Founds.{Sighted, Found, Took, ending_of, counts_of_all, lines_of_all, faulty_line}
+use Rattle.aero_batch.specs.Founds.{Sighted, whose, Found, Took, ending_of, counts_of_all, lines_of_all, faulty_line}
 use Rattle.aero_intake.specs.Intake.{IsTaken, HaveCome}
-use Rattle.aero_intake.specs.Source.{WasRead}
+use Rattle.aero_intake.specs.Source.{Sight, WasRead}
 use Rattle.aero_batch.specs.Inquiries.{AreApart, all_open, open_count}
 use Rattle.aero_batch.specs.Steps.{IsStart}
 use Rattle.aero_batch.specs.Telling.{total}
@@ -31,7 +31,7 @@ pub record HasEnded (terms : Terms) (old now : List Sighted) (s : ℕ) (story : 
   pub read : WasRead before.reader after.reader terms.rules.limits.bytes (concat story.pieces) ending
 
 -- These bytes have come from a reader, and it has ended so, if it has.
-abbrev pub HasCome : (before after : Seen) (limit : ℕ) (bytes : List ℕ) → Option Ending → Type 0
+abbrev pub HasCome : (before after : Sight) (limit : ℕ) (bytes : List ℕ) → Option Ending → Type 0
 HasCome before after limit bytes None = HaveCome before after bytes
 HasCome before after limit bytes (Some ending) = WasRead before after limit bytes ending
 
@@ -100,7 +100,7 @@ pub record Stands (terms : Terms) (form : Form) (old now : List Sighted) (before
   pub holds : Holds terms old now p tale
   pub are_told : AreTold terms form old before after p told tale founds
   pub counted : Counted terms (length old) p
-  pub names : map (λ s. s.name) now ≡ map (λ s. s.name) old
+  pub names : map whose now ≡ map whose old
 
 -- The numbers of a run, and of what was told in it, over so many sources.
 pub record HasNumbers (terms : Terms) (sources : ℕ) (p : Underway) (told : Told) : Type 0 where

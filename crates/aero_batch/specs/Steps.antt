@@ -3,7 +3,6 @@ use Rattle.std.specs.Prelude.{◌≡◌, ℕ, ◌+◌, ◌-◌, ◌<◌, ◌^◌
 use Rattle.aero_model.specs.declared.verdict.Ending.{Ending}
 use Rattle.aero_model.specs.declared.verdict.Ending.TheVariants as endings
 use Rattle.aero_model.specs.declared.verdict.Finding.TheVariants as findings
-use Rattle.aero_model.specs.CallCounts.{Seen}
 use Rattle.aero_grammar.specs.Reading.{Reading}
 use Rattle.aero_lines.specs.Cutting.{Cutting, block_of, last_block}
 use Rattle.aero_pieces.specs.declared.question.Question.{Question}
@@ -17,6 +16,7 @@ use Rattle.aero_batch.specs.declared.kind.Kind.TheVariants as kinds
 use Rattle.aero_batch.specs.Inquiries.{Inquired, nothing_asked, open_count, open_of, with_open, with_question}
 use Rattle.aero_intake.specs.Held.{nothing_read}
 use Rattle.aero_intake.specs.Intake.{nothing_taken, with_piece, with_cut, with_passing, Comes, Ends}
+use Rattle.aero_intake.specs.Source.{Sight}
 use Rattle.aero_intake.specs.Tracks.{is_faulty, is_told, IsDecided, with_arrival, IsReady, GivesParts}
 use Rattle.aero_intake.specs.Stories.{changed, IsSettledWith}
 use Rattle.aero_verdict.specs.Finding.{Terms}
@@ -102,20 +102,20 @@ pub record EndsSource (ending : Ending) (old new : Underway) : Type 0 where
   pub reading : new.ended ≡ None
 
 -- A piece came, by a read of at most so many bytes, and is held.
-pub record TakesPiece (terms : Terms) (before after : Seen) (old new : Underway) : Type 0 where
+pub record TakesPiece (terms : Terms) (before after : Sight) (old new : Underway) : Type 0 where
   pub piece : List ℕ
   pub most : ℕ
   pub comes : Comes before after most terms.rules.limits.bytes old.intake.count piece
   pub new_is : new ≡ record old { intake = with_piece old.intake piece }
 
 -- The reading has ended, and what came stays.
-pub record NotesEnding (terms : Terms) (before after : Seen) (old new : Underway) : Type 0 where
+pub record NotesEnding (terms : Terms) (before after : Sight) (old new : Underway) : Type 0 where
   pub ending : Ending
   pub ends : Ends before after terms.rules.limits.bytes old.intake.count ending
   pub new_is : new ≡ record old { ended = Some ending }
 
 -- The reader is used, unless as many bytes have come as may.
-abbrev pub ReadsPiece : Terms → Seen → Seen → Underway → Underway → Type 0
+abbrev pub ReadsPiece : Terms → Sight → Sight → Underway → Underway → Type 0
 ReadsPiece terms before after old new = TakesPiece terms before after old new ⊎ NotesEnding terms before after old new
 
 -- What is held is cut, and the block that it gives, if it gives one, is asked about.
@@ -147,7 +147,7 @@ pub record PassesOn (old new : Underway) : Type 0 where
   pub ends : EndsSource ending old new
 
 -- One step of reading: the reader is used while the reading has not ended; or what is held is cut, or passed over; or the source is passed on from.
-abbrev pub ReadsOn : Terms → Seen → Seen → Underway → Underway → Type 0
+abbrev pub ReadsOn : Terms → Sight → Sight → Underway → Underway → Type 0
 ReadsOn terms before after old new =
     ((old.ended ≡ None) × ReadsPiece terms before after old new)
     ⊎ (((after ≡ before) × LetsHeldGo old new) ⊎ ((after ≡ before) × PassesOn old new))
@@ -188,7 +188,7 @@ pub record SettlesNext (kind : Kind) (old new : Underway) : Type 0 where
   pub ended : new.ended ≡ old.ended
 
 -- The reader of one source was used, and nothing else was done to the sources.
-pub record IsReadFrom (now after : List Sighted) (place : ℕ) (before_read after_read : Seen) : Type 0 where
+pub record IsReadFrom (now after : List Sighted) (place : ℕ) (before_read after_read : Sight) : Type 0 where
   pub was : Sighted
   pub was_there : slice_get now place ≡ Some was
   pub used : was.reader ≡ before_read
@@ -197,8 +197,8 @@ pub record IsReadFrom (now after : List Sighted) (place : ℕ) (before_read afte
 
 -- A step of reading.
 pub record ReadsNext (terms : Terms) (now after : List Sighted) (old new : Underway) : Type 0 where
-  pub before_read : Seen
-  pub after_read : Seen
+  pub before_read : Sight
+  pub after_read : Sight
   pub reads : ReadsOn terms before_read after_read old new
   pub from : IsReadFrom now after old.read before_read after_read
   pub may : MayAsk old

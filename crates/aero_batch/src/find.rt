@@ -1,17 +1,16 @@
 //! What is to be said of one source alone.
 ghost use Rattle.std.specs.Prelude.{◌≡◌, ◌<◌, length, map, slice_get, vec_len, Some, IfSome, IfNone};
 ghost use Rattle.aero_batch.specs.Alone.{GoesOnAlone, IsFound, TellsOf};
-ghost use Rattle.aero_batch.specs.Founds.{sighted};
+ghost use Rattle.aero_batch.specs.Founds.{sighted, whose};
 ghost use Rattle.aero_intake.specs.PlanTerms.{terms_of};
 
 use crate::helpers::Helpers;
 use crate::setting::Setting;
 use crate::step::step;
 use crate::underway::Underway;
-use aero_intake::Source;
 use aero_intake::track::Track;
+use aero_intake::{Followed, SourceOf};
 use aero_model::{Ending, Finding};
-use std::io::Read;
 use std::sync::Wait;
 use std::sync::atomic::{AtomicBool, Ordering};
 
@@ -26,16 +25,16 @@ pub struct Judged {
 /// Reads a source, alone in its list, and finds what is to be said of it. Helpers of the caller's own may work for it,
 /// of whom nothing is promised. `None` says that memory was refused, or that the flag was set before it was found: then
 /// the source is left as it stands.
-pub fn find<R: Read, H: Helpers, T: Wait>(
+pub fn find<R: Followed, H: Helpers, T: Wait>(
     setting: &Setting<'_, T>,
-    sources: &mut [Source<R>],
+    sources: &mut [SourceOf<R>],
     helpers: &mut H,
     is_given_up: &AtomicBool,
 ) -> Option<Judged>
     requires { length sources.old ≡ 1 }
-    ensures found { IfSome result (λ judged. TellsOf (terms_of setting.now.plan.now) (map (sighted R.remaining) sources.old) (map (sighted R.remaining) sources.new) 0
+    ensures found { IfSome result (λ judged. TellsOf (terms_of setting.now.plan.now) (map (sighted R.sight) sources.old) (map (sighted R.sight) sources.new) 0
         (Track.Found judged.bytes judged.ending judged.finding)) }
-    ensures names { map (λ s. s.name) (map (sighted R.remaining) sources.new) ≡ map (λ s. s.name) (map (sighted R.remaining) sources.old) }
+    ensures names { map whose (map (sighted R.sight) sources.new) ≡ map whose (map (sighted R.sight) sources.old) }
 {
     let is_alone = helpers.workers() == 0;
     let Ok(mut underway) = Underway::new(setting.alloc, setting.plan, 1, is_alone) else {
@@ -66,17 +65,17 @@ fn judged_by(track: Track) -> Option<Judged>
 }
 
 // All steps, until it is found what is to be said of the source.
-fn find_on<R: Read, H: Helpers, T: Wait>(
+fn find_on<R: Followed, H: Helpers, T: Wait>(
     setting: &Setting<'_, T>,
-    sources: &mut [Source<R>],
+    sources: &mut [SourceOf<R>],
     helpers: &mut H,
     underway: &mut Underway,
     is_given_up: &AtomicBool,
 ) -> Option<Track>
     requires one { length sources.old ≡ 1 }
-    requires begun { GoesOnAlone (terms_of setting.now.plan.now) (map (sighted R.remaining) sources.old) (map (sighted R.remaining) sources.old) underway.old }
-    ensures found { IfSome result (TellsOf (terms_of setting.now.plan.now) (map (sighted R.remaining) sources.old) (map (sighted R.remaining) sources.new) 0) }
-    ensures names { map (λ s. s.name) (map (sighted R.remaining) sources.new) ≡ map (λ s. s.name) (map (sighted R.remaining) sources.old) }
+    requires begun { GoesOnAlone (terms_of setting.now.plan.now) (map (sighted R.sight) sources.old) (map (sighted R.sight) sources.old) underway.old }
+    ensures found { IfSome result (TellsOf (terms_of setting.now.plan.now) (map (sighted R.sight) sources.old) (map (sighted R.sight) sources.new) 0) }
+    ensures names { map whose (map (sighted R.sight) sources.new) ≡ map whose (map (sighted R.sight) sources.old) }
 {
     'steps: for _ in setting.rt.forever() {
         if let Some(track) = take_found(underway) {

@@ -1,9 +1,9 @@
 //! Reading the sources, and asking about their blocks.
 ghost use Rattle.std.specs.Prelude.{◌≡◌, ◌<◌, ◌≤◌, ◌+◌, ◌^◌, length, vec_len, None, if◌then◌else◌, IfOk, IfSome, OnOk, true, false};
 ghost use Rattle.std.specs.Arc.{arc_value};
-ghost use Rattle.aero_model.specs.CallCounts.{seen_by};
 ghost use Rattle.aero_intake.specs.PlanTerms.{terms_of};
 ghost use Rattle.aero_intake.specs.Intake.{nothing_taken};
+ghost use Rattle.aero_intake.specs.Source.{origin_in};
 ghost use Rattle.aero_batch.specs.Steps.{MayAsk, ReadsOn, ReadsPiece, CutsHeld, LetsHeldGo, HasEnough, GoesOn, EndsSource, with_block, last_of, ended_track};
 
 use crate::helpers::Helpers;
@@ -12,28 +12,28 @@ use crate::setting::Setting;
 use crate::underway::Underway;
 use aero_intake::intake::Taken;
 use aero_intake::track::{Track, arrive, is_decided};
-use aero_intake::{Intake, Plan};
+use aero_intake::{Followed, Intake, Plan};
 use aero_lines::Block;
-use aero_model::{Counting, Ending, Finding};
+use aero_model::{Ending, Finding};
 use aero_pieces::{Bytes, Question};
 use std::alloc::{AllocError, Global};
-use std::io::Read;
 use std::sync::{Arc, Wait};
 
 /// One step of reading the next source: a piece of it comes, or is known not to come any more; or what is
 /// held of it is cut, and its block asked about, or is passed over where what was read before decides; or, once
 /// nothing is held, it is noted how it has ended. An `AllocError` says that memory was refused.
-pub fn read_on<R: Read, H: Helpers, T: Wait>(
+pub fn read_on<R: Followed, H: Helpers, T: Wait>(
     setting: &Setting<'_, T>,
-    reader: &mut Counting<R>,
+    reader: &mut R,
     helpers: &mut H,
     underway: &mut Underway,
 ) -> Result<(), AllocError>
     requires may { MayAsk underway.old }
     requires unread { underway.old.read < vec_len underway.old.tracks }
     requires within { underway.old.intake.count ≤ setting.now.plan.now.terms.rules.limits.bytes + 1 }
-    ensures { OnOk result (ReadsOn (terms_of setting.now.plan.now) (seen_by R.remaining reader.old) (seen_by R.remaining reader.new)
+    ensures reads { OnOk result (ReadsOn (terms_of setting.now.plan.now) (R.sight reader.old) (R.sight reader.new)
         underway.old underway.new) }
+    ensures origin { origin_in (R.sight reader.new) ≡ origin_in (R.sight reader.old) }
 {
     match underway.ended {
         Some(ending) if underway.intake.is_cut() => {
@@ -48,11 +48,11 @@ pub fn read_on<R: Read, H: Helpers, T: Wait>(
 }
 
 // Reads one piece of the source that is being read, or notes how its reading has ended.
-fn read_piece<R: Read>(plan: &Plan, reader: &mut Counting<R>, underway: &mut Underway)
+fn read_piece<R: Followed>(plan: &Plan, reader: &mut R, underway: &mut Underway)
     requires reading { underway.old.ended ≡ None }
     requires not_full { length underway.old.intake.held < 2 ^ 18 }
     requires within { underway.old.intake.count ≤ plan.now.terms.rules.limits.bytes + 1 }
-    ensures { ReadsPiece (terms_of plan.now) (seen_by R.remaining reader.old) (seen_by R.remaining reader.new) underway.old underway.new }
+    ensures { ReadsPiece (terms_of plan.now) (R.sight reader.old) (R.sight reader.new) underway.old underway.new }
 {
     underway.ended = match underway
         .intake

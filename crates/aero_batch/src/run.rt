@@ -4,6 +4,7 @@ ghost use Rattle.aero_report.specs.Forms.{summary_line_in};
 ghost use Rattle.aero_report.specs.Texts.{no_counts};
 ghost use Rattle.aero_model.specs.CallCounts.{seen_by};
 ghost use Rattle.aero_intake.specs.PlanTerms.{options_in, terms_of};
+ghost use Rattle.aero_intake.specs.Source.{counted};
 ghost use Rattle.aero_batch.specs.Founds.{sighted, WasRun, WasTold};
 ghost use Rattle.aero_batch.specs.Inquiries.{open_count};
 ghost use Rattle.aero_batch.specs.Holding.{HasNumbers, IsBegun};
@@ -18,7 +19,7 @@ use crate::step::step;
 use crate::told::{Style, Told, nothing_counted, sum_up, tell_next};
 use crate::underway::Underway;
 use aero_gather::Tally;
-use aero_intake::{Plan, Source};
+use aero_intake::{Followed, Plan, Source, SourceOf};
 use aero_model::Counting;
 use aero_worker::{Crew, Gate};
 use std::alloc::{AllocError, Global};
@@ -44,7 +45,7 @@ pub fn run<R: Read, W: Write, G: Gate + Drop + 'static, T: Threads + Wait + Copy
     gate: Arc<G>,
 ) -> Outcome
     requires { length sources.old ≤ 65536 }
-    ensures ran { WasRun (terms_of plan.now) plan.now.form (map (sighted R.remaining) sources.old) (map (sighted R.remaining) sources.new)
+    ensures ran { WasRun (terms_of plan.now) plan.now.form (map (sighted (counted R.remaining)) sources.old) (map (sighted (counted R.remaining)) sources.new)
         (seen_by W.contents writer.old) (seen_by W.contents writer.new) result.endings.items result.faults.items result.counts result.cause }
     ensures all_settled { result.cause ≡ None → result.tally.asked ≡ result.tally.kept + result.tally.done_here }
     ensures tallied { result.tally.kept + result.tally.done_here ≤ result.tally.asked }
@@ -70,7 +71,7 @@ pub fn run_over<R: Read, W: Write, H: Helpers, T: Wait>(
     helpers: &mut H,
 ) -> Outcome
     requires { length sources.old ≤ 65536 }
-    ensures ran { WasRun (terms_of plan.now) plan.now.form (map (sighted R.remaining) sources.old) (map (sighted R.remaining) sources.new)
+    ensures ran { WasRun (terms_of plan.now) plan.now.form (map (sighted (counted R.remaining)) sources.old) (map (sighted (counted R.remaining)) sources.new)
         (seen_by W.contents writer.old) (seen_by W.contents writer.new) result.endings.items result.faults.items result.counts result.cause }
     ensures all_settled { result.cause ≡ None → result.tally.asked ≡ result.tally.kept + result.tally.done_here }
     ensures tallied { result.tally.kept + result.tally.done_here ≤ result.tally.asked }
@@ -84,18 +85,18 @@ pub fn run_over<R: Read, W: Write, H: Helpers, T: Wait>(
 /// A run as by `run` that writes the lines alone. The summary is left to the caller, who may write another than the plan's:
 /// `told::sum_up` does.
 pub fn run_lines<
-    R: Read,
+    R: Followed,
     W: Write,
     G: Gate + Drop + 'static,
     T: Threads + Wait + Copy + Send + 'static,
 >(
     setting: &Setting<'_, T>,
-    sources: &mut [Source<R>],
+    sources: &mut [SourceOf<R>],
     writer: &mut Counting<W>,
     gate: Arc<G>,
 ) -> Outcome
     requires { length sources.old ≤ 65536 }
-    ensures told { WasTold (terms_of setting.now.plan.now) setting.now.plan.now.form (map (sighted R.remaining) sources.old) (map (sighted R.remaining) sources.new)
+    ensures told { WasTold (terms_of setting.now.plan.now) setting.now.plan.now.form (map (sighted R.sight) sources.old) (map (sighted R.sight) sources.new)
         (seen_by W.contents writer.old) (seen_by W.contents writer.new) result.endings.items result.faults.items result.counts result.cause }
     ensures all_settled { result.cause ≡ None → result.tally.asked ≡ result.tally.kept + result.tally.done_here }
     ensures tallied { result.tally.kept + result.tally.done_here ≤ result.tally.asked }
@@ -111,14 +112,14 @@ pub fn run_lines<
 }
 
 /// The same with helpers of the caller's own, as by `run_over`.
-pub fn run_lines_over<R: Read, W: Write, H: Helpers, T: Wait>(
+pub fn run_lines_over<R: Followed, W: Write, H: Helpers, T: Wait>(
     setting: &Setting<'_, T>,
-    sources: &mut [Source<R>],
+    sources: &mut [SourceOf<R>],
     writer: &mut Counting<W>,
     helpers: &mut H,
 ) -> Outcome
     requires { length sources.old ≤ 65536 }
-    ensures told { WasTold (terms_of setting.now.plan.now) setting.now.plan.now.form (map (sighted R.remaining) sources.old) (map (sighted R.remaining) sources.new)
+    ensures told { WasTold (terms_of setting.now.plan.now) setting.now.plan.now.form (map (sighted R.sight) sources.old) (map (sighted R.sight) sources.new)
         (seen_by W.contents writer.old) (seen_by W.contents writer.new) result.endings.items result.faults.items result.counts result.cause }
     ensures all_settled { result.cause ≡ None → result.tally.asked ≡ result.tally.kept + result.tally.done_here }
     ensures tallied { result.tally.kept + result.tally.done_here ≤ result.tally.asked }
@@ -224,17 +225,17 @@ fn outcome_of(standing: Standing, cause: Option<Cause>, workers: u32) -> Outcome
 }
 
 // All steps.
-fn run_on<R: Read, W: Write, H: Helpers, T: Wait>(
+fn run_on<R: Followed, W: Write, H: Helpers, T: Wait>(
     setting: &Setting<'_, T>,
-    sources: &mut [Source<R>],
+    sources: &mut [SourceOf<R>],
     writer: &mut Counting<W>,
     helpers: &mut H,
     standing: &mut Standing,
 ) -> Result<(), Cause>
     requires { IsBegun (terms_of setting.now.plan.now) (length sources.old) standing.old.underway standing.old.told }
-    ensures done { OnOk result (HasRun setting.now.plan.now (map (sighted R.remaining) sources.old) (map (sighted R.remaining) sources.new)
+    ensures done { OnOk result (HasRun setting.now.plan.now (map (sighted R.sight) sources.old) (map (sighted R.sight) sources.new)
         (seen_by W.contents writer.old) (seen_by W.contents writer.new) standing.new.told None) }
-    ensures stopped { IfErr result (λ cause. HasRun setting.now.plan.now (map (sighted R.remaining) sources.old) (map (sighted R.remaining) sources.new)
+    ensures stopped { IfErr result (λ cause. HasRun setting.now.plan.now (map (sighted R.sight) sources.old) (map (sighted R.sight) sources.new)
         (seen_by W.contents writer.old) (seen_by W.contents writer.new) standing.new.told (Some cause)) }
     ensures settled { OnOk result (open_count standing.new.underway.inquiry ≡ 0) }
 {
@@ -247,17 +248,17 @@ fn run_on<R: Read, W: Write, H: Helpers, T: Wait>(
 }
 
 // The next line is written, or else one step is done. The answer says whether all is done.
-fn advance<R: Read, W: Write, H: Helpers, T: Wait>(
+fn advance<R: Followed, W: Write, H: Helpers, T: Wait>(
     setting: &Setting<'_, T>,
-    sources: &mut [Source<R>],
+    sources: &mut [SourceOf<R>],
     writer: &mut Counting<W>,
     helpers: &mut H,
     standing: &mut Standing,
 ) -> Result<bool, Cause>
     requires { HasNumbers (terms_of setting.now.plan.now) (length sources.old) standing.old.underway standing.old.told }
-    ensures stands { OnOk result (KeepsStanding setting.now.plan.now (map (sighted R.remaining) sources.old) (map (sighted R.remaining) sources.new)
+    ensures stands { OnOk result (KeepsStanding setting.now.plan.now (map (sighted R.sight) sources.old) (map (sighted R.sight) sources.new)
         (seen_by W.contents writer.old) (seen_by W.contents writer.new) standing.old.underway standing.new.underway standing.old.told standing.new.told) }
-    ensures stopped { IfErr result (StopsRun setting.now.plan.now (map (sighted R.remaining) sources.old) (map (sighted R.remaining) sources.new)
+    ensures stopped { IfErr result (StopsRun setting.now.plan.now (map (sighted R.sight) sources.old) (map (sighted R.sight) sources.new)
         (seen_by W.contents writer.old) (seen_by W.contents writer.new) standing.old.underway standing.old.told standing.new.told) }
     ensures all_told { IfOk result (λ is_done. is_done ≡ true → vec_len standing.new.told.endings ≡ length sources.new) }
     ensures all_settled { IfOk result (λ is_done. is_done ≡ true → open_count standing.new.underway.inquiry ≡ 0) }
@@ -298,20 +299,20 @@ fn cause_of(_refused: AllocError) -> Cause
 }
 
 // Writes the next line, where it is found what it is to say. The answer says whether it is.
-fn tell_ready<R: Read, W: Write, T>(
+fn tell_ready<R: Followed, W: Write, T>(
     setting: &Setting<'_, T>,
-    sources: &[Source<R>],
+    sources: &[SourceOf<R>],
     underway: &Underway,
     writer: &mut Counting<W>,
     told: &mut Told,
 ) -> Result<bool, Cause>
     requires { HasNumbers (terms_of setting.now.plan.now) (length sources.now) underway.now told.old }
     ensures stands { IfOk result (λ is_told. is_told ≡ true →
-        KeepsStanding setting.now.plan.now (map (sighted R.remaining) sources.now) (map (sighted R.remaining) sources.now)
+        KeepsStanding setting.now.plan.now (map (sighted R.sight) sources.now) (map (sighted R.sight) sources.now)
         (seen_by W.contents writer.old) (seen_by W.contents writer.new) underway.now underway.now told.old told.new) }
     ensures unchanged { IfOk result (λ is_told. is_told ≡ false →
         (seen_by W.contents writer.new ≡ seen_by W.contents writer.old) × (told.new ≡ told.old)) }
-    ensures stopped { IfErr result (StopsRun setting.now.plan.now (map (sighted R.remaining) sources.now) (map (sighted R.remaining) sources.now)
+    ensures stopped { IfErr result (StopsRun setting.now.plan.now (map (sighted R.sight) sources.now) (map (sighted R.sight) sources.now)
         (seen_by W.contents writer.old) (seen_by W.contents writer.new) underway.now told.old told.new) }
 {
     let place = told.endings.len();

@@ -1,7 +1,6 @@
 //! One step of a run.
 ghost use Rattle.std.specs.Prelude.{◌≡◌, ◌<◌, ◌≤◌, ℕ, length, map, slice_get, OnOk};
-ghost use Rattle.aero_model.specs.CallCounts.{seen_by};
-ghost use Rattle.aero_batch.specs.Founds.{sighted};
+ghost use Rattle.aero_batch.specs.Founds.{sighted, whose};
 ghost use Rattle.aero_batch.specs.Holding.{Counted};
 ghost use Rattle.aero_intake.specs.PlanTerms.{terms_of};
 ghost use Rattle.aero_batch.specs.Steps.{Steps};
@@ -13,47 +12,46 @@ use crate::kind::Kind;
 use crate::reading::read_on;
 use crate::setting::Setting;
 use crate::underway::Underway;
-use aero_intake::Source;
 use aero_intake::track::is_ready;
+use aero_intake::{Followed, SourceOf};
 use std::alloc::AllocError;
-use std::io::Read;
 use std::sync::Wait;
 
 /// One step: the verdict on a source is asked for, or a piece is read, or what was read is cut and asked
 /// about; or, where the oldest question of a kind has its answer, the window is full, the next read is the first of a
 /// source that may wait, or nothing is left to read, that question is settled. So what is known of a
 /// source is told before the next read. An `AllocError` says that memory was refused.
-pub fn step<R: Read, H: Helpers, T: Wait>(
+pub fn step<R: Followed, H: Helpers, T: Wait>(
     setting: &Setting<'_, T>,
-    sources: &mut [Source<R>],
+    sources: &mut [SourceOf<R>],
     helpers: &mut H,
     underway: &mut Underway,
 ) -> Result<(), AllocError>
     requires { Counted (terms_of setting.now.plan.now) (length sources.old) underway.old }
-    ensures steps { OnOk result (Steps (terms_of setting.now.plan.now) (map (sighted R.remaining) sources.old)
-        (map (sighted R.remaining) sources.new) underway.old underway.new) }
-    ensures names { map (λ s. s.name) (map (sighted R.remaining) sources.new) ≡ map (λ s. s.name) (map (sighted R.remaining) sources.old) }
+    ensures steps { OnOk result (Steps (terms_of setting.now.plan.now) (map (sighted R.sight) sources.old)
+        (map (sighted R.sight) sources.new) underway.old underway.new) }
+    ensures names { map whose (map (sighted R.sight) sources.new) ≡ map whose (map (sighted R.sight) sources.old) }
     ensures others { (s : ℕ) → (underway.old.read ≡ s → ⊥) →
-        slice_get (map (sighted R.remaining) sources.new) s ≡ slice_get (map (sighted R.remaining) sources.old) s }
+        slice_get (map (sighted R.sight) sources.new) s ≡ slice_get (map (sighted R.sight) sources.old) s }
 {
     let answered = underway.inquiry.hear(setting.rt, helpers);
     step_on(setting, sources, helpers, underway, answered)
 }
 
 // The same, where it is said of which kind the oldest question has its answer, if of one.
-fn step_on<R: Read, H: Helpers, T: Wait>(
+fn step_on<R: Followed, H: Helpers, T: Wait>(
     setting: &Setting<'_, T>,
-    sources: &mut [Source<R>],
+    sources: &mut [SourceOf<R>],
     helpers: &mut H,
     underway: &mut Underway,
     answered: Option<Kind>,
 ) -> Result<(), AllocError>
     requires { Counted (terms_of setting.now.plan.now) (length sources.old) underway.old }
-    ensures steps { OnOk result (Steps (terms_of setting.now.plan.now) (map (sighted R.remaining) sources.old)
-        (map (sighted R.remaining) sources.new) underway.old underway.new) }
-    ensures names { map (λ s. s.name) (map (sighted R.remaining) sources.new) ≡ map (λ s. s.name) (map (sighted R.remaining) sources.old) }
+    ensures steps { OnOk result (Steps (terms_of setting.now.plan.now) (map (sighted R.sight) sources.old)
+        (map (sighted R.sight) sources.new) underway.old underway.new) }
+    ensures names { map whose (map (sighted R.sight) sources.new) ≡ map whose (map (sighted R.sight) sources.old) }
     ensures others { (s : ℕ) → (underway.old.read ≡ s → ⊥) →
-        slice_get (map (sighted R.remaining) sources.new) s ≡ slice_get (map (sighted R.remaining) sources.old) s }
+        slice_get (map (sighted R.sight) sources.new) s ≡ slice_get (map (sighted R.sight) sources.old) s }
 {
     let kind = next_kind(&underway.inquiry, answered);
     if !underway.inquiry.has_room() {
@@ -80,7 +78,7 @@ fn next_kind(inquiry: &Inquiry, answered: Option<Kind>) -> Kind {
 
 // Whether the next read is the first of a source that may wait, while questions on those before it are
 // open: what they say is told first.
-fn is_held_back<R>(sources: &[Source<R>], underway: &Underway) -> bool {
+fn is_held_back<R>(sources: &[SourceOf<R>], underway: &Underway) -> bool {
     let Some(source) = sources.get(underway.read) else {
         return false;
     };

@@ -46,8 +46,9 @@ pub extern "C" fn aerodrome_held_begin_labelled(
     }
 }
 
-/// Begins a trace as `aerodrome_held_begin_labelled` does, whose violation is to be shown, by `aerodrome_held_cycle`. It
-/// keeps 24 bytes of each event, and the labels of begins, until an event closes a cycle.
+/// Begins a trace as `aerodrome_held_begin_labelled` does, whose violation `aerodrome_held_cycle` shows. Until an event
+/// completes a telling cycle, it also keeps 28 bytes for each event that can be in such a cycle, and the labels of begins
+/// among them.
 #[unsafe(no_mangle)]
 pub extern "C" fn aerodrome_held_begin_explained(
     alloc: Global,

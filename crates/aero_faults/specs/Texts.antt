@@ -55,4 +55,4 @@ hindrance_text fault e (Forked line) = deed_text e ++ (codes ", which was forked
 hindrance_text ThreadJoined e (Joined t line) = e.thread ++ (codes " acts, but " ++ (t ++ (codes " joined it on line " ++ decimal line)))
 hindrance_text fault e (Joined t line) = deed_text e ++ (codes ", which was joined on line " ++ decimal line)
 hindrance_text fault e Itself = e.thread ++ (verb e.op ++ codes "itself")
-hindrance_text fault e NoneOpen = e.thread ++ codes " ends a block, but none of its is open"
+hindrance_text fault e NoneOpen = e.thread ++ codes " ends a block, but has no open block"

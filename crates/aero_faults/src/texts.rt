@@ -180,10 +180,10 @@ fn append_itself(text: &mut Vec<u8>, event: &Event) -> Result<(), AllocError>
 }
 
 fn append_none_open(text: &mut Vec<u8>, event: &Event) -> Result<(), AllocError>
-    ensures { OnOk result (text.new.items ≡ text.old.items ++ (event.now.thread ++ codes " ends a block, but none of its is open")) }
+    ensures { OnOk result (text.new.items ≡ text.old.items ++ (event.now.thread ++ codes " ends a block, but has no open block")) }
 {
     text.extend_from_slice(event.thread.bytes())?;
-    text.extend_from_slice(b" ends a block, but none of its is open")
+    text.extend_from_slice(b" ends a block, but has no open block")
 }
 
 // Who does what to what.

@@ -49,8 +49,8 @@ impl Feed {
         judged_by(alloc, judge, except)
     }
 
-    /// The same of a text whose violation is to be shown, by `explain`. Also kept are 24 bytes of each event, and the labels
-    /// of begins, until an event closes a cycle.
+    /// The same for a text whose violation `explain` shows. Until an event completes a telling cycle, the feed also keeps 28
+    /// bytes for each event that can be in such a cycle, and the labels of begins among them.
     ///
     /// # Errors
     ///

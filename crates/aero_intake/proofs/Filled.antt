@@ -12,8 +12,8 @@ use Rattle.std.proofs.lemmas.List.{with_items_is}
 use borrow.Rule.Slice.PartMut.{put_mid, post_of, take_put}
 use lib.Seq.{take-add, take-append-le}
 use Rattle.aero_model.specs.declared.verdict.Ending.TheVariants.{Whole}
-use Rattle.aero_model.specs.CallCounts.{Seen, moves_nothing}
-use Rattle.aero_intake.specs.Source.{WasRead}
+use Rattle.aero_model.specs.CallCounts.{moves_nothing}
+use Rattle.aero_intake.specs.Source.{gained, Sight, Trails, WasRead}
 use Rattle.aero_intake.specs.Intake.{Fills, FillsWith}
 
 -- what was read into the part stands behind what is held
@@ -23,13 +23,14 @@ behind_front a k n xs ys within fits =
     ∙ ap₂ (λ f b. f ++ take n b) (take_put a k xs ys within) (drop_at (take a xs) (ys ++ post_of a k xs) a (length-take-le a xs within))
     ∙ ap (λ b. take a xs ++ b) (take-append-le n ys (post_of a k xs) fits)
 
-pub fills : {E : Type 0} (before after : Seen) (held room k : ℕ) (xs ys : List ℕ) (r : Result ℕ E) → held ≤ length xs → length ys ≡ room → 0 < room →
+pub fills : {E : Type 0} (before after : Sight) (held room k : ℕ) (xs ys : List ℕ) (r : Result ℕ E) → held ≤ length xs → length ys ≡ room → 0 < room →
     ReadsAtMost r ys → ReadConsumes before.bytes after.bytes r ys → after.faults ≡ before.faults + (if is_err r then 1 else 0) →
-    after.ends ≡ before.ends + (if moves_nothing r ys then 1 else 0) → Fills before after held room xs (put_mid held k xs ys) r
-fills before after held room k xs [] (Ok zero) within long some bound bytes faults ends = absurd (omega (arith, long, some))
-fills before after held room k xs (y ∷ ys) (Ok zero) within long some bound bytes faults ends = (
+    after.ends ≡ before.ends + (if moves_nothing r ys then 1 else 0) → Trails before.trail after.trail (gained r ys) → Fills before after held room xs (put_mid held k xs ys) r
+fills before after held room k xs [] (Ok zero) within long some bound bytes faults ends trail = absurd (omega (arith, long, some))
+fills before after held room k xs (y ∷ ys) (Ok zero) within long some bound bytes faults ends trail = (
   λ limit. record {
     came = bytes.0;
+    trail = trail;
     faults = faults;
     ends = ends ∙ ap (λ b. before.ends + (if b then 1 else 0)) (lt-ltb 0 (suc (length ys)) (omega arith));
     fits = omega arith;
@@ -37,10 +38,11 @@ fills before after held room k xs (y ∷ ys) (Ok zero) within long some bound by
   },
   take_put held k xs (y ∷ ys) within,
 )
-fills before after held room k xs ys (Ok (suc n)) within long some bound bytes faults ends = (
+fills before after held room k xs ys (Ok (suc n)) within long some bound bytes faults ends trail = (
   take (suc n) ys,
   record {
     came = bytes.0;
+    trail = trail;
     quiet = record {
       faults = omega (arith, faults);
       ends = ends ∙ (ap (λ b. before.ends + (if b && nat_lt 0 (length ys) then 1 else 0)) (ne_eqb (suc n) 0 (λ e. omega (arith, e))) ∙ omega arith);
@@ -50,9 +52,10 @@ fills before after held room k xs ys (Ok (suc n)) within long some bound bytes f
   omega (arith, bound.0, long),
   behind_front held k (suc n) xs ys within bound.0,
 )
-fills before after held room k xs ys (Err e) within long some bound bytes faults ends = (
+fills before after held room k xs ys (Err e) within long some bound bytes faults ends trail = (
   λ limit. record {
     came = Consumes-kept before.bytes before.bytes after.bytes [] (Consumes-nil before.bytes) bytes;
+    trail = trail;
     faults = faults;
     ends = omega (arith, ends);
     fits = omega arith;
@@ -67,7 +70,7 @@ pub still_held : (v : Vec ℕ) (held : ℕ) (old new : List ℕ) → old ≡ v.i
 still_held v held old new is kept same = ap (take held) (with_items_is v new kept) ∙ (same ∙ ap (take held) is)
 
 -- a read that gave 0 bytes found the end
-pub none_came : (before after : Seen) (held room n : ℕ) (xs ys : List ℕ) → n ≡ 0 → FillsWith before after held room xs ys n →
+pub none_came : (before after : Sight) (held room n : ℕ) (xs ys : List ℕ) → n ≡ 0 → FillsWith before after held room xs ys n →
     ((limit : ℕ) → WasRead before after limit [] Whole) × (take held ys ≡ take held xs)
 none_came before after held room zero xs ys none is = is
 none_came before after held room (suc n) xs ys none is = absurd (omega (arith, none))

@@ -1,5 +1,5 @@
 -- A source as far as it was read.
-use Rattle.std.proofs.Common.{◌≡◌, ℕ, ◌+◌, ◌≤◌, List, [], ◌∷◌, ◌++◌, length, refl, sym, ◌∙◌, ap, ap₂, subst, append_assoc, false, arith}
+use Rattle.std.proofs.Common.{◌≡◌, ℕ, ◌+◌, ◌≤◌, List, [], ◌∷◌, ◌++◌, length, refl, sym, ◌∙◌, ap, ap₂, subst, append_assoc, false, arith, Option, Some, None}
 use Rattle.std.proofs.lemmas.List.{append-nil, length-append}
 use Rattle.std.proofs.KnownBytes.{Consumes-nil, Consumes-trans}
 use Rattle.std.specs.Prelude.{option_to_list}
@@ -7,9 +7,8 @@ use Rattle.std.specs.List.{concat}
 use Rattle.std.specs.Io.KnownBytes.{Consumes}
 use Rattle.aero_model.specs.declared.verdict.Ending.{Ending}
 use Rattle.aero_model.specs.declared.verdict.Ending.TheVariants.{Whole, Broken, TooLarge}
-use Rattle.aero_model.specs.CallCounts.{Seen}
 use Rattle.aero_lines.specs.Cutting.{Cutting, nothing_yet, fed, block_of, last_block, blocks_from}
-use Rattle.aero_intake.specs.Source.{WasRead}
+use Rattle.aero_intake.specs.Source.{Sight, Trail, Trails, WasRead}
 use Rattle.aero_intake.specs.Intake.{Taking, nothing_taken, with_piece, with_cut, with_passing, fed_all, blocks_so_far, IsTaken, HaveCome, Ends}
 
 fed_all-more : (c : Cutting) (pieces : List (List ℕ)) (piece : List ℕ) → fed_all c (pieces ++ piece ∷ []) ≡ fed (fed_all c pieces) piece
@@ -73,22 +72,38 @@ pub blocks_with_last : (i : Taking) (pieces blocks : List (List ℕ)) → IsTake
 blocks_with_last i pieces blocks is =
     ap (λ bs. bs ++ option_to_list (last_block (fed_all nothing_yet pieces))) is.given ∙ blocks_from-last nothing_yet pieces
 
-pub nothing_has_come : (seen : Seen) → HaveCome seen seen []
-nothing_has_come seen = record { came = Consumes-nil seen.bytes; quiet = record { faults = refl; ends = refl } }
+-- a reader that gave nothing, and one that gave bytes and then more
+trails_nil : (a : Option Trail) → Trails a a []
+trails_nil None = tt
+trails_nil (Some x) = (refl, sym (append-nil x.given))
 
-pub more_has_come : (before mid after : Seen) (bytes more : List ℕ) → HaveCome before mid bytes → HaveCome mid after more →
+trails_more : (a b c : Option Trail) (bs cs : List ℕ) → Trails a b bs → Trails b c cs → Trails a c (bs ++ cs)
+trails_more None None None bs cs p q = tt
+trails_more None None (Some z) bs cs p q = absurd q
+trails_more None (Some y) c bs cs p q = absurd p
+trails_more (Some x) None c bs cs p q = absurd p
+trails_more (Some x) (Some y) None bs cs p q = absurd q
+trails_more (Some x) (Some y) (Some z) bs cs p q = (q.0 ∙ p.0, q.1 ∙ ap (λ l. l ++ cs) p.1 ∙ append_assoc x.given bs cs)
+
+pub nothing_has_come : (seen : Sight) → HaveCome seen seen []
+nothing_has_come seen = record { came = Consumes-nil seen.bytes; trail = trails_nil seen.trail; quiet = record { faults = refl; ends = refl } }
+
+pub more_has_come : (before mid after : Sight) (bytes more : List ℕ) → HaveCome before mid bytes → HaveCome mid after more →
     HaveCome before after (bytes ++ more)
 more_has_come before mid after bytes more have then = record {
   came = Consumes-trans before.bytes mid.bytes after.bytes bytes more have.came then.came;
+  trail = trails_more before.trail mid.trail after.trail bytes more have.trail then.trail;
   quiet = record { faults = then.quiet.faults ∙ have.quiet.faults; ends = then.quiet.ends ∙ have.quiet.ends };
 }
 
 -- what was read of a source that has ended
-pub source_was_read : (before mid after : Seen) (limit count : ℕ) (bytes : List ℕ) (ending : Ending) →
+pub source_was_read : (before mid after : Sight) (limit count : ℕ) (bytes : List ℕ) (ending : Ending) →
     HaveCome before mid bytes → count ≡ length bytes → Ends mid after limit count ending → WasRead before after limit bytes ending
 source_was_read before mid after limit count bytes Whole have is ends = record {
   came = subst (λ bs. Consumes before.bytes after.bytes bs) (append-nil bytes)
       (Consumes-trans before.bytes mid.bytes after.bytes bytes [] have.came ends.0.came);
+  trail = subst (λ bs. Trails before.trail after.trail bs) (append-nil bytes)
+      (trails_more before.trail mid.trail after.trail bytes [] have.trail ends.0.trail);
   faults = omega (arith, ends.0.faults, have.quiet.faults);
   ends = omega (arith, ends.0.ends, have.quiet.ends);
   fits = subst (λ n. n ≤ limit) is ends.1;
@@ -97,15 +112,18 @@ source_was_read before mid after limit count bytes Whole have is ends = record {
 source_was_read before mid after limit count bytes Broken have is ends = record {
   came = subst (λ bs. Consumes before.bytes after.bytes bs) (append-nil bytes)
       (Consumes-trans before.bytes mid.bytes after.bytes bytes [] have.came ends.0.came);
+  trail = subst (λ bs. Trails before.trail after.trail bs) (append-nil bytes)
+      (trails_more before.trail mid.trail after.trail bytes [] have.trail ends.0.trail);
   faults = omega (arith, ends.0.faults, have.quiet.faults);
   ends = omega (arith, ends.0.ends, have.quiet.ends);
   fits = subst (λ n. n ≤ limit) is ends.1;
   rest = tt;
 }
 source_was_read before mid after limit count bytes TooLarge have is ends = record {
-  came = subst (λ (s : Seen). Consumes before.bytes s.bytes bytes) (sym ends.0) have.came;
-  faults = omega (arith, ap (λ (s : Seen). s.faults) ends.0, have.quiet.faults);
-  ends = omega (arith, ap (λ (s : Seen). s.ends) ends.0, have.quiet.ends);
+  came = subst (λ (s : Sight). Consumes before.bytes s.bytes bytes) (sym ends.0) have.came;
+  trail = subst (λ (s : Sight). Trails before.trail s.trail bytes) (sym ends.0) have.trail;
+  faults = omega (arith, ap (λ (s : Sight). s.faults) ends.0, have.quiet.faults);
+  ends = omega (arith, ap (λ (s : Sight). s.ends) ends.0, have.quiet.ends);
   fits = sym is ∙ ends.1;
   rest = tt;
 }

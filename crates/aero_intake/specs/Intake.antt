@@ -4,9 +4,8 @@ use Rattle.std.specs.List.{concat}
 use Rattle.std.specs.Io.KnownBytes.{Consumes}
 use Rattle.aero_model.specs.declared.verdict.Ending.{Ending}
 use Rattle.aero_model.specs.declared.verdict.Ending.TheVariants.{Whole, Broken, TooLarge}
-use Rattle.aero_model.specs.CallCounts.{Seen}
 use Rattle.aero_lines.specs.Cutting.{Cutting, nothing_yet, fed, block_of}
-use Rattle.aero_intake.specs.Source.{WasRead, IsQuiet}
+use Rattle.aero_intake.specs.Source.{IsQuiet, Sight, Trails, WasRead}
 use Rattle.aero_intake.specs.declared.intake.Taken.{Taken}
 use Rattle.aero_intake.specs.declared.intake.Taken.TheVariants.{Piece, Ended}
 
@@ -51,34 +50,35 @@ pub record IsTaken (i : Taking) (pieces blocks : List (List ℕ)) : Type 0 where
   pub count : i.count ≡ length (concat pieces ++ i.held)
 
 -- These bytes came from the reader, and no read failed or found the end.
-pub record HaveCome (before after : Seen) (bytes : List ℕ) : Type 0 where
+pub record HaveCome (before after : Sight) (bytes : List ℕ) : Type 0 where
   pub came : Consumes before.bytes after.bytes bytes
+  pub trail : Trails before.trail after.trail bytes
   pub quiet : IsQuiet before after
 
 -- One read gave this piece, of at least one byte, and of no more than it may ask for or than the limit and one byte.
-pub record Comes (before after : Seen) (most limit count : ℕ) (piece : List ℕ) : Type 0 where
+pub record Comes (before after : Sight) (most limit count : ℕ) (piece : List ℕ) : Type 0 where
   pub come : HaveCome before after piece
   pub some : 0 < length piece
   pub few : length piece ≤ most
   pub within : count + length piece ≤ limit + 1
 
 -- The source has ended once so many bytes had come: by a read that gave nothing, or, where it is too large, without a read.
-abbrev pub Ends : (before after : Seen) (limit count : ℕ) → Ending → Type 0
+abbrev pub Ends : (before after : Sight) (limit count : ℕ) → Ending → Type 0
 Ends before after limit count TooLarge = (after ≡ before) × (count ≡ limit + 1)
 Ends before after limit count ending = WasRead before after limit [] ending × (count ≤ limit)
 
 -- One step: a piece comes, and is held. Or the source has ended, and what came stays.
-abbrev pub Takes : (before after : Seen) (most limit : ℕ) (old new : Taking) → Taken → Type 0
+abbrev pub Takes : (before after : Sight) (most limit : ℕ) (old new : Taking) → Taken → Type 0
 Takes before after most limit old new Piece = (piece : List ℕ) × Comes before after most limit old.count piece × (new ≡ with_piece old piece)
 Takes before after most limit old new (Ended ending) = Ends before after limit old.count ending × (new ≡ old)
 
 -- So many bytes came, which stand in the buffer behind those that it held, and none only at the end.
-abbrev pub FillsWith : (before after : Seen) (held room : ℕ) (old new : List ℕ) → ℕ → Type 0
+abbrev pub FillsWith : (before after : Sight) (held room : ℕ) (old new : List ℕ) → ℕ → Type 0
 FillsWith before after held room old new zero = ((limit : ℕ) → WasRead before after limit [] Whole) × (take held new ≡ take held old)
 FillsWith before after held room old new (suc n) =
     (piece : List ℕ) × HaveCome before after piece × (length piece ≡ suc n) × (suc n ≤ room) × (take (held + suc n) new ≡ take held old ++ piece)
 
 -- One read into a buffer, behind the bytes that it holds: bytes came, or the read failed.
-abbrev pub Fills : {E : Type 0} → (before after : Seen) (held room : ℕ) (old new : List ℕ) → Result ℕ E → Type 0
+abbrev pub Fills : {E : Type 0} → (before after : Sight) (held room : ℕ) (old new : List ℕ) → Result ℕ E → Type 0
 Fills before after held room old new (Ok n) = FillsWith before after held room old new n
 Fills before after held room old new (Err e) = ((limit : ℕ) → WasRead before after limit [] Broken) × (take held new ≡ take held old)

@@ -1,9 +1,53 @@
 -- What was read of a source.
-use Rattle.std.specs.Prelude.{◌≡◌, ℕ, ◌+◌, ◌≤◌, Bool, true, false, if◌then◌else◌, List, length, Option, ⊤}
+use Rattle.std.specs.Prelude.{◌≡◌, ℕ, ◌+◌, ◌≤◌, Bool, true, false, if◌then◌else◌, List, [], ◌++◌, length, take, option_map, Option, Some, None, Result, Ok, Err, ⊤}
 use Rattle.std.specs.Io.KnownBytes.{Consumes, IsAtEnd}
 use Rattle.aero_model.specs.declared.verdict.Ending.{Ending}
 use Rattle.aero_model.specs.declared.verdict.Ending.TheVariants.{Whole, Broken, TooLarge}
-use Rattle.aero_model.specs.CallCounts.{Seen}
+use Rattle.aero_model.specs.declared.counting.Counting.{Counting}
+use Rattle.aero_model.specs.CallCounts.{inner_of, faults_of, ends_of}
+
+-- where a reader reads: a stream that its maker had, the file at a path, or nowhere
+pub data Place : Type 0 where
+  Stream : Place
+  File : (path : List ℕ) → Place
+  Nowhere : Place
+
+-- what a reader was made for, which no read changes: where it reads, and the labels that it looks for
+pub record Origin : Type 0 where
+  pub place : Place
+  pub labels : List (List ℕ)
+
+-- what a reader says of itself: what it was made for, and all bytes that it has given
+pub record Trail : Type 0 where
+  pub origin : Origin
+  pub given : List ℕ
+
+-- Reads gave these bytes. A reader that says nothing of itself never does.
+abbrev pub Trails : (before after : Option Trail) → List ℕ → Type 0
+Trails None None bytes = ⊤
+Trails None (Some after) bytes = ⊥
+Trails (Some before) None bytes = ⊥
+Trails (Some before) (Some after) bytes = (after.origin ≡ before.origin) × (after.given ≡ before.given ++ bytes)
+
+-- what contracts see of a reader at a moment: the bytes that it has left, where they are known, how many reads have failed, how many found the end, and what it says of itself, if anything
+pub record Sight : Type 0 where
+  pub bytes : Option (List ℕ)
+  pub faults : ℕ
+  pub ends : ℕ
+  pub trail : Option Trail
+
+-- the same of any reader, where its calls are counted; `known` is its type's own word for the bytes that it has left
+abbrev pub counted : {R : Type 0} → (known : R → Option (List ℕ)) → Counting R → Sight
+counted known c = record { bytes = known (inner_of c); faults = faults_of c; ends = ends_of c; trail = None }
+
+-- the bytes that one read gave, with this result, into this buffer
+abbrev pub gained : {E : Type 0} → Result ℕ E → List ℕ → List ℕ
+gained (Ok n) buffer = take n buffer
+gained (Err e) buffer = []
+
+-- what a reader was made for, if it says so
+abbrev pub origin_in : Sight → Option Origin
+origin_in sight = option_map (λ (t : Trail). t.origin) sight.trail
 
 abbrev pub is_whole : Ending → Bool
 is_whole Whole = true
@@ -25,14 +69,15 @@ NothingIsLeft ending left = ⊤
 
 -- These bytes came from the reader, and then the reading ended so: by one failed read exactly where the source is broken, by one end exactly where it
 -- is whole, and then nothing is left.
-pub record WasRead (before after : Seen) (limit : ℕ) (bytes : List ℕ) (ending : Ending) : Type 0 where
+pub record WasRead (before after : Sight) (limit : ℕ) (bytes : List ℕ) (ending : Ending) : Type 0 where
   pub came : Consumes before.bytes after.bytes bytes
+  pub trail : Trails before.trail after.trail bytes
   pub faults : after.faults ≡ before.faults + (if is_broken ending then 1 else 0)
   pub ends : after.ends ≡ before.ends + (if is_whole ending then 1 else 0)
   pub fits : FitsLimit limit ending (length bytes)
   pub rest : NothingIsLeft ending after.bytes
 
 -- No read failed or found the end.
-pub record IsQuiet (before after : Seen) : Type 0 where
+pub record IsQuiet (before after : Sight) : Type 0 where
   pub faults : after.faults ≡ before.faults
   pub ends : after.ends ≡ before.ends

@@ -1,14 +1,13 @@
 //! A source that is being read.
 ghost use Rattle.std.specs.Prelude.{◌≡◌, ◌<◌, ◌≤◌, ◌+◌, ◌^◌, ◌↔◌, length, IsTrue, IfOk, IfSome, OnOk, OnErr, Ok};
-ghost use Rattle.aero_model.specs.CallCounts.{seen_by};
 ghost use Rattle.aero_model.specs.Lines.{most_line_bytes};
 ghost use Rattle.aero_lines.specs.Cutting.{block_of, last_block};
 ghost use Rattle.aero_intake.specs.Intake.{Takes, Fills, nothing_taken, with_cut, with_passing};
 
+use crate::source::Followed;
 use aero_lines::{Block, Cutter};
-use aero_model::{Counting, Ending};
+use aero_model::Ending;
 use std::alloc::{AllocError, Global};
-use std::io::Read;
 use std::marker::Model;
 use std::{io, mem};
 
@@ -108,12 +107,12 @@ impl Intake {
     /// `limit + 1` bytes have come (`TooLarge`).
     ///
     /// The limit is at most 2^46, and `limit + 1` bytes have come at most.
-    pub fn take<R: Read>(&mut self, reader: &mut Counting<R>, piece: u32, limit: u64) -> Taken
+    pub fn take<R: Followed>(&mut self, reader: &mut R, piece: u32, limit: u64) -> Taken
         requires some_room { 0 < piece }
         requires not_full { length self.old.held < 2 ^ 18 }
         requires limited { limit ≤ 2 ^ 46 }
         requires within { self.old.count ≤ limit + 1 }
-        ensures { Takes (seen_by R.remaining reader.old) (seen_by R.remaining reader.new) piece limit self.old self.new result }
+        ensures { Takes (R.sight reader.old) (R.sight reader.new) piece limit self.old self.new result }
     {
         let left = limit + 1 - self.count;
         if left == 0 {
@@ -178,15 +177,15 @@ impl Intake {
 }
 
 // One read of at most so many bytes, behind so many that stay as they are.
-fn read_behind<R: Read>(
-    reader: &mut Counting<R>,
+fn read_behind<R: Followed>(
+    reader: &mut R,
     buffer: &mut [u8],
     held: usize,
     room: usize,
 ) -> io::Result<usize>
     requires some { 0 < room }
     requires fits { held + room ≤ length buffer.old }
-    ensures { Fills (seen_by R.remaining reader.old) (seen_by R.remaining reader.new) held room buffer.old buffer.new result }
+    ensures { Fills (R.sight reader.old) (R.sight reader.new) held room buffer.old buffer.new result }
 {
     reader.read(&mut buffer[held..held + room])
 }

@@ -17,7 +17,7 @@
 //!   each other: `Keeping::most`. Nor does it that violations are to be explained: `Plan::explaining`.
 //! - A read of a source is one step. A source is broken exactly where a read failed, and whole exactly where one found
 //!   the end; then nothing is left of bytes that the reader's type tells. It is too large after one byte more than the
-//!   limit: `Intake::take`.
+//!   limit: `Intake::take`. What the reader says of itself goes on with the bytes that came: `trail`.
 //! - What came is held in the order in which it came, until it is cut. Then its block is the cutter's: `Intake::take`,
 //!   `cut`, `block`, `after`; `finish`, `last`.
 //! - A cut that is refused changes nothing: `cut`, `refused`. What is passed over counts as having come, and that some
@@ -52,4 +52,4 @@ pub mod track;
 
 pub use intake::Intake;
 pub use plan::{Keeping, Plan};
-pub use source::Source;
+pub use source::{Followed, Source, SourceOf};

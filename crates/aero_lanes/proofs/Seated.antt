@@ -3,7 +3,8 @@ use Rattle.std.proofs.Common.{◌≡◌, ℕ, zero, suc, List, [], ◌∷◌, le
 use Rattle.std.specs.Prelude.{option_map}
 use Rattle.std.proofs.lemmas.List.{length-map}
 use Rattle.std.proofs.lemmas.Option.{slice_get-map}
-use Rattle.aero_intake.specs.declared.source.Source.{Source}
+use Rattle.aero_intake.specs.Source.{Sight}
+use Rattle.aero_intake.specs.declared.source.SourceOf.{SourceOf}
 use Rattle.aero_lanes.specs.declared.seat.Seat.{Seat}
 use Rattle.aero_lanes.specs.declared.seat.Seat.TheVariants.{Waiting, Done}
 use Rattle.aero_lanes.specs.Seats.{FitsSeat, StaysDone, AreSeated, GoOn, waiting}
@@ -35,12 +36,12 @@ set_stays (y ∷ xs) zero old new x (suc k) was at = inl at
 set_stays (y ∷ xs) (suc place) old new x zero was at = inl at
 set_stays (y ∷ xs) (suc place) old new x (suc k) was at = set_stays xs place old new x k was at
 
-pub goes_on_same : {R : Type 0} (known : R → Option (List ℕ)) (terms : Terms) (seats : List (Seat R)) → GoOn known terms seats seats
+pub goes_on_same : {R : Type 0} (known : R → Sight) (terms : Terms) (seats : List (Seat R)) → GoOn known terms seats seats
 goes_on_same known terms seats = record { fits = λ origin is. is; done = λ k end at. at; count = refl }
 
 -- one seat changes
-pub goes_on : {R : Type 0} (known : R → Option (List ℕ)) (terms : Terms) (seats : List (Seat R)) (place : ℕ) (old new : Seat R) → slice_get seats place ≡ Some old →
-    ((before : Source R) → FitsSeat known terms before old → FitsSeat known terms before new) → StaysDone old new →
+pub goes_on : {R : Type 0} (known : R → Sight) (terms : Terms) (seats : List (Seat R)) (place : ℕ) (old new : Seat R) → slice_get seats place ≡ Some old →
+    ((before : SourceOf R) → FitsSeat known terms before old → FitsSeat known terms before new) → StaysDone old new →
     GoOn known terms seats (slice_set seats place new)
 goes_on {R} known terms seats place old new was fits done = record {
   fits = λ origin is. record {
@@ -59,7 +60,7 @@ goes_on {R} known terms seats place old new was fits done = record {
 }
 
 -- the seats of sources that wait
-pub waiting_seated : {R : Type 0} (known : R → Option (List ℕ)) (terms : Terms) (sources : List (Source R)) → AreSeated known terms sources (waiting sources)
+pub waiting_seated : {R : Type 0} (known : R → Sight) (terms : Terms) (sources : List (SourceOf R)) → AreSeated known terms sources (waiting sources)
 waiting_seated {R} known terms sources = record {
   fits = λ k before seat at at_seat.
       let is : Some (Waiting before) ≡ Some seat = ap (option_map Waiting) (sym at) ∙ (sym (slice_get-map Waiting sources k) ∙ at_seat) in

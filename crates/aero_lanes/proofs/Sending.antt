@@ -6,7 +6,6 @@ use denote.Param.Send.{IsSend, enum_send, recorded_send, struct_send, sendable}
 use denote.Struct.Struct.{Struct}
 use denote.Struct.Declared as structs
 use Rattle.std.proofs.Crossing.{crosses}
-use Rattle.aero_model.specs.contracts.counting.Counting as Counting
 use Rattle.aero_model.specs.contracts.verdict.Cycle as Cycle
 use Rattle.aero_model.specs.contracts.verdict.CycleStep as CycleStep
 use Rattle.aero_model.specs.contracts.verdict.Ending as Ending
@@ -14,7 +13,7 @@ use Rattle.aero_model.specs.contracts.verdict.Finding as Finding
 use Rattle.aero_model.specs.contracts.verdict.Step as Step
 use Rattle.aero_model.specs.contracts.verdict.Verdict as Verdict
 use Rattle.aero_batch.specs.contracts.find.Judged as Judged
-use Rattle.aero_intake.specs.contracts.source.Source as Source
+use Rattle.aero_intake.specs.contracts.source.SourceOf as SourceOf
 use Rattle.aero_lanes.specs.contracts.lane.Ended as Ended
 
 verdict_send : IsSend (Enum (enums.shape Verdict.the_type))
@@ -38,11 +37,8 @@ finding_send = enum_send (enums.shape Finding.the_type) (search (sendable, cross
 pub judged_send : IsSend (Struct (structs.shape Judged.the_type))
 judged_send = struct_send (structs.shape Judged.the_type) (search (sendable, crosses, ending_send, finding_send) depth 40)
 
-counting_send : (R : RattleType) → IsSend R → IsSend (Struct (structs.shape (Counting.the_type R)))
-counting_send R send = struct_send (structs.shape (Counting.the_type R)) (search (send, sendable), (search (sendable, crosses) depth 40, (search (sendable, crosses) depth 40, tt)))
-
-source_send : (R : RattleType) → IsSend R → IsSend (Struct (structs.shape (Source.the_type R)))
-source_send R send = struct_send (structs.shape (Source.the_type R)) (search (sendable, crosses) depth 40, (counting_send R send, (search (sendable, crosses) depth 40, tt)))
+source_send : (R : RattleType) → IsSend R → IsSend (Struct (structs.shape (SourceOf.the_type R)))
+source_send R send = struct_send (structs.shape (SourceOf.the_type R)) (search (sendable, crosses) depth 40, (search (send, sendable), (search (sendable, crosses) depth 40, tt)))
 
 pub ended_fields : (R : RattleType) → IsSend R → IsSend (Struct (structs.shape (Ended.the_type R)))
 ended_fields R send = struct_send (structs.shape (Ended.the_type R)) (source_send R send, (search (sendable, crosses, judged_send) depth 40 fits 4000, tt))

@@ -19,7 +19,8 @@ use Rattle.aero_batch.specs.Faults.{fault_of}
 use Rattle.aero_batch.specs.Founds.{Sighted, Found, IsFoundOf, Took, sighted, ending_of, faulty_line, lines_of_all}
 use Rattle.aero_batch.specs.Telling.{WasCut, TellsNext, IsOneMore, total}
 use Rattle.aero_batch.proofs.Stands.{get_push, lines_more, counts_more, took_more, took_nothing, slice_get_some, the_some}
-use Rattle.aero_intake.specs.declared.source.Source.{Source}
+use Rattle.aero_intake.specs.Source.{Sight}
+use Rattle.aero_intake.specs.declared.source.SourceOf.{SourceOf}
 use Rattle.aero_batch.specs.declared.find.Judged.{Judged}
 use Rattle.aero_intake.specs.declared.track.Track.TheVariants as tracks
 use Rattle.aero_lanes.specs.declared.lane.Ended.{Ended}
@@ -31,7 +32,7 @@ use Rattle.aero_lanes.specs.Tellings.{StandsSo, StopsSo, WasCutSo, IsTextAfter, 
 use Rattle.aero_verdict.specs.Finding.{Terms}
 
 -- before anything is told
-pub begun_so : {R : Type 0} (known : R → Option (List ℕ)) (terms : Terms) (form : Form) (origin : List (Source R)) (before : Seen) (seats : List (Seat R)) (a : Told) →
+pub begun_so : {R : Type 0} (known : R → Sight) (terms : Terms) (form : Form) (origin : List (SourceOf R)) (before : Seen) (seats : List (Seat R)) (a : Told) →
     AreSeated known terms origin seats → (sources : ℕ) → IsBegunSo sources a → StandsSo known terms form origin before before seats a
 begun_so known terms form origin before seats a seated sources is = record {
   seated = seated;
@@ -58,7 +59,7 @@ begun_numbers sources a few is =
     }
 
 -- what is told stays true where seats change
-pub stands_on : {R : Type 0} (known : R → Option (List ℕ)) (terms : Terms) (form : Form) (origin : List (Source R)) (before mid : Seen) (old new : List (Seat R)) (a : Told) →
+pub stands_on : {R : Type 0} (known : R → Sight) (terms : Terms) (form : Form) (origin : List (SourceOf R)) (before mid : Seen) (old new : List (Seat R)) (a : Told) →
     GoOn known terms old new → StandsSo known terms form origin before mid old a → StandsSo known terms form origin before mid new a
 stands_on known terms form origin before mid old new a on st = record {
   seated = on.fits origin st.seated;
@@ -75,7 +76,7 @@ stands_on known terms form origin before mid old new a on st = record {
 }
 
 -- the next source, whose lane has ended and has found this
-found_next : {R : Type 0} (known : R → Option (List ℕ)) (terms : Terms) (origin : List (Source R)) (all : List (Seat R)) (place : ℕ) (end : Ended R) (j : Judged) →
+found_next : {R : Type 0} (known : R → Sight) (terms : Terms) (origin : List (SourceOf R)) (all : List (Seat R)) (place : ℕ) (end : Ended R) (j : Judged) →
     AreSeated known terms origin all → slice_get all place ≡ Some (seats.Done end) → end.judged ≡ Some j →
     (f : Found) × IsFoundBy known terms origin all place f × (ending_of f ≡ (j.bytes, j.ending)) × (f.finding ≡ j.finding) × (f.name ≡ end.source.name.items)
 found_next {R} known terms origin all place end j seated at judged_is =
@@ -96,18 +97,18 @@ found_next {R} known terms origin all place end j seated at judged_is =
       record { before = before; end = end; was = first.1; is = at; found_of = found_of },
       tells.2,
       tells.3,
-      found_of.name ∙ sym fits.name,
+      found_of.name ∙ sym (ap (λ w. w.0) fits.whose_is),
     )
 
-module _ {R : Type 0} (known : R → Option (List ℕ)) (terms : Terms) (form : Form) (all : List (Seat R)) (mid after : Seen) (a b : Told) where
+module _ {R : Type 0} (known : R → Sight) (terms : Terms) (form : Form) (all : List (Seat R)) (mid after : Seen) (a b : Told) where
   place_is : (founds : List Found) → a.endings.items ≡ map ending_of founds → vec_len a.endings ≡ length founds
   place_is founds is = a.endings.ok.0 ∙ (ap length is ∙ length-map founds ending_of)
 
   abbrev Keeps : Type 0
-  Keeps = (origin : List (Source R)) (before : Seen) → StandsSo known terms form origin before mid all a → StandsSo known terms form origin before after all b
+  Keeps = (origin : List (SourceOf R)) (before : Seen) → StandsSo known terms form origin before mid all a → StandsSo known terms form origin before after all b
 
   abbrev Stops : Cause → Type 0
-  Stops cause = (origin : List (Source R)) (before : Seen) → StandsSo known terms form origin before mid all a → StopsSo known terms form origin before after all b (Some cause)
+  Stops cause = (origin : List (SourceOf R)) (before : Seen) → StandsSo known terms form origin before mid all a → StopsSo known terms form origin before after all b (Some cause)
 
   -- one more source is told
   told_more : (end : Ended R) (j : Judged) → slice_get all (vec_len a.endings) ≡ Some (seats.Done end) →
@@ -150,7 +151,7 @@ module _ {R : Type 0} (known : R → Option (List ℕ)) (terms : Terms) (form : 
         written = took_nothing before mid after (lines_of_all form st.founds) t.took took;
       })
 
-  cut_so : (origin : List (Source R)) (before : Seen) (founds : List Found) (text : List ℕ) → IsTextAfter known terms form origin all founds text →
+  cut_so : (origin : List (SourceOf R)) (before : Seen) (founds : List Found) (text : List ℕ) → IsTextAfter known terms form origin all founds text →
       Took before mid (lines_of_all form founds) → WasCut mid after text → WasCutSo known terms form origin all founds before after
   cut_so origin before founds text next took cut = record {
     text = text;
@@ -226,7 +227,7 @@ module _ {R : Type 0} (known : R → Option (List ℕ)) (terms : Terms) (form : 
   telling r tells = telling_from (slice_get all (vec_len a.endings)) r refl tells
 
 -- all sources are told
-pub all_so : {R : Type 0} (known : R → Option (List ℕ)) (terms : Terms) (form : Form) (origin : List (Source R)) (all : List (Seat R)) (before after : Seen) (a : Told) →
+pub all_so : {R : Type 0} (known : R → Sight) (terms : Terms) (form : Form) (origin : List (SourceOf R)) (all : List (Seat R)) (before after : Seen) (a : Told) →
     vec_len a.endings ≡ length all → StandsSo known terms form origin before after all a → StopsSo known terms form origin before after all a None
 all_so known terms form origin all before after a whole st = record {
   seated = st.seated;

@@ -3,7 +3,8 @@ use Rattle.std.specs.Prelude.{◌≡◌, ℕ, ◌≤◌, List, [], map, vec_len,
 use Rattle.aero_model.specs.CallCounts.{Seen}
 use Rattle.aero_report.specs.declared.form.Form.{Form}
 use Rattle.aero_batch.specs.Founds.{WasTold, sighted}
-use Rattle.aero_intake.specs.declared.source.Source.{Source}
+use Rattle.aero_intake.specs.Source.{Sight}
+use Rattle.aero_intake.specs.declared.source.SourceOf.{SourceOf}
 use Rattle.aero_lanes.specs.declared.room.Room.{Room}
 use Rattle.aero_lanes.specs.declared.run.Report.{Report}
 use Rattle.aero_lanes.specs.declared.seat.Seat.{Seat}
@@ -19,7 +20,7 @@ pub record IsReady {R : Type 0} (all : Room R) : Type 0 where
   pub room : vec_capacity all.back ≡ vec_len all.seats
 
 -- Whatever the sources on these seats were, it was a run over them that wrote their lines, and these came back.
-pub record HasJudged {R : Type 0} (known : R → Option (List ℕ)) (terms : Terms) (form : Form) (seats : List (Seat R)) (before after : Seen) (report : Report)
-    (back : List (Source R)) : Type 0 where
-  pub told : (origin : List (Source R)) → AreSeated known terms origin seats →
+pub record HasJudged {R : Type 0} (known : R → Sight) (terms : Terms) (form : Form) (seats : List (Seat R)) (before after : Seen) (report : Report)
+    (back : List (SourceOf R)) : Type 0 where
+  pub told : (origin : List (SourceOf R)) → AreSeated known terms origin seats →
       WasTold terms form (map (sighted known) origin) (map (sighted known) back) before after report.endings.items report.faults.items report.counts report.cause

@@ -11,7 +11,8 @@ use Rattle.aero_batch.specs.declared.outcome.Cause.TheVariants.{Memory, Write}
 use Rattle.aero_batch.specs.declared.told.Told.{Told}
 use Rattle.aero_batch.specs.Founds.{Found, Took, ending_of, faulty_line, lines_of_all, counts_of_all}
 use Rattle.aero_batch.specs.Telling.{TellsNext, total}
-use Rattle.aero_intake.specs.declared.source.Source.{Source}
+use Rattle.aero_intake.specs.Source.{Sight}
+use Rattle.aero_intake.specs.declared.source.SourceOf.{SourceOf}
 use Rattle.aero_intake.specs.declared.track.Track.TheVariants as tracks
 use Rattle.aero_batch.specs.declared.find.Judged.{Judged}
 use Rattle.aero_lanes.specs.declared.seat.Seat.{Seat}
@@ -20,7 +21,7 @@ use Rattle.aero_lanes.specs.Seats.{AreSeated, IsFoundBy}
 use Rattle.aero_verdict.specs.Finding.{Terms}
 
 -- The first sources were told, as many as there are founds, and nothing else was written.
-pub record AreToldSo {R : Type 0} (known : R → Option (List ℕ)) (terms : Terms) (form : Form) (origin : List (Source R)) (before after : Seen)
+pub record AreToldSo {R : Type 0} (known : R → Sight) (terms : Terms) (form : Form) (origin : List (SourceOf R)) (before after : Seen)
     (seats : List (Seat R)) (told : Told) (founds : List Found) : Type 0 where
   pub found : (place : ℕ) (found : Found) → slice_get founds place ≡ Some found → IsFoundBy known terms origin seats place found
   pub took : Took before after (lines_of_all form founds)
@@ -46,19 +47,19 @@ pub record IsBegunSo (sources : ℕ) (told : Told) : Type 0 where
   pub faults_room : vec_capacity told.faults ≡ sources
 
 -- between two steps
-pub record StandsSo {R : Type 0} (known : R → Option (List ℕ)) (terms : Terms) (form : Form) (origin : List (Source R)) (before after : Seen)
+pub record StandsSo {R : Type 0} (known : R → Sight) (terms : Terms) (form : Form) (origin : List (SourceOf R)) (before after : Seen)
     (seats : List (Seat R)) (told : Told) : Type 0 where
   pub seated : AreSeated known terms origin seats
   pub founds : List Found
   pub told_so : AreToldSo known terms form origin before after seats told founds
 
 -- the text that comes after those of the founds
-abbrev pub IsTextAfter : {R : Type 0} → (R → Option (List ℕ)) → Terms → Form → List (Source R) → List (Seat R) → List Found → List ℕ → Type 0
+abbrev pub IsTextAfter : {R : Type 0} → (R → Sight) → Terms → Form → List (SourceOf R) → List (Seat R) → List Found → List ℕ → Type 0
 IsTextAfter known terms form origin seats founds text =
     (found : Found) × IsFoundBy known terms origin seats (length founds) found × (text ≡ source_line_in form found.name found.finding)
 
 -- a part of the next text was written, and then a write failed
-pub record WasCutSo {R : Type 0} (known : R → Option (List ℕ)) (terms : Terms) (form : Form) (origin : List (Source R)) (seats : List (Seat R)) (founds : List Found)
+pub record WasCutSo {R : Type 0} (known : R → Sight) (terms : Terms) (form : Form) (origin : List (SourceOf R)) (seats : List (Seat R)) (founds : List Found)
     (before after : Seen) : Type 0 where
   pub text : List ℕ
   pub next : IsTextAfter known terms form origin seats founds text
@@ -67,13 +68,13 @@ pub record WasCutSo {R : Type 0} (known : R → Option (List ℕ)) (terms : Term
   pub went : Appends before.bytes after.bytes (lines_of_all form founds ++ take written text)
   pub faults : after.faults ≡ before.faults + 1
 
-abbrev pub IsWrittenSo : {R : Type 0} → (R → Option (List ℕ)) → Terms → Form → List (Source R) → List (Seat R) → List Found → Seen → Seen → Option Cause → Type 0
+abbrev pub IsWrittenSo : {R : Type 0} → (R → Sight) → Terms → Form → List (SourceOf R) → List (Seat R) → List Found → Seen → Seen → Option Cause → Type 0
 IsWrittenSo known terms form origin seats founds before after None = (length founds ≡ length origin) × Took before after (lines_of_all form founds)
 IsWrittenSo known terms form origin seats founds before after (Some Memory) = Took before after (lines_of_all form founds)
 IsWrittenSo known terms form origin seats founds before after (Some Write) = WasCutSo known terms form origin seats founds before after
 
 -- where the telling stops
-pub record StopsSo {R : Type 0} (known : R → Option (List ℕ)) (terms : Terms) (form : Form) (origin : List (Source R)) (before after : Seen)
+pub record StopsSo {R : Type 0} (known : R → Sight) (terms : Terms) (form : Form) (origin : List (SourceOf R)) (before after : Seen)
     (seats : List (Seat R)) (told : Told) (cause : Option Cause) : Type 0 where
   pub seated : AreSeated known terms origin seats
   pub founds : List Found

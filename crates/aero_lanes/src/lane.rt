@@ -7,8 +7,7 @@ use crate::shared::Shared;
 use aero_batch::find::{Judged, find};
 use aero_batch::helpers::Nobody;
 use aero_batch::setting::Setting;
-use aero_intake::{Plan, Source};
-use std::io::Read;
+use aero_intake::{Followed, Plan, SourceOf};
 use std::snapshot::Snapshot;
 use std::sync::Wait;
 use std::thread::Promise;
@@ -17,29 +16,29 @@ use std::thread::Promise;
 // lane was given up.
 #[derive(Drop)]
 pub(crate) struct Ended<R> {
-    pub(crate) source: Source<R>,
+    pub(crate) source: SourceOf<R>,
     pub(crate) judged: Option<Judged>,
 }
 
 // A lane's promise: what it gives back is this source, and what was found of it by this plan. The snapshots are of the
 // source as it was before, and of the plan.
 #[derive(Drop)]
-pub(crate) struct Finds<R>(pub(crate) Snapshot<Source<R>>, pub(crate) Snapshot<Plan>);
+pub(crate) struct Finds<R>(pub(crate) Snapshot<SourceOf<R>>, pub(crate) Snapshot<Plan>);
 
-impl<R: Read> Promise<Ended<R>> for Finds<R> {
+impl<R: Followed> Promise<Ended<R>> for Finds<R> {
     ghost use Rattle.aero_intake.specs.PlanTerms.{terms_of};
     ghost use Rattle.aero_lanes.specs.Ends.{IsEndOf};
 
-    ghost kept_by = { λ p r. IsEndOf R.remaining (terms_of p.1.value) p.0.value r };
+    ghost kept_by = { λ p r. IsEndOf R.sight (terms_of p.1.value) p.0.value r };
 }
 
 // Reads and judges a source, and then sends its place: the lane has ended.
-pub(crate) fn work<R: Read + Drop, T: Wait + Copy>(
+pub(crate) fn work<R: Followed + Drop, T: Wait + Copy>(
     shared: Shared<'_, T>,
-    source: Source<R>,
+    source: SourceOf<R>,
     place: u64,
 ) -> Ended<R>
-    ensures { IsEndOf R.remaining (terms_of shared.entry.plan.now) source result }
+    ensures { IsEndOf R.sight (terms_of shared.entry.plan.now) source result }
 {
     let ended = find_alone(shared, source);
     send_end(shared, place);
@@ -51,8 +50,11 @@ fn send_end<T: Wait + Copy>(shared: Shared<'_, T>, place: u64) {
     let _ = shared.ends.send(shared.rt, place);
 }
 
-fn find_alone<R: Read + Drop, T: Wait + Copy>(shared: Shared<'_, T>, source: Source<R>) -> Ended<R>
-    ensures { IsEndOf R.remaining (terms_of shared.entry.plan.now) source result }
+fn find_alone<R: Followed + Drop, T: Wait + Copy>(
+    shared: Shared<'_, T>,
+    source: SourceOf<R>,
+) -> Ended<R>
+    ensures { IsEndOf R.sight (terms_of shared.entry.plan.now) source result }
 {
     let Ok(mut one) = Vec::with_capacity(shared.alloc, 1) else {
         return Ended {

@@ -6,16 +6,15 @@ ghost use Rattle.aero_verdict.specs.Finding.{Terms};
 
 use crate::seat::{Seat, end, is_running, may_wait, start};
 use crate::shared::Shared;
-use aero_intake::Plan;
+use aero_intake::{Followed, Plan};
 use crossbeam_channel::Receiver;
-use std::io::Read;
 use std::sync::Wait;
 use std::thread::{Scope, Threads};
 
 // The seats of the sources, in their order; how many of them have had their lanes started, which are the first ones; how
 // many lanes run; and the channel on which the places of those come that have ended.
 #[derive(Drop)]
-pub(crate) struct Lanes<R: Read> {
+pub(crate) struct Lanes<R: Followed> {
     pub(crate) seats: Vec<Seat<R>>,
     pub(crate) started: usize,
     pub(crate) running: u32,
@@ -23,13 +22,13 @@ pub(crate) struct Lanes<R: Read> {
 }
 
 // Starts the next lane if it may be started, and else waits for the end of one. So many sources are told.
-pub(crate) fn move_on<'s, E, R: Read + Drop + Send + 's, T: Threads + Wait + Copy + Sync + 's>(
+pub(crate) fn move_on<'s, E, R: Followed + Drop + Send + 's, T: Threads + Wait + Copy + Sync + 's>(
     scope: &Scope<'s, E>,
     shared: Shared<'s, T>,
     lanes: &mut Lanes<R>,
     told: usize,
 )
-    ensures goes { GoOn R.remaining (terms_of shared.entry.plan.now) lanes.old.seats.items lanes.new.seats.items }
+    ensures goes { GoOn R.sight (terms_of shared.entry.plan.now) lanes.old.seats.items lanes.new.seats.items }
     ensures count { vec_len lanes.new.seats ≡ vec_len lanes.old.seats }
 {
     if may_start(shared.plan, lanes, told) {
@@ -41,7 +40,7 @@ pub(crate) fn move_on<'s, E, R: Read + Drop + Send + 's, T: Threads + Wait + Cop
 
 // Whether the next lane may be started: fewer run than the plan has workers, and its source may not wait, or all before it
 // are told.
-fn may_start<R: Read>(plan: &Plan, lanes: &Lanes<R>, told: usize) -> bool
+fn may_start<R: Followed>(plan: &Plan, lanes: &Lanes<R>, told: usize) -> bool
     ensures { IsTrue result → lanes.now.started < vec_len lanes.now.seats }
 {
     let place = lanes.started;
@@ -51,13 +50,13 @@ fn may_start<R: Read>(plan: &Plan, lanes: &Lanes<R>, told: usize) -> bool
     told >= place || !may_wait(&lanes.seats[place])
 }
 
-fn start_next<'s, E, R: Read + Drop + Send + 's, T: Wait + Copy + Sync + 's>(
+fn start_next<'s, E, R: Followed + Drop + Send + 's, T: Wait + Copy + Sync + 's>(
     scope: &Scope<'s, E>,
     shared: Shared<'s, T>,
     lanes: &mut Lanes<R>,
 )
     requires { lanes.old.started < vec_len lanes.old.seats }
-    ensures goes { GoOn R.remaining (terms_of shared.entry.plan.now) lanes.old.seats.items lanes.new.seats.items }
+    ensures goes { GoOn R.sight (terms_of shared.entry.plan.now) lanes.old.seats.items lanes.new.seats.items }
     ensures count { vec_len lanes.new.seats ≡ vec_len lanes.old.seats }
 {
     let place = lanes.started;
@@ -68,8 +67,8 @@ fn start_next<'s, E, R: Read + Drop + Send + 's, T: Wait + Copy + Sync + 's>(
 }
 
 // Waits for the next lane that ends, and takes what it gives back.
-fn end_one<R: Read + Drop, T: Threads + Wait>(rt: &T, lanes: &mut Lanes<R>)
-    ensures goes { (terms : Terms) → GoOn R.remaining terms lanes.old.seats.items lanes.new.seats.items }
+fn end_one<R: Followed + Drop, T: Threads + Wait>(rt: &T, lanes: &mut Lanes<R>)
+    ensures goes { (terms : Terms) → GoOn R.sight terms lanes.old.seats.items lanes.new.seats.items }
     ensures count { vec_len lanes.new.seats ≡ vec_len lanes.old.seats }
 {
     let Some(place) = next_end(rt, &lanes.ends) else {

@@ -6,25 +6,24 @@ ghost use Rattle.aero_verdict.specs.Finding.{Terms};
 
 use crate::seat::{Seat, source_of};
 use aero_batch::told::Told;
-use aero_intake::Source;
+use aero_intake::{Followed, SourceOf};
 use crossbeam_channel::{Receiver, Sender};
 use std::alloc::{AllocError, Global};
-use std::io::Read;
 use std::thread::Threads;
 
 // The seats, what is told of the sources on them, the sources that come back, and the channel on which lanes say that they
 // have ended.
 #[derive(Drop)]
-pub(crate) struct Room<R: Read> {
+pub(crate) struct Room<R: Followed> {
     pub(crate) seats: Vec<Seat<R>>,
     pub(crate) told: Told,
-    pub(crate) back: Vec<Source<R>>,
+    pub(crate) back: Vec<SourceOf<R>>,
     pub(crate) ends: Receiver<u64>,
 }
 
 // Room for so many sources, and the lanes' end of the channel. The calling thread asks for no more memory, but to tell what
 // was found.
-pub(crate) fn room_for<R: Read + Drop>(
+pub(crate) fn room_for<R: Followed + Drop>(
     alloc: Global,
     sources: usize,
 ) -> Result<(Room<R>, Sender<u64>), AllocError>
@@ -47,7 +46,7 @@ pub(crate) fn room_for<R: Read + Drop>(
 }
 
 // Gives each source its seat, in their order.
-pub(crate) fn seat_all<R: Read + Drop>(seats: &mut Vec<Seat<R>>, sources: Vec<Source<R>>)
+pub(crate) fn seat_all<R: Followed + Drop>(seats: &mut Vec<Seat<R>>, sources: Vec<SourceOf<R>>)
     requires none { seats.old.items ≡ [] }
     requires room { vec_capacity seats.old ≡ vec_len sources }
     ensures { seats.new.items ≡ waiting sources.items }
@@ -58,14 +57,14 @@ pub(crate) fn seat_all<R: Read + Drop>(seats: &mut Vec<Seat<R>>, sources: Vec<So
 }
 
 // The sources in their order, each once its lane has ended.
-pub(crate) fn all_back<R: Read + Drop, T: Threads>(
+pub(crate) fn all_back<R: Followed + Drop, T: Threads>(
     rt: &T,
     seats: Vec<Seat<R>>,
-    mut back: Vec<Source<R>>,
-) -> Vec<Source<R>>
+    mut back: Vec<SourceOf<R>>,
+) -> Vec<SourceOf<R>>
     requires none { back.items ≡ [] }
     requires room { vec_capacity back ≡ vec_len seats }
-    ensures { (terms : Terms) (origin : _) → AreSeated R.remaining terms origin seats.items → AreBack origin seats.items result.items }
+    ensures { (terms : Terms) (origin : _) → AreSeated R.sight terms origin seats.items → AreBack R.sight origin seats.items result.items }
 {
     for seat in seats {
         if let Some(source) = source_of(rt, seat) {

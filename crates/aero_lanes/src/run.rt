@@ -14,11 +14,11 @@ use crate::steps::tell_all;
 use aero_batch::setting::Setting;
 use aero_batch::told::{Told, nothing_counted};
 use aero_batch::{Cause, FaultyLine, Outcome, run_lines};
-use aero_intake::{Plan, Source};
+use aero_intake::{Followed, Plan, SourceOf};
 use aero_model::{Counting, Counts, Ending};
 use aero_worker::NoGate;
 use std::alloc::Global;
-use std::io::{Read, Write};
+use std::io::Write;
 use std::sync::atomic::{AtomicBool, Ordering};
 use std::sync::{Arc, Wait};
 use std::thread;
@@ -47,18 +47,18 @@ pub struct Report {
 /// Where memory is refused, or a write fails, the run stops: the report tells of the sources whose lines were written
 /// whole, and says why. How far others were read isn't said. Nothing is flushed.
 pub fn run_in_lanes<
-    R: Read + Drop + Send,
+    R: Followed + Drop + Send,
     W: Write,
     T: Threads + Wait + Copy + Send + Sync + 'static,
 >(
     rt: T,
     alloc: Global,
-    sources: Vec<Source<R>>,
+    sources: Vec<SourceOf<R>>,
     writer: &mut Counting<W>,
     plan: &Plan,
-) -> (Report, Vec<Source<R>>)
+) -> (Report, Vec<SourceOf<R>>)
     requires { vec_len sources ≤ 65536 }
-    ensures told { WasTold (terms_of plan.now) plan.now.form (map (sighted R.remaining) sources.items) (map (sighted R.remaining) result.1.items)
+    ensures told { WasTold (terms_of plan.now) plan.now.form (map (sighted R.sight) sources.items) (map (sighted R.sight) result.1.items)
         (seen_by W.contents writer.old) (seen_by W.contents writer.new) result.0.endings.items result.0.faults.items result.0.counts result.0.cause }
 {
     if sources.len() < 2 || plan.workers < 2 {
@@ -81,15 +81,15 @@ pub fn run_in_lanes<
 
 /// The same by `aero_batch::run_lines`, which reads the sources one after the other, and whose workers serve the one that is read.
 /// For one source, and for small ones, it is faster.
-pub fn run_in_turn<R: Read, W: Write, T: Threads + Wait + Copy + Send + 'static>(
+pub fn run_in_turn<R: Followed, W: Write, T: Threads + Wait + Copy + Send + 'static>(
     rt: T,
     alloc: Global,
-    mut sources: Vec<Source<R>>,
+    mut sources: Vec<SourceOf<R>>,
     writer: &mut Counting<W>,
     plan: &Plan,
-) -> (Report, Vec<Source<R>>)
+) -> (Report, Vec<SourceOf<R>>)
     requires { vec_len sources ≤ 65536 }
-    ensures told { WasTold (terms_of plan.now) plan.now.form (map (sighted R.remaining) sources.items) (map (sighted R.remaining) result.1.items)
+    ensures told { WasTold (terms_of plan.now) plan.now.form (map (sighted R.sight) sources.items) (map (sighted R.sight) result.1.items)
         (seen_by W.contents writer.old) (seen_by W.contents writer.new) result.0.endings.items result.0.faults.items result.0.counts result.0.cause }
 {
     let Ok(gate) = Arc::new(alloc, NoGate) else {
@@ -133,20 +133,20 @@ fn refused(alloc: Global) -> Report
 
 // Starts the lanes, tells what they find, and waits until all have ended. The writer goes into the scope's closure, and
 // comes back with its result.
-fn judge_all<R: Read + Drop + Send, W: Write, T: Threads + Wait + Copy + Sync>(
+fn judge_all<R: Followed + Drop + Send, W: Write, T: Threads + Wait + Copy + Sync>(
     shared: Shared<'_, T>,
     room: Room<R>,
     writer: &mut Counting<W>,
-) -> (Report, Vec<Source<R>>)
+) -> (Report, Vec<SourceOf<R>>)
     requires { IsReady room }
-    ensures { HasJudged R.remaining (terms_of shared.entry.plan.now) shared.entry.plan.now.form room.seats.items (seen_by W.contents writer.old) (seen_by W.contents writer.new) result.0 result.1.items }
+    ensures { HasJudged R.sight (terms_of shared.entry.plan.now) shared.entry.plan.now.form room.seats.items (seen_by W.contents writer.old) (seen_by W.contents writer.new) result.0 result.1.items }
 {
     let (report, sources, writer) = thread::scope(
         thread::scope_env(),
         shared.rt,
-        move |scope| -> (Report, Vec<Source<R>>, &mut Counting<W>)
+        move |scope| -> (Report, Vec<SourceOf<R>>, &mut Counting<W>)
             requires { IsReady room }
-            ensures told { HasJudged R.remaining (terms_of shared.entry.plan.now) shared.entry.plan.now.form room.seats.items (seen_by W.contents writer.entry.now)
+            ensures told { HasJudged R.sight (terms_of shared.entry.plan.now) shared.entry.plan.now.form room.seats.items (seen_by W.contents writer.entry.now)
                 (seen_by W.contents result.2.now) result.0 result.1.items }
             ensures same { result.2.ghost_name ≡ writer.entry.ghost_name }
         {
@@ -164,14 +164,14 @@ fn take_back<T>(lent: &mut T)
 {}
 
 // The same in a scope of threads.
-fn judge_in<'s, E, R: Read + Drop + Send + 's, W: Write, T: Threads + Wait + Copy + Sync + 's>(
+fn judge_in<'s, E, R: Followed + Drop + Send + 's, W: Write, T: Threads + Wait + Copy + Sync + 's>(
     scope: &Scope<'s, E>,
     shared: Shared<'s, T>,
     room: Room<R>,
     writer: &mut Counting<W>,
-) -> (Report, Vec<Source<R>>)
+) -> (Report, Vec<SourceOf<R>>)
     requires { IsReady room }
-    ensures { HasJudged R.remaining (terms_of shared.entry.plan.now) shared.entry.plan.now.form room.seats.items (seen_by W.contents writer.old) (seen_by W.contents writer.new) result.0 result.1.items }
+    ensures { HasJudged R.sight (terms_of shared.entry.plan.now) shared.entry.plan.now.form room.seats.items (seen_by W.contents writer.old) (seen_by W.contents writer.new) result.0 result.1.items }
 {
     let Room {
         seats,

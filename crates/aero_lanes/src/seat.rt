@@ -7,8 +7,7 @@ ghost use Rattle.aero_verdict.specs.Finding.{Terms};
 
 use crate::lane::{Ended, Finds, work};
 use crate::shared::Shared;
-use aero_intake::Source;
-use std::io::Read;
+use aero_intake::{Followed, SourceOf};
 use std::mem;
 use std::snapshot::Snapshot;
 use std::sync::Wait;
@@ -16,9 +15,9 @@ use std::thread::{PromisedHandle, Scope, Threads};
 
 // The seat of one source, which it keeps for the whole run.
 #[derive(Drop)]
-pub(crate) enum Seat<R: Read> {
+pub(crate) enum Seat<R: Followed> {
     // Its lane isn't started yet.
-    Waiting(Source<R>),
+    Waiting(SourceOf<R>),
     // Its lane is started, and wasn't joined.
     Running(PromisedHandle<Ended<R>, Finds<R>>),
     // Its lane was joined.
@@ -29,13 +28,13 @@ pub(crate) enum Seat<R: Read> {
 
 // Starts the lane of a source that waits. Where the system gives no thread, the calling thread does the lane's work here.
 // Any other seat stays as it is.
-pub(crate) fn start<'s, E, R: Read + Drop + Send + 's, T: Wait + Copy + Sync + 's>(
+pub(crate) fn start<'s, E, R: Followed + Drop + Send + 's, T: Wait + Copy + Sync + 's>(
     scope: &Scope<'s, E>,
     shared: Shared<'s, T>,
     seat: &mut Seat<R>,
     place: u64,
 )
-    ensures fits { (before : _) → FitsSeat R.remaining (terms_of shared.entry.plan.now) before seat.old → FitsSeat R.remaining (terms_of shared.entry.plan.now) before seat.new }
+    ensures fits { (before : _) → FitsSeat R.sight (terms_of shared.entry.plan.now) before seat.old → FitsSeat R.sight (terms_of shared.entry.plan.now) before seat.new }
     ensures done { StaysDone seat.old seat.new }
 {
     *seat = match mem::replace(seat, Seat::Empty) {
@@ -44,17 +43,17 @@ pub(crate) fn start<'s, E, R: Read + Drop + Send + 's, T: Wait + Copy + Sync + '
     };
 }
 
-fn started<'s, E, R: Read + Drop + Send + 's, T: Wait + Copy + Sync + 's>(
+fn started<'s, E, R: Followed + Drop + Send + 's, T: Wait + Copy + Sync + 's>(
     scope: &Scope<'s, E>,
     shared: Shared<'s, T>,
-    source: Source<R>,
+    source: SourceOf<R>,
     place: u64,
 ) -> Seat<R>
-    ensures { FitsSeat R.remaining (terms_of shared.entry.plan.now) source result }
+    ensures { FitsSeat R.sight (terms_of shared.entry.plan.now) source result }
 {
     let promise = Finds(Snapshot::of(&source), Snapshot::of(shared.plan));
     let lane = move || -> Ended<R>
-        ensures { IsEndOf R.remaining (terms_of shared.entry.plan.now) source result }
+        ensures { IsEndOf R.sight (terms_of shared.entry.plan.now) source result }
     { work(shared, source, place) };
     match scope.spawn_with(promise, lane) {
         Ok(handle) => Seat::Running(handle),
@@ -63,8 +62,8 @@ fn started<'s, E, R: Read + Drop + Send + 's, T: Wait + Copy + Sync + 's>(
 }
 
 // Waits until a lane that runs has ended, and takes what it gives back. Any other seat stays as it is.
-pub(crate) fn end<R: Read + Drop, T: Threads>(rt: &T, seat: &mut Seat<R>)
-    ensures fits { (terms : Terms) (before : _) → FitsSeat R.remaining terms before seat.old → FitsSeat R.remaining terms before seat.new }
+pub(crate) fn end<R: Followed + Drop, T: Threads>(rt: &T, seat: &mut Seat<R>)
+    ensures fits { (terms : Terms) (before : _) → FitsSeat R.sight terms before seat.old → FitsSeat R.sight terms before seat.new }
     ensures done { StaysDone seat.old seat.new }
 {
     *seat = match mem::replace(seat, Seat::Empty) {
@@ -74,8 +73,11 @@ pub(crate) fn end<R: Read + Drop, T: Threads>(rt: &T, seat: &mut Seat<R>)
 }
 
 // The source of a seat. It waits for the end of a lane that runs.
-pub(crate) fn source_of<R: Read + Drop, T: Threads>(rt: &T, seat: Seat<R>) -> Option<Source<R>>
-    ensures { (terms : Terms) (before : _) → FitsSeat R.remaining terms before seat → GivesBack before seat result }
+pub(crate) fn source_of<R: Followed + Drop, T: Threads>(
+    rt: &T,
+    seat: Seat<R>,
+) -> Option<SourceOf<R>>
+    ensures { (terms : Terms) (before : _) → FitsSeat R.sight terms before seat → GivesBack R.sight before seat result }
 {
     match seat {
         Seat::Waiting(source) => Some(source),
@@ -91,12 +93,12 @@ pub(crate) fn source_of<R: Read + Drop, T: Threads>(rt: &T, seat: Seat<R>) -> Op
     }
 }
 
-pub(crate) fn is_running<R: Read>(seat: &Seat<R>) -> bool {
+pub(crate) fn is_running<R: Followed>(seat: &Seat<R>) -> bool {
     matches!(seat, Seat::Running(_))
 }
 
 // Whether a source that waits for its lane may wait for its bytes too.
-pub(crate) fn may_wait<R: Read>(seat: &Seat<R>) -> bool {
+pub(crate) fn may_wait<R: Followed>(seat: &Seat<R>) -> bool {
     match seat {
         Seat::Waiting(source) => source.may_wait,
         Seat::Running(_) | Seat::Done(_) | Seat::Empty => false,

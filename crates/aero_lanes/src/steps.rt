@@ -10,8 +10,9 @@ use crate::shared::Shared;
 use crate::tell::tell_ready;
 use aero_batch::Cause;
 use aero_batch::told::Told;
+use aero_intake::Followed;
 use aero_model::Counting;
-use std::io::{Read, Write};
+use std::io::Write;
 use std::sync::Wait;
 use std::thread::{Scope, Threads};
 
@@ -19,7 +20,7 @@ use std::thread::{Scope, Threads};
 pub(crate) fn tell_all<
     's,
     E,
-    R: Read + Drop + Send + 's,
+    R: Followed + Drop + Send + 's,
     W: Write,
     T: Threads + Wait + Copy + Sync + 's,
 >(
@@ -31,9 +32,9 @@ pub(crate) fn tell_all<
 ) -> Result<(), Cause>
     requires { HasNumbersOf (vec_len lanes.old.seats) told.old }
     ensures count { vec_len lanes.new.seats ≡ vec_len lanes.old.seats }
-    ensures stopped { (origin : _) → StandsSo R.remaining (terms_of shared.entry.plan.now) shared.entry.plan.now.form origin (seen_by W.contents writer.old)
+    ensures stopped { (origin : _) → StandsSo R.sight (terms_of shared.entry.plan.now) shared.entry.plan.now.form origin (seen_by W.contents writer.old)
         (seen_by W.contents writer.old) lanes.old.seats.items told.old →
-        StopsSo R.remaining (terms_of shared.entry.plan.now) shared.entry.plan.now.form origin (seen_by W.contents writer.old)
+        StopsSo R.sight (terms_of shared.entry.plan.now) shared.entry.plan.now.form origin (seen_by W.contents writer.old)
         (seen_by W.contents writer.new) lanes.new.seats.items told.new (cause_of result) }
 {
     'steps: for _ in shared.rt.forever() {
@@ -48,7 +49,7 @@ pub(crate) fn tell_all<
 
 // One step: the next line is written, or else the next lane is started, or else the end of a lane is awaited. The answer
 // says whether all is done.
-fn advance<'s, E, R: Read + Drop + Send + 's, W: Write, T: Threads + Wait + Copy + Sync + 's>(
+fn advance<'s, E, R: Followed + Drop + Send + 's, W: Write, T: Threads + Wait + Copy + Sync + 's>(
     scope: &Scope<'s, E>,
     shared: Shared<'s, T>,
     lanes: &mut Lanes<R>,
@@ -59,11 +60,11 @@ fn advance<'s, E, R: Read + Drop + Send + 's, W: Write, T: Threads + Wait + Copy
     ensures numbers { OnOk result (HasNumbersOf (vec_len lanes.new.seats) told.new) }
     ensures count { vec_len lanes.new.seats ≡ vec_len lanes.old.seats }
     ensures stands { OnOk result ((origin : _) (before : Seen) →
-        StandsSo R.remaining (terms_of shared.entry.plan.now) shared.entry.plan.now.form origin before (seen_by W.contents writer.old) lanes.old.seats.items told.old →
-        StandsSo R.remaining (terms_of shared.entry.plan.now) shared.entry.plan.now.form origin before (seen_by W.contents writer.new) lanes.new.seats.items told.new) }
+        StandsSo R.sight (terms_of shared.entry.plan.now) shared.entry.plan.now.form origin before (seen_by W.contents writer.old) lanes.old.seats.items told.old →
+        StandsSo R.sight (terms_of shared.entry.plan.now) shared.entry.plan.now.form origin before (seen_by W.contents writer.new) lanes.new.seats.items told.new) }
     ensures stopped { IfErr result (λ cause. (origin : _) (before : Seen) →
-        StandsSo R.remaining (terms_of shared.entry.plan.now) shared.entry.plan.now.form origin before (seen_by W.contents writer.old) lanes.old.seats.items told.old →
-        StopsSo R.remaining (terms_of shared.entry.plan.now) shared.entry.plan.now.form origin before (seen_by W.contents writer.new) lanes.new.seats.items told.new (Some cause)) }
+        StandsSo R.sight (terms_of shared.entry.plan.now) shared.entry.plan.now.form origin before (seen_by W.contents writer.old) lanes.old.seats.items told.old →
+        StopsSo R.sight (terms_of shared.entry.plan.now) shared.entry.plan.now.form origin before (seen_by W.contents writer.new) lanes.new.seats.items told.new (Some cause)) }
     ensures all_told { IfOk result (λ is_done. is_done ≡ true → vec_len told.new.endings ≡ vec_len lanes.new.seats) }
 {
     if tell_ready(shared, lanes, writer, told)? {

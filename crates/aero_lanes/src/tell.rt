@@ -11,8 +11,9 @@ use crate::shared::Shared;
 use aero_batch::Cause;
 use aero_batch::find::Judged;
 use aero_batch::told::{Said, Style, Told, tell_found};
+use aero_intake::Followed;
 use aero_model::Counting;
-use std::io::{Read, Write};
+use std::io::Write;
 
 // How the texts of the run are made.
 fn style_of<T: Copy>(shared: Shared<'_, T>) -> Style
@@ -25,7 +26,7 @@ fn style_of<T: Copy>(shared: Shared<'_, T>) -> Style
 }
 
 // Writes the text of the first source that isn't told yet, where its lane has ended, and says whether it has.
-pub(crate) fn tell_ready<R: Read, W: Write, T: Copy>(
+pub(crate) fn tell_ready<R: Followed, W: Write, T: Copy>(
     shared: Shared<'_, T>,
     lanes: &Lanes<R>,
     writer: &mut Counting<W>,
@@ -34,18 +35,18 @@ pub(crate) fn tell_ready<R: Read, W: Write, T: Copy>(
     requires { HasNumbersOf (vec_len lanes.now.seats) told.old }
     ensures numbers { OnOk result (HasNumbersOf (vec_len lanes.now.seats) told.new) }
     ensures stands { IfOk result (λ is_told. is_told ≡ true → (origin : _) (before : Seen) →
-        StandsSo R.remaining (terms_of shared.entry.plan.now) shared.entry.plan.now.form origin before (seen_by W.contents writer.old) lanes.now.seats.items told.old →
-        StandsSo R.remaining (terms_of shared.entry.plan.now) shared.entry.plan.now.form origin before (seen_by W.contents writer.new) lanes.now.seats.items told.new) }
+        StandsSo R.sight (terms_of shared.entry.plan.now) shared.entry.plan.now.form origin before (seen_by W.contents writer.old) lanes.now.seats.items told.old →
+        StandsSo R.sight (terms_of shared.entry.plan.now) shared.entry.plan.now.form origin before (seen_by W.contents writer.new) lanes.now.seats.items told.new) }
     ensures unchanged { IfOk result (λ is_told. is_told ≡ false → (seen_by W.contents writer.new ≡ seen_by W.contents writer.old) × (told.new ≡ told.old)) }
     ensures stopped { IfErr result (λ cause. (origin : _) (before : Seen) →
-        StandsSo R.remaining (terms_of shared.entry.plan.now) shared.entry.plan.now.form origin before (seen_by W.contents writer.old) lanes.now.seats.items told.old →
-        StopsSo R.remaining (terms_of shared.entry.plan.now) shared.entry.plan.now.form origin before (seen_by W.contents writer.new) lanes.now.seats.items told.new (Some cause)) }
+        StandsSo R.sight (terms_of shared.entry.plan.now) shared.entry.plan.now.form origin before (seen_by W.contents writer.old) lanes.now.seats.items told.old →
+        StopsSo R.sight (terms_of shared.entry.plan.now) shared.entry.plan.now.form origin before (seen_by W.contents writer.new) lanes.now.seats.items told.new (Some cause)) }
 {
     tell_next_seat(style_of(shared), &lanes.seats, writer, told)
 }
 
 // The same, by what is told of one seat.
-fn tell_next_seat<R: Read, W: Write>(
+fn tell_next_seat<R: Followed, W: Write>(
     style: Style,
     seats: &[Seat<R>],
     writer: &mut Counting<W>,
@@ -63,7 +64,7 @@ fn tell_next_seat<R: Read, W: Write>(
 }
 
 // Writes the text of a source, where its lane has ended, and says whether it has. An `Err` changes nothing that was told.
-fn tell_seat<R: Read, W: Write>(
+fn tell_seat<R: Followed, W: Write>(
     style: Style,
     seat: &Seat<R>,
     writer: &mut Counting<W>,

@@ -5,10 +5,13 @@ mod Helping
 mod Interruptions
 mod Judged
 mod Labelling
+mod Leading
 mod Looking
 mod Names
 mod Noting
+mod Owning
 mod Parts
+mod Reaching
 mod Sizing
 mod Stamps
 mod Tells

@@ -9,29 +9,27 @@ use Rattle.std.proofs.lemmas.Option.{slice_get_past, slice_get_read}
 use Rattle.std.proofs.lemmas.List.{append-nil, map-append}
 use Rattle.std.proofs.lemmas.Grind.{flat_map-append}
 use Rattle.aero_model.specs.declared.verdict.Ending.{Ending}
-use Rattle.aero_model.specs.CallCounts.{inner_of}
 use Rattle.aero_batch.specs.declared.outcome.FaultyLine.{FaultyLine}
-use Rattle.aero_intake.specs.declared.source.Source.{Source}
+use Rattle.aero_intake.specs.declared.source.SourceOf.{SourceOf}
 use Rattle.aero_report.specs.Options.{Note}
 use Rattle.aero_program.specs.declared.input.Input.{Input}
 use Rattle.aero_program.specs.declared.stamp.Stamp.{Stamp}
 use Rattle.aero_program.specs.Inputs.{opened_of, reason_of, start_of}
-use Rattle.aero_program.specs.Labels.{missing_of}
 use Rattle.aero_program.specs.Notes.{AreFaulty, AreNoted, AreNotes, AreShown, GrowsBy, Noted, Remark, fault_told, missing_in_each, named_input, note_items, noted_of, noted_of_all, notes_on, was_too_large}
 use Rattle.aero_program.specs.Looks.{ShowsAs}
 use Rattle.aero_faults.specs.declared.look.Look.TheVariants.{Nothing}
 
-pub one_more : {S O F : Type 0} (words : Bool) (sources : List (Source (Input S O F))) (source : Source (Input S O F)) (endings : List (ℕ × Ending)) (faults : List (Option FaultyLine))
-    → noted_of_all words (sources ++ source ∷ []) endings faults
-    ≡ noted_of_all words sources endings faults ++ noted_of words source (was_too_large (slice_get endings (length sources))) (fault_told (slice_get faults (length sources))) ∷ []
-one_more words [] source [] [] = refl
-one_more words [] source [] (fault ∷ faults) = refl
-one_more words [] source (ending ∷ rest) [] = refl
-one_more words [] source (ending ∷ rest) (fault ∷ faults) = refl
-one_more words (first ∷ more) source [] [] = ap (λ l. noted_of words first false None ∷ l) (one_more words more source [] [])
-one_more words (first ∷ more) source [] (fault ∷ faults) = ap (λ l. noted_of words first false fault ∷ l) (one_more words more source [] faults)
-one_more words (first ∷ more) source (ending ∷ rest) [] = ap (λ l. noted_of words first (was_too_large (Some ending)) None ∷ l) (one_more words more source rest [])
-one_more words (first ∷ more) source (ending ∷ rest) (fault ∷ faults) = ap (λ l. noted_of words first (was_too_large (Some ending)) fault ∷ l) (one_more words more source rest faults)
+pub one_more : {R S O F : Type 0} (input : R → Input S O F) (unused : R → List (List ℕ)) (words : Bool) (sources : List (SourceOf R)) (source : SourceOf R) (endings : List (ℕ × Ending)) (faults : List (Option FaultyLine))
+    → noted_of_all input unused words (sources ++ source ∷ []) endings faults
+    ≡ noted_of_all input unused words sources endings faults ++ noted_of input unused words source (was_too_large (slice_get endings (length sources))) (fault_told (slice_get faults (length sources))) ∷ []
+one_more input unused words [] source [] [] = refl
+one_more input unused words [] source [] (fault ∷ faults) = refl
+one_more input unused words [] source (ending ∷ rest) [] = refl
+one_more input unused words [] source (ending ∷ rest) (fault ∷ faults) = refl
+one_more input unused words (first ∷ more) source [] [] = ap (λ l. noted_of input unused words first false None ∷ l) (one_more input unused words more source [] [])
+one_more input unused words (first ∷ more) source [] (fault ∷ faults) = ap (λ l. noted_of input unused words first false fault ∷ l) (one_more input unused words more source [] faults)
+one_more input unused words (first ∷ more) source (ending ∷ rest) [] = ap (λ l. noted_of input unused words first (was_too_large (Some ending)) None ∷ l) (one_more input unused words more source rest [])
+one_more input unused words (first ∷ more) source (ending ∷ rest) (fault ∷ faults) = ap (λ l. noted_of input unused words first (was_too_large (Some ending)) fault ∷ l) (one_more input unused words more source rest faults)
 
 -- nothing is told of no sources
 pub no_notes : (holds : List ℕ → Stamp → Option (List ℕ) → Type 0) → AreNotes holds [] []
@@ -70,29 +68,29 @@ abbrev fault_in : Option Noted → Option FaultyLine
 fault_in None = None
 fault_in (Some noted) = noted.fault
 
-pub are_noted : {S O F : Type 0} (words : Bool) (sources : List (Source (Input S O F))) (endings : List (ℕ × Ending)) (faults : List (Option FaultyLine))
-    → AreNoted words endings (noted_of_all words sources endings faults)
-are_noted words [] endings faults at n is = absurd (cc)
-are_noted words (source ∷ more) [] [] zero n is = (sym (ap large_in is), sym (ap (word_in words) is))
-are_noted words (source ∷ more) [] [] (suc at) n is = are_noted words more [] [] at n is
-are_noted words (source ∷ more) [] (fault ∷ faults) zero n is = (sym (ap large_in is), sym (ap (word_in words) is))
-are_noted words (source ∷ more) [] (fault ∷ faults) (suc at) n is = are_noted words more [] faults at n is
-are_noted words (source ∷ more) (ending ∷ rest) [] zero n is = (sym (ap large_in is), sym (ap (word_in words) is))
-are_noted words (source ∷ more) (ending ∷ rest) [] (suc at) n is = are_noted words more rest [] at n is
-are_noted words (source ∷ more) (ending ∷ rest) (fault ∷ faults) zero n is = (sym (ap large_in is), sym (ap (word_in words) is))
-are_noted words (source ∷ more) (ending ∷ rest) (fault ∷ faults) (suc at) n is = are_noted words more rest faults at n is
+pub are_noted : {R S O F : Type 0} (input : R → Input S O F) (unused : R → List (List ℕ)) (words : Bool) (sources : List (SourceOf R)) (endings : List (ℕ × Ending)) (faults : List (Option FaultyLine))
+    → AreNoted words endings (noted_of_all input unused words sources endings faults)
+are_noted input unused words [] endings faults at n is = absurd (cc)
+are_noted input unused words (source ∷ more) [] [] zero n is = (sym (ap large_in is), sym (ap (word_in words) is))
+are_noted input unused words (source ∷ more) [] [] (suc at) n is = are_noted input unused words more [] [] at n is
+are_noted input unused words (source ∷ more) [] (fault ∷ faults) zero n is = (sym (ap large_in is), sym (ap (word_in words) is))
+are_noted input unused words (source ∷ more) [] (fault ∷ faults) (suc at) n is = are_noted input unused words more [] faults at n is
+are_noted input unused words (source ∷ more) (ending ∷ rest) [] zero n is = (sym (ap large_in is), sym (ap (word_in words) is))
+are_noted input unused words (source ∷ more) (ending ∷ rest) [] (suc at) n is = are_noted input unused words more rest [] at n is
+are_noted input unused words (source ∷ more) (ending ∷ rest) (fault ∷ faults) zero n is = (sym (ap large_in is), sym (ap (word_in words) is))
+are_noted input unused words (source ∷ more) (ending ∷ rest) (fault ∷ faults) (suc at) n is = are_noted input unused words more rest faults at n is
 
-pub are_faulty : {S O F : Type 0} (words : Bool) (sources : List (Source (Input S O F))) (endings : List (ℕ × Ending)) (faults : List (Option FaultyLine))
-    → AreFaulty faults (noted_of_all words sources endings faults)
-are_faulty words [] endings faults at n is = absurd (cc)
-are_faulty words (source ∷ more) [] [] zero n is = sym (ap fault_in is)
-are_faulty words (source ∷ more) [] [] (suc at) n is = are_faulty words more [] [] at n is
-are_faulty words (source ∷ more) [] (fault ∷ faults) zero n is = sym (ap fault_in is)
-are_faulty words (source ∷ more) [] (fault ∷ faults) (suc at) n is = are_faulty words more [] faults at n is
-are_faulty words (source ∷ more) (ending ∷ rest) [] zero n is = sym (ap fault_in is)
-are_faulty words (source ∷ more) (ending ∷ rest) [] (suc at) n is = are_faulty words more rest [] at n is
-are_faulty words (source ∷ more) (ending ∷ rest) (fault ∷ faults) zero n is = sym (ap fault_in is)
-are_faulty words (source ∷ more) (ending ∷ rest) (fault ∷ faults) (suc at) n is = are_faulty words more rest faults at n is
+pub are_faulty : {R S O F : Type 0} (input : R → Input S O F) (unused : R → List (List ℕ)) (words : Bool) (sources : List (SourceOf R)) (endings : List (ℕ × Ending)) (faults : List (Option FaultyLine))
+    → AreFaulty faults (noted_of_all input unused words sources endings faults)
+are_faulty input unused words [] endings faults at n is = absurd (cc)
+are_faulty input unused words (source ∷ more) [] [] zero n is = sym (ap fault_in is)
+are_faulty input unused words (source ∷ more) [] [] (suc at) n is = are_faulty input unused words more [] [] at n is
+are_faulty input unused words (source ∷ more) [] (fault ∷ faults) zero n is = sym (ap fault_in is)
+are_faulty input unused words (source ∷ more) [] (fault ∷ faults) (suc at) n is = are_faulty input unused words more [] faults at n is
+are_faulty input unused words (source ∷ more) (ending ∷ rest) [] zero n is = sym (ap fault_in is)
+are_faulty input unused words (source ∷ more) (ending ∷ rest) [] (suc at) n is = are_faulty input unused words more rest [] at n is
+are_faulty input unused words (source ∷ more) (ending ∷ rest) (fault ∷ faults) zero n is = sym (ap fault_in is)
+are_faulty input unused words (source ∷ more) (ending ∷ rest) (fault ∷ faults) (suc at) n is = are_faulty input unused words more rest faults at n is
 
 -- what a look-up gives
 pub looked_up : {A : Type 0} (o : Option (Bor A)) (xs : List A) (i : ℕ) → is_some o ≡ nat_lt i (length xs) → IfSome o (λ x. x.now ≡ get_or xs i x.now) → option_copied o ≡ slice_get xs i
@@ -123,46 +121,46 @@ pub record ToldRemarks {V : Type 0} (holds : List ℕ → Stamp → Option (List
   pub told : IfSome notes (λ n. items n ≡ notes_on remarks)
 
 -- what is noted is noted of names and inputs
-noted_pair : {S O F : Type 0} → Bool → List ℕ × Input S O F → Bool → Option FaultyLine → Noted
+noted_pair : {S O F : Type 0} → Bool → List ℕ × (Input S O F × List (List ℕ)) → Bool → Option FaultyLine → Noted
 noted_pair words pair too_large fault = record {
   name = pair.0;
   is_word = words;
-  start = start_of pair.1;
-  reason = reason_of pair.1;
+  start = start_of pair.1.0;
+  reason = reason_of pair.1.0;
   too_large = too_large;
   fault = fault;
-  opened = opened_of pair.1;
-  missing = missing_of pair.1;
+  opened = opened_of pair.1.0;
+  missing = pair.1.1;
 }
 
-noted_pairs : {S O F : Type 0} → Bool → List (List ℕ × Input S O F) → List (ℕ × Ending) → List (Option FaultyLine) → List Noted
+noted_pairs : {S O F : Type 0} → Bool → List (List ℕ × (Input S O F × List (List ℕ))) → List (ℕ × Ending) → List (Option FaultyLine) → List Noted
 noted_pairs words [] endings faults = []
 noted_pairs words (pair ∷ more) [] [] = noted_pair words pair false None ∷ noted_pairs words more [] []
 noted_pairs words (pair ∷ more) [] (fault ∷ faults) = noted_pair words pair false fault ∷ noted_pairs words more [] faults
 noted_pairs words (pair ∷ more) (ending ∷ rest) [] = noted_pair words pair (was_too_large (Some ending)) None ∷ noted_pairs words more rest []
 noted_pairs words (pair ∷ more) (ending ∷ rest) (fault ∷ faults) = noted_pair words pair (was_too_large (Some ending)) fault ∷ noted_pairs words more rest faults
 
-as_pairs : {S O F : Type 0} (words : Bool) (sources : List (Source (Input S O F))) (endings : List (ℕ × Ending)) (faults : List (Option FaultyLine))
-    → noted_of_all words sources endings faults ≡ noted_pairs words (map named_input sources) endings faults
+as_pairs : {R S O F : Type 0} (input : R → Input S O F) (unused : R → List (List ℕ)) (words : Bool) (sources : List (SourceOf R)) (endings : List (ℕ × Ending)) (faults : List (Option FaultyLine))
+    → noted_of_all input unused words sources endings faults ≡ noted_pairs words (map (named_input input unused) sources) endings faults
 unfolding noted_pair noted_pairs
-as_pairs words [] endings faults = refl
-as_pairs words (source ∷ more) [] [] = ap (λ l. noted_of words source false None ∷ l) (as_pairs words more [] [])
-as_pairs words (source ∷ more) [] (fault ∷ faults) = ap (λ l. noted_of words source false fault ∷ l) (as_pairs words more [] faults)
-as_pairs words (source ∷ more) (ending ∷ rest) [] = ap (λ l. noted_of words source (was_too_large (Some ending)) None ∷ l) (as_pairs words more rest [])
-as_pairs words (source ∷ more) (ending ∷ rest) (fault ∷ faults) = ap (λ l. noted_of words source (was_too_large (Some ending)) fault ∷ l) (as_pairs words more rest faults)
+as_pairs input unused words [] endings faults = refl
+as_pairs input unused words (source ∷ more) [] [] = ap (λ l. noted_of input unused words source false None ∷ l) (as_pairs input unused words more [] [])
+as_pairs input unused words (source ∷ more) [] (fault ∷ faults) = ap (λ l. noted_of input unused words source false fault ∷ l) (as_pairs input unused words more [] faults)
+as_pairs input unused words (source ∷ more) (ending ∷ rest) [] = ap (λ l. noted_of input unused words source (was_too_large (Some ending)) None ∷ l) (as_pairs input unused words more rest [])
+as_pairs input unused words (source ∷ more) (ending ∷ rest) (fault ∷ faults) = ap (λ l. noted_of input unused words source (was_too_large (Some ending)) fault ∷ l) (as_pairs input unused words more rest faults)
 
-noted_same : {S O F : Type 0} (words : Bool) (kept sources : List (Source (Input S O F))) (endings : List (ℕ × Ending)) (faults : List (Option FaultyLine)) → map named_input kept ≡ map named_input sources
-    → noted_of_all words kept endings faults ≡ noted_of_all words sources endings faults
-noted_same words kept sources endings faults same =
-    as_pairs words kept endings faults ∙ ap (λ pairs. noted_pairs words pairs endings faults) same ∙ sym (as_pairs words sources endings faults)
+noted_same : {R S O F : Type 0} (input : R → Input S O F) (unused : R → List (List ℕ)) (words : Bool) (kept sources : List (SourceOf R)) (endings : List (ℕ × Ending)) (faults : List (Option FaultyLine)) → map (named_input input unused) kept ≡ map (named_input input unused) sources
+    → noted_of_all input unused words kept endings faults ≡ noted_of_all input unused words sources endings faults
+noted_same input unused words kept sources endings faults same =
+    as_pairs input unused words kept endings faults ∙ ap (λ pairs. noted_pairs words pairs endings faults) same ∙ sym (as_pairs input unused words sources endings faults)
 
-pub missing_noted : {S O F : Type 0} (words : Bool) (sources : List (Source (Input S O F))) (endings : List (ℕ × Ending)) (faults : List (Option FaultyLine))
-    → map (λ n. n.missing) (noted_of_all words sources endings faults) ≡ map (λ s. missing_of (inner_of s.reader)) sources
-missing_noted words [] endings faults = refl
-missing_noted words (source ∷ more) [] [] = ap (λ l. missing_of (inner_of source.reader) ∷ l) (missing_noted words more [] [])
-missing_noted words (source ∷ more) [] (fault ∷ faults) = ap (λ l. missing_of (inner_of source.reader) ∷ l) (missing_noted words more [] faults)
-missing_noted words (source ∷ more) (ending ∷ rest) [] = ap (λ l. missing_of (inner_of source.reader) ∷ l) (missing_noted words more rest [])
-missing_noted words (source ∷ more) (ending ∷ rest) (fault ∷ faults) = ap (λ l. missing_of (inner_of source.reader) ∷ l) (missing_noted words more rest faults)
+pub missing_noted : {R S O F : Type 0} (input : R → Input S O F) (unused : R → List (List ℕ)) (words : Bool) (sources : List (SourceOf R)) (endings : List (ℕ × Ending)) (faults : List (Option FaultyLine))
+    → map (λ n. n.missing) (noted_of_all input unused words sources endings faults) ≡ map (λ s. unused s.reader) sources
+missing_noted input unused words [] endings faults = refl
+missing_noted input unused words (source ∷ more) [] [] = ap (λ l. unused source.reader ∷ l) (missing_noted input unused words more [] [])
+missing_noted input unused words (source ∷ more) [] (fault ∷ faults) = ap (λ l. unused source.reader ∷ l) (missing_noted input unused words more [] faults)
+missing_noted input unused words (source ∷ more) (ending ∷ rest) [] = ap (λ l. unused source.reader ∷ l) (missing_noted input unused words more rest [])
+missing_noted input unused words (source ∷ more) (ending ∷ rest) (fault ∷ faults) = ap (λ l. unused source.reader ∷ l) (missing_noted input unused words more rest faults)
 
 told_on : {V : Type 0} (holds : List ℕ → Stamp → Option (List ℕ) → Type 0) (items : V → List Note) (noted : List Noted) (notes : Option V)
     → IfSome notes (λ n. AreNotes holds noted (items n)) → ToldRemarks holds items noted notes
@@ -170,15 +168,15 @@ told_on holds items noted (Some n) h = record { remarks = h.remarks; are = h.are
 told_on holds items noted None h = record { remarks = map unseen noted; are = unseen_are noted; shown = unseen_shown holds noted; told = tt }
 
 -- the notes on sources that are named so, and whose names and inputs were kept
-pub told_as : {S O F V : Type 0} (holds : List ℕ → Stamp → Option (List ℕ) → Type 0) (items : V → List Note) (is words : Bool) (kept sources : List (Source (Input S O F)))
+pub told_as : {R S O F V : Type 0} (input : R → Input S O F) (unused : R → List (List ℕ)) (holds : List ℕ → Stamp → Option (List ℕ) → Type 0) (items : V → List Note) (is words : Bool) (kept sources : List (SourceOf R))
     (given : List (ℕ × Ending)) (faults : List (Option FaultyLine))
-    → is ≡ words → map named_input kept ≡ map named_input sources → (notes : Option V)
-    → IfSome notes (λ n. AreNotes holds (noted_of_all is kept given faults) (items n))
-    → ToldRemarks holds items (noted_of_all words sources given faults) notes
-told_as holds items is words kept sources given faults known same notes h =
-    told_on holds items (noted_of_all words sources given faults) notes
-    (subst (λ noted. IfSome notes (λ n. AreNotes holds noted (items n))) (noted_same words kept sources given faults same)
-    (subst (λ w. IfSome notes (λ n. AreNotes holds (noted_of_all w kept given faults) (items n))) known h))
+    → is ≡ words → map (named_input input unused) kept ≡ map (named_input input unused) sources → (notes : Option V)
+    → IfSome notes (λ n. AreNotes holds (noted_of_all input unused is kept given faults) (items n))
+    → ToldRemarks holds items (noted_of_all input unused words sources given faults) notes
+told_as input unused holds items is words kept sources given faults known same notes h =
+    told_on holds items (noted_of_all input unused words sources given faults) notes
+    (subst (λ noted. IfSome notes (λ n. AreNotes holds noted (items n))) (noted_same input unused words kept sources given faults same)
+    (subst (λ w. IfSome notes (λ n. AreNotes holds (noted_of_all input unused w kept given faults) (items n))) known h))
 
 -- labels and lists of missing ones
 

@@ -16,6 +16,7 @@ use Rattle.aero_program.specs.contracts.stamp.Moment as Moment
 use Rattle.aero_program.specs.contracts.stamp.Stamp as Stamp
 use Rattle.aero_program.specs.contracts.input.Stage as Stage
 use Rattle.aero_program.specs.contracts.input.Input as Input
+use Rattle.aero_program.specs.contracts.traced.Traced as Traced
 
 failings_send : IsSend (Struct (structs.shape Failings.the_type))
 failings_send = search (sendable, crosses) depth 40
@@ -44,12 +45,16 @@ error_kind_send = search (sendable, crosses) depth 100 fits 60000
 
 stage_send : (S O F : RattleType) → IsSend S → IsSend O → IsSend F → IsSend (Enum (enums.shape (Stage.the_type S O F)))
 stage_send S O F s o f = enum_send (enums.shape (Stage.the_type S O F))
-    ((retrying_send S s, tt), ((o, (search (sendable, crosses) depth 40, tt)), ((retrying_send F f, (search (sendable, crosses, stamp_send) depth 40, tt)), ((search (sendable, crosses, stamp_send) depth 40, tt), ((error_kind_send, (search (sendable, crosses, stamp_send) depth 40, tt)), tt)))))
+    ((retrying_send S s, tt), ((o, (search (sendable, crosses) depth 40, tt)), ((retrying_send F f, (search (sendable, crosses, stamp_send) depth 40, tt)), ((search (sendable, crosses, stamp_send) depth 40, tt), (tt, ((error_kind_send, (o, (search (sendable, crosses) depth 40, tt))), ((error_kind_send, (search (sendable, crosses, stamp_send) depth 40, (search (sendable, crosses) depth 40, tt))), tt)))))))
 
-pub input_send : (S O F : RattleType) → IsSend S → IsSend O → IsSend F → IsSend (Struct (structs.shape (Input.the_type S O F)))
+input_send : (S O F : RattleType) → IsSend S → IsSend O → IsSend F → IsSend (Struct (structs.shape (Input.the_type S O F)))
 input_send S O F s o f = struct_send (structs.shape (Input.the_type S O F))
     (stage_send S O F s o f, (start_send, (search (sendable, crosses, reason_send) depth 40, (search (sendable, crosses) depth 60 fits 6000, tt))))
 
-pub input_row_send : (S O F : RattleType) → IsSend S → IsSend O → IsSend F → IsSend (Input.the_row S O F)
-input_row_send S O F s o f =
-    recorded_send (Struct (structs.shape (Input.the_type S O F))) (Input.the_type S O F).D (Input.the_type S O F).to (Input.the_type S O F).to_one (input_send S O F s o f)
+traced_send : (S O F : RattleType) (s : _) (o : _) (f : _) → IsSend S → IsSend O → IsSend F → IsSend (Struct (structs.shape (Traced.the_type S O F s o f)))
+traced_send S O F s o f send-S send-O send-F = struct_send (structs.shape (Traced.the_type S O F s o f))
+    (input_send S O F send-S send-O send-F, (search (sendable, crosses) depth 40, (search (sendable, crosses) depth 40, (search (sendable, crosses) depth 40, (search (sendable, crosses) depth 40, tt)))))
+
+pub traced_row_send : (S O F : RattleType) (s : _) (o : _) (f : _) → IsSend S → IsSend O → IsSend F → IsSend (Traced.the_row S O F s o f)
+traced_row_send S O F s o f send-S send-O send-F =
+    recorded_send (Struct (structs.shape (Traced.the_type S O F s o f))) (Traced.the_type S O F s o f).D (Traced.the_type S O F s o f).to (Traced.the_type S O F s o f).to_one (traced_send S O F s o f send-S send-O send-F)

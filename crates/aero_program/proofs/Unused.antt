@@ -3,15 +3,14 @@ use Rattle.std.proofs.Common.{◌≡◌, ◌∙◌, ℕ, Bool, true, false, true
 use Rattle.std.proofs.KnownBytes.{Appends-nil}
 use Rattle.std.specs.Prelude.{IfOk, IfSome, IsSome}
 use Rattle.aero_model.specs.declared.verdict.Ending.{Ending}
-use Rattle.aero_model.specs.CallCounts.{Seen, inner_of}
+use Rattle.aero_model.specs.CallCounts.{Seen}
 use Rattle.aero_batch.specs.declared.outcome.Cause.{Cause}
 use Rattle.aero_batch.specs.declared.outcome.FaultyLine.{FaultyLine}
 use Rattle.aero_batch.specs.Founds.{Took}
 use Rattle.aero_batch.specs.Telling.{SumsUp}
-use Rattle.aero_intake.specs.declared.source.Source.{Source}
+use Rattle.aero_intake.specs.declared.source.SourceOf.{SourceOf}
 use Rattle.aero_report.specs.Options.{Note}
 use Rattle.aero_program.specs.declared.input.Input.{Input}
-use Rattle.aero_program.specs.Labels.{missing_of}
 use Rattle.aero_program.specs.Notes.{all_read, labels_told, missing_in_each, noted_of_all}
 use Rattle.aero_program.proofs.Noting.{missing_noted}
 
@@ -24,16 +23,16 @@ told_if true lists labels = refl
 told_if false lists labels = refl
 
 -- what is found where nothing stopped the run
-pub found_labels : {S O F V : Type 0} (unused : Option V) (names : V → List (List ℕ)) (stopped : Option Cause) (endings : List (ℕ × Ending)) (words : Bool) (sources : List (Source (Input S O F)))
+pub found_labels : {R S O F V : Type 0} (input : R → Input S O F) (unbegun : R → List (List ℕ)) (unused : Option V) (names : V → List (List ℕ)) (stopped : Option Cause) (endings : List (ℕ × Ending)) (words : Bool) (sources : List (SourceOf R))
     (given : List (ℕ × Ending)) (faults : List (Option FaultyLine)) (listed labels : List (List ℕ))
-    → IfSome unused (λ u. names u ≡ missing_in_each (map (λ s. missing_of (inner_of s.reader)) sources) listed) → listed ≡ (if all_read stopped endings then labels else [])
-    → stopped ≡ None → IfSome unused (λ u. names u ≡ labels_told None endings (noted_of_all words sources given faults) labels)
-found_labels None names stopped endings words sources given faults listed labels found are none = tt
-found_labels (Some u) names stopped endings words sources given faults listed labels found are none =
-    let lists : List (List (List ℕ)) = map (λ s. missing_of (inner_of s.reader)) sources in
+    → IfSome unused (λ u. names u ≡ missing_in_each (map (λ s. unbegun s.reader) sources) listed) → listed ≡ (if all_read stopped endings then labels else [])
+    → stopped ≡ None → IfSome unused (λ u. names u ≡ labels_told None endings (noted_of_all input unbegun words sources given faults) labels)
+found_labels input unbegun None names stopped endings words sources given faults listed labels found are none = tt
+found_labels input unbegun (Some u) names stopped endings words sources given faults listed labels found are none =
+    let lists : List (List (List ℕ)) = map (λ s. unbegun s.reader) sources in
     found ∙ ap (missing_in_each lists) (are ∙ ap (λ o. if all_read o endings then labels else []) none)
     ∙ told_if (all_read None endings) lists labels
-    ∙ ap (λ ls. if all_read None endings then missing_in_each ls labels else []) (sym (missing_noted words sources given faults))
+    ∙ ap (λ ls. if all_read None endings then missing_in_each ls labels else []) (sym (missing_noted input unbegun words sources given faults))
 
 -- where the run stopped before, no text goes out
 any_text : (text other : List ℕ) (stopped cause : Option Cause) (a b : Seen) → (stopped ≡ None → text ≡ other) → SumsUp text stopped a b cause → SumsUp other stopped a b cause
@@ -60,11 +59,11 @@ lines_told (Ok t) text None items lines_of notes some lines known = absurd (true
 lines_told (Ok t) text (Some n) items lines_of notes some lines known = lines ∙ ap lines_of known
 
 -- and so have the lines beside the report, where nothing stopped it
-pub told_labels : {S O F V N : Type 0} (unused : Option V) (items : V → List N) (name : N → List ℕ) (told : List N) (stopped cause : Option Cause) (endings : List (ℕ × Ending)) (words : Bool)
-    (sources : List (Source (Input S O F))) (given : List (ℕ × Ending)) (faults : List (Option FaultyLine)) (labels : List (List ℕ))
-    → (stopped ≡ None → IfSome unused (λ u. map name (items u) ≡ labels_told None endings (noted_of_all words sources given faults) labels))
+pub told_labels : {R S O F V N : Type 0} (input : R → Input S O F) (unbegun : R → List (List ℕ)) (unused : Option V) (items : V → List N) (name : N → List ℕ) (told : List N) (stopped cause : Option Cause) (endings : List (ℕ × Ending)) (words : Bool)
+    (sources : List (SourceOf R)) (given : List (ℕ × Ending)) (faults : List (Option FaultyLine)) (labels : List (List ℕ))
+    → (stopped ≡ None → IfSome unused (λ u. map name (items u) ≡ labels_told None endings (noted_of_all input unbegun words sources given faults) labels))
     → (cause ≡ None → IsSome unused) → (cause ≡ None → stopped ≡ None) → (cause ≡ None → IfSome unused (λ u. told ≡ items u)) → IfSome cause (λ why. told ≡ [])
-    → map name told ≡ labels_told cause endings (noted_of_all words sources given faults) labels
-told_labels unused items name told stopped (Some why) endings words sources given faults labels found known whole are none = ap (map name) none
-told_labels None items name told stopped None endings words sources given faults labels found known whole are none = absurd (true≢false (sym (known refl)))
-told_labels (Some u) items name told stopped None endings words sources given faults labels found known whole are none = ap (map name) (are refl) ∙ found (whole refl)
+    → map name told ≡ labels_told cause endings (noted_of_all input unbegun words sources given faults) labels
+told_labels input unbegun unused items name told stopped (Some why) endings words sources given faults labels found known whole are none = ap (map name) none
+told_labels input unbegun None items name told stopped None endings words sources given faults labels found known whole are none = absurd (true≢false (sym (known refl)))
+told_labels input unbegun (Some u) items name told stopped None endings words sources given faults labels found known whole are none = ap (map name) (are refl) ∙ found (whole refl)

@@ -24,7 +24,7 @@ use Rattle.aero_program.specs.declared.listing.Unlisted.TheVariants as unlisted
 use Rattle.aero_program.specs.declared.stamp.Stamp.{Stamp}
 use Rattle.aero_program.specs.Command.{AreLimitsFor, are_words, form_on, list_path, listed_by}
 use Rattle.aero_program.specs.Failure.{cut_failure, failure_status, line_of, word_line}
-use Rattle.aero_program.specs.Notes.{AreFaulty, AreNoted, AreShown, Noted, Remark, label_lines, labels_told, note_at, note_text, note_texts, notes_on}
+use Rattle.aero_program.specs.Notes.{AreFaulty, AreNoted, AreOwn, AreShown, Noted, Remark, label_lines, labels_told, note_at, note_text, note_texts, notes_on}
 use Rattle.aero_program.specs.Reasons.{reason_words}
 use Rattle.aero_program.specs.Sightings.{AreNames, AreUnlisted, source_sightings}
 use Rattle.aero_program.specs.Status.{end_of_help, end_of_run}
@@ -99,11 +99,11 @@ abbrev pub unused_of : Config → Option Cause → List (ℕ × Ending) → List
 unused_of config cause endings noted = labels_told cause endings noted (listed_by config.except.items config.only.items).labels
 
 -- What the configuration asks for was judged: its sources, under the limits that it asks for, blocks that its labels leave out as no transactions. The report in its form went out on standard output, as every run's does, and a flush and the ends of the run decide. The notes on the sources and the labels with which no block begins stand in the summary, and their lines go out on standard error.
-pub record WasJudged (holds : List ℕ → Stamp → Option (List ℕ) → Type 0) (config : Config) (given : Option (List ℕ)) (shown shown_after : Shown) (told told_after : Seen) (status : ℕ) : Type 0 where
+pub record WasJudged (known : List ℕ → Option (List ℕ)) (holds : List ℕ → Stamp → Option (List ℕ) → Type 0) (config : Config) (given : Option (List ℕ)) (shown shown_after : Shown) (told told_after : Seen) (status : ℕ) : Type 0 where
   pub limits : Limits
   pub limits_are : AreLimitsFor config.long limits
   pub names : List (List ℕ)
-  pub names_are : AreNames config.files given names
+  pub names_are : AreNames known config.files given names
   pub sources : List Sighted
   pub between : Shown
   pub endings : List (ℕ × Ending)
@@ -114,12 +114,13 @@ pub record WasJudged (holds : List ℕ → Stamp → Option (List ℕ) → Type 
   pub of_names : map (λ n. n.name) noted ≡ names
   pub are_noted : AreNoted (are_words config.files) (if config.long then [] else endings) noted
   pub are_faulty : AreFaulty faults noted
+  pub are_own : AreOwn holds sources noted
   pub remarks : List Remark
   pub on_noted : map (λ r. r.noted) remarks ≡ noted
   pub are_shown : AreShown holds remarks
   pub ran : WasRunTo (terms_asked config limits) (form_on config.terminals config.form)
       (summary_line_in (form_on config.terminals config.form) (options_with (terms_asked config limits) (unused_of config None endings noted) (notes_on remarks)))
-      (source_sightings config.files given names) sources shown.writer between.writer endings faults counts cause
+      (source_sightings known (listed_by config.except.items config.only.items).labels config.files given names) sources shown.writer between.writer endings faults counts cause
   pub same : between.unflushed ≡ shown.unflushed
   pub fault : Option ErrorKind
   pub flushed : WasFlushed between shown_after fault
@@ -132,18 +133,18 @@ TellsUnlisted on_terminal path unlisted.TooMany told told_after status = Fails f
 TellsUnlisted on_terminal path unlisted.Memory told told_after status = Fails failure.Memory told told_after status
 
 -- there are no sources, and that is told
-pub record WasUnlisted (config : Config) (given : Option (List ℕ)) (told told_after : Seen) (status : ℕ) : Type 0 where
+pub record WasUnlisted (known : List ℕ → Option (List ℕ)) (config : Config) (given : Option (List ℕ)) (told told_after : Seen) (status : ℕ) : Type 0 where
   pub why : Unlisted
-  pub are : AreUnlisted config.files given why
+  pub are : AreUnlisted known config.files given why
   pub tells : TellsUnlisted config.terminals.errors (list_path config.files) why told told_after status
 
 -- or memory was refused before that
-abbrev pub Judges : (holds : List ℕ → Stamp → Option (List ℕ) → Type 0) → Config → Option (List ℕ) → Shown → Shown → Seen → Seen → ℕ → Type 0
-Judges holds config given shown shown_after told told_after status =
-    WasJudged holds config given shown shown_after told told_after status
-    ⊎ ((shown_after ≡ shown) × (WasUnlisted config given told told_after status ⊎ Fails failure.Memory told told_after status))
+abbrev pub Judges : (known : List ℕ → Option (List ℕ)) → (holds : List ℕ → Stamp → Option (List ℕ) → Type 0) → Config → Option (List ℕ) → Shown → Shown → Seen → Seen → ℕ → Type 0
+Judges known holds config given shown shown_after told told_after status =
+    WasJudged known holds config given shown shown_after told told_after status
+    ⊎ ((shown_after ≡ shown) × (WasUnlisted known config given told told_after status ⊎ Fails failure.Memory told told_after status))
 
--- `holds` says which bytes a file may have that was opened at a path and had a stamp, and `given` is what standard input has, where these are known
-abbrev pub Executes : (holds : List ℕ → Stamp → Option (List ℕ) → Type 0) → Result Config Stop → Option (List ℕ) → Shown → Shown → Seen → Seen → ℕ → Type 0
-Executes holds (Ok config) given shown shown_after told told_after status = Judges holds config given shown shown_after told told_after status
-Executes holds (Err why) given shown shown_after told told_after status = Stops why shown shown_after told told_after status
+-- `known` says which bytes each file has that is opened at a path, `holds` which bytes a file may have that was opened at a path and had a stamp, and `given` is what standard input has, where these are known
+abbrev pub Executes : (known : List ℕ → Option (List ℕ)) → (holds : List ℕ → Stamp → Option (List ℕ) → Type 0) → Result Config Stop → Option (List ℕ) → Shown → Shown → Seen → Seen → ℕ → Type 0
+Executes known holds (Ok config) given shown shown_after told told_after status = Judges known holds config given shown shown_after told told_after status
+Executes known holds (Err why) given shown shown_after told told_after status = Stops why shown shown_after told told_after status

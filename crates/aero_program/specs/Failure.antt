@@ -28,7 +28,7 @@ failure_status NotUtf8 = 3
 
 -- the line that says how files are judged of which one has a name that isn't UTF-8
 abbrev pub way_line : List ℕ
-way_line = codes "aerodrome: if it names a file, aerodrome < FILE judges it; a list for --files0-from may have such names, and the others are judged" ++ 10 ∷ []
+way_line = codes "aerodrome: to judge a file of this name, run aerodrome < FILE; a list for --files0-from may have such names, and its other files are judged" ++ 10 ∷ []
 
 -- the line on a word that isn't UTF-8, and the one behind it
 abbrev pub word_line : List ℕ → List ℕ

@@ -1,5 +1,5 @@
 -- How far an input has come, and what one read does to that.
-use Rattle.std.specs.Prelude.{◌≡◌, ◌<◌, ◌+◌, ℕ, List, length, Option, None, Result, Ok, Err, ⊤, IfSome, IsErr, is_err, if◌then◌else◌, string_bytes}
+use Rattle.std.specs.Prelude.{◌≡◌, ◌<◌, ◌+◌, ℕ, List, [], length, Option, None, Some, Result, Ok, Err, ⊤, IfSome, IsErr, is_err, if◌then◌else◌, string_bytes}
 use Rattle.std.specs.Io.KnownBytes.{ReadConsumes}
 use Rattle.aero_model.specs.CallCounts.{Seen, moves_nothing}
 use Rattle.aero_program.specs.declared.input.Input.{Input}
@@ -7,27 +7,33 @@ use Rattle.aero_program.specs.declared.input.Stage.{Stage}
 use Rattle.aero_program.specs.declared.input.Stage.TheVariants as stage
 use Rattle.aero_program.specs.declared.reason.Reason.{Reason}
 use Rattle.aero_program.specs.declared.stamp.Stamp.{Stamp}
-use Rattle.aero_program.specs.Retries.{seen_within}
+use Rattle.aero_program.specs.Retries.{seen_within, tried_by}
 use Rattle.aero_program.specs.Starts.{start_bytes}
 
--- standard input, whose stream is seen so; a file that wasn't opened yet; a file that is open; a file whose end was found; a file that couldn't be opened or read
+-- standard input, whose stream is seen so; a file that wasn't opened yet; a file that is open; a file whose end was found; a file that couldn't be opened or read. What a file has left is said, where it is known.
 pub data Standing : Type 0 where
   Standard : (reader : Seen) → Standing
-  Unopened : (path : List ℕ) → Standing
-  Reading : Standing
+  Unopened : (path : List ℕ) → (left : Option (List ℕ)) → Standing
+  Reading : (left : Option (List ℕ)) → Standing
   Ended : Standing
-  Failed : Standing
+  Failed : (left : Option (List ℕ)) → Standing
 
--- `known` is the word of standard input's reader for the bytes that it has left
-abbrev pub stage_standing : {S O F : Type 0} → (S → Option (List ℕ)) → Stage S O F → Standing
-stage_standing known (stage.Standard stdin) = Standard (seen_within known stdin)
-stage_standing known (stage.Unopened files path) = Unopened (string_bytes path)
-stage_standing known (stage.Reading file stamp) = Reading
-stage_standing known (stage.Ended stamp) = Ended
-stage_standing known (stage.Failed kind stamp) = Failed
+-- a file at a path that wasn't opened yet; `known` says which bytes each file has that is opened at a path, where they are known
+abbrev pub unopened : (known : List ℕ → Option (List ℕ)) → (path : List ℕ) → Standing
+unopened known path = Unopened path (known path)
 
-abbrev pub standing_of : {S O F : Type 0} → (S → Option (List ℕ)) → Input S O F → Standing
-standing_of known input = stage_standing known input.stage
+-- `stdin` and `file` are the words of the readers of standard input and of files for the bytes that they have left, and `known` is the opener's word
+abbrev pub stage_standing : {S O F : Type 0} → (stdin : S → Option (List ℕ)) → (known : O → List ℕ → Option (List ℕ)) → (file : F → Option (List ℕ)) → Stage S O F → Standing
+stage_standing stdin known file (stage.Standard reader) = Standard (seen_within stdin reader)
+stage_standing stdin known file (stage.Unopened files path) = unopened (known files) (string_bytes path)
+stage_standing stdin known file (stage.Reading reader stamp) = Reading (file (tried_by reader))
+stage_standing stdin known file (stage.Ended stamp) = Ended
+stage_standing stdin known file stage.Unnamed = Failed None
+stage_standing stdin known file (stage.Refused kind files path) = Failed (known files (string_bytes path.value))
+stage_standing stdin known file (stage.Failed kind stamp was) = Failed (file (tried_by was.value))
+
+abbrev pub standing_of : {S O F : Type 0} → (stdin : S → Option (List ℕ)) → (known : O → List ℕ → Option (List ℕ)) → (file : F → Option (List ℕ)) → Input S O F → Standing
+standing_of stdin known file input = stage_standing stdin known file input.stage
 
 -- the first three bytes that came, as far as they came
 abbrev pub start_of : {S O F : Type 0} → Input S O F → List ℕ
@@ -43,7 +49,9 @@ stage_opened (stage.Standard stdin) = None
 stage_opened (stage.Unopened files path) = None
 stage_opened (stage.Reading file stamp) = stamp
 stage_opened (stage.Ended stamp) = stamp
-stage_opened (stage.Failed kind stamp) = stamp
+stage_opened stage.Unnamed = None
+stage_opened (stage.Refused kind files path) = None
+stage_opened (stage.Failed kind stamp was) = stamp
 
 abbrev pub opened_of : {S O F : Type 0} → Input S O F → Option Stamp
 opened_of input = stage_opened input.stage
@@ -52,10 +60,13 @@ opened_of input = stage_opened input.stage
 abbrev pub unread : Option (List ℕ) → Seen
 unread bytes = record { bytes = bytes; faults = 0; ends = 0 }
 
--- the bytes that an input has left, where they are known: those of standard input alone can be
+-- the bytes that an input has left, where they are known
 abbrev pub bytes_left : Standing → Option (List ℕ)
 bytes_left (Standard reader) = reader.bytes
-bytes_left standing = None
+bytes_left (Unopened path left) = left
+bytes_left (Reading left) = left
+bytes_left Ended = Some []
+bytes_left (Failed left) = left
 
 -- a read that answers as its reader did: a failure exactly where the reader failed, the end exactly where the reader found it, and else the reader's bytes
 pub record AnswersAs {E : Type 0} (before after : Seen) (buffer : List ℕ) (result : Result ℕ E) : Type 0 where
@@ -65,26 +76,26 @@ pub record AnswersAs {E : Type 0} (before after : Seen) (buffer : List ℕ) (res
 
 -- how a read of an open file into this buffer leaves it
 abbrev pub Leaves : {E : Type 0} → Standing → List ℕ → Result ℕ E → Type 0
-Leaves Reading buffer (Ok n) = n ≡ 0 → length buffer ≡ 0
+Leaves (Reading left) buffer (Ok n) = n ≡ 0 → length buffer ≡ 0
 Leaves Ended buffer (Ok n) = (n ≡ 0) × (0 < length buffer)
-Leaves Failed buffer (Err e) = ⊤
+Leaves (Failed left) buffer (Err e) = ⊤
 Leaves standing buffer result = ⊥
 
 -- how the first read of a file into this buffer leaves it: it fails, or else an open has worked, after which it was a read of an open file
 abbrev pub Begins : {E : Type 0} → (can_open : Type 0) → Standing → List ℕ → Result ℕ E → Type 0
-Begins can_open Failed buffer result = IsErr result
+Begins can_open (Failed left) buffer result = IsErr result
 Begins can_open standing buffer result = can_open × Leaves standing buffer result
 
 -- What one read does to the stamp: the first of a file notes that of a file which was opened at its path, and no other changes it. `holds` says which bytes a file may have that was opened at a path and had a stamp.
 abbrev pub OpensTo : (holds : List ℕ → Stamp → Option (List ℕ) → Type 0) → Standing → (before after : Option Stamp) → Type 0
-OpensTo holds (Unopened path) before after = IfSome after (λ stamp. (given : Option (List ℕ)) × holds path stamp given)
+OpensTo holds (Unopened path left) before after = IfSome after (λ stamp. (given : Option (List ℕ)) × holds path stamp given)
 OpensTo holds standing before after = after ≡ before
 
 -- One read: standard input answers as its reader does. A file is opened at the first, by an opener of which `can_open` says that an open of the path may work, and is read until its end is found, from where on each read gives 0 bytes, or until an open or a read fails, from where on each read fails.
 abbrev pub StepsTo : {E : Type 0} → (can_open : List ℕ → Type 0) → Standing → Standing → List ℕ → Result ℕ E → Type 0
 StepsTo can_open (Standard before) (Standard after) buffer result = AnswersAs before after buffer result
-StepsTo can_open (Unopened path) new buffer result = Begins (can_open path) new buffer result
-StepsTo can_open Reading new buffer result = Leaves new buffer result
+StepsTo can_open (Unopened path left) new buffer result = Begins (can_open path) new buffer result
+StepsTo can_open (Reading left) new buffer result = Leaves new buffer result
 StepsTo can_open Ended Ended buffer result = result ≡ Ok 0
-StepsTo can_open Failed Failed buffer result = IsErr result
+StepsTo can_open (Failed before) (Failed after) buffer result = IsErr result
 StepsTo can_open old new buffer result = ⊥

@@ -1,7 +1,5 @@
 -- What an input notes of the labels of a list.
 use Rattle.std.specs.Prelude.{ℕ, List, [], ◌++◌, take, Option, None, Some, Result, Ok, Err, ⊤}
-use Rattle.aero_model.specs.CallCounts.{inner_of}
-use Rattle.aero_intake.specs.declared.source.Source.{Source}
 use Rattle.aero_program.specs.declared.input.Input.{Input}
 use Rattle.aero_watch.specs.Watches.{Watching, HasSeen, settled}
 
@@ -9,10 +7,6 @@ use Rattle.aero_watch.specs.Watches.{Watching, HasSeen, settled}
 abbrev pub watched_in : Option Watching → List (List ℕ)
 watched_in None = []
 watched_in (Some w) = w.labels
-
--- the labels that the watch of a source has, if it has one
-abbrev pub labels_of : {S O F : Type 0} → Source (Input S O F) → List (List ℕ)
-labels_of source = watched_in (inner_of source.reader).watch
 
 -- a watch to which this text came, if there is one
 abbrev pub HasWatched : Option Watching → List ℕ → Type 0

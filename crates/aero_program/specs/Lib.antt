@@ -1,5 +1,5 @@
 -- To be believed: Executed (what goes out, and the exit status), with Failure, Status, Streams, Faults, Notes and Looks. Also
--- Command (the limits and the line on progress), Crews (how many workers there are), Inputs (files and standard input), Labels (what an input notes of labels), Sightings and Listing (the names of
+-- Command (the limits and the line on progress), Crews (how many workers there are), Inputs (files and standard input), Labels (what an input notes of labels), Led (what it has noted since it was made), Laws (what is told of files whose bytes are known), Sightings and Listing (the names of
 -- the sources), Arguments (the words), Retries and Calls (calls that were interrupted), Starts, Reasons and Sizes. Nothing here serves proofs alone.
 pub mod Executed
 pub mod Arguments
@@ -10,6 +10,8 @@ pub mod Failure
 pub mod Faults
 pub mod Inputs
 pub mod Labels
+pub mod Laws
+pub mod Led
 pub mod Listing
 pub mod Looks
 pub mod Notes
@@ -20,3 +22,4 @@ pub mod Sizes
 pub mod Starts
 pub mod Status
 pub mod Streams
+pub mod Traces

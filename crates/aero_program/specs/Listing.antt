@@ -1,5 +1,5 @@
 -- The names of files in a list, each ended by a byte 0.
-use Rattle.std.specs.Prelude.{◌≡◌, ◌<◌, ◌^◌, ℕ, ◌==◌, Bool, if◌then◌else◌, List, length, Option, Some, None, ⊤, codes}
+use Rattle.std.specs.Prelude.{◌≡◌, ◌<◌, ◌^◌, ℕ, ◌==◌, Bool, if◌then◌else◌, List, length, Option, Some, ⊤, codes}
 use Rattle.std.specs.Io.KnownBytes.{Consumes, IsAtEnd}
 use Rattle.std.specs.List.{slice_split}
 use Rattle.std.specs.Str.{bytes_eq}
@@ -15,9 +15,9 @@ is_name_end b = b == 0
 abbrev pub names_in : List ℕ → List (List ℕ)
 names_in list = without_empty_last (slice_split is_name_end list)
 
--- the bytes of the list at this path, where they are known: those of standard input, where it is `-`
-abbrev pub list_given : List ℕ → Option (List ℕ) → Option (List ℕ)
-list_given path given = if bytes_eq path (codes "-") then given else None
+-- the bytes of the list at this path, where they are known: those of standard input, where it is `-`, and else those of which `known` says that a file has them that is opened there
+abbrev pub list_given : (known : List ℕ → Option (List ℕ)) → (path : List ℕ) → (given : Option (List ℕ)) → Option (List ℕ)
+list_given known path given = if bytes_eq path (codes "-") then given else known path
 
 -- the list is all that its reader had, which has these bytes
 pub record IsWhole (given : Option (List ℕ)) (list : List ℕ) : Type 0 where

@@ -1,7 +1,6 @@
 -- What is told of the sources beside their lines, and the lines of it on standard error, each with the byte 10 that ends it.
-use Rattle.std.specs.Prelude.{◌≡◌, ◌==◌, ◌&&◌, ℕ, Bool, true, false, List, [], ◌∷◌, ◌++◌, Option, None, Some, codes, decimal, bytes_eq, flat_map, map, take, ⊤, if◌then◌else◌, slice_get}
+use Rattle.std.specs.Prelude.{◌≡◌, ◌==◌, ◌&&◌, ℕ, Bool, true, false, List, [], ◌∷◌, ◌++◌, Option, None, Some, codes, decimal, bytes_eq, flat_map, is_some, map, take, ⊤, ◌<◌, if◌then◌else◌, slice_get}
 use Rattle.std.specs.List.{filter, list_all, list_any}
-use Rattle.aero_model.specs.CallCounts.{inner_of}
 use Rattle.aero_model.specs.declared.verdict.Ending.{Ending}
 use Rattle.aero_model.specs.declared.verdict.Ending.TheVariants as endings
 use Rattle.aero_batch.specs.declared.outcome.Cause.{Cause}
@@ -10,7 +9,9 @@ use Rattle.aero_batch.specs.declared.outcome.Fault.TheVariants.{Malformed, IllFo
 use Rattle.aero_batch.specs.declared.outcome.FaultyLine.{FaultyLine}
 use Rattle.aero_faults.specs.declared.look.Look.{Look}
 use Rattle.aero_faults.specs.Sentences.{line_sentence, shape_sentence}
-use Rattle.aero_intake.specs.declared.source.Source.{Source}
+use Rattle.aero_batch.specs.Founds.{Sighted}
+use Rattle.aero_intake.specs.Source.{Trail}
+use Rattle.aero_intake.specs.declared.source.SourceOf.{SourceOf}
 use Rattle.aero_report.specs.Options.{Note}
 use Rattle.aero_report.specs.Shown.{shown_text}
 use Rattle.aero_program.specs.declared.input.Input.{Input}
@@ -18,10 +19,11 @@ use Rattle.aero_program.specs.declared.reason.Reason.{Reason}
 use Rattle.aero_program.specs.declared.reason.Reason.TheVariants.{System, Unnumbered, NotUtf8}
 use Rattle.aero_program.specs.declared.stamp.Stamp.{Stamp}
 use Rattle.aero_program.specs.Inputs.{start_of, reason_of, opened_of}
-use Rattle.aero_program.specs.Labels.{missing_of}
+use Rattle.aero_program.specs.Led.{IsOpenedAt, reason_at}
 use Rattle.aero_program.specs.Looks.{ShowsAs}
 use Rattle.aero_program.specs.Reasons.{reason_words}
 use Rattle.aero_program.specs.Starts.{byte_order_mark, gzip_mark}
+use Rattle.aero_watch.specs.Watches.{unbegun}
 
 -- what was noted of a source: its name, whether that is a FILE word, the first three bytes that came, why the first read that failed did, whether it had more bytes than a source may have that isn't long, its faulty line, the stamp that its file had when it was opened, and the labels that it was watched for and with which no line that came begins a block
 pub record Noted : Type 0 where
@@ -44,31 +46,49 @@ abbrev pub fault_told : Option (Option FaultyLine) → Option FaultyLine
 fault_told None = None
 fault_told (Some fault) = fault
 
-abbrev pub noted_of : {S O F : Type 0} → (are_words : Bool) → Source (Input S O F) → (too_large : Bool) → Option FaultyLine → Noted
-noted_of are_words source too_large fault = record {
+abbrev pub noted_of : {R S O F : Type 0} → (input : R → Input S O F) → (unused : R → List (List ℕ)) → (are_words : Bool) → SourceOf R → (too_large : Bool) → Option FaultyLine → Noted
+noted_of input unused are_words source too_large fault = record {
   name = source.name.items;
   is_word = are_words;
-  start = start_of (inner_of source.reader);
-  reason = reason_of (inner_of source.reader);
+  start = start_of (input source.reader);
+  reason = reason_of (input source.reader);
   too_large = too_large;
   fault = fault;
-  opened = opened_of (inner_of source.reader);
-  missing = missing_of (inner_of source.reader);
+  opened = opened_of (input source.reader);
+  missing = unused source.reader;
 }
 
 -- what was noted of the sources, whose names are FILE words, or none is, whose readings ended so, and of which these faulty lines were told, as far as the run came
-abbrev pub noted_of_all : {S O F : Type 0} → (are_words : Bool) → List (Source (Input S O F)) → List (ℕ × Ending) → List (Option FaultyLine) → List Noted
-noted_of_all are_words [] endings faults = []
-noted_of_all are_words (source ∷ more) [] [] = noted_of are_words source false None ∷ noted_of_all are_words more [] []
-noted_of_all are_words (source ∷ more) [] (fault ∷ faults) = noted_of are_words source false fault ∷ noted_of_all are_words more [] faults
-noted_of_all are_words (source ∷ more) (ending ∷ rest) [] = noted_of are_words source (was_too_large (Some ending)) None ∷ noted_of_all are_words more rest []
-noted_of_all are_words (source ∷ more) (ending ∷ rest) (fault ∷ faults) = noted_of are_words source (was_too_large (Some ending)) fault ∷ noted_of_all are_words more rest faults
+abbrev pub noted_of_all : {R S O F : Type 0} → (input : R → Input S O F) → (unused : R → List (List ℕ)) → (are_words : Bool) → List (SourceOf R) → List (ℕ × Ending) → List (Option FaultyLine) → List Noted
+noted_of_all input unused are_words [] endings faults = []
+noted_of_all input unused are_words (source ∷ more) [] [] = noted_of input unused are_words source false None ∷ noted_of_all input unused are_words more [] []
+noted_of_all input unused are_words (source ∷ more) [] (fault ∷ faults) = noted_of input unused are_words source false fault ∷ noted_of_all input unused are_words more [] faults
+noted_of_all input unused are_words (source ∷ more) (ending ∷ rest) [] = noted_of input unused are_words source (was_too_large (Some ending)) None ∷ noted_of_all input unused are_words more rest []
+noted_of_all input unused are_words (source ∷ more) (ending ∷ rest) (fault ∷ faults) = noted_of input unused are_words source (was_too_large (Some ending)) fault ∷ noted_of_all input unused are_words more rest faults
 
 -- the sources were noted as too large whose readings ended so, and all as FILE words, or none
 abbrev pub AreNoted : (are_words : Bool) → List (ℕ × Ending) → List Noted → Type 0
 AreNoted are_words endings noted =
     (at : ℕ) (n : Noted) → slice_get noted at ≡ Some n
     → (n.too_large ≡ was_too_large (slice_get endings at)) × (n.is_word ≡ are_words)
+
+-- What was noted of a source is of the bytes that its reader gave, and of its reads, of which so many failed, and its stamp is one of a file that was opened at its path: its first bytes, a reason exactly where a read failed or the name is no path, and the labels that were looked for with which no line of these bytes begins a block. `holds` says which bytes a file may have that was opened at a path and had a stamp.
+pub record IsNotedFrom (holds : List ℕ → Stamp → Option (List ℕ) → Type 0) (n : Noted) (faults : ℕ) (t : Trail) : Type 0 where
+  pub start : n.start ≡ take 3 t.given
+  pub reason : faults ≡ 0 → n.reason ≡ reason_at t.origin.place
+  pub failed : 0 < faults → is_some n.reason ≡ true
+  pub opened : IsOpenedAt holds t.origin.place n.opened
+  pub missing : n.missing ≡ unbegun t.origin.labels t.given
+
+-- the same, by what a reader says of itself
+abbrev pub IsNotedBy : (holds : List ℕ → Stamp → Option (List ℕ) → Type 0) → Noted → (faults : ℕ) → Option Trail → Type 0
+IsNotedBy holds n faults None = ⊥
+IsNotedBy holds n faults (Some t) = ∥ IsNotedFrom holds n faults t ∥₁
+
+-- what was noted of each source was noted by its own reader
+abbrev pub AreOwn : (holds : List ℕ → Stamp → Option (List ℕ) → Type 0) → List Sighted → List Noted → Type 0
+AreOwn holds sources noted =
+    (at : ℕ) (n : Noted) (s : Sighted) → slice_get noted at ≡ Some n → slice_get sources at ≡ Some s → IsNotedBy holds n s.reader.faults s.reader.trail
 
 -- the sources were noted with the faulty lines that were told
 abbrev pub AreFaulty : List (Option FaultyLine) → List Noted → Type 0
@@ -96,7 +116,7 @@ is_missing NotUtf8 = false
 abbrev pub reason_text : (is_word : Bool) → List ℕ → Reason → List ℕ
 reason_text is_word name reason =
     if is_word && (bytes_eq name (codes "-") && is_missing reason)
-    then codes "No such file or directory (standard input is read where no FILE is given)"
+    then codes "No such file or directory (standard input is read if no FILE is given)"
     else reason_words reason
 
 abbrev pub reason_notes : (is_word : Bool) → List ℕ → Option Reason → List Note
@@ -105,7 +125,7 @@ reason_notes is_word name (Some reason) = note_at name None (reason_text is_word
 
 -- how a source that is too large is judged all the same
 abbrev pub size_notes : List ℕ → (too_large : Bool) → List Note
-size_notes name true = note_at name None (codes "over 1073741824 bytes: --long judges sources of any size") ∷ []
+size_notes name true = note_at name None (codes "over 1073741824 bytes: --long accepts inputs of any size") ∷ []
 size_notes name false = []
 
 -- what is told of a faulty line, by what a second look showed
@@ -117,7 +137,7 @@ sentence_of (IllFormed fault) look = shape_sentence fault look
 abbrev pub sentence_on : (is_gzip : Bool) → Option FaultyLine → Look → List ℕ
 sentence_on is_gzip None look = []
 sentence_on is_gzip (Some faulty) look = if is_gzip
-    then codes "the source is compressed by gzip: zcat FILE | aerodrome judges what is in it"
+    then codes "the input is compressed by gzip: to judge it, run zcat FILE | aerodrome"
     else sentence_of faulty.fault look
 
 -- what is wrong with the source's faulty line, in this sentence
@@ -168,9 +188,9 @@ note_text on_terminal note =
 abbrev pub note_texts : (on_terminal : Bool) → List Note → List ℕ
 note_texts on_terminal notes = flat_map (note_text on_terminal) notes
 
--- what a source is named as, and how its input stands
-abbrev pub named_input : {S O F : Type 0} → Source (Input S O F) → List ℕ × Input S O F
-named_input source = (source.name.items, inner_of source.reader)
+-- what a source is named as, how its input stands, and which labels begin no block in what came
+abbrev pub named_input : {R S O F : Type 0} → (input : R → Input S O F) → (unused : R → List (List ℕ)) → SourceOf R → List ℕ × (Input S O F × List (List ℕ))
+named_input input unused source = (source.name.items, (input source.reader, unused source.reader))
 
 -- the labels that each of these lists of missing labels has
 abbrev pub missing_in_each : List (List (List ℕ)) → List (List ℕ) → List (List ℕ)

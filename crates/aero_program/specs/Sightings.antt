@@ -2,50 +2,59 @@
 use Rattle.std.specs.Prelude.{◌≡◌, ℕ, if◌then◌else◌, List, [], ◌∷◌, map, Option, Some, None, ⊤, codes, option_map, string_bytes, unwrap_or}
 use Rattle.std.specs.Str.{is_utf8}
 use Rattle.aero_batch.specs.Founds.{Sighted}
+use Rattle.aero_intake.specs.Source.{File, Nowhere, Place, Sight, Stream}
 use Rattle.aero_program.specs.declared.command.Sources.{Sources}
 use Rattle.aero_program.specs.declared.command.Sources.TheVariants as sources
 use Rattle.aero_program.specs.declared.listing.Unlisted.{Unlisted}
 use Rattle.aero_program.specs.declared.listing.Unlisted.TheVariants as unlisted
 use Rattle.aero_program.specs.declared.reason.Reason.{Reason}
 use Rattle.aero_program.specs.declared.reason.Reason.TheVariants.{NotUtf8}
-use Rattle.aero_program.specs.Inputs.{Standing, Standard, Unopened, Failed, unread}
+use Rattle.aero_program.specs.Inputs.{Standing, Standard, Failed, unopened, unread}
 use Rattle.aero_program.specs.Listing.{IsListFault, IsWhole, list_given, names_in}
 
--- the names, in order: that of standard input, or `-`, the words, or what stands in the list; `given` is what standard input has, where it is known
-abbrev pub AreNames : Sources → (given : Option (List ℕ)) → List (List ℕ) → Type 0
-AreNames (sources.Standard name) given names = names ≡ unwrap_or (option_map string_bytes name) (codes "-") ∷ []
-AreNames (sources.Files words) given names = names ≡ map string_bytes words.items
-AreNames (sources.Listed path) given names = (list : List ℕ) × IsWhole (list_given (string_bytes path) given) list × (names ≡ names_in list)
+-- the names, in order: that of standard input, or `-`, the words, or what stands in the list; `known` says which bytes each file has that is opened at a path, and `given` is what standard input has, where these are known
+abbrev pub AreNames : (known : List ℕ → Option (List ℕ)) → Sources → (given : Option (List ℕ)) → List (List ℕ) → Type 0
+AreNames known (sources.Standard name) given names = names ≡ unwrap_or (option_map string_bytes name) (codes "-") ∷ []
+AreNames known (sources.Files words) given names = names ≡ map string_bytes words.items
+AreNames known (sources.Listed path) given names = (list : List ℕ) × IsWhole (list_given known (string_bytes path) given) list × (names ≡ names_in list)
 
--- the bytes of a source, where they are known: those of standard input alone can be
-abbrev pub bytes_known : Sources → (given : Option (List ℕ)) → Option (List ℕ)
-bytes_known (sources.Standard name) given = given
-bytes_known (sources.Files words) given = None
-bytes_known (sources.Listed path) given = None
+-- what contracts see of a reader that was just made: where it reads, the labels that it looks for, and the bytes that it has, where they are known
+abbrev pub made_at : Place → (labels : List (List ℕ)) → Option (List ℕ) → Sight
+made_at place labels bytes = record { bytes = bytes; faults = 0; ends = 0; trail = Some (record { origin = record { place = place; labels = labels }; given = [] }) }
 
--- a source of this name, of which nothing was read, and whose bytes are known to be these, or not
-abbrev pub sighting : Option (List ℕ) → List ℕ → Sighted
-sighting known name = record { name = name; reader = unread known }
+-- the same of the file at a path
+abbrev pub file_made : (known : List ℕ → Option (List ℕ)) → (labels : List (List ℕ)) → (path : List ℕ) → Sight
+file_made known labels path = made_at (File path) labels (known path)
 
--- the same source, of which nothing was read
-abbrev pub resighted : Sighted → Sighted
-resighted s = record { name = s.name; reader = unread s.reader.bytes }
+-- the same of the file of a name that stands in a list: none can be opened whose name isn't UTF-8
+abbrev pub listed_made : (known : List ℕ → Option (List ℕ)) → (labels : List (List ℕ)) → (name : List ℕ) → Sight
+listed_made known labels name = if is_utf8 name then file_made known labels name else made_at Nowhere labels None
 
-abbrev pub source_sightings : Sources → (given : Option (List ℕ)) → List (List ℕ) → List Sighted
-source_sightings sources given names = map (sighting (bytes_known sources given)) names
+-- the same of the source of this name
+abbrev pub source_made : (known : List ℕ → Option (List ℕ)) → (labels : List (List ℕ)) → Sources → (given : Option (List ℕ)) → (name : List ℕ) → Sight
+source_made known labels (sources.Standard word) given name = made_at Stream labels given
+source_made known labels (sources.Files words) given name = file_made known labels name
+source_made known labels (sources.Listed path) given name = listed_made known labels name
+
+-- sources of these names, each with the reader that was made for its name
+abbrev pub sightings : (made : List ℕ → Sight) → List (List ℕ) → List Sighted
+sightings made names = map (λ name. record { name = name; reader = made name }) names
+
+abbrev pub source_sightings : (known : List ℕ → Option (List ℕ)) → (labels : List (List ℕ)) → Sources → (given : Option (List ℕ)) → List (List ℕ) → List Sighted
+source_sightings known labels sources given names = sightings (source_made known labels sources given) names
 
 -- the file of a name that stands in a list isn't opened yet, and can't be where the name isn't UTF-8
-abbrev pub listed_standing : List ℕ → Standing
-listed_standing name = if is_utf8 name then Unopened name else Failed
+abbrev pub listed_standing : (known : List ℕ → Option (List ℕ)) → List ℕ → Standing
+listed_standing known name = if is_utf8 name then unopened known name else Failed None
 
 abbrev pub listed_reason : List ℕ → Option Reason
 listed_reason name = if is_utf8 name then None else Some NotUtf8
 
 -- how the readers of the sources stand: standard input with these bytes, or a file for each name
-abbrev pub source_standings : Sources → (given : Option (List ℕ)) → List (List ℕ) → List Standing
-source_standings (sources.Standard name) given names = map (λ _. Standard (unread given)) names
-source_standings (sources.Files words) given names = map Unopened names
-source_standings (sources.Listed path) given names = map listed_standing names
+abbrev pub source_standings : (known : List ℕ → Option (List ℕ)) → Sources → (given : Option (List ℕ)) → List (List ℕ) → List Standing
+source_standings known (sources.Standard name) given names = map (λ _. Standard (unread given)) names
+source_standings known (sources.Files words) given names = map (unopened known) names
+source_standings known (sources.Listed path) given names = map (listed_standing known) names
 
 -- why they can't be read, as far as that is known before
 abbrev pub source_reasons : Sources → List (List ℕ) → List (Option Reason)
@@ -54,7 +63,7 @@ source_reasons (sources.Files words) names = map (λ _. None) names
 source_reasons (sources.Listed path) names = map listed_reason names
 
 -- why there are no sources: a list couldn't be read, or has too many names, or memory was refused
-abbrev pub AreUnlisted : Sources → (given : Option (List ℕ)) → Unlisted → Type 0
-AreUnlisted (sources.Listed path) given why = IsListFault (list_given (string_bytes path) given) why
-AreUnlisted sources given unlisted.Memory = ⊤
-AreUnlisted sources given why = ⊥
+abbrev pub AreUnlisted : (known : List ℕ → Option (List ℕ)) → Sources → (given : Option (List ℕ)) → Unlisted → Type 0
+AreUnlisted known (sources.Listed path) given why = IsListFault (list_given known (string_bytes path) given) why
+AreUnlisted known sources given unlisted.Memory = ⊤
+AreUnlisted known sources given why = ⊥

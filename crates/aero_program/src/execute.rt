@@ -10,6 +10,7 @@ ghost use Rattle.aero_program.specs.declared.listing.Unlisted.TheVariants.{Unrea
 ghost use Rattle.aero_program.specs.Notes.{AreNotes, label_lines, note_texts, noted_of_all};
 ghost use Rattle.aero_program.specs.Retries.{tried_by};
 ghost use Rattle.aero_program.specs.Streams.{WasCut, shown_by};
+ghost use Rattle.aero_program.specs.Traces.{input_of, unused_in};
 ghost use Rattle.aero_report.specs.Asked.{note_of};
 ghost use Rattle.aero_report.specs.Forms.{summary_line_in};
 
@@ -17,8 +18,7 @@ use crate::arguments;
 use crate::command::{Config, Refused, Stop};
 use crate::failure::{Failure, odd_word_line};
 use crate::files::Opener;
-use crate::input::Input;
-use crate::labels::{all_read, lines_on, unused_labels, watched};
+use crate::labels::{all_read, lines_on, unused_labels};
 use crate::lasting::flush_fault;
 use crate::listing::Unlisted;
 use crate::looker::Looker;
@@ -29,10 +29,10 @@ use crate::retrying::Retrying;
 use crate::sizes::{Sizes, are_worth_threads, tell_work};
 use crate::sources::sources_of;
 use crate::status::end_after;
-use aero_batch::source::Source;
+use crate::traced::Traced;
 use aero_batch::told::Style;
 use aero_batch::{Cause, sum_up};
-use aero_intake::Plan;
+use aero_intake::{Followed, Plan, SourceOf};
 use aero_lanes::{Report, run_in_lanes, run_in_turn};
 use aero_model::{Counting, Ending, Name};
 use aero_report::{Cut, Note, put};
@@ -75,7 +75,7 @@ pub fn execute<
 >(host: Host<T>, asked: Result<Config, Stop>, files: &F, stdin: S, streams: Streams<'_, O, E>) -> u8
 where
     F::File: Send,
-    ensures { Executes F.holds asked (S.remaining stdin) (shown_by O.contents streams.entry.output.now) (shown_by O.contents streams.exit.0.now)
+    ensures { Executes (F.known files.now) F.holds asked (S.remaining stdin) (shown_by O.contents streams.entry.output.now) (shown_by O.contents streams.exit.0.now)
         (seen_by (λ w. E.contents (tried_by w)) streams.entry.errors.now) (seen_by (λ w. E.contents (tried_by w)) streams.exit.1.0.now) result }
 {
     let Streams { output, errors } = streams;
@@ -107,7 +107,7 @@ fn judge<
 ) -> u8
 where
     F::File: Send,
-    ensures { Judges F.holds config (S.remaining stdin) (shown_by O.contents output.old) (shown_by O.contents output.new)
+    ensures { Judges (F.known place.entry.files.now) F.holds config (S.remaining stdin) (shown_by O.contents output.old) (shown_by O.contents output.new)
         (seen_by E.contents errors.old) (seen_by E.contents errors.new) result }
 {
     let Place { host, files } = place;
@@ -118,12 +118,9 @@ where
     let Ok((plan, asked)) = config.into_plan(alloc) else {
         return fail(Failure::Memory, errors);
     };
-    let sources = match sources_of(alloc, files, stdin, &asked) {
+    let sources = match sources_of(alloc, files, stdin, &asked, plan.terms.shared_except()) {
         Ok(sources) => sources,
         Err(why) => return tell_unlisted(alloc, asked.list_path(), why, on_terminal, errors),
-    };
-    let Ok(sources) = watched(alloc, sources, plan.terms.shared_except()) else {
-        return fail(Failure::Memory, errors);
     };
     tell_work(files, &asked, &sources);
     let in_lanes = are_worth_threads(files, &sources);
@@ -216,12 +213,12 @@ fn found_in<'u, 'a>(unused: &'u Option<Vec<&'a Name>>) -> &'u [&'a Name]
 // The notes on the sources of a run, where memory isn't refused for them.
 fn all_notes<S: Read + Drop, F: Opener + Drop, G: Opener>(
     looker: &Looker<'_, G>,
-    sources: Vec<Source<Input<S, F>>>,
+    sources: Vec<SourceOf<Traced<S, F>>>,
     report: &Report,
     long: bool,
     are_words: bool,
 ) -> Option<Vec<Note>>
-    ensures { IfSome result (λ notes. AreNotes G.holds (noted_of_all are_words sources.items (if long then [] else report.now.endings.items) report.now.faults.items) (map note_of notes.items)) }
+    ensures { IfSome result (λ notes. AreNotes G.holds (noted_of_all input_of unused_in are_words sources.items (if long then [] else report.now.endings.items) report.now.faults.items) (map note_of notes.items)) }
 {
     let endings = noted(&report.endings, long);
     match notes_of(looker, sources, endings, &report.faults, are_words) {
@@ -257,15 +254,15 @@ fn told_of(labels: &[Name], all_read: bool) -> &[Name]
 }
 
 // Writes the lines of the sources: by a thread for each, or in turn.
-fn run_all<R: Read + Drop + Send, W: Write, T: Threads + Wait + Copy + Send + Sync + 'static>(
+fn run_all<R: Followed + Drop + Send, W: Write, T: Threads + Wait + Copy + Send + Sync + 'static>(
     host: Host<T>,
     in_lanes: bool,
-    sources: Vec<Source<R>>,
+    sources: Vec<SourceOf<R>>,
     writer: &mut Counting<W>,
     plan: &Plan,
-) -> (Report, Vec<Source<R>>)
+) -> (Report, Vec<SourceOf<R>>)
     requires { vec_len sources ≤ 65536 }
-    ensures told { WasTold (terms_of plan.now) plan.now.form (map (sighted R.remaining) sources.items) (map (sighted R.remaining) result.1.items)
+    ensures told { WasTold (terms_of plan.now) plan.now.form (map (sighted R.sight) sources.items) (map (sighted R.sight) result.1.items)
         (seen_by W.contents writer.old) (seen_by W.contents writer.new) result.0.endings.items result.0.faults.items result.0.counts result.0.cause }
 {
     if in_lanes {

@@ -87,7 +87,7 @@ impl From<AllocError> for Failure {
 
 // What stands behind a word that isn't UTF-8. No file of such a name can be opened.
 const WAY_OUT: &[u8] =
-    b"\naerodrome: if it names a file, aerodrome < FILE judges it; a list for --files0-from may have such names, and the others are judged\n";
+    b"\naerodrome: to judge a file of this name, run aerodrome < FILE; a list for --files0-from may have such names, and its other files are judged\n";
 
 /// The lines on a word of the command line that isn't UTF-8, with their line ends. The first has the word, which is shown
 /// without control characters, and each byte that is no character as `\xNN`. The second says how files are judged of which

@@ -1,5 +1,6 @@
 //! The files of a run, which tell a meter what is read of them.
-ghost use Rattle.std.specs.Prelude.{◌≡◌, ℕ, List, Option, IfOk, IfSome, ⊤};
+ghost use Rattle.std.specs.Prelude.{◌≡◌, ℕ, List, Option, None, IfOk, IfSome, ⊤};
+ghost use Rattle.std.specs.Io.KnownBytes.{Keeps};
 ghost use Rattle.aero_program.specs.declared.stamp.Stamp.{Stamp};
 
 use crate::stamp::{Stamp, stamp_in, stamp_of};
@@ -20,10 +21,13 @@ pub struct Opened<T> {
     pub stamp: Option<Stamp>,
 }
 
-/// What a run needs of files. Its ghost member `can_open` says of which paths an open may work, and `holds` which bytes a
-/// file may have that was opened at a path and bore a stamp, where they are known.
+/// What a run needs of files. Its ghost member `can_open` says of which paths an open may work, `known` which bytes each file
+/// has that is opened at a path, where they are known, and `holds` which bytes a file may have that was opened at a path and
+/// bore a stamp, also when it is opened again.
 pub trait Opener {
     ghost can_open: { List ℕ → Type 0 };
+
+    ghost known: { Self → List ℕ → Option (List ℕ) } = { λ _ _. None };
 
     ghost holds: { List ℕ → Stamp → Option (List ℕ) → Type 0 };
 
@@ -32,6 +36,7 @@ pub trait Opener {
     /// Opens the file at the path, to be read from its start.
     fn open(&self, path: &str) -> io::Result<Opened<Self::File>>
         ensures worked { IfOk result (λ _. can_open path.now) }
+        ensures given { IfOk result (λ opened. Keeps (known self.now path.now) (Self.File.remaining opened.file)) }
         ensures stamped { IfOk result (λ opened. IfSome opened.stamp (λ stamp. holds path.now stamp (Self.File.remaining opened.file))) };
 
     /// Opens it again once the run is over, which no meter hears of.
@@ -51,6 +56,8 @@ pub trait Opener {
 
 impl<O: Opener> Opener for &O {
     ghost can_open = { O.can_open };
+
+    ghost known = { λ o path. O.known o.now path };
 
     ghost holds = { O.holds };
 
@@ -98,6 +105,8 @@ impl<F: Files> Opener for FilesOf<F> {
     // Of the system's files nothing is known.
     ghost can_open = { λ _. ⊤ };
 
+    ghost known = { λ _ _. None };
+
     ghost holds = { λ _ _ _. ⊤ };
 
     type File = F::File;
@@ -143,6 +152,8 @@ impl<'a, O: Opener> MeteredFiles<'a, O> {
 
 impl<'a, O: Opener> Opener for MeteredFiles<'a, O> {
     ghost can_open = { O.can_open };
+
+    ghost known = { λ o path. O.known o.opener path };
 
     ghost holds = { O.holds };
 

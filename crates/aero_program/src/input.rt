@@ -1,6 +1,7 @@
 //! Standard input or a file, as a reader that opens its file at the first read, and notes which file that
 //! was, how its bytes begin, why a read failed, and, where it is asked for, which labels begin no block in them.
 ghost use Rattle.std.specs.Prelude.{◌≡◌, ◌≢◌, ◌++◌, ℕ, List, IfErr, IfOk, IfSome};
+ghost use Rattle.std.specs.Io.KnownBytes.{Keeps};
 ghost use Rattle.std.specs.IoError.{error_kind};
 ghost use Rattle.std.specs.declared.io.ErrorKind.TheVariants.{Interrupted};
 ghost use Rattle.aero_program.specs.Labels.{HasWatched, watched_in};
@@ -13,6 +14,7 @@ use crate::start::Start;
 use aero_watch::Watch;
 use std::alloc::{AllocError, Global};
 use std::io::{ErrorKind, Read};
+use std::snapshot::Snapshot;
 use std::{io, mem};
 
 /// A source of bytes: standard input, read by an `S`, or the file at a path, which an `O` opens.
@@ -29,28 +31,34 @@ pub struct Input<S, O: Opener> {
     watch: Option<Watch>,
 }
 
-// How far an input has come. A file that was opened had this stamp then, if it had one.
+// How far an input has come. A file that was opened had this stamp then, if it had one. Contracts alone see the path of one
+// that couldn't be opened, and one that couldn't be read as it was then: what it has left stays known, though it is closed.
 #[derive(Drop)]
 enum Stage<S, O: Opener> {
     Standard(Retrying<S>),
     Unopened(O, String),
     Reading(Retrying<O::File>, Option<Stamp>),
     Ended(Option<Stamp>),
-    // An open or a read failed so.
-    Failed(ErrorKind, Option<Stamp>),
+    // Its name isn't UTF-8.
+    Unnamed,
+    // An open failed so.
+    Refused(ErrorKind, O, Snapshot<String>),
+    // A read failed so.
+    Failed(ErrorKind, Option<Stamp>, Snapshot<Retrying<O::File>>),
 }
 
 impl<S: Read + Drop, O: Opener + Drop> Input<S, O> {
     ghost use Rattle.std.specs.Prelude.{◌≡◌, [], Some, None, IfOk, bytes_eq, take};
     ghost use Rattle.std.specs.List.{list_any};
-    ghost use Rattle.aero_program.specs.Inputs.{opened_of, standing_of, start_of, reason_of, unread, Standard, Unopened, Failed};
-    ghost use Rattle.aero_program.specs.Labels.{missing_of};
+    ghost use Rattle.aero_program.specs.Inputs.{opened_of, standing_of, start_of, reason_of, unopened, unread, Standard, Failed};
+    ghost use Rattle.aero_program.specs.Labels.{HasWatched, missing_of, watched_in};
+    ghost use Rattle.aero_watch.specs.Watches.{unbegun};
     ghost use Rattle.aero_program.specs.declared.reason.Reason.TheVariants.{NotUtf8};
     ghost use Rattle.aero_program.specs.Starts.{byte_order_mark, gzip_mark};
 
     /// Standard input.
     pub fn standard(stdin: S) -> Input<S, O>
-        ensures standing { standing_of S.remaining result ≡ Standard (unread (S.remaining stdin)) }
+        ensures standing { standing_of S.remaining O.known O.File.remaining result ≡ Standard (unread (S.remaining stdin)) }
         ensures start { start_of result ≡ [] }
         ensures reason { reason_of result ≡ None }
         ensures opened { opened_of result ≡ None }
@@ -65,7 +73,7 @@ impl<S: Read + Drop, O: Opener + Drop> Input<S, O> {
 
     /// The file at the path, which isn't touched yet. `-` is a path like any other.
     pub fn path(alloc: Global, files: O, path: &str) -> Result<Input<S, O>, AllocError>
-        ensures standing { IfOk result (λ input. standing_of S.remaining input ≡ Unopened path.now) }
+        ensures standing { IfOk result (λ input. standing_of S.remaining O.known O.File.remaining input ≡ unopened (O.known files) path.now) }
         ensures start { IfOk result (λ input. start_of input ≡ []) }
         ensures reason { IfOk result (λ input. reason_of input ≡ None) }
         ensures opened { IfOk result (λ input. opened_of input ≡ None) }
@@ -81,13 +89,13 @@ impl<S: Read + Drop, O: Opener + Drop> Input<S, O> {
 
     /// A file whose name isn't UTF-8, and which can't be opened for that.
     pub fn unnamed() -> Input<S, O>
-        ensures standing { standing_of S.remaining result ≡ Failed }
+        ensures standing { standing_of S.remaining O.known O.File.remaining result ≡ Failed None }
         ensures start { start_of result ≡ [] }
         ensures reason { reason_of result ≡ Some NotUtf8 }
         ensures opened { opened_of result ≡ None }
     {
         Input {
-            stage: Stage::Failed(ErrorKind::InvalidFilename, None),
+            stage: Stage::Unnamed,
             start: Start::Nothing,
             reason: Some(Reason::NotUtf8),
             watch: None,
@@ -110,7 +118,8 @@ impl<S: Read + Drop, O: Opener + Drop> Input<S, O> {
     ///
     /// `AllocError` where memory is refused now, or was to the watch.
     pub fn lacks(&self, label: &[u8]) -> Result<bool, AllocError>
-        ensures { IfOk result (λ lacks. lacks ≡ list_any (bytes_eq label.now) (missing_of self.now)) }
+        ensures settled { IfOk result (λ lacks. lacks ≡ list_any (bytes_eq label.now) (missing_of self.now)) }
+        ensures whole { (came : List ℕ) → HasWatched self.now.watch came → IfOk result (λ lacks. lacks ≡ list_any (bytes_eq label.now) (unbegun (watched_in self.now.watch) came)) }
     {
         match &self.watch {
             Some(watch) => watch.lacks(label),
@@ -144,8 +153,9 @@ impl<S: Read + Drop, O: Opener + Drop> Input<S, O> {
         ensures { result ≡ opened_of self.now }
     {
         match &self.stage {
-            Stage::Reading(_, stamp) | Stage::Ended(stamp) | Stage::Failed(_, stamp) => *stamp,
-            Stage::Standard(_) | Stage::Unopened(_, _) => None,
+            Stage::Reading(_, stamp) | Stage::Ended(stamp) | Stage::Failed(_, stamp, _) => *stamp,
+            Stage::Standard(_) | Stage::Unopened(_, _) | Stage::Unnamed | Stage::Refused(_, _, _) =>
+                None,
         }
     }
 }
@@ -160,13 +170,13 @@ impl<S: Read + Drop, O: Opener + Drop> Read for Input<S, O> {
     ghost use Rattle.std.specs.IoError.{raw_os_error};
     ghost use Rattle.aero_program.specs.Reasons.{reason_after};
 
-    ghost remaining = { λ input. bytes_left (standing_of S.remaining input) };
+    ghost remaining = { λ input. bytes_left (standing_of S.remaining O.known O.File.remaining input) };
 
     fn read(&mut self, buf: &mut [u8]) -> io::Result<usize>
         ensures bound { ReadsAtMost result buf.new }
-        ensures bytes { ReadConsumes (bytes_left (standing_of S.remaining self.old)) (bytes_left (standing_of S.remaining self.new)) result buf.new }
-        ensures steps { StepsTo O.can_open (standing_of S.remaining self.old) (standing_of S.remaining self.new) buf.new result }
-        ensures opened { OpensTo O.holds (standing_of S.remaining self.old) (opened_of self.old) (opened_of self.new) }
+        ensures bytes { ReadConsumes (bytes_left (standing_of S.remaining O.known O.File.remaining self.old)) (bytes_left (standing_of S.remaining O.known O.File.remaining self.new)) result buf.new }
+        ensures steps { StepsTo O.can_open (standing_of S.remaining O.known O.File.remaining self.old) (standing_of S.remaining O.known O.File.remaining self.new) buf.new result }
+        ensures opened { OpensTo O.holds (standing_of S.remaining O.known O.File.remaining self.old) (opened_of self.old) (opened_of self.new) }
         ensures start { start_of self.new ≡ start_after (start_of self.old) result buf.new }
         ensures reason { reason_of self.new ≡ reason_after raw_os_error (reason_of self.old) result }
         ensures watched { watched_in self.new.watch ≡ watched_in self.old.watch }
@@ -190,13 +200,14 @@ impl<S: Read + Drop, O: Opener + Drop> Stage<S, O> {
     ghost use Rattle.std.specs.Io.KnownBytes.{ReadConsumes};
     ghost use Rattle.std.specs.Prelude.{◌≡◌};
     ghost use Rattle.aero_program.specs.Inputs.{stage_standing, stage_opened, bytes_left, OpensTo, StepsTo, Leaves};
+    ghost use Rattle.aero_program.specs.Retries.{tried_by};
 
     // One read, and the stage after it.
     fn read(self, buf: &mut [u8]) -> (Stage<S, O>, io::Result<usize>)
         ensures bound { ReadsAtMost result.1 buf.new }
-        ensures bytes { ReadConsumes (bytes_left (stage_standing S.remaining self)) (bytes_left (stage_standing S.remaining result.0)) result.1 buf.new }
-        ensures steps { StepsTo O.can_open (stage_standing S.remaining self) (stage_standing S.remaining result.0) buf.new result.1 }
-        ensures opened { OpensTo O.holds (stage_standing S.remaining self) (stage_opened self) (stage_opened result.0) }
+        ensures bytes { ReadConsumes (bytes_left (stage_standing S.remaining O.known O.File.remaining self)) (bytes_left (stage_standing S.remaining O.known O.File.remaining result.0)) result.1 buf.new }
+        ensures steps { StepsTo O.can_open (stage_standing S.remaining O.known O.File.remaining self) (stage_standing S.remaining O.known O.File.remaining result.0) buf.new result.1 }
+        ensures opened { OpensTo O.holds (stage_standing S.remaining O.known O.File.remaining self) (stage_opened self) (stage_opened result.0) }
     {
         match self {
             Stage::Standard(mut stdin) => {
@@ -205,12 +216,25 @@ impl<S: Read + Drop, O: Opener + Drop> Stage<S, O> {
             }
             Stage::Unopened(files, path) => match open(&files, path.as_str()) {
                 Ok(Opened { file, stamp }) => Stage::read_file(Retrying::new(file), stamp, buf),
-                Err(refusal) => (Stage::Failed(refusal.kind(), None), Err(refusal)),
+                Err(refusal) => (
+                    Stage::Refused(refusal.kind(), files, Snapshot::of(&path)),
+                    Err(refusal),
+                ),
             },
             Stage::Reading(file, stamp) => Stage::read_file(file, stamp, buf),
             Stage::Ended(stamp) => (Stage::Ended(stamp), Ok(0)),
-            Stage::Failed(kind, stamp) => {
-                (Stage::Failed(kind, stamp), Err(io::Error::from(kind)))
+            Stage::Unnamed => (
+                Stage::Unnamed,
+                Err(io::Error::from(ErrorKind::InvalidFilename)),
+            ),
+            Stage::Refused(kind, files, path) => {
+                (
+                    Stage::Refused(kind, files, path),
+                    Err(io::Error::from(kind)),
+                )
+            }
+            Stage::Failed(kind, stamp, file) => {
+                (Stage::Failed(kind, stamp, file), Err(io::Error::from(kind)))
             }
         }
     }
@@ -222,11 +246,15 @@ impl<S: Read + Drop, O: Opener + Drop> Stage<S, O> {
         buf: &mut [u8],
     ) -> (Stage<S, O>, io::Result<usize>)
         ensures bound { ReadsAtMost result.1 buf.new }
-        ensures leaves { Leaves (stage_standing S.remaining result.0) buf.new result.1 }
+        ensures bytes { ReadConsumes (O.File.remaining (tried_by file)) (bytes_left (stage_standing S.remaining O.known O.File.remaining result.0)) result.1 buf.new }
+        ensures leaves { Leaves (stage_standing S.remaining O.known O.File.remaining result.0) buf.new result.1 }
         ensures opened { stage_opened result.0 ≡ stamp }
     {
         match file.read(buf) {
-            Err(error) => (Stage::Failed(error.kind(), stamp), Err(error)),
+            Err(error) => (
+                Stage::Failed(error.kind(), stamp, Snapshot::of(&file)),
+                Err(error),
+            ),
             Ok(0) if !buf.is_empty() => (Stage::Ended(stamp), Ok(0)),
             Ok(count) => (Stage::Reading(file, stamp), Ok(count)),
         }
@@ -247,6 +275,7 @@ fn feed(watch: &mut Option<Watch>, piece: &[u8])
 fn open<O: Opener>(files: &O, path: &str) -> io::Result<Opened<O::File>>
     ensures lasting { IfErr result (λ e. error_kind e ≢ Interrupted) }
     ensures worked { IfOk result (λ _. O.can_open path.now) }
+    ensures given { IfOk result (λ opened. Keeps (O.known files.now path.now) (O.File.remaining opened.file)) }
     ensures stamped { IfOk result (λ opened. IfSome opened.stamp (λ stamp. O.holds path.now stamp (O.File.remaining opened.file))) }
 {
     for _ in 0..u64::MAX {

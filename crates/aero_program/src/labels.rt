@@ -2,59 +2,25 @@
 ghost use Rattle.std.specs.Prelude.{◌≡◌, ◌++◌, ℕ, List, [], if◌then◌else◌, true, map, vec_len, IfOk, IfSome, OnOk};
 ghost use Rattle.std.specs.List.{filter, list_all, list_any};
 ghost use Rattle.std.specs.Prelude.{bytes_eq};
-ghost use Rattle.aero_batch.specs.Founds.{sighted};
-ghost use Rattle.aero_model.specs.CallCounts.{inner_of};
-ghost use Rattle.aero_program.specs.Inputs.{bytes_left, standing_of};
-ghost use Rattle.aero_program.specs.Labels.{labels_of, missing_of, watched_in};
+ghost use Rattle.aero_program.specs.Labels.{HasWatched, watched_in};
 ghost use Rattle.aero_program.specs.Notes.{all_read, is_whole, label_line, label_lines, missing_in_each, named_input};
-ghost use Rattle.aero_program.specs.Sightings.{resighted};
+ghost use Rattle.aero_program.specs.Traces.{input_of, unused_in};
 ghost use Rattle.aero_watch.specs.Watches.{at_places};
 
 use crate::files::Opener;
-use crate::input::Input;
 use crate::notes::append_said;
+use crate::traced::Traced;
 use aero_batch::Cause;
-use aero_batch::source::Source;
-use aero_model::{Counting, Ending, Name, SharedExcept};
+use aero_intake::SourceOf;
+use aero_model::{Ending, Name, SharedExcept};
 use aero_watch::Watch;
 use std::alloc::{AllocError, Global};
 use std::io::Read;
 
-/// The same sources, none of which was read yet, each with a watch for the labels of the list, where it has any.
-///
-/// # Errors
-///
-/// `AllocError` where memory is refused.
-pub fn watched<S: Read + Drop, F: Opener + Drop>(
-    alloc: Global,
-    sources: Vec<Source<Input<S, F>>>,
-    except: &SharedExcept,
-) -> Result<Vec<Source<Input<S, F>>>, AllocError>
-    ensures sighted { IfOk result (λ r. map (sighted (λ input. bytes_left (standing_of S.remaining input))) r.items ≡ map resighted (map (sighted (λ input. bytes_left (standing_of S.remaining input))) sources.items)) }
-    ensures few { IfOk result (λ r. vec_len r ≡ vec_len sources) }
-    ensures watched { IfOk result (λ r. map labels_of r.items ≡ map (λ _. except.now.labels) sources.items) }
-{
-    let mut made = Vec::new(alloc);
-    for source in sources {
-        let Source {
-            name,
-            reader,
-            may_wait,
-        } = source;
-        let watch = watch_for(alloc, except)?;
-        let reader = Counting::new(reader.into_inner().watched_by(watch));
-        made.push(Source {
-            name,
-            reader,
-            may_wait,
-        })?;
-    }
-    Ok(made)
-}
-
 // A watch for the labels of the list, if it has any.
-fn watch_for(alloc: Global, except: &SharedExcept) -> Result<Option<Watch>, AllocError>
-    ensures { IfOk result (λ watch. watched_in watch ≡ except.now.labels) }
+pub(crate) fn watch_for(alloc: Global, except: &SharedExcept) -> Result<Option<Watch>, AllocError>
+    ensures labels { IfOk result (λ watch. watched_in watch ≡ except.now.labels) }
+    ensures seen { IfOk result (λ watch. HasWatched watch []) }
 {
     if except.get().labels().is_empty() {
         return Ok(None);
@@ -66,11 +32,11 @@ fn watch_for(alloc: Global, except: &SharedExcept) -> Result<Option<Watch>, Allo
 /// the labels says that memory is refused now, or was to a watch.
 pub fn unused_labels<'a, S: Read + Drop, F: Opener + Drop>(
     alloc: Global,
-    sources: Vec<Source<Input<S, F>>>,
+    sources: Vec<SourceOf<Traced<S, F>>>,
     labels: &'a [Name],
-) -> (Option<Vec<&'a Name>>, Vec<Source<Input<S, F>>>)
-    ensures unused { IfSome result.0 (λ unused. map (λ label. label.now) unused.items ≡ missing_in_each (map (λ s. missing_of (inner_of s.reader)) sources.items) labels.now) }
-    ensures kept { map named_input result.1.items ≡ map named_input sources.items }
+) -> (Option<Vec<&'a Name>>, Vec<SourceOf<Traced<S, F>>>)
+    ensures unused { IfSome result.0 (λ unused. map (λ label. label.now) unused.items ≡ missing_in_each (map (λ s. unused_in s.reader) sources.items) labels.now) }
+    ensures kept { map (named_input input_of unused_in) result.1.items ≡ map (named_input input_of unused_in) sources.items }
 {
     let Ok(all) = all_labels(alloc, labels) else {
         return (None, sources);
@@ -90,30 +56,19 @@ fn are_none(labels: &[Name]) -> bool
 // Those of the labels that each source lacks, and the sources again.
 fn missing_of_all<'a, S: Read + Drop, F: Opener + Drop>(
     alloc: Global,
-    sources: Vec<Source<Input<S, F>>>,
+    sources: Vec<SourceOf<Traced<S, F>>>,
     labels: Vec<&'a Name>,
-) -> (Option<Vec<&'a Name>>, Vec<Source<Input<S, F>>>)
-    ensures unused { IfSome result.0 (λ unused. map (λ label. label.now) unused.items ≡ missing_in_each (map (λ s. missing_of (inner_of s.reader)) sources.items) (map (λ label. label.now) labels.entry.items)) }
-    ensures kept { map named_input result.1.items ≡ map named_input sources.items }
+) -> (Option<Vec<&'a Name>>, Vec<SourceOf<Traced<S, F>>>)
+    ensures unused { IfSome result.0 (λ unused. map (λ label. label.now) unused.items ≡ missing_in_each (map (λ s. unused_in s.reader) sources.items) (map (λ label. label.now) labels.entry.items)) }
+    ensures kept { map (named_input input_of unused_in) result.1.items ≡ map (named_input input_of unused_in) sources.items }
 {
     let Ok(mut kept) = Vec::with_capacity(alloc, sources.len()) else {
         return (None, sources);
     };
     let mut missing = Some(labels);
     for source in sources {
-        let Source {
-            name,
-            reader,
-            may_wait,
-        } = source;
-        let input = reader.into_inner();
-        missing = still_missing(alloc, missing, &input);
-        let reader = Counting::new(input);
-        kept.push_reserved(Source {
-            name,
-            reader,
-            may_wait,
-        });
+        missing = still_missing(alloc, missing, &source.reader);
+        kept.push_reserved(source);
     }
     (missing, kept)
 }
@@ -122,14 +77,14 @@ fn missing_of_all<'a, S: Read + Drop, F: Opener + Drop>(
 fn still_missing<'a, S: Read + Drop, F: Opener + Drop>(
     alloc: Global,
     labels: Option<Vec<&'a Name>>,
-    input: &Input<S, F>,
+    traced: &Traced<S, F>,
 ) -> Option<Vec<&'a Name>>
     ensures { (names : List (List ℕ)) → IfSome labels.entry (λ was. map (λ label. label.now) was.items ≡ names)
-        → IfSome result (λ left. map (λ label. label.now) left.items ≡ filter (λ label. list_any (bytes_eq label) (missing_of input.now)) names) }
+        → IfSome result (λ left. map (λ label. label.now) left.items ≡ filter (λ label. list_any (bytes_eq label) (unused_in traced.now)) names) }
 {
     match labels {
         None => None,
-        Some(labels) => match lacking(alloc, &labels, input) {
+        Some(labels) => match lacking(alloc, &labels, traced) {
             Ok(left) => Some(left),
             Err(_) => None,
         },
@@ -150,13 +105,13 @@ fn all_labels<'a>(alloc: Global, labels: &'a [Name]) -> Result<Vec<&'a Name>, Al
 fn lacking<'a, S: Read + Drop, F: Opener + Drop>(
     alloc: Global,
     labels: &[&'a Name],
-    input: &Input<S, F>,
+    traced: &Traced<S, F>,
 ) -> Result<Vec<&'a Name>, AllocError>
-    ensures { IfOk result (λ left. map (λ label. label.now) left.items ≡ filter (λ label. list_any (bytes_eq label) (missing_of input.now)) (map (λ label. label.now) labels.now)) }
+    ensures { IfOk result (λ left. map (λ label. label.now) left.items ≡ filter (λ label. list_any (bytes_eq label) (unused_in traced.now)) (map (λ label. label.now) labels.now)) }
 {
     let mut left = Vec::new(alloc);
     for label in labels {
-        if input.lacks(label.bytes())? {
+        if traced.lacks(label.bytes())? {
             left.push(*label)?;
         }
     }

@@ -2,7 +2,7 @@
 //! the words' meaning and the three streams.
 //!
 //! `words_of` gives the words. `execute` does what they ask for and gives the exit status: it runs over
-//! the sources of `sources_of`, of which each is an `Input`, standard input or a file that is opened
+//! the sources of `sources_of`, of which each is a `Traced` `Input`, standard input or a file that is opened
 //! at its first read by an `Opener`. What `notes_of` says of them it tells in the summary as JSON, and then on
 //! standard error. The files may be named in a list (`read_list`). A `Failure` has the line and the status where
 //! there is no whole report.
@@ -35,10 +35,18 @@
 //!   finds the end exactly where the stream does: `Input::standard`, `read`, `steps`.
 //! - A file is opened at its first read, by any `Opener`. It has bytes or an end only where an open can have worked, and
 //!   after a failed open each read fails: `Input::path`, `read`, `steps`.
+//! - An input has the bytes that the opener says of its path, where it says them, and then those that its file says to have left.
+//!   No read loses or changes one, and what a file has left stays known where a read fails: `Opener::known`, `Input::read`, `bytes`.
+//! - So what a run tells of such a file is told of a front of these bytes, and of all where it tells that the file was read to its
+//!   end: `execute`, `laws`.
 //! - An input notes its first three bytes and its first failure: `Input::read`, `start`, `reason`. It notes with which labels
 //!   of its watch no line of the bytes that came begins a block: `Input::read`, `watched`, `seen`; `lacks`.
 //! - Behind the notes on sources those labels are told, in order, that each source lacks, where each was read to its end:
-//!   `lines_on`, `all_read`, `execute`. That a source gets a watch for them, `watched` says.
+//!   `lines_on`, `all_read`, `execute`. That each source looks for them, `sources_of` says: `sighted`.
+//! - What was noted of a source was noted by its own reader, of exactly the bytes that this gave: the first three, a reason
+//!   where one of its reads failed and else none, unless the name isn't UTF-8, a stamp of a file that was opened at its path,
+//!   and the labels with which none of their lines begins a block: `Traced`, `read`; `execute`, over `AreOwn`. The bytes are those
+//!   of which the report tells.
 //! - Where the flush of standard output fails as that of a pipe whose reader has gone, no line says so: `execute`,
 //!   `status_after`, `Failure::of_write`, `of_cut`.
 //! - The whole size of files is the sum of theirs, where each is known: `whole_size`.
@@ -58,8 +66,10 @@
 //! No contract says which words there are, or whether a stream is a terminal: `words_of` asks, and `Config::on` is told. Nor does
 //! one say that files hear how much there is to do: `Opener::begin`.
 //! No contract says how often a stream is flushed: tests show that standard output is, once and behind all that it has.
-//! Which bytes a file with a stamp may have, an `Opener` says by its ghost member `holds`. Of the files of `FilesOf` nothing is
-//! known, and those of `MeteredFiles` have the bytes of the files within.
+//! No contract says that a source which `execute` tells as broken couldn't be opened or read: a run's contract says that a read of its
+//! reader failed, and none says when an open or a read of a file, or a read of standard input, may fail.
+//! Which bytes a file has at a path, an `Opener` says by its ghost member `known`, and which a file with a stamp may have by `holds`.
+//! Of the files of `FilesOf` nothing is known, and those of `MeteredFiles` have the bytes of the files within.
 #![tactic(auto)]
 
 pub mod arguments;
@@ -68,9 +78,11 @@ pub mod crew;
 pub mod execute;
 pub mod failure;
 pub mod files;
+mod ghost_text;
 pub mod input;
 pub mod labels;
 mod lasting;
+pub mod laws;
 pub mod listing;
 pub mod looker;
 pub mod notes;
@@ -82,4 +94,5 @@ pub mod sources;
 pub mod stamp;
 pub mod start;
 pub mod status;
+pub mod traced;
 mod watched;

@@ -47,8 +47,8 @@ pub fn read_list<S: Read + Drop, O: Opener + Drop>(
     alloc: Global,
     input: &mut Input<S, O>,
 ) -> Result<Vec<u8>, Unlisted>
-    ensures whole { IfOk result (λ list. IsWhole (bytes_left (standing_of S.remaining input.old)) list.items) }
-    ensures fault { reason_of input.old ≡ None → IfErr result (IsFaultOf (bytes_left (standing_of S.remaining input.old)) (reason_of input.new)) }
+    ensures whole { IfOk result (λ list. IsWhole (bytes_left (standing_of S.remaining O.known O.File.remaining input.old)) list.items) }
+    ensures fault { reason_of input.old ≡ None → IfErr result (IsFaultOf (bytes_left (standing_of S.remaining O.known O.File.remaining input.old)) (reason_of input.new)) }
 {
     let mut buffer = vec![in alloc; 0u8; PIECE]?;
     let mut list = Vec::new(alloc);
@@ -65,8 +65,8 @@ fn gather<S: Read + Drop, O: Opener + Drop>(
     requires some { 0 < length buffer.old }
     requires few { length buffer.old ≤ 2 ^ 20 }
     requires empty { list.old.items ≡ [] }
-    ensures whole { OnOk result (IsWhole (bytes_left (standing_of S.remaining input.old)) list.new.items) }
-    ensures fault { reason_of input.old ≡ None → IfErr result (IsFaultOf (bytes_left (standing_of S.remaining input.old)) (reason_of input.new)) }
+    ensures whole { OnOk result (IsWhole (bytes_left (standing_of S.remaining O.known O.File.remaining input.old)) list.new.items) }
+    ensures fault { reason_of input.old ≡ None → IfErr result (IsFaultOf (bytes_left (standing_of S.remaining O.known O.File.remaining input.old)) (reason_of input.new)) }
 {
     let mut ends = 0usize;
     for _ in 0..u64::MAX {

@@ -4,14 +4,15 @@ ghost use Rattle.std.specs.Option.{option_copied};
 ghost use Rattle.aero_report.specs.Asked.{note_of};
 ghost use Rattle.aero_program.specs.Notes.{AreNotes, GrowsBy, fault_notes, fault_told, is_missing, mark_notes, note_at, note_text, note_texts, noted_of, noted_of_all, place_text, reason_notes, reason_text, said_on, sentence_of, sentence_on, size_notes, was_too_large};
 ghost use Rattle.aero_program.specs.Reasons.{reason_words};
+ghost use Rattle.aero_program.specs.Traces.{input_of, unused_in};
 
 use crate::files::Opener;
-use crate::input::Input;
 use crate::looker::Looker;
 use crate::reason::Reason;
-use aero_batch::source::Source;
+use crate::traced::Traced;
 use aero_batch::{Fault, FaultyLine};
 use aero_faults::look::{Look, append_ill_formed, append_malformed};
+use aero_intake::SourceOf;
 use aero_model::Ending;
 use aero_report::Note;
 use aero_report::shown::append_text;
@@ -21,7 +22,7 @@ use std::io::Read;
 
 // What is told of the first line of what gzip made, which is none of a trace.
 const GZIP_SENTENCE: &str =
-    "the source is compressed by gzip: zcat FILE | aerodrome judges what is in it";
+    "the input is compressed by gzip: to judge it, run zcat FILE | aerodrome";
 
 /// The notes on the sources, in order: of each that it starts with a byte order mark, if it does,
 /// then why its first read that failed did, if one did, then how it is judged all the same, if it
@@ -36,12 +37,12 @@ const GZIP_SENTENCE: &str =
 /// its words alone.
 pub fn notes_of<S: Read + Drop, F: Opener + Drop, G: Opener>(
     looker: &Looker<'_, G>,
-    sources: Vec<Source<Input<S, F>>>,
+    sources: Vec<SourceOf<Traced<S, F>>>,
     endings: &[(u64, Ending)],
     faults: &[Option<FaultyLine>],
     are_words: bool,
 ) -> Result<Vec<Note>, AllocError>
-    ensures { IfOk result (λ notes. AreNotes G.holds (noted_of_all are_words sources.items endings.now faults.now) (map note_of notes.items)) }
+    ensures { IfOk result (λ notes. AreNotes G.holds (noted_of_all input_of unused_in are_words sources.items endings.now faults.now) (map note_of notes.items)) }
 {
     let mut notes = Vec::new(looker.alloc);
     let mut place = 0usize;
@@ -84,13 +85,13 @@ fn fault_of(fault: Option<&Option<FaultyLine>>) -> Option<FaultyLine>
 fn add_notes<S: Read + Drop, F: Opener + Drop, G: Opener>(
     notes: &mut Vec<Note>,
     looker: &Looker<'_, G>,
-    source: Source<Input<S, F>>,
+    source: SourceOf<Traced<S, F>>,
     found: Found,
     are_words: bool,
 ) -> Result<(), AllocError>
-    ensures { OnOk result (GrowsBy G.holds (map note_of notes.old.items) (map note_of notes.new.items) (noted_of are_words source found.too_large found.fault)) }
+    ensures { OnOk result (GrowsBy G.holds (map note_of notes.old.items) (map note_of notes.new.items) (noted_of input_of unused_in are_words source found.too_large found.fault)) }
 {
-    let Source { name, reader, .. } = source;
+    let SourceOf { name, reader, .. } = source;
     let input = reader.into_inner();
     let alloc = looker.alloc;
     let seen = looker.look(&name, input.opened(), found.fault);
@@ -141,7 +142,7 @@ fn reason_text(name: &[u8], reason: Reason, is_word: bool) -> &'static str
     ensures { result.now ≡ reason_text is_word name.now reason }
 {
     if is_word && is_dash(name) && is_missing(reason) {
-        return "No such file or directory (standard input is read where no FILE is given)";
+        return "No such file or directory (standard input is read if no FILE is given)";
     }
     reason.words()
 }
@@ -176,7 +177,7 @@ fn add_size(
         notes,
         alloc,
         name,
-        "over 1073741824 bytes: --long judges sources of any size",
+        "over 1073741824 bytes: --long accepts inputs of any size",
     )
 }
 

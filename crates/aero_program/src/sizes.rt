@@ -4,7 +4,7 @@ ghost use Rattle.aero_program.specs.Sizes.{AreSizes};
 
 use crate::command::Sources;
 use crate::files::{FilesOf, MeteredFiles, Opener};
-use aero_batch::source::Source;
+use aero_intake::SourceOf;
 use aero_progress::reached::Work;
 use std::rt::Files;
 use std::{fs, str};
@@ -46,7 +46,7 @@ impl<O: Opener + Sizes> Sizes for MeteredFiles<'_, O> {
 /// Whether the sources are best judged by a thread each: the plain files among them have 65,536 bytes each on average, since
 /// a thread takes time to start, and none has over four sevenths of all bytes. One that has would have a single thread at
 /// work on it for longer than it takes to judge all in turn, with workers that read ahead.
-pub(crate) fn are_worth_threads<R, Z: Sizes>(files: &Z, sources: &[Source<R>]) -> bool {
+pub(crate) fn are_worth_threads<R, Z: Sizes>(files: &Z, sources: &[SourceOf<R>]) -> bool {
     let mut whole: u64 = 0;
     let mut largest: u64 = 0;
     for source in sources {
@@ -58,7 +58,7 @@ pub(crate) fn are_worth_threads<R, Z: Sizes>(files: &Z, sources: &[Source<R>]) -
 }
 
 // How many bytes the plain file has that the source is named as, if it is named as one.
-fn size_of<R, Z: Sizes>(files: &Z, source: &Source<R>) -> Option<u64>
+fn size_of<R, Z: Sizes>(files: &Z, source: &SourceOf<R>) -> Option<u64>
     ensures { IfSome result (λ bytes. Z.has_size source.now.name.items bytes) }
 {
     match str::from_utf8(&source.name) {
@@ -69,7 +69,7 @@ fn size_of<R, Z: Sizes>(files: &Z, source: &Source<R>) -> Option<u64>
 
 /// Has the files hear how many sources there are, where this wasn't known before a list was read, and how many bytes they
 /// have together.
-pub(crate) fn tell_work<R, Z: Opener + Sizes>(files: &Z, asked: &Sources, sources: &[Source<R>]) {
+pub(crate) fn tell_work<R, Z: Opener + Sizes>(files: &Z, asked: &Sources, sources: &[SourceOf<R>]) {
     if asked.are_counted() {
         return;
     }
@@ -81,7 +81,7 @@ pub(crate) fn tell_work<R, Z: Opener + Sizes>(files: &Z, asked: &Sources, source
 
 // How many bytes the files have together that the sources are named as. `None` where one is named as no plain file, or where
 // there are 2^64 bytes or more.
-fn listed_size<R, Z: Sizes>(files: &Z, sources: &[Source<R>]) -> Option<u64>
+fn listed_size<R, Z: Sizes>(files: &Z, sources: &[SourceOf<R>]) -> Option<u64>
     ensures { IfSome result (λ whole. AreSizes Z.has_size (map (λ s. s.name.items) sources.now) whole) }
 {
     let mut whole: u64 = 0;

@@ -1,27 +1,31 @@
 //! The sources that are asked for.
 ghost use Rattle.std.specs.Prelude.{◌≡◌, ◌≤◌, ◌^◌, ◌∷◌, ℕ, List, [], Some, None, if◌then◌else◌, IfErr, IfOk, OnOk, map, option_map, codes, string_bytes, unwrap_or, vec_len};
 ghost use Rattle.std.specs.Str.{is_utf8};
-ghost use Rattle.aero_model.specs.CallCounts.{inner_of};
 ghost use Rattle.aero_batch.specs.Founds.{sighted};
+ghost use Rattle.aero_intake.specs.Source.{Nowhere, Stream};
 ghost use Rattle.aero_program.specs.Command.{count_named};
-ghost use Rattle.aero_program.specs.Inputs.{bytes_left, reason_of, standing_of, unread, Standard, Unopened, Failed};
+ghost use Rattle.aero_program.specs.Inputs.{bytes_left, reason_of, standing_of, unopened, unread, Standard, Failed};
 ghost use Rattle.aero_program.specs.Listing.{IsListFault, IsWhole, list_given, names_in};
+ghost use Rattle.aero_program.specs.Traces.{input_of, sight_of};
 ghost use Rattle.aero_program.specs.declared.reason.Reason.TheVariants.{NotUtf8};
-ghost use Rattle.aero_program.specs.Sightings.{AreNames, AreUnlisted, listed_reason, listed_standing, sighting, source_reasons, source_sightings, source_standings};
+ghost use Rattle.aero_program.specs.Sightings.{AreNames, AreUnlisted, file_made, listed_made, listed_reason, listed_standing, made_at, sightings, source_reasons, source_sightings, source_standings};
 
 use crate::command::{MOST_FILES, Sources};
 use crate::files::Opener;
 use crate::input::Input;
+use crate::labels::watch_for;
 use crate::listing::{Unlisted, first_name, read_list};
-use aero_batch::source::Source;
-use aero_model::Counting;
+use crate::traced::Traced;
+use aero_intake::SourceOf;
+use aero_model::SharedExcept;
 use std::alloc::{AllocError, Global};
 use std::io::Read;
 use std::str;
 
 /// Standard input, under its name or `-`, or the file of each word, named as it, or of each name in a
 /// list, which is read for that. No other file is opened yet, and what is no plain file, a pipe say, is
-/// taken for one that may wait. A file can't be opened of which a list has a name that isn't UTF-8.
+/// taken for one that may wait. A file can't be opened of which a list has a name that isn't UTF-8. Each looks for the labels
+/// of the list, where it has any.
 ///
 /// # Errors
 ///
@@ -31,18 +35,19 @@ pub fn sources_of<'a, S: Read + Drop, F: Opener + Drop>(
     files: &'a F,
     stdin: S,
     asked: &Sources,
-) -> Result<Vec<Source<Input<S, &'a F>>>, Unlisted>
+    except: &SharedExcept,
+) -> Result<Vec<SourceOf<Traced<S, &'a F>>>, Unlisted>
     ensures few { count_named asked.now ≤ 2 ^ 16 → IfOk result (λ sources. vec_len sources ≤ 2 ^ 16) }
-    ensures names { IfOk result (λ sources. AreNames asked.now (S.remaining stdin) (map (λ s. s.name.items) sources.items)) }
-    ensures readers { IfOk result (λ sources. map (λ s. standing_of S.remaining (inner_of s.reader)) sources.items ≡ source_standings asked.now (S.remaining stdin) (map (λ s. s.name.items) sources.items)) }
-    ensures reasons { IfOk result (λ sources. map (λ s. reason_of (inner_of s.reader)) sources.items ≡ source_reasons asked.now (map (λ s. s.name.items) sources.items)) }
-    ensures sighted { IfOk result (λ sources. map (sighted (λ input. bytes_left (standing_of S.remaining input))) sources.items ≡ source_sightings asked.now (S.remaining stdin) (map (λ s. s.name.items) sources.items)) }
-    ensures unlisted { IfErr result (AreUnlisted asked.now (S.remaining stdin)) }
+    ensures names { IfOk result (λ sources. AreNames (F.known files.now) asked.now (S.remaining stdin) (map (λ s. s.name.items) sources.items)) }
+    ensures readers { IfOk result (λ sources. map (λ s. standing_of S.remaining (λ f. F.known f.now) F.File.remaining (input_of s.reader)) sources.items ≡ source_standings (F.known files.now) asked.now (S.remaining stdin) (map (λ s. s.name.items) sources.items)) }
+    ensures reasons { IfOk result (λ sources. map (λ s. reason_of (input_of s.reader)) sources.items ≡ source_reasons asked.now (map (λ s. s.name.items) sources.items)) }
+    ensures sighted { IfOk result (λ sources. map (sighted (sight_of S.remaining (λ f. F.known f.now) F.File.remaining)) sources.items ≡ source_sightings (F.known files.now) except.now.labels asked.now (S.remaining stdin) (map (λ s. s.name.items) sources.items)) }
+    ensures unlisted { IfErr result (AreUnlisted (F.known files.now) asked.now (S.remaining stdin)) }
 {
     match asked {
-        Sources::Standard(name) => Ok(standard_alone(alloc, stdin, name)?),
-        Sources::Files(words) => Ok(files_of(alloc, files, words)?),
-        Sources::Listed(path) => listed_at(alloc, files, stdin, path.as_str()),
+        Sources::Standard(name) => Ok(standard_alone(alloc, stdin, name, except)?),
+        Sources::Files(words) => Ok(files_of(alloc, files, words, except)?),
+        Sources::Listed(path) => listed_at(alloc, files, stdin, path.as_str(), except),
     }
 }
 
@@ -51,14 +56,15 @@ fn standard_alone<'a, S: Read + Drop, F: Opener + Drop>(
     alloc: Global,
     stdin: S,
     name: &Option<String>,
-) -> Result<Vec<Source<Input<S, &'a F>>>, AllocError>
+    except: &SharedExcept,
+) -> Result<Vec<SourceOf<Traced<S, &'a F>>>, AllocError>
     ensures names { IfOk result (λ sources. map (λ s. s.name.items) sources.items ≡ unwrap_or (option_map string_bytes name.now) (codes "-") ∷ []) }
-    ensures readers { IfOk result (λ sources. map (λ s. standing_of S.remaining (inner_of s.reader)) sources.items ≡ Standard (unread (S.remaining stdin)) ∷ []) }
-    ensures reasons { IfOk result (λ sources. map (λ s. reason_of (inner_of s.reader)) sources.items ≡ None ∷ []) }
-    ensures sighted { IfOk result (λ sources. map (sighted (λ input. bytes_left (standing_of S.remaining input))) sources.items ≡ map (sighting (S.remaining stdin)) (unwrap_or (option_map string_bytes name.now) (codes "-") ∷ [])) }
+    ensures readers { IfOk result (λ sources. map (λ s. standing_of S.remaining (λ f. F.known f.now) F.File.remaining (input_of s.reader)) sources.items ≡ Standard (unread (S.remaining stdin)) ∷ []) }
+    ensures reasons { IfOk result (λ sources. map (λ s. reason_of (input_of s.reader)) sources.items ≡ None ∷ []) }
+    ensures sighted { IfOk result (λ sources. map (sighted (sight_of S.remaining (λ f. F.known f.now) F.File.remaining)) sources.items ≡ sightings (λ _. made_at Stream except.now.labels (S.remaining stdin)) (unwrap_or (option_map string_bytes name.now) (codes "-") ∷ [])) }
     ensures one { IfOk result (λ sources. vec_len sources ≡ 1) }
 {
-    let source = standard_of(alloc, stdin, name_or_dash(name))?;
+    let source = standard_of(alloc, stdin, name_or_dash(name), except)?;
     alone(alloc, source)
 }
 
@@ -87,15 +93,17 @@ fn standard_of<'a, S: Read + Drop, F: Opener + Drop>(
     alloc: Global,
     stdin: S,
     name: &[u8],
-) -> Result<Source<Input<S, &'a F>>, AllocError>
+    except: &SharedExcept,
+) -> Result<SourceOf<Traced<S, &'a F>>, AllocError>
     ensures name { IfOk result (λ s. s.name.items ≡ name.now) }
-    ensures reader { IfOk result (λ s. standing_of S.remaining (inner_of s.reader) ≡ Standard (unread (S.remaining stdin))) }
-    ensures reason { IfOk result (λ s. reason_of (inner_of s.reader) ≡ None) }
-    ensures sighted { IfOk result (λ s. sighted (λ input. bytes_left (standing_of S.remaining input)) s ≡ sighting (S.remaining stdin) name.now) }
+    ensures reader { IfOk result (λ s. standing_of S.remaining (λ f. F.known f.now) F.File.remaining (input_of s.reader) ≡ Standard (unread (S.remaining stdin))) }
+    ensures reason { IfOk result (λ s. reason_of (input_of s.reader) ≡ None) }
+    ensures sighted { IfOk result (λ s. sighted (sight_of S.remaining (λ f. F.known f.now) F.File.remaining) s ≡ record { name = name.now; reader = made_at Stream except.now.labels (S.remaining stdin) }) }
 {
-    Ok(Source {
+    let watch = watch_for(alloc, except)?;
+    Ok(SourceOf {
         name: Vec::from_slice(alloc, name)?,
-        reader: Counting::new(Input::standard(stdin)),
+        reader: Traced::new(Input::standard(stdin).watched_by(watch)),
         may_wait: true,
     })
 }
@@ -105,14 +113,15 @@ fn files_of<'a, S: Read + Drop, F: Opener + Drop>(
     alloc: Global,
     files: &'a F,
     words: &[String],
-) -> Result<Vec<Source<Input<S, &'a F>>>, AllocError>
+    except: &SharedExcept,
+) -> Result<Vec<SourceOf<Traced<S, &'a F>>>, AllocError>
     ensures names { IfOk result (λ sources. map (λ s. s.name.items) sources.items ≡ map string_bytes words.now) }
-    ensures readers { IfOk result (λ sources. map (λ s. standing_of S.remaining (inner_of s.reader)) sources.items ≡ map Unopened (map string_bytes words.now)) }
-    ensures reasons { IfOk result (λ sources. map (λ s. reason_of (inner_of s.reader)) sources.items ≡ map (λ _. None) (map string_bytes words.now)) }
-    ensures sighted { IfOk result (λ sources. map (sighted (λ input. bytes_left (standing_of S.remaining input))) sources.items ≡ map (sighting None) (map string_bytes words.now)) }
+    ensures readers { IfOk result (λ sources. map (λ s. standing_of S.remaining (λ f. F.known f.now) F.File.remaining (input_of s.reader)) sources.items ≡ map (unopened (F.known files.now)) (map string_bytes words.now)) }
+    ensures reasons { IfOk result (λ sources. map (λ s. reason_of (input_of s.reader)) sources.items ≡ map (λ _. None) (map string_bytes words.now)) }
+    ensures sighted { IfOk result (λ sources. map (sighted (sight_of S.remaining (λ f. F.known f.now) F.File.remaining)) sources.items ≡ sightings (file_made (F.known files.now) except.now.labels) (map string_bytes words.now)) }
 {
     let mut sources = Vec::new(alloc);
-    add_files(alloc, files, words, &mut sources)?;
+    add_files(alloc, files, words, except, &mut sources)?;
     Ok(sources)
 }
 
@@ -121,16 +130,17 @@ fn add_files<'a, S: Read + Drop, F: Opener + Drop>(
     alloc: Global,
     files: &'a F,
     words: &[String],
-    sources: &mut Vec<Source<Input<S, &'a F>>>,
+    except: &SharedExcept,
+    sources: &mut Vec<SourceOf<Traced<S, &'a F>>>,
 ) -> Result<(), AllocError>
     requires { sources.old.items ≡ [] }
     ensures names { OnOk result (map (λ s. s.name.items) sources.new.items ≡ map string_bytes words.now) }
-    ensures readers { OnOk result (map (λ s. standing_of S.remaining (inner_of s.reader)) sources.new.items ≡ map Unopened (map string_bytes words.now)) }
-    ensures reasons { OnOk result (map (λ s. reason_of (inner_of s.reader)) sources.new.items ≡ map (λ _. None) (map string_bytes words.now)) }
-    ensures sighted { OnOk result (map (sighted (λ input. bytes_left (standing_of S.remaining input))) sources.new.items ≡ map (sighting None) (map string_bytes words.now)) }
+    ensures readers { OnOk result (map (λ s. standing_of S.remaining (λ f. F.known f.now) F.File.remaining (input_of s.reader)) sources.new.items ≡ map (unopened (F.known files.now)) (map string_bytes words.now)) }
+    ensures reasons { OnOk result (map (λ s. reason_of (input_of s.reader)) sources.new.items ≡ map (λ _. None) (map string_bytes words.now)) }
+    ensures sighted { OnOk result (map (sighted (sight_of S.remaining (λ f. F.known f.now) F.File.remaining)) sources.new.items ≡ sightings (file_made (F.known files.now) except.now.labels) (map string_bytes words.now)) }
 {
     for word in words {
-        let source = file_of(alloc, files, word.as_str())?;
+        let source = file_of(alloc, files, word.as_str(), except)?;
         sources.push(source)?;
     }
     Ok(())
@@ -141,15 +151,17 @@ fn file_of<'a, S: Read + Drop, F: Opener + Drop>(
     alloc: Global,
     files: &'a F,
     path: &str,
-) -> Result<Source<Input<S, &'a F>>, AllocError>
+    except: &SharedExcept,
+) -> Result<SourceOf<Traced<S, &'a F>>, AllocError>
     ensures name { IfOk result (λ s. s.name.items ≡ path.now) }
-    ensures reader { IfOk result (λ s. standing_of S.remaining (inner_of s.reader) ≡ Unopened path.now) }
-    ensures reason { IfOk result (λ s. reason_of (inner_of s.reader) ≡ None) }
-    ensures sighted { IfOk result (λ s. sighted (λ input. bytes_left (standing_of S.remaining input)) s ≡ sighting None path.now) }
+    ensures reader { IfOk result (λ s. standing_of S.remaining (λ f. F.known f.now) F.File.remaining (input_of s.reader) ≡ unopened (F.known files.now) path.now) }
+    ensures reason { IfOk result (λ s. reason_of (input_of s.reader) ≡ None) }
+    ensures sighted { IfOk result (λ s. sighted (sight_of S.remaining (λ f. F.known f.now) F.File.remaining) s ≡ record { name = path.now; reader = file_made (F.known files.now) except.now.labels path.now }) }
 {
-    Ok(Source {
+    let watch = watch_for(alloc, except)?;
+    Ok(SourceOf {
         name: Vec::from_slice(alloc, path.as_bytes())?,
-        reader: Counting::new(Input::path(alloc, files, path)?),
+        reader: Traced::new(Input::path(alloc, files, path)?.watched_by(watch)),
         may_wait: !files.is_plain(path),
     })
 }
@@ -160,17 +172,18 @@ fn listed_at<'a, S: Read + Drop, F: Opener + Drop>(
     files: &'a F,
     stdin: S,
     path: &str,
-) -> Result<Vec<Source<Input<S, &'a F>>>, Unlisted>
+    except: &SharedExcept,
+) -> Result<Vec<SourceOf<Traced<S, &'a F>>>, Unlisted>
     ensures few { IfOk result (λ sources. vec_len sources ≤ 2 ^ 16) }
-    ensures names { IfOk result (λ sources. (list : List ℕ) × IsWhole (list_given path.now (S.remaining stdin)) list × (map (λ s. s.name.items) sources.items ≡ names_in list)) }
-    ensures readers { IfOk result (λ sources. map (λ s. standing_of S.remaining (inner_of s.reader)) sources.items ≡ map listed_standing (map (λ s. s.name.items) sources.items)) }
-    ensures reasons { IfOk result (λ sources. map (λ s. reason_of (inner_of s.reader)) sources.items ≡ map listed_reason (map (λ s. s.name.items) sources.items)) }
-    ensures sighted { IfOk result (λ sources. map (sighted (λ input. bytes_left (standing_of S.remaining input))) sources.items ≡ map (sighting None) (map (λ s. s.name.items) sources.items)) }
-    ensures unlisted { IfErr result (IsListFault (list_given path.now (S.remaining stdin))) }
+    ensures names { IfOk result (λ sources. (list : List ℕ) × IsWhole (list_given (F.known files.now) path.now (S.remaining stdin)) list × (map (λ s. s.name.items) sources.items ≡ names_in list)) }
+    ensures readers { IfOk result (λ sources. map (λ s. standing_of S.remaining (λ f. F.known f.now) F.File.remaining (input_of s.reader)) sources.items ≡ map (listed_standing (F.known files.now)) (map (λ s. s.name.items) sources.items)) }
+    ensures reasons { IfOk result (λ sources. map (λ s. reason_of (input_of s.reader)) sources.items ≡ map listed_reason (map (λ s. s.name.items) sources.items)) }
+    ensures sighted { IfOk result (λ sources. map (sighted (sight_of S.remaining (λ f. F.known f.now) F.File.remaining)) sources.items ≡ sightings (listed_made (F.known files.now) except.now.labels) (map (λ s. s.name.items) sources.items)) }
+    ensures unlisted { IfErr result (IsListFault (list_given (F.known files.now) path.now (S.remaining stdin))) }
 {
     let mut input = list_input(alloc, files, stdin, path)?;
     let list = read_list(alloc, &mut input)?;
-    let sources = listed_in(alloc, files, &list)?;
+    let sources = listed_in(alloc, files, &list, except)?;
     if sources.len() > MOST_FILES {
         return Err(Unlisted::TooMany);
     }
@@ -184,7 +197,7 @@ fn list_input<'a, S: Read + Drop, F: Opener + Drop>(
     stdin: S,
     path: &str,
 ) -> Result<Input<S, &'a F>, AllocError>
-    ensures bytes { IfOk result (λ input. bytes_left (standing_of S.remaining input) ≡ list_given path.now (S.remaining stdin)) }
+    ensures bytes { IfOk result (λ input. bytes_left (standing_of S.remaining (λ f. F.known f.now) F.File.remaining input) ≡ list_given (F.known files.now) path.now (S.remaining stdin)) }
     ensures reason { IfOk result (λ input. reason_of input ≡ None) }
 {
     if path == "-" {
@@ -198,14 +211,15 @@ fn listed_in<'a, S: Read + Drop, F: Opener + Drop>(
     alloc: Global,
     files: &'a F,
     list: &[u8],
-) -> Result<Vec<Source<Input<S, &'a F>>>, AllocError>
+    except: &SharedExcept,
+) -> Result<Vec<SourceOf<Traced<S, &'a F>>>, AllocError>
     ensures names { IfOk result (λ sources. map (λ s. s.name.items) sources.items ≡ names_in list.now) }
-    ensures readers { IfOk result (λ sources. map (λ s. standing_of S.remaining (inner_of s.reader)) sources.items ≡ map listed_standing (map (λ s. s.name.items) sources.items)) }
-    ensures reasons { IfOk result (λ sources. map (λ s. reason_of (inner_of s.reader)) sources.items ≡ map listed_reason (map (λ s. s.name.items) sources.items)) }
-    ensures sighted { IfOk result (λ sources. map (sighted (λ input. bytes_left (standing_of S.remaining input))) sources.items ≡ map (sighting None) (map (λ s. s.name.items) sources.items)) }
+    ensures readers { IfOk result (λ sources. map (λ s. standing_of S.remaining (λ f. F.known f.now) F.File.remaining (input_of s.reader)) sources.items ≡ map (listed_standing (F.known files.now)) (map (λ s. s.name.items) sources.items)) }
+    ensures reasons { IfOk result (λ sources. map (λ s. reason_of (input_of s.reader)) sources.items ≡ map listed_reason (map (λ s. s.name.items) sources.items)) }
+    ensures sighted { IfOk result (λ sources. map (sighted (sight_of S.remaining (λ f. F.known f.now) F.File.remaining)) sources.items ≡ sightings (listed_made (F.known files.now) except.now.labels) (map (λ s. s.name.items) sources.items)) }
 {
     let mut sources = Vec::new(alloc);
-    add_listed(alloc, files, list, &mut sources)?;
+    add_listed(alloc, files, list, except, &mut sources)?;
     Ok(sources)
 }
 
@@ -214,18 +228,19 @@ fn add_listed<'a, S: Read + Drop, F: Opener + Drop>(
     alloc: Global,
     files: &'a F,
     list: &[u8],
-    sources: &mut Vec<Source<Input<S, &'a F>>>,
+    except: &SharedExcept,
+    sources: &mut Vec<SourceOf<Traced<S, &'a F>>>,
 ) -> Result<(), AllocError>
     requires { sources.old.items ≡ [] }
     ensures names { OnOk result (map (λ s. s.name.items) sources.new.items ≡ names_in list.now) }
-    ensures readers { OnOk result (map (λ s. standing_of S.remaining (inner_of s.reader)) sources.new.items ≡ map listed_standing (map (λ s. s.name.items) sources.new.items)) }
-    ensures reasons { OnOk result (map (λ s. reason_of (inner_of s.reader)) sources.new.items ≡ map listed_reason (map (λ s. s.name.items) sources.new.items)) }
-    ensures sighted { OnOk result (map (sighted (λ input. bytes_left (standing_of S.remaining input))) sources.new.items ≡ map (sighting None) (map (λ s. s.name.items) sources.new.items)) }
+    ensures readers { OnOk result (map (λ s. standing_of S.remaining (λ f. F.known f.now) F.File.remaining (input_of s.reader)) sources.new.items ≡ map (listed_standing (F.known files.now)) (map (λ s. s.name.items) sources.new.items)) }
+    ensures reasons { OnOk result (map (λ s. reason_of (input_of s.reader)) sources.new.items ≡ map listed_reason (map (λ s. s.name.items) sources.new.items)) }
+    ensures sighted { OnOk result (map (sighted (sight_of S.remaining (λ f. F.known f.now) F.File.remaining)) sources.new.items ≡ sightings (listed_made (F.known files.now) except.now.labels) (map (λ s. s.name.items) sources.new.items)) }
 {
     let mut rest = list;
     while !rest.is_empty() {
         let (name, behind) = first_name(rest);
-        let source = named_of(alloc, files, name)?;
+        let source = named_of(alloc, files, name, except)?;
         sources.push(source)?;
         rest = behind;
     }
@@ -237,16 +252,17 @@ fn named_of<'a, S: Read + Drop, F: Opener + Drop>(
     alloc: Global,
     files: &'a F,
     name: &[u8],
-) -> Result<Source<Input<S, &'a F>>, AllocError>
+    except: &SharedExcept,
+) -> Result<SourceOf<Traced<S, &'a F>>, AllocError>
     ensures name { IfOk result (λ s. s.name.items ≡ name.now) }
-    ensures reader { IfOk result (λ s. standing_of S.remaining (inner_of s.reader) ≡ listed_standing name.now) }
-    ensures reason { IfOk result (λ s. reason_of (inner_of s.reader) ≡ listed_reason name.now) }
-    ensures sighted { IfOk result (λ s. sighted (λ input. bytes_left (standing_of S.remaining input)) s ≡ sighting None name.now) }
+    ensures reader { IfOk result (λ s. standing_of S.remaining (λ f. F.known f.now) F.File.remaining (input_of s.reader) ≡ listed_standing (F.known files.now) name.now) }
+    ensures reason { IfOk result (λ s. reason_of (input_of s.reader) ≡ listed_reason name.now) }
+    ensures sighted { IfOk result (λ s. sighted (sight_of S.remaining (λ f. F.known f.now) F.File.remaining) s ≡ record { name = name.now; reader = listed_made (F.known files.now) except.now.labels name.now }) }
 {
     let Some(path) = path_of(name) else {
-        return unnamed_of(alloc, name);
+        return unnamed_of(alloc, name, except);
     };
-    file_of(alloc, files, path)
+    file_of(alloc, files, path, except)
 }
 
 // The path that a name is, where it is UTF-8.
@@ -263,15 +279,17 @@ fn path_of(name: &[u8]) -> Option<&str>
 fn unnamed_of<'a, S: Read + Drop, F: Opener + Drop>(
     alloc: Global,
     name: &[u8],
-) -> Result<Source<Input<S, &'a F>>, AllocError>
+    except: &SharedExcept,
+) -> Result<SourceOf<Traced<S, &'a F>>, AllocError>
     ensures name { IfOk result (λ s. s.name.items ≡ name.now) }
-    ensures reader { IfOk result (λ s. standing_of S.remaining (inner_of s.reader) ≡ Failed) }
-    ensures reason { IfOk result (λ s. reason_of (inner_of s.reader) ≡ Some NotUtf8) }
-    ensures sighted { IfOk result (λ s. sighted (λ input. bytes_left (standing_of S.remaining input)) s ≡ sighting None name.now) }
+    ensures reader { IfOk result (λ s. standing_of S.remaining (λ f. F.known f.now) F.File.remaining (input_of s.reader) ≡ Failed None) }
+    ensures reason { IfOk result (λ s. reason_of (input_of s.reader) ≡ Some NotUtf8) }
+    ensures sighted { IfOk result (λ s. sighted (sight_of S.remaining (λ f. F.known f.now) F.File.remaining) s ≡ record { name = name.now; reader = made_at Nowhere except.now.labels None }) }
 {
-    Ok(Source {
+    let watch = watch_for(alloc, except)?;
+    Ok(SourceOf {
         name: Vec::from_slice(alloc, name)?,
-        reader: Counting::new(Input::unnamed()),
+        reader: Traced::new(Input::unnamed().watched_by(watch)),
         may_wait: false,
     })
 }

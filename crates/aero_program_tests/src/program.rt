@@ -207,7 +207,7 @@ const MARKED: Wanted = (
 const COMPRESSED: Wanted = (
     b"-:1: malformed: BadByte\n\
         traces 1: serializable 0, open 0, violations 0, faults 1\n",
-    b"aerodrome: -:1: the source is compressed by gzip: zcat FILE | aerodrome judges what is in it\n",
+    b"aerodrome: -:1: the input is compressed by gzip: to judge it, run zcat FILE | aerodrome\n",
     2,
 );
 
@@ -525,7 +525,7 @@ fn what_is_not_judged_is_told(rt: HostRuntime) -> Result<(), Fail> {
             (
                 b"",
                 b"aerodrome: a word is not UTF-8: caf\\xe9\\x0a\xc3\xa9\n\
-                    aerodrome: if it names a file, aerodrome < FILE judges it; a list for --files0-from may have such names, and the others are judged\n",
+                    aerodrome: to judge a file of this name, run aerodrome < FILE; a list for --files0-from may have such names, and its other files are judged\n",
                 3,
             ),
         ),

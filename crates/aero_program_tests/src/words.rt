@@ -340,19 +340,19 @@ static REFUSED: [Wrong; 42] = [
     ),
     (
         &["--files0-from"],
-        "a value is required for '--files0-from <FILE>' but none was supplied\n",
+        "a value is required for '--files0-from <LIST>' but none was supplied\n",
     ),
     (
         &["--files0-from", "a", "--files0-from", "a"],
-        "the argument '--files0-from <FILE>' cannot be used multiple times\n",
+        "the argument '--files0-from <LIST>' cannot be used multiple times\n",
     ),
     (
         &["--files0-from", "a", "b"],
-        "the argument '--files0-from <FILE>' cannot be used with '[FILE]...'\n",
+        "the argument '--files0-from <LIST>' cannot be used with '[FILE]...'\n",
     ),
     (
         &["b", "--label", "c", "--files0-from", "a", "--except", ""],
-        "the argument '--files0-from <FILE>' cannot be used with '[FILE]...'\n",
+        "the argument '--files0-from <LIST>' cannot be used with '[FILE]...'\n",
     ),
     (
         &["--label"],
@@ -372,7 +372,7 @@ static REFUSED: [Wrong; 42] = [
     ),
     (
         &["--label", "a", "--files0-from", "-"],
-        "the argument '--label <NAME>' cannot be used with '--files0-from <FILE>'\n",
+        "the argument '--label <NAME>' cannot be used with '--files0-from <LIST>'\n",
     ),
     (
         &["--fail-open", "--fail-open"],
@@ -415,10 +415,10 @@ static PHRASES: [&str; 38] = [
     "--format <FORM>",
     "--progress",
     "--quiet",
-    "--files0-from <FILE>",
+    "--files0-from <LIST>",
     "--label <NAME>",
     "--fail-open",
-    "Each time the one whose first event is earliest",
+    "If several could be next",
     "[FILE]...",
     "65536",
     "NAME: serializable (E events, B blocks)",

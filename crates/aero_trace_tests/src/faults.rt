@@ -89,22 +89,22 @@ static ROWS: [Row; 18] = [
     Row {
         fault: Shape::EndWithoutBegin,
         trace: "T1|begin T2|begin T1|end T1|end",
-        told: b"T1 ends a block, but none of its is open",
+        told: b"T1 ends a block, but has no open block",
     },
     Row {
         fault: Shape::EndWithoutBegin,
         trace: "T1|begin T1|end",
-        told: b"the thread ends a block, but none of its is open",
+        told: b"the thread ends a block, but has no open block",
     },
     Row {
         fault: Shape::TooManyThreads,
         trace: "T1|r(x)",
-        told: b"more threads than a source may have",
+        told: b"more threads than an input may have",
     },
     Row {
         fault: Shape::TooManyNames,
         trace: "T1|r(x)",
-        told: b"more variables or locks than a source may have",
+        told: b"more variables or locks than an input may have",
     },
 ];
 
@@ -180,8 +180,8 @@ static LINES: [LineRow; 8] = [
     LineRow {
         fault: Line::NoOperation,
         line: b"T1",
-        told: b"no | behind a thread: T1",
-        unseen: b"no | behind a thread",
+        told: b"no | after the thread: T1",
+        unseen: b"no | after the thread",
     },
     LineRow {
         fault: Line::EmptyThread,
@@ -210,8 +210,8 @@ static LINES: [LineRow; 8] = [
     LineRow {
         fault: Line::TooManyLines,
         line: b"\x7f",
-        told: b"more lines than a source may have: \\x7f",
-        unseen: b"more lines than a source may have",
+        told: b"more lines than an input may have: \\x7f",
+        unseen: b"more lines than an input may have",
     },
 ];
 
@@ -249,6 +249,6 @@ fn ends_in_dots(alloc: Global, count: usize) -> bool {
     }
     let mut told = Vec::new(alloc);
     append_malformed(&mut told, Line::NoOperation, &Look::Line(line)).is_ok()
-        && told.len() == 222 + 2
+        && told.len() == 223 + 2
         && told.as_slice().ends_with(b"a..")
 }

@@ -28,9 +28,9 @@ use std::alloc::{AllocError, Global};
 /// - `IllFormed`: the first event that is ill-formed, with the number of its line and the first
 ///   cause, in the order of the variants of `ShapeFault`. The limits on threads and names are
 ///   looked at first, and the actor before the target.
-/// - `Violation`: the event with which a cycle closes that begins in an open chunk, by its line,
-///   with the name of the block's thread and the line on which the block began. Where there are
-///   several such blocks, the thread is the one that the trace names first.
+/// - `Violation`: the first event that completes a telling cycle, by its line, with the name of the
+///   thread whose open block the cycle begins in, and the line on which that block began. If several
+///   blocks begin such a cycle, the thread is the one that the trace names first.
 /// - `Malformed`: the faulty line, where nothing is wrong with the events, which all stand before
 ///   it. Line `limits.lines + 1` is `TooManyLines` where it has no fault of its own.
 /// - `Pending`: nothing is wrong, and blocks are open: how many events, outermost begins and open

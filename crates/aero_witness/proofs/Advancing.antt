@@ -1,6 +1,6 @@
 -- A round of a search: what the front leads to is reached and taken.
 use Rattle.std.proofs.Common.{◌≡◌, ℕ, ◌+◌, ◌<◌, ◌≤◌, List, [], ◌∷◌, length, get_or, Option, Some, None, inl, inr, refl, sym, ◌∙◌, subst, arith}
-use Rattle.std.specs.Prelude.{IsSome, Contains}
+use Rattle.std.specs.Prelude.{IsSome, Contains, slice_get}
 use Rattle.std.specs.List.{All}
 use Rattle.std.proofs.lemmas.List.Elements.{Contains-get_or}
 use Rattle.std.proofs.lemmas.Option.{slice_get_within}
@@ -14,13 +14,14 @@ use Rattle.aero_witness.specs.declared.left.Left.{Left}
 use Rattle.aero_witness.specs.declared.quest.Quest.{Quest}
 use Rattle.aero_witness.specs.declared.reached.Reached.{Reached}
 use Rattle.aero_witness.specs.declared.rounds.Search.{Search}
-use Rattle.aero_witness.specs.Kinds.{sources, targets}
+use Rattle.aero_witness.specs.Kinds.{sources, targets, outside}
 use Rattle.aero_witness.specs.Lanes.{head_at, head_of, IsLast, IsHomeOf, AreHomes}
 use Rattle.aero_witness.specs.Left.{lane_of, AreGathered}
 use Rattle.aero_witness.specs.Levels.{AreLevels}
 use Rattle.aero_witness.specs.Quest.{IsQuest}
 use Rattle.aero_witness.specs.Reached.{reached_at, is_noted, HasSource, IsFront, IsLead, AreEntered, IsSwept, IsHomeless, IsHomecoming, AreAtMost}
 use Rattle.aero_witness.specs.Search.{IsLeft, IsAt, IsAdvanced, IsEnd, IsRound}
+use Rattle.aero_witness.proofs.Filling.{home_or_outside}
 use Rattle.aero_witness.proofs.Kinded.{kind_between}
 use Rattle.aero_witness.proofs.Round.{fewer, most_next, next_levels, stuck}
 use Rattle.aero_witness.proofs.Walked.{noted_is, some_is, some_from, reached_within, same_transaction}
@@ -40,37 +41,43 @@ module _ (trace : List Numbered) (level : ℕ) (reached : List (Option Reached))
       let last : IsLast (IsHomeOf (targets trace k) firsts first m) (length trace) (head_at (lane_of left k).homes.items m) = homes k m in
       last.none j (omega arith) (slice_get_within trace j c.second c.second_at) (at, h.3)
 
-  module _ (old new : Left) (leads : List Lead) (g : AreGathered trace front old new [] leads) where
+  module _ (outer : Kind → ℕ → Option ℕ) (old new : Left) (leads : List Lead) (g : AreGathered trace outer front old new [] leads) where
     pub all_leads : All (IsLead trace level reached) leads
     all_leads = λ k d l. (let c = get_or leads k d in elim (g.only c (Contains-get_or leads k d l)) [
       | inl none ↦ absurd (none_in {x = c} none)
       | inr h ↦ (f.noted c.from h.0, h.1)
     ])
 
-    module _ (firsts : List ℕ) (first : ℕ) (left : IsLeft trace firsts first reached old) (reached' : List (Option Reached)) (e : AreEntered trace level reached leads reached') where
-      taken : (k : Kind) (m j : ℕ) → head_at (lane_of new k).heads.items m ≤ j → targets trace k j ≡ Some m → IsSome (reached_at reached' j)
-      taken k m j le at = elim (g.all k m j le at) [
-        | inl past ↦ (let r = some_is (reached_at reached j) (left.taken k m j past at) in some_from (reached_at reached' j) r.0 (e.kept j r.0 r.1))
-        | inr (c, h, is) ↦ subst (λ i. IsSome (reached_at reached' i)) is (e.entered c h)
-      ]
+  module _ (firsts : List ℕ) (first : ℕ) (old new : Left) (leads : List Lead) (g : AreGathered trace (outside trace firsts first) front old new [] leads) (at_home : (j : ℕ) → slice_get firsts j ≡ Some first → IsSome (reached_at reached j)) (left : IsLeft trace firsts first reached old) (reached' : List (Option Reached)) (e : AreEntered trace level reached leads reached') where
+    stays : (j : ℕ) → IsSome (reached_at reached j) → IsSome (reached_at reached' j)
+    stays j some = let r = some_is (reached_at reached j) some in some_from (reached_at reached' j) r.0 (e.kept j r.0 r.1)
 
-      source_reached : (j : ℕ) → HasSource trace (is_noted reached level) j → IsSome (reached_at reached' j)
-      source_reached j (i, n, c) =
-          let h = kind_between trace i j c in
-          let low = g.low h.0 i h.1 (f.all i n) h.2 in
-          let earlier = c.earlier in
-          taken h.0 h.1 j (omega arith) h.3
+    taken : (k : Kind) (m j : ℕ) → head_at (lane_of new k).heads.items m ≤ j → outside trace firsts first k j ≡ Some m → IsSome (reached_at reached' j)
+    taken k m j le at = elim (g.all k m j le at) [
+      | inl past ↦ stays j (left.taken k m j past at)
+      | inr (c, h, is) ↦ subst (λ i. IsSome (reached_at reached' i)) is (e.entered c h)
+    ]
 
-      pub swept : IsSwept trace level reached reached'
-      swept = record { each = e.each; kept = e.kept; only = e.only; covered = λ j k h v w. e.closed j k v w (source_reached j h); closed = e.closed }
+    source_reached : (j : ℕ) → HasSource trace (is_noted reached level) j → IsSome (reached_at reached' j)
+    source_reached j (i, n, c) =
+        let h = kind_between trace i j c in
+        let low = g.low h.0 i h.1 (f.all i n) h.2 in
+        let earlier = c.earlier in
+        elim (home_or_outside trace firsts first h.0 h.1 j h.3) [
+          | inl home ↦ stays j (at_home j home)
+          | inr out ↦ taken h.0 h.1 j (omega arith) out
+        ]
 
-      pub still_left : IsLeft trace firsts first reached' new
-      still_left =
-          record {
-            lanes = g.lanes;
-            homes = λ k m. subst (λ (xs : List ℕ). IsLast (IsHomeOf (targets trace k) firsts first m) (length trace) (head_at xs m)) (sym {A = List ℕ} (g.homes k)) (left.homes k m);
-            taken = taken;
-          }
+    pub swept : IsSwept trace level reached reached'
+    swept = record { each = e.each; kept = e.kept; only = e.only; covered = λ j k h v w. e.closed j k v w (source_reached j h); closed = e.closed }
+
+    pub still_left : IsLeft trace firsts first reached' new
+    still_left =
+        record {
+          lanes = g.lanes;
+          homes = λ k m. subst (λ (xs : List ℕ). IsLast (IsHomeOf (targets trace k) firsts first m) (length trace) (head_at xs m)) (sym {A = List ℕ} (g.homes k)) (left.homes k m);
+          taken = taken;
+        }
 
 -- in another order
 pub sorted_front : (level : ℕ) (reached : List (Option Reached)) (xs ys : List ℕ) → ((i : ℕ) → Contains xs i → Contains ys i) → ((i : ℕ) → Contains ys i → Contains xs i) → IsFront level reached xs → IsFront level reached ys
@@ -109,6 +116,15 @@ module _ (trace : List Numbered) (quest : Quest) (is : IsQuest trace quest) (old
       (next, less)
 
 module _ (trace : List Numbered) (quest : Quest) (is : IsQuest trace quest) (search : Search) (at : IsAt trace quest search) where
+  pub home_reached : (j : ℕ) → slice_get quest.transactions.firsts.items j ≡ Some quest.first → IsSome (reached_at search.walks.reached.items j)
+  home_reached j of =
+      let firsts = quest.transactions.firsts.items in
+      let begin_l = slice_get_within firsts quest.begin quest.first is.first in
+      let l = slice_get_within firsts j quest.first of in
+      let each = is.of.firsts.each in
+      let r = at.levels.start j (omega arith) (same_transaction trace firsts is.of.firsts j quest.begin (omega arith) (omega arith) (of ∙ sym is.first)) in
+      some_from (reached_at search.walks.reached.items j) r.0 r.1
+
   pub home_end : (home : Lead) → 0 < search.level → IsHomecoming trace quest.transactions.firsts.items quest.first (is_noted search.walks.reached.items search.level) home → IsEnd trace quest search home
   home_end home pos (of, out, closes) =
       let begin_l = slice_get_within quest.transactions.firsts.items quest.begin quest.first is.first in

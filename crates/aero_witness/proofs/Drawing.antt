@@ -7,7 +7,6 @@ use Rattle.aero_model.specs.declared.numbered.Numbered.{Numbered}
 use Rattle.aero_witness.specs.declared.kinds.Kind.{Kind}
 use Rattle.aero_witness.specs.declared.lanes.Lane.{Lane}
 use Rattle.aero_witness.specs.declared.lanes.Lead.{Lead}
-use Rattle.aero_witness.specs.Kinds.{targets}
 use Rattle.aero_witness.specs.Lanes.{AreLinks, AreHeads, IsLane, IsSameBut, IsBy, AreDrawn}
 use Rattle.aero_witness.proofs.Taken.{has_kept}
 
@@ -18,12 +17,13 @@ pub still_but : (old cur new : Lane) → IsSameBut old cur → IsSameBut cur new
 still_but old cur new one two = record { kind = two.kind ∙ one.kind; before = two.before ∙ one.before; homes = two.homes ∙ one.homes }
 
 -- with other heads
-pub still_lane : (trace : List Numbered) (k : Kind) (old new : Lane) → IsLane trace k old → IsSameBut old new → AreHeads (targets trace k) (length trace) new.heads.items → IsLane trace k new
-still_lane trace k old new lane same heads =
+pub still_lane : (trace : List Numbered) (outer : Kind → ℕ → Option ℕ) (k : Kind) (old new : Lane) → IsLane trace outer k old → IsSameBut old new → AreHeads (outer k) (length trace) new.heads.items → IsLane trace outer k new
+still_lane trace outer k old new lane same heads =
     record {
       kind = same.kind ∙ lane.kind;
       each = ap (λ (xs : List ℕ). length xs) same.before ∙ lane.each;
-      links = subst (AreLinks (targets trace k)) (sym {A = List ℕ} same.before) lane.links;
+      some = lane.some;
+      links = subst (AreLinks (outer k)) (sym {A = List ℕ} same.before) lane.links;
       heads = heads;
     }
 

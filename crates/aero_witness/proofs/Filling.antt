@@ -1,12 +1,12 @@
 -- The last places with each number, with one place more.
-use Rattle.std.proofs.Common.{◌≡◌, ℕ, zero, suc, ◌+◌, ◌<◌, ◌≤◌, ◌&&◌, if◌then◌else◌, Bool, true, false, List, [], ◌∷◌, ◌++◌, length, Option, Some, None, inl, inr, refl, sym, ◌∙◌, ap, subst, arith}
+use Rattle.std.proofs.Common.{◌≡◌, ℕ, zero, suc, ◌+◌, ◌<◌, ◌≤◌, ◌⊎◌, if◌then◌else◌, Bool, true, false, List, [], ◌∷◌, ◌++◌, length, Option, Some, None, inl, inr, refl, sym, ◌∙◌, ap, subst, arith}
 use Rattle.std.specs.Prelude.{◌↔◌, slice_get}
-use Rattle.std.proofs.lemmas.Bool.{cases_eq, cases_lt, eq-eqb, eqb-true, false≢true, and_parts, and_from}
+use Rattle.std.proofs.lemmas.Bool.{cases_eq, cases_lt, eq-eqb, eqb-true, false≢true}
 use Rattle.std.proofs.lemmas.List.{length_push, get_or_append_left, get_or_push, get_or_past}
 use Rattle.aero_witness.specs.declared.kinds.Kind.{Kind}
 use Rattle.aero_witness.specs.declared.lanes.Lane.{Lane}
 use Rattle.aero_witness.specs.Lanes.{head_at, head_of, is_number, IsLast, IsOf, IsHomeOf, AreLinks, IsAdded, AreFilled, IsFilled, IsLane, AreHomes, IsFull}
-use Rattle.aero_witness.specs.Kinds.{targets}
+use Rattle.aero_witness.specs.Kinds.{targets, has_first, outside}
 use Rattle.aero_witness.proofs.Kinded.{target_within}
 use Rattle.aero_model.specs.declared.numbered.Numbered.{Numbered}
 
@@ -36,8 +36,47 @@ last_step P n h new false holds from e last =
       ];
     }
 
+same_bool : (a b : Bool) → (a ≡ true → b ≡ true) → (b ≡ true → a ≡ true) → a ≡ b
+same_bool true b to from = sym (to refl)
+same_bool false true to from = from refl
+same_bool false false to from = refl
+
+first_is : (first : ℕ) (o : Option ℕ) → has_first first o ≡ true → o ≡ Some first
+first_is first None e = absurd (false≢true e)
+first_is first (Some f) e = ap Some (eqb-true f first e)
+
+module _ (t : ℕ → Option ℕ) (firsts : List ℕ) (first n : ℕ) (number : Option ℕ) (number_at : t n ≡ number) where
+  -- at home it has its number
+  pub inner_is : (home : Bool) → ((home ≡ true) ↔ (slice_get firsts n ≡ Some first)) → (m : ℕ) → ((if home then number else None) ≡ Some m) ↔ IsHomeOf t firsts first m n
+  inner_is true home_at m = (λ e. (home_at.0 refl, number_at ∙ e), λ h. sym number_at ∙ h.1)
+  inner_is false home_at m = (λ e. absurd (cc), λ h. absurd (false≢true (home_at.1 h.0)))
+
+  -- and elsewhere
+  pub outer_is : (home : Bool) → ((home ≡ true) ↔ (slice_get firsts n ≡ Some first)) → (if has_first first (slice_get firsts n) then None else t n) ≡ (if home then None else number)
+  outer_is home home_at =
+      let same = same_bool (has_first first (slice_get firsts n)) home (λ e. home_at.1 (first_is first (slice_get firsts n) e)) (λ e. ap (has_first first) (home_at.0 e) ∙ eq-eqb first first refl) in
+      ap (λ b. if b then None else t n) same ∙ ap (λ o. if home then None else o) number_at
+
+-- a target that isn't at home
+outside_by : (b : Bool) (o : Option ℕ) (m : ℕ) → (if b then None else o) ≡ Some m → o ≡ Some m
+outside_by true o m e = absurd (cc)
+outside_by false o m e = e
+
+pub outside_is : (trace : List Numbered) (firsts : List ℕ) (first : ℕ) (k : Kind) (m j : ℕ) → outside trace firsts first k j ≡ Some m → targets trace k j ≡ Some m
+outside_is trace firsts first k m j e = outside_by (has_first first (slice_get firsts j)) (targets trace k j) m e
+
+home_or : (b : Bool) (o : Option ℕ) (m : ℕ) → o ≡ Some m → (b ≡ true) ⊎ ((if b then None else o) ≡ Some m)
+home_or true o m e = inl refl
+home_or false o m e = inr e
+
+pub home_or_outside : (trace : List Numbered) (firsts : List ℕ) (first : ℕ) (k : Kind) (m j : ℕ) → targets trace k j ≡ Some m → (slice_get firsts j ≡ Some first) ⊎ (outside trace firsts first k j ≡ Some m)
+home_or_outside trace firsts first k m j e = elim (home_or (has_first first (slice_get firsts j)) (targets trace k j) m e) [
+  | inl home ↦ inl (first_is first (slice_get firsts j) home)
+  | inr out ↦ inr out
+]
+
 -- one more place
-module _ (t : ℕ → Option ℕ) (firsts : List ℕ) (first n : ℕ) (number : Option ℕ) (home : Bool) (old new : Lane) (f : AreFilled t firsts first n old.before.items old.homes.items old.heads.items) (added : IsAdded number home n old new) (number_at : t n ≡ number) (home_at : (home ≡ true) ↔ (slice_get firsts n ≡ Some first)) where
+module _ (t u : ℕ → Option ℕ) (firsts : List ℕ) (first n : ℕ) (inner number : Option ℕ) (old new : Lane) (f : AreFilled t u firsts first n old.before.items old.homes.items old.heads.items) (added : IsAdded inner number n old new) (inner_at : (m : ℕ) → (inner ≡ Some m) ↔ IsHomeOf t firsts first m n) (number_at : u n ≡ number) where
   abbrev before : List ℕ
   before = old.before.items
 
@@ -55,21 +94,21 @@ module _ (t : ℕ → Option ℕ) (firsts : List ℕ) (first n : ℕ) (number : 
 
   head_within : (o : Option ℕ) → head_of heads o ≤ n
   head_within None = omega arith
-  head_within (Some m) = last_within (IsOf t m) n (head_at heads m) (f.are_heads m)
+  head_within (Some m) = last_within (IsOf u m) n (head_at heads m) (f.are_heads m)
 
-  links : AreLinks t (before ++ head_of heads number ∷ [])
+  links : AreLinks u (before ++ head_of heads number ∷ [])
   links =
       record {
         at = λ j m l e. elim (cases_eq j n) [
           | inl same ↦
-              let of : number ≡ Some m = sym number_at ∙ ap t (sym same) ∙ e in
+              let of : number ≡ Some m = sym number_at ∙ ap u (sym same) ∙ e in
               let head : head_at (before ++ head_of heads number ∷ []) j ≡ head_at heads m = ap (head_at (before ++ head_of heads number ∷ [])) same ∙ here_is ∙ ap (head_of heads) of in
-              subst (IsLast (IsOf t m) j) (sym head) (subst (λ k. IsLast (IsOf t m) k (head_at heads m)) (sym same) (f.are_heads m))
+              subst (IsLast (IsOf u m) j) (sym head) (subst (λ k. IsLast (IsOf u m) k (head_at heads m)) (sym same) (f.are_heads m))
           | inr other ↦
               let each = f.each in
               let more = length_push before (head_of heads number) in
               let less : j < n = omega arith in
-              subst (IsLast (IsOf t m) j) (sym (below_is j less)) (f.links.at j m (omega arith) e)
+              subst (IsLast (IsOf u m) j) (sym (below_is j less)) (f.links.at j m (omega arith) e)
         ];
         falls = λ j. elim (cases_lt j n) [
           | inl less ↦ (let e = below_is j less in let le = f.links.falls j in omega arith)
@@ -80,19 +119,19 @@ module _ (t : ℕ → Option ℕ) (firsts : List ℕ) (first n : ℕ) (number : 
         ];
       }
 
-  pub one_filled : AreFilled t firsts first (n + 1) new.before.items new.homes.items new.heads.items
+  pub one_filled : AreFilled t u firsts first (n + 1) new.before.items new.homes.items new.heads.items
   one_filled =
       record {
         each = ap (λ (xs : List ℕ). length xs) added.before ∙ length_push before (head_of heads number) ∙ ap (λ k. k + 1) f.each;
-        links = subst (AreLinks t) (sym {A = List ℕ} added.before) links;
+        links = subst (AreLinks u) (sym {A = List ℕ} added.before) links;
         are_homes = λ m.
-            last_step (IsHomeOf t firsts first m) n (head_at old.homes.items m) (head_at new.homes.items m) (home && is_number number m)
-            (λ e. let both = and_parts home (is_number number m) e in (home_at.0 both.0, number_at ∙ number_is number m both.1))
-            (λ h. and_from home (is_number number m) (home_at.1 h.0) (is_numbered number m (sym number_at ∙ h.1)))
+            last_step (IsHomeOf t firsts first m) n (head_at old.homes.items m) (head_at new.homes.items m) (is_number inner m)
+            (λ e. (inner_at m).0 (number_is inner m e))
+            (λ h. is_numbered inner m ((inner_at m).1 h))
             (added.homes m)
             (f.are_homes m);
         are_heads = λ m.
-            last_step (IsOf t m) n (head_at heads m) (head_at new.heads.items m) (is_number number m)
+            last_step (IsOf u m) n (head_at heads m) (head_at new.heads.items m) (is_number number m)
             (λ e. number_at ∙ number_is number m e)
             (λ h. is_numbered number m (sym number_at ∙ h))
             (added.heads m)
@@ -100,27 +139,28 @@ module _ (t : ℕ → Option ℕ) (firsts : List ℕ) (first n : ℕ) (number : 
       }
 
 module _ (trace : List Numbered) (firsts : List ℕ) (first : ℕ) where
-  pub same_kind : (n : ℕ) (old new : Lane) → new.kind ≡ old.kind → AreFilled (targets trace old.kind) firsts first (n + 1) new.before.items new.homes.items new.heads.items → IsFilled trace firsts first (n + 1) new
-  same_kind n old new e f = subst (λ (k : Kind). AreFilled (targets trace k) firsts first (n + 1) new.before.items new.homes.items new.heads.items) (sym {A = Kind} e) f
+  pub same_kind : (n : ℕ) (old new : Lane) → new.kind ≡ old.kind → AreFilled (targets trace old.kind) (outside trace firsts first old.kind) firsts first (n + 1) new.before.items new.homes.items new.heads.items → IsFilled trace firsts first (n + 1) new
+  same_kind n old new e f = subst (λ (k : Kind). AreFilled (targets trace k) (outside trace firsts first k) firsts first (n + 1) new.before.items new.homes.items new.heads.items) (sym {A = Kind} e) f
 
   -- all places
-  pub all_filled : (k : Kind) (lane : Lane) → lane.kind ≡ k → IsFilled trace firsts first (length trace) lane → IsLane trace k lane × AreHomes trace firsts first k lane × IsFull trace k lane
+  pub all_filled : (k : Kind) (lane : Lane) → lane.kind ≡ k → IsFilled trace firsts first (length trace) lane → IsLane trace (outside trace firsts first) k lane × AreHomes trace firsts first k lane × IsFull trace firsts first k lane
   all_filled k lane e f = (is, g.are_homes, full)
     where
-      g : AreFilled (targets trace k) firsts first (length trace) lane.before.items lane.homes.items lane.heads.items
-      g = subst (λ (l : Kind). AreFilled (targets trace l) firsts first (length trace) lane.before.items lane.homes.items lane.heads.items) e f
+      g : AreFilled (targets trace k) (outside trace firsts first k) firsts first (length trace) lane.before.items lane.homes.items lane.heads.items
+      g = subst (λ (l : Kind). AreFilled (targets trace l) (outside trace firsts first l) firsts first (length trace) lane.before.items lane.homes.items lane.heads.items) e f
 
-      is : IsLane trace k lane
+      is : IsLane trace (outside trace firsts first) k lane
       is =
           record {
             kind = e;
             each = g.each;
+            some = λ m j at. outside_is trace firsts first k m j at;
             links = g.links;
             heads = record {
-              within = λ m. last_within (IsOf (targets trace k) m) (length trace) (head_at lane.heads.items m) (g.are_heads m);
+              within = λ m. last_within (IsOf (outside trace firsts first k) m) (length trace) (head_at lane.heads.items m) (g.are_heads m);
               is = λ m j h. ((g.are_heads m).is j h).1;
             };
           }
 
-      full : IsFull trace k lane
-      full m j le at = (g.are_heads m).none j le (target_within trace k j m at) at
+      full : IsFull trace firsts first k lane
+      full m j le at = (g.are_heads m).none j le (target_within trace k j m (outside_is trace firsts first k m j at)) at

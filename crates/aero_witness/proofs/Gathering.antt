@@ -1,5 +1,5 @@
 -- What a front takes of all lanes, one after another.
-use Rattle.std.proofs.Common.{◌⊎◌, ℕ, List, length, inl, inr, sym, subst}
+use Rattle.std.proofs.Common.{◌⊎◌, ℕ, List, length, Option, inl, inr, sym, subst}
 use Rattle.std.specs.Prelude.{Contains}
 use Rattle.aero_model.specs.declared.numbered.Numbered.{Numbered}
 use Rattle.aero_model.specs.Graph.{Conflict}
@@ -8,33 +8,33 @@ use Rattle.aero_witness.specs.declared.kinds.Kind.TheVariants.{Threads, Forks, J
 use Rattle.aero_witness.specs.declared.lanes.Lane.{Lane}
 use Rattle.aero_witness.specs.declared.lanes.Lead.{Lead}
 use Rattle.aero_witness.specs.declared.left.Left.{Left}
-use Rattle.aero_witness.specs.Kinds.{sources, targets}
+use Rattle.aero_witness.specs.Kinds.{sources}
 use Rattle.aero_witness.specs.Lanes.{IsLane, Keeps, IsSameBut, IsBy, AreDrawn}
 use Rattle.aero_witness.specs.Left.{lane_of, AreGathered}
 use Rattle.aero_witness.proofs.Drawing.{still_lane}
 use Rattle.aero_witness.proofs.Kinded.{conflict_by}
 use Rattle.aero_witness.proofs.Taken.{has_kept}
 
-module _ (trace : List Numbered) (front : List ℕ) where
-  pub own_lane : (k : Kind) (lane : Lane) → IsLane trace k lane → IsLane trace lane.kind lane
-  own_lane k lane h = subst (λ (l : Kind). IsLane trace l lane) (sym {A = Kind} h.kind) h
+module _ (trace : List Numbered) (outer : Kind → ℕ → Option ℕ) (front : List ℕ) where
+  pub own_lane : (k : Kind) (lane : Lane) → IsLane trace outer k lane → IsLane trace outer lane.kind lane
+  own_lane k lane h = subst (λ (l : Kind). IsLane trace outer l lane) (sym {A = Kind} h.kind) h
 
   -- a lane of the kind is drawn
   pub record IsLaneDrawn (k : Kind) (old new : Lane) (leads leads' : List Lead) : Type 0 where
     pub same : IsSameBut old new
-    pub drawn : AreDrawn (sources trace k) (targets trace k) front (length trace) old.heads.items new.heads.items leads leads'
+    pub drawn : AreDrawn (sources trace k) (outer k) front (length trace) old.heads.items new.heads.items leads leads'
 
-  pub lane_drawn : (k : Kind) (old new : Lane) (leads leads' : List Lead) → IsLane trace k old → IsSameBut old new → AreDrawn (sources trace old.kind) (targets trace old.kind) front (length trace) old.heads.items new.heads.items leads leads' → IsLaneDrawn k old new leads leads'
+  pub lane_drawn : (k : Kind) (old new : Lane) (leads leads' : List Lead) → IsLane trace outer k old → IsSameBut old new → AreDrawn (sources trace old.kind) (outer old.kind) front (length trace) old.heads.items new.heads.items leads leads' → IsLaneDrawn k old new leads leads'
   lane_drawn k old new leads leads' lane same drawn =
-      record { same = same; drawn = subst (λ (l : Kind). AreDrawn (sources trace l) (targets trace l) front (length trace) old.heads.items new.heads.items leads leads') lane.kind drawn }
+      record { same = same; drawn = subst (λ (l : Kind). AreDrawn (sources trace l) (outer l) front (length trace) old.heads.items new.heads.items leads leads') lane.kind drawn }
 
   abbrev IsLed : Lead → Type 0
   IsLed c = Contains front c.from × Conflict trace c.from c.enters
 
-  led : (k : Kind) (c : Lead) → IsBy (sources trace k) (targets trace k) front c → IsLed c
-  led k c by = (by.in_front, conflict_by trace k by.number c.from c.enters by.earlier by.source by.target)
+  led : (k : Kind) (lane : Lane) → IsLane trace outer k lane → (c : Lead) → IsBy (sources trace k) (outer k) front c → IsLed c
+  led k lane is c by = (by.in_front, conflict_by trace k by.number c.from c.enters by.earlier by.source (is.some by.number c.enters by.target))
 
-  module _ (old new : Left) (l0 l1 l2 l3 l4 l5 l6 : List Lead) (lanes : (k : Kind) → IsLane trace k (lane_of old k)) (one : IsLaneDrawn Threads old.threads new.threads l0 l1) (two : IsLaneDrawn Forks old.forks new.forks l1 l2) (three : IsLaneDrawn Joins old.joins new.joins l2 l3) (four : IsLaneDrawn Writes old.writes new.writes l3 l4) (five : IsLaneDrawn Reads old.reads new.reads l4 l5) (six : IsLaneDrawn Releases old.releases new.releases l5 l6) where
+  module _ (old new : Left) (l0 l1 l2 l3 l4 l5 l6 : List Lead) (lanes : (k : Kind) → IsLane trace outer k (lane_of old k)) (one : IsLaneDrawn Threads old.threads new.threads l0 l1) (two : IsLaneDrawn Forks old.forks new.forks l1 l2) (three : IsLaneDrawn Joins old.joins new.joins l2 l3) (four : IsLaneDrawn Writes old.writes new.writes l3 l4) (five : IsLaneDrawn Reads old.reads new.reads l4 l5) (six : IsLaneDrawn Releases old.releases new.releases l5 l6) where
     keeps_5 : Keeps l5 l6
     keeps_5 = six.drawn.kept
 
@@ -60,39 +60,28 @@ module _ (trace : List Numbered) (front : List ℕ) where
 
     only : (c : Lead) → Contains l6 c → Contains l0 c ⊎ IsLed c
     only c h = elim (six.drawn.only c h) [
-      | inr by ↦ inr (led Releases c by)
+      | inr by ↦ inr (led Releases old.releases (lanes Releases) c by)
       | inl h5 ↦ elim (five.drawn.only c h5) [
-        | inr by ↦ inr (led Reads c by)
+        | inr by ↦ inr (led Reads old.reads (lanes Reads) c by)
         | inl h4 ↦ elim (four.drawn.only c h4) [
-          | inr by ↦ inr (led Writes c by)
+          | inr by ↦ inr (led Writes old.writes (lanes Writes) c by)
           | inl h3 ↦ elim (three.drawn.only c h3) [
-            | inr by ↦ inr (led Joins c by)
+            | inr by ↦ inr (led Joins old.joins (lanes Joins) c by)
             | inl h2 ↦ elim (two.drawn.only c h2) [
-              | inr by ↦ inr (led Forks c by)
-              | inl h1 ↦ elim (one.drawn.only c h1) [ inr by ↦ inr (led Threads c by) | inl h0 ↦ inl h0 ]
+              | inr by ↦ inr (led Forks old.forks (lanes Forks) c by)
+              | inl h1 ↦ elim (one.drawn.only c h1) [ inr by ↦ inr (led Threads old.threads (lanes Threads) c by) | inl h0 ↦ inl h0 ]
             ]
           ]
         ]
       ]
     ]
 
-    pub gathered : AreGathered trace front old new l0 l6
+    pub gathered : AreGathered trace outer front old new l0 l6
     gathered =
         record {
-          lanes = λ k. (let d = at k in let h = d.2 in still_lane trace k (lane_of old k) (lane_of new k) (lanes k) h.same h.drawn.are);
+          lanes = λ k. (let d = at k in let h = d.2 in still_lane trace outer k (lane_of old k) (lane_of new k) (lanes k) h.same h.drawn.are);
           homes = λ k. (let d = at k in let h = d.2 in h.same.homes);
           low = λ k i m c e. (let d = at k in let h = d.2 in h.drawn.low i m c e);
           only = only;
           all = λ k m j le e. (let d = at k in let h = d.2 in elim (h.drawn.all m j le e) [ inl past ↦ inl past | inr has ↦ inr (has_kept d.1 l6 d.3 j has) ]);
         }
-
--- in another order
-pub reordered : (trace : List Numbered) (front : List ℕ) (old new : Left) (leads xs ys : List Lead) → ((c : Lead) → Contains xs c → Contains ys c) → ((c : Lead) → Contains ys c → Contains xs c) → AreGathered trace front old new leads xs → AreGathered trace front old new leads ys
-reordered trace front old new leads xs ys to from g =
-    record {
-      lanes = g.lanes;
-      homes = g.homes;
-      low = g.low;
-      only = λ c h. g.only c (from c h);
-      all = λ k m j le e. elim (g.all k m j le e) [ inl past ↦ inl past | inr has ↦ inr (has_kept xs ys to j has) ];
-    }

@@ -23,6 +23,7 @@ pub mod ThinnedShortest
 pub mod Pushed
 pub mod Enough
 pub mod Swept
+pub mod Choosing
 pub mod Round
 pub mod Advancing
 pub mod Homing

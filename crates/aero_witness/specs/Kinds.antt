@@ -1,5 +1,5 @@
 -- How each kind of conflict numbers events, as sources and as targets.
-use Rattle.std.specs.Prelude.{ℕ, List, Option, Some, None, slice_get}
+use Rattle.std.specs.Prelude.{ℕ, ◌==◌, if◌then◌else◌, Bool, false, List, Option, Some, None, slice_get}
 use Rattle.aero_model.specs.declared.numbered.Numbered.{Numbered}
 use Rattle.aero_model.specs.declared.numbered.What.{What}
 use Rattle.aero_model.specs.declared.numbered.What.TheVariants.{Read, Write, Acquire, Release, Fork, Join}
@@ -42,3 +42,11 @@ sources trace kind i = of_event (source_number kind) (slice_get trace i)
 
 abbrev pub targets : List Numbered → Kind → ℕ → Option ℕ
 targets trace kind j = of_event (target_number kind) (slice_get trace j)
+
+-- the targets alone that aren't of the transaction with this first place
+abbrev pub has_first : ℕ → Option ℕ → Bool
+has_first first None = false
+has_first first (Some f) = f == first
+
+abbrev pub outside : List Numbered → List ℕ → ℕ → Kind → ℕ → Option ℕ
+outside trace firsts first kind j = if has_first first (slice_get firsts j) then None else targets trace kind j

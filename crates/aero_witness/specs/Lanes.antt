@@ -1,10 +1,10 @@
 -- What `Lane` keeps of the targets of a kind, and what is taken of them.
-use Rattle.std.specs.Prelude.{◌≡◌, ◌⊎◌, ℕ, ◌+◌, ◌<◌, ◌≤◌, ◌==◌, ◌&&◌, if◌then◌else◌, Bool, false, List, [], ◌∷◌, ◌++◌, length, Option, Some, None, Contains, slice_get, slice_index_or}
+use Rattle.std.specs.Prelude.{◌≡◌, ◌⊎◌, ℕ, ◌+◌, ◌<◌, ◌≤◌, ◌==◌, if◌then◌else◌, Bool, false, List, [], ◌∷◌, ◌++◌, length, Option, Some, None, Contains, slice_get, slice_index_or}
 use Rattle.aero_model.specs.declared.numbered.Numbered.{Numbered}
 use Rattle.aero_witness.specs.declared.kinds.Kind.{Kind}
 use Rattle.aero_witness.specs.declared.lanes.Lane.{Lane}
 use Rattle.aero_witness.specs.declared.lanes.Lead.{Lead}
-use Rattle.aero_witness.specs.Kinds.{targets}
+use Rattle.aero_witness.specs.Kinds.{targets, outside}
 
 abbrev pub head_at : List ℕ → ℕ → ℕ
 head_at heads m = slice_index_or heads m 0
@@ -39,38 +39,39 @@ pub record AreHeads (t : ℕ → Option ℕ) (n : ℕ) (heads : List ℕ) : Type
   pub within : (m : ℕ) → head_at heads m ≤ n
   pub is : (m j : ℕ) → head_at heads m ≡ j + 1 → t j ≡ Some m
 
--- one more is numbered
-pub record IsAdded (number : Option ℕ) (home : Bool) (place : ℕ) (old new : Lane) : Type 0 where
+-- one more is numbered, at home or outside
+pub record IsAdded (inner outer : Option ℕ) (place : ℕ) (old new : Lane) : Type 0 where
   pub kind : new.kind ≡ old.kind
-  pub before : new.before.items ≡ old.before.items ++ head_of old.heads.items number ∷ []
-  pub heads : (m : ℕ) → head_at new.heads.items m ≡ (if is_number number m then place + 1 else head_at old.heads.items m)
-  pub homes : (m : ℕ) → head_at new.homes.items m ≡ (if home && is_number number m then place + 1 else head_at old.homes.items m)
+  pub before : new.before.items ≡ old.before.items ++ head_of old.heads.items outer ∷ []
+  pub heads : (m : ℕ) → head_at new.heads.items m ≡ (if is_number outer m then place + 1 else head_at old.heads.items m)
+  pub homes : (m : ℕ) → head_at new.homes.items m ≡ (if is_number inner m then place + 1 else head_at old.homes.items m)
 
--- the first n places, of which nothing is taken
-pub record AreFilled (t : ℕ → Option ℕ) (firsts : List ℕ) (first n : ℕ) (before homes heads : List ℕ) : Type 0 where
+-- the first n places, of which nothing is taken: by t, and by u those that aren't at home
+pub record AreFilled (t u : ℕ → Option ℕ) (firsts : List ℕ) (first n : ℕ) (before homes heads : List ℕ) : Type 0 where
   pub each : length before ≡ n
-  pub links : AreLinks t before
+  pub links : AreLinks u before
   pub are_homes : (m : ℕ) → IsLast (IsHomeOf t firsts first m) n (head_at homes m)
-  pub are_heads : (m : ℕ) → IsLast (IsOf t m) n (head_at heads m)
+  pub are_heads : (m : ℕ) → IsLast (IsOf u m) n (head_at heads m)
 
 module _ (trace : List Numbered) where
   abbrev pub IsFilled : List ℕ → ℕ → ℕ → Lane → Type 0
-  IsFilled firsts first n lane = AreFilled (targets trace lane.kind) firsts first n lane.before.items lane.homes.items lane.heads.items
+  IsFilled firsts first n lane = AreFilled (targets trace lane.kind) (outside trace firsts first lane.kind) firsts first n lane.before.items lane.homes.items lane.heads.items
 
-  -- the lane is of the kind, and in order
-  pub record IsLane (k : Kind) (lane : Lane) : Type 0 where
+  -- the lane is of the kind, and in order, with those of its targets that `outer` numbers
+  pub record IsLane (outer : Kind → ℕ → Option ℕ) (k : Kind) (lane : Lane) : Type 0 where
     pub kind : lane.kind ≡ k
     pub each : length lane.before.items ≡ length trace
-    pub links : AreLinks (targets trace k) lane.before.items
-    pub heads : AreHeads (targets trace k) (length trace) lane.heads.items
+    pub some : (m j : ℕ) → outer k j ≡ Some m → targets trace k j ≡ Some m
+    pub links : AreLinks (outer k) lane.before.items
+    pub heads : AreHeads (outer k) (length trace) lane.heads.items
 
   -- of each number the last place in the transaction with this first place
   abbrev pub AreHomes : List ℕ → ℕ → Kind → Lane → Type 0
   AreHomes firsts first k lane = (m : ℕ) → IsLast (IsHomeOf (targets trace k) firsts first m) (length trace) (head_at lane.homes.items m)
 
   -- nothing of it is taken
-  abbrev pub IsFull : Kind → Lane → Type 0
-  IsFull k lane = (m j : ℕ) → head_at lane.heads.items m ≤ j → targets trace k j ≡ Some m → ⊥
+  abbrev pub IsFull : List ℕ → ℕ → Kind → Lane → Type 0
+  IsFull firsts first k lane = (m j : ℕ) → head_at lane.heads.items m ≤ j → outside trace firsts first k j ≡ Some m → ⊥
 
 -- a walk comes in at place j
 abbrev pub HasLead : List Lead → ℕ → Type 0

@@ -1,5 +1,5 @@
 -- What is taken of the targets of all kinds.
-use Rattle.std.specs.Prelude.{◌≡◌, ◌⊎◌, ℕ, ◌+◌, ◌≤◌, ◌||◌, nat_lt, Bool, List, Some, Contains}
+use Rattle.std.specs.Prelude.{◌≡◌, ◌⊎◌, ℕ, ◌+◌, ◌≤◌, ◌||◌, nat_lt, Bool, List, Option, Some, Contains}
 use Rattle.aero_model.specs.declared.numbered.Numbered.{Numbered}
 use Rattle.aero_model.specs.Graph.{Conflict}
 use Rattle.aero_witness.specs.declared.kinds.Kind.{Kind}
@@ -7,7 +7,7 @@ use Rattle.aero_witness.specs.declared.kinds.Kind.TheVariants.{Threads, Forks, J
 use Rattle.aero_witness.specs.declared.lanes.Lane.{Lane}
 use Rattle.aero_witness.specs.declared.lanes.Lead.{Lead}
 use Rattle.aero_witness.specs.declared.left.Left.{Left}
-use Rattle.aero_witness.specs.Kinds.{source_number, sources, targets}
+use Rattle.aero_witness.specs.Kinds.{source_number, sources}
 use Rattle.aero_witness.specs.Lanes.{head_at, head_of, IsLane, HasLead}
 
 abbrev pub lane_of : Left → Kind → Lane
@@ -28,9 +28,9 @@ event_leads_home left e place =
 
 -- Of each kind what is behind a place of the front with its number is taken. What is put down conflicts with one of the
 -- front, and all that is taken is put down.
-pub record AreGathered (trace : List Numbered) (front : List ℕ) (old new : Left) (leads leads' : List Lead) : Type 0 where
-  pub lanes : (k : Kind) → IsLane trace k (lane_of new k)
+pub record AreGathered (trace : List Numbered) (outer : Kind → ℕ → Option ℕ) (front : List ℕ) (old new : Left) (leads leads' : List Lead) : Type 0 where
+  pub lanes : (k : Kind) → IsLane trace outer k (lane_of new k)
   pub homes : (k : Kind) → (lane_of new k).homes.items ≡ (lane_of old k).homes.items
   pub low : (k : Kind) (i m : ℕ) → Contains front i → sources trace k i ≡ Some m → head_at (lane_of new k).heads.items m ≤ i + 1
   pub only : (c : Lead) → Contains leads' c → Contains leads c ⊎ (Contains front c.from × Conflict trace c.from c.enters)
-  pub all : (k : Kind) (m j : ℕ) → head_at (lane_of new k).heads.items m ≤ j → targets trace k j ≡ Some m → (head_at (lane_of old k).heads.items m ≤ j) ⊎ HasLead leads' j
+  pub all : (k : Kind) (m j : ℕ) → head_at (lane_of new k).heads.items m ≤ j → outer k j ≡ Some m → (head_at (lane_of old k).heads.items m ≤ j) ⊎ HasLead leads' j

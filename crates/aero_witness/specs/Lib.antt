@@ -1,7 +1,7 @@
 -- To be believed: Telling (telling cycles, and the shortest), Parts (transactions by their first places) and Trail
 -- (what is recorded of a trace).
--- For proofs alone: Deciding, Following, MarkWords, Marks, Kinds, Lanes, Left, Quest, Reached, Levels, Search and
--- Homecoming.
+-- For proofs alone: Deciding, Following, MarkWords, Marks, Kinds, Lanes, Left, Quest, Reached, Chosen, Levels, Search
+-- and Homecoming.
 pub mod Deciding
 pub mod Parts
 pub mod Telling
@@ -13,6 +13,7 @@ pub mod Left
 pub mod Marks
 pub mod Quest
 pub mod Reached
+pub mod Chosen
 pub mod Levels
 pub mod Search
 pub mod Homecoming

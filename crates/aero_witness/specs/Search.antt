@@ -9,7 +9,7 @@ use Rattle.aero_witness.specs.declared.left.Left.{Left}
 use Rattle.aero_witness.specs.declared.quest.Quest.{Quest}
 use Rattle.aero_witness.specs.declared.reached.Reached.{Reached}
 use Rattle.aero_witness.specs.declared.rounds.Search.{Search}
-use Rattle.aero_witness.specs.Kinds.{targets}
+use Rattle.aero_witness.specs.Kinds.{outside}
 use Rattle.aero_witness.specs.Lanes.{head_at, IsLane, AreHomes}
 use Rattle.aero_witness.specs.Left.{lane_of}
 use Rattle.aero_witness.specs.Levels.{AreLevels}
@@ -21,11 +21,11 @@ unreached [] = 0
 unreached (None ∷ xs) = suc (unreached xs)
 unreached (Some r ∷ xs) = unreached xs
 
--- by each kind what isn't left is reached
+-- by each kind what isn't left is reached, or is at home
 pub record IsLeft (trace : List Numbered) (firsts : List ℕ) (first : ℕ) (reached : List (Option Reached)) (left : Left) : Type 0 where
-  pub lanes : (k : Kind) → IsLane trace k (lane_of left k)
+  pub lanes : (k : Kind) → IsLane trace (outside trace firsts first) k (lane_of left k)
   pub homes : (k : Kind) → AreHomes trace firsts first k (lane_of left k)
-  pub taken : (k : Kind) (m j : ℕ) → head_at (lane_of left k).heads.items m ≤ j → targets trace k j ≡ Some m → IsSome (reached_at reached j)
+  pub taken : (k : Kind) (m j : ℕ) → head_at (lane_of left k).heads.items m ≤ j → outside trace firsts first k j ≡ Some m → IsSome (reached_at reached j)
 
 module _ (trace : List Numbered) (quest : Quest) where
   -- the search is at its level, whose places are its front

@@ -1,6 +1,6 @@
 //! The targets of a kind that aren't taken yet, by their numbers, and what is taken of them.
-ghost use Rattle.std.specs.Prelude.{◌≡◌, ◌<◌, ◌≤◌, ◌+◌, ◌^◌, ◌==◌, ◌&&◌, ℕ, Bool, ◌∷◌, [], length, if◌then◌else◌, Some, Option, OnOk, IfOk, All, slice_get};
-ghost use Rattle.aero_witness.specs.Kinds.{targets};
+ghost use Rattle.std.specs.Prelude.{◌≡◌, ◌<◌, ◌≤◌, ◌+◌, ◌^◌, ◌==◌, ℕ, ◌∷◌, [], length, if◌then◌else◌, Some, None, Option, OnOk, IfOk, All, slice_get};
+ghost use Rattle.aero_witness.specs.Kinds.{outside};
 ghost use Rattle.aero_witness.specs.Lanes.{head_at, head_of, is_number, AreLinks, AreHeads, IsAdded, IsFilled, IsLane, AreHomes, IsFull, IsTakenTo, IsSameBut, AreDrawn};
 
 use crate::kinds::{Kind, target_number};
@@ -9,8 +9,8 @@ use aero_model::Numbered;
 use std::alloc::{AllocError, Global};
 
 // The places that a kind numbers as targets, as lists. Here a place is told as one more, and 0 says that there is none.
-// `heads` has of each number the last place that isn't taken, and `homes` the last one in the transaction where walks
-// begin. `before` has of each place the one before it with its number.
+// `homes` has of each number the last one in the transaction where walks begin. Nothing is taken of these, as no walk
+// has to come in there. Of the others `heads` has the last one that isn't taken, and `before` of each the one before it.
 #[derive(Drop)]
 pub(crate) struct Lane {
     pub kind: Kind,
@@ -63,21 +63,33 @@ fn note(heads: &mut Vec<u32>, number: Option<u32>, place: u32) -> Result<(), All
     }
 }
 
-fn only_if(home: bool, number: Option<u32>) -> Option<u32>
-    ensures { (m : ℕ) → is_number result m ≡ (home && is_number number m) }
+fn add_inner(lane: &mut Lane, number: Option<u32>, place: u32) -> Result<(), AllocError>
+    requires { place + 1 < 2 ^ 32 }
+    ensures { OnOk result (IsAdded number None place lane.old lane.new) }
 {
-    if home { number } else { None }
+    lane.before.push(0)?;
+    note(&mut lane.homes, number, place)
 }
 
-// The place comes next, and has this number, if any.
-fn add(lane: &mut Lane, number: Option<u32>, home: bool, place: u32) -> Result<(), AllocError>
+fn add_outer(lane: &mut Lane, number: Option<u32>, place: u32) -> Result<(), AllocError>
     requires { place + 1 < 2 ^ 32 }
-    ensures { OnOk result (IsAdded number home place lane.old lane.new) }
+    ensures { OnOk result (IsAdded None number place lane.old lane.new) }
 {
     let head = head_of(&lane.heads, number);
     lane.before.push(head)?;
-    note(&mut lane.heads, number, place)?;
-    note(&mut lane.homes, only_if(home, number), place)
+    note(&mut lane.heads, number, place)
+}
+
+// The place comes next, and has this number, if any. Home is the transaction where walks begin.
+fn add(lane: &mut Lane, number: Option<u32>, home: bool, place: u32) -> Result<(), AllocError>
+    requires { place + 1 < 2 ^ 32 }
+    ensures { OnOk result (IsAdded (if home then number else None) (if home then None else number) place lane.old lane.new) }
+{
+    if home {
+        add_inner(lane, number, place)
+    } else {
+        add_outer(lane, number, place)
+    }
 }
 
 fn fill(events: &[Numbered], quest: &Quest, lane: &mut Lane) -> Result<(), AllocError>
@@ -103,9 +115,9 @@ pub(crate) fn lane_of(
 ) -> Result<Lane, AllocError>
     requires few { length events.now < 2 ^ 32 }
     requires each { length quest.now.transactions.firsts.items ≡ length events.now }
-    ensures is { IfOk result (IsLane events.now kind) }
+    ensures is { IfOk result (IsLane events.now (outside events.now quest.now.transactions.firsts.items quest.now.first) kind) }
     ensures homes { IfOk result (AreHomes events.now quest.now.transactions.firsts.items quest.now.first kind) }
-    ensures full { IfOk result (IsFull events.now kind) }
+    ensures full { IfOk result (IsFull events.now quest.now.transactions.firsts.items quest.now.first kind) }
 {
     let mut lane = Lane {
         kind,

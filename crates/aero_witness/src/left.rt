@@ -1,14 +1,14 @@
 //! The targets of all kinds that aren't taken yet, and what a front takes of them.
-ghost use Rattle.std.specs.Prelude.{◌≡◌, ◌<◌, ◌≤◌, ◌+◌, ◌^◌, ℕ, [], length, nat_lt, true, false, OnOk, IfOk, All, Contains};
+ghost use Rattle.std.specs.Prelude.{◌≡◌, ◌<◌, ◌≤◌, ◌+◌, ◌^◌, ℕ, Option, [], length, nat_lt, true, false, OnOk, IfOk, All, Contains};
 ghost use Rattle.aero_witness.specs.declared.kinds.Kind.{Kind};
-ghost use Rattle.aero_witness.specs.Kinds.{source_number, sources, targets};
+ghost use Rattle.aero_witness.specs.Kinds.{source_number, sources, outside};
 ghost use Rattle.aero_witness.specs.Lanes.{head_of, IsLane, AreHomes, IsFull, IsSameBut, AreDrawn};
 ghost use Rattle.aero_witness.specs.Left.{lane_of, lane_leads_home, event_leads_home, AreGathered};
 
 use crate::kinds::{Kind, source_number};
 use crate::lanes::{Lane, Lead, head_of, lane_of, take};
 use crate::quest::Quest;
-use aero_model::{Numbered, What};
+use aero_model::Numbered;
 use std::alloc::{AllocError, Global};
 
 #[derive(Drop)]
@@ -25,9 +25,9 @@ pub(crate) struct Left {
 pub(crate) fn left_of(alloc: Global, events: &[Numbered], quest: &Quest) -> Result<Left, AllocError>
     requires few { length events.now < 2 ^ 32 }
     requires each { length quest.now.transactions.firsts.items ≡ length events.now }
-    ensures lanes { IfOk result (λ left. (k : Kind) → IsLane events.now k (lane_of left k)) }
+    ensures lanes { IfOk result (λ left. (k : Kind) → IsLane events.now (outside events.now quest.now.transactions.firsts.items quest.now.first) k (lane_of left k)) }
     ensures homes { IfOk result (λ left. (k : Kind) → AreHomes events.now quest.now.transactions.firsts.items quest.now.first k (lane_of left k)) }
-    ensures full { IfOk result (λ left. (k : Kind) → IsFull events.now k (lane_of left k)) }
+    ensures full { IfOk result (λ left. (k : Kind) → IsFull events.now quest.now.transactions.firsts.items quest.now.first k (lane_of left k)) }
 {
     Ok(Left {
         threads: lane_of(alloc, events, quest, Kind::Threads)?,
@@ -47,10 +47,10 @@ fn gather_lane(
     leads: &mut Vec<Lead>,
 ) -> Result<(), AllocError>
     requires few { length events.now < 2 ^ 32 }
-    requires lane { IsLane events.now lane.old.kind lane.old }
+    requires lane { (outer : Kind → ℕ → Option ℕ) × IsLane events.now outer lane.old.kind lane.old }
     requires within { All (λ i. i < length events.now) front.now }
     ensures same { OnOk result (IsSameBut lane.old lane.new) }
-    ensures drawn { OnOk result (AreDrawn (sources events.now lane.old.kind) (targets events.now lane.old.kind) front.now (length events.now) lane.old.heads.items lane.new.heads.items leads.old.items leads.new.items) }
+    ensures drawn { OnOk result ((outer : Kind → ℕ → Option ℕ) → IsLane events.now outer lane.old.kind lane.old → AreDrawn (sources events.now lane.old.kind) (outer lane.old.kind) front.now (length events.now) lane.old.heads.items lane.new.heads.items leads.old.items leads.new.items) }
 {
     for place in front {
         let number = source_number(lane.kind, &events[*place as usize]);
@@ -67,9 +67,9 @@ fn gather(
     leads: &mut Vec<Lead>,
 ) -> Result<(), AllocError>
     requires few { length events.now < 2 ^ 32 }
-    requires lanes { (k : Kind) → IsLane events.now k (lane_of left.old k) }
+    requires lanes { (outer : Kind → ℕ → Option ℕ) × ((k : Kind) → IsLane events.now outer k (lane_of left.old k)) }
     requires within { All (λ i. i < length events.now) front.now }
-    ensures { OnOk result (AreGathered events.now front.now left.old left.new leads.old.items leads.new.items) }
+    ensures { OnOk result ((outer : Kind → ℕ → Option ℕ) → ((k : Kind) → IsLane events.now outer k (lane_of left.old k)) → AreGathered events.now outer front.now left.old left.new leads.old.items leads.new.items) }
 {
     gather_lane(events, front, &mut left.threads, leads)?;
     gather_lane(events, front, &mut left.forks, leads)?;
@@ -80,24 +80,7 @@ fn gather(
     Ok(())
 }
 
-// Whether both events are accesses of one variable, one of which writes it.
-fn is_by_variable(events: &[Numbered], lead: &Lead) -> bool {
-    match (what_at(events, lead.from), what_at(events, lead.enters)) {
-        (Some(What::Write(x)), Some(What::Read(y) | What::Write(y))) => x == y,
-        (Some(What::Read(x)), Some(What::Write(y))) => x == y,
-        _ => false,
-    }
-}
-
-fn what_at(events: &[Numbered], place: u32) -> Option<What> {
-    match events.get(place as usize) {
-        Some(event) => Some(event.what),
-        None => None,
-    }
-}
-
-// What is taken so. Conflicts of variables come first, since a reader is told more by them. Then they are in the order of
-// the places at which a walk comes in, and of these from the same event on.
+// What is taken so.
 pub(crate) fn leads_of(
     alloc: Global,
     events: &[Numbered],
@@ -105,13 +88,12 @@ pub(crate) fn leads_of(
     left: &mut Left,
 ) -> Result<Vec<Lead>, AllocError>
     requires few { length events.now < 2 ^ 32 }
-    requires lanes { (k : Kind) → IsLane events.now k (lane_of left.old k) }
+    requires lanes { (outer : Kind → ℕ → Option ℕ) × ((k : Kind) → IsLane events.now outer k (lane_of left.old k)) }
     requires within { All (λ i. i < length events.now) front.now }
-    ensures { IfOk result (λ leads. AreGathered events.now front.now left.old left.new [] leads.items) }
+    ensures { IfOk result (λ leads. (outer : Kind → ℕ → Option ℕ) → ((k : Kind) → IsLane events.now outer k (lane_of left.old k)) → AreGathered events.now outer front.now left.old left.new [] leads.items) }
 {
     let mut leads = Vec::new(alloc);
     gather(events, front, left, &mut leads)?;
-    leads.sort_unstable_by_key(|lead| (!is_by_variable(events, lead), lead.enters, lead.from));
     Ok(leads)
 }
 

@@ -32,12 +32,14 @@
 //! # What a search costs
 //!
 //! No contract says it. Each place is reached once, and taken once by each kind of conflict in which its event can be
-//! the later one: four of them for a write, and fewer for any other. What a level takes and what it reaches is
-//! sorted. Beside that all events are gone through a fixed number of times, however many visits the cycle has. So the
-//! time is about that of sorting the events. In memory an event takes 48 bytes, beside what a level takes: 24 for the
+//! the later one: four of them for a write, and fewer for any other. Those of the transaction where walks begin aren't
+//! taken. Of what a level takes what isn't reached yet is sorted, and so is what it reaches. Beside that all events are
+//! gone through a fixed number of times, however many visits the cycle has. So the time is at most about that of
+//! sorting the events. In memory an event takes 48 bytes, beside what a level takes: 24 for the
 //! places before it, 16 for how it is reached, and 8 for its transaction and the next place there.
 #![tactic(auto)]
 
+mod chosen;
 mod conflict;
 mod kinds;
 mod lanes;

@@ -7,6 +7,7 @@ ghost use Rattle.aero_witness.specs.Quest.{IsQuest};
 ghost use Rattle.aero_witness.specs.Reached.{is_noted, IsFront, IsClosed, IsLead, AreEntered, IsHomeless, IsHomecoming};
 ghost use Rattle.aero_witness.specs.Search.{IsAt, IsAdvanced, IsRound};
 
+use crate::chosen::choose;
 use crate::lanes::Lead;
 use crate::left::{Left, leads_home, leads_of, left_of};
 use crate::marks::Marks;
@@ -128,6 +129,29 @@ fn enter_all(
     Ok(())
 }
 
+// The same, in an order of its own, and without those that lead to nothing new.
+fn enter_chosen(
+    events: &[Numbered],
+    quest: &Quest,
+    walks: &mut Walks,
+    level: u32,
+    leads: &mut Vec<Lead>,
+) -> Result<(), AllocError>
+    requires few { length events.now < 2 ^ 32 }
+    requires quest { IsQuest events.now quest.now }
+    requires each { length walks.old.reached.items ≡ length events.now }
+    requires closed { IsClosed events.now walks.old.reached.items }
+    requires front { IsFront (level + 1) walks.old.reached.items walks.old.front.items }
+    requires leads { All (IsLead events.now level walks.old.reached.items) leads.old.items }
+    requires room { level + 1 < 2 ^ 32 }
+    ensures entered { OnOk result (AreEntered events.now level walks.old.reached.items leads.old.items walks.new.reached.items) }
+    ensures front { OnOk result (IsFront (level + 1) walks.new.reached.items walks.new.front.items) }
+{
+    choose(events, &walks.reached, leads);
+    enter_all(events, quest, walks, level, leads)?;
+    Ok(())
+}
+
 // Reaches with one visit more what the front leads to, which is the next front.
 fn advance(
     alloc: Global,
@@ -141,9 +165,9 @@ fn advance(
     requires room { search.old.level + 1 < 2 ^ 32 }
     ensures { OnOk result (IsAdvanced events.now quest.now search.old search.new) }
 {
-    let leads = leads_of(alloc, events, &search.walks.front, &mut search.left)?;
+    let mut leads = leads_of(alloc, events, &search.walks.front, &mut search.left)?;
     search.walks.front.clear();
-    enter_all(events, quest, &mut search.walks, search.level, &leads)?;
+    enter_chosen(events, quest, &mut search.walks, search.level, &mut leads)?;
     search.walks.front.sort_unstable();
     search.level += 1;
     Ok(())

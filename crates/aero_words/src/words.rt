@@ -70,7 +70,7 @@ fn command_line<'a>(alloc: Global) -> Result<Command<'a>, AllocError>
         .arg(format_option(alloc))?
         .arg(flag(alloc, "progress", help::PROGRESS, help::LONG_PROGRESS))?
         .arg(flag(alloc, "quiet", help::QUIET, help::LONG_QUIET))?
-        .arg(text_option(alloc, "files0-from", "FILE", help::LIST, help::LONG_LIST))?
+        .arg(text_option(alloc, "files0-from", "LIST", help::LIST, help::LONG_LIST))?
         .arg(text_option(alloc, "label", "NAME", help::LABEL, help::LONG_LABEL))?
         .arg(flag(alloc, "fail-open", help::FAIL_OPEN, help::LONG_FAIL_OPEN))?
         .arg(file_words(alloc))

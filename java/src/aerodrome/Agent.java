@@ -1,9 +1,12 @@
 package aerodrome;
 
+import aerodrome.hooks.Iterators;
 import aerodrome.hooks.Locks;
 import aerodrome.log.Log;
 import aerodrome.log.LoggedThread;
 import aerodrome.log.Sink;
+import aerodrome.log.ThreadName;
+import aerodrome.weave.ClassFile;
 import aerodrome.weave.JdkWeaver;
 import aerodrome.weave.Table;
 import aerodrome.weave.Weaver;
@@ -33,6 +36,16 @@ public final class Agent {
             return;
         }
         try {
+            int version = ClassFile.unreadable();
+            if (version > 0) {
+                Log.say("this Java is too new (class file version " + version + "): nothing is logged");
+                return;
+            }
+            String wrongNames = ThreadName.open(Options.threads);
+            if (wrongNames != null) {
+                Log.say("threads=" + Options.threads + ": " + wrongNames + ": nothing is logged");
+                return;
+            }
             Log.start(Sink.open(Options.log), Options.limit);
         } catch (IOException cannot) {
             Log.say(Options.log + ": " + Sink.why(cannot) + ": nothing is logged");
@@ -47,10 +60,11 @@ public final class Agent {
 
     private static void instrument(Instrumentation with) throws Exception {
         Module own = Agent.class.getModule();
-        // The synchronizers of locks, by which these have names, are fields of this package's classes.
-        Map<String, Set<Module>> opened = Map.of("java.util.concurrent.locks", Set.of(own));
+        // The synchronizers of locks, by which these have names, and the collections of iterators are fields of such classes.
+        Map<String, Set<Module>> opened = Map.of("java.util.concurrent.locks", Set.of(own), "java.util", Set.of(own));
         with.redefineModule(Object.class.getModule(), Set.of(), Map.of(), opened, Set.of(), Map.of());
         Locks.start();
+        Iterators.start();
         Table table = Table.read();
         JdkWeaver jdk = new JdkWeaver(table);
         with.addTransformer(jdk, true);

@@ -1,5 +1,9 @@
 package aerodrome;
 
+import aerodrome.log.Sink;
+import java.io.FileInputStream;
+import java.io.IOException;
+import java.nio.charset.StandardCharsets;
 import java.util.ArrayList;
 import java.util.Arrays;
 import java.util.HashSet;
@@ -17,16 +21,24 @@ public final class Options {
     public enum Grain { EACH, WHOLE, OFF }
 
     public static String log;
+    /** The file for the names of threads, or null. */
+    public static String threads;
+    /** By what number threads wait at places by chance; below 0 they don't. */
+    public static long stir = -1;
     /** How many bytes are written; 0 is any number, and below 0 as many as fit where the log goes. */
     public static long limit = -1;
     public static Grain arrays = Grain.EACH;
     /** Whether final fields are logged, objects of one thread, calls of collections, and places in the source. */
     public static boolean finals, local = true, collections = true, places = true;
     private static String blocks = "-main,run,call,<init>,<clinit>";
+    /** The same as the user wrote it, who may have named a file. */
+    private static String blocksGiven = blocks;
+    /** The name in a list that stands for all methods that have an annotation `Atomic`. */
+    private static final String ANNOTATED = "annotated";
     private static String only = "", skip = "";
 
     private static final List<String> KNOWN = Arrays.asList(
-            "log", "blocks", "only", "skip", "limit", "arrays", "finals", "local", "collections", "places");
+            "log", "blocks", "only", "skip", "limit", "arrays", "finals", "local", "collections", "places", "threads", "stir");
     /** The names of `blocks` that a method had. */
     private static final Set<String> MET = new HashSet<>();
 
@@ -68,11 +80,16 @@ public final class Options {
     private static String set(String option, String value) {
         switch (option) {
             case "log":
-                log = value.replace("%p", "" + ProcessHandle.current().pid());
+                log = withProcess(value);
                 return value.isEmpty() ? "a path or |COMMAND is wanted" : null;
-            case "blocks":
-                blocks = value;
-                return value.isEmpty() ? "all, none or names of methods are wanted" : null;
+            case "blocks": return setBlocks(value);
+            case "threads":
+                threads = withProcess(value);
+                return value.isEmpty() ? "a path is wanted" : null;
+            case "stir":
+                if (!value.matches("[0-9]{1,18}")) return "a number from 0, of at most 18 digits, is wanted";
+                stir = Long.parseLong(value);
+                return null;
             case "only": only = value; return null;
             case "skip": skip = value; return null;
             case "limit":
@@ -89,7 +106,34 @@ public final class Options {
             default: return "no option is called " + option;
         }
     }
+    private static String withProcess(String path) { return path.replace("%p", "" + ProcessHandle.current().pid()); }
     private static String logOrSkip(String value) { return value.matches("log|skip") ? null : "log or skip is wanted"; }
+
+    /** `@FILE` is what the file's lines say, and `-@FILE` all methods but those. */
+    private static String setBlocks(String value) {
+        blocksGiven = value;
+        String minus = value.startsWith("-@") ? "-" : "";
+        if (!value.startsWith(minus + "@")) {
+            blocks = value;
+            return value.isEmpty() ? "all, none or names of methods are wanted" : null;
+        }
+        try {
+            String names = lines(value.substring(minus.length() + 1));
+            blocks = minus + names;
+            return names.isEmpty() ? "it has no name" : null;
+        } catch (IOException cannot) {
+            return Sink.why(cannot);
+        }
+    }
+    /** The file's lines with commas between, without empty ones and comments. */
+    private static String lines(String path) throws IOException {
+        List<String> names = new ArrayList<>();
+        try (FileInputStream file = new FileInputStream(path)) {
+            for (String line : new String(file.readAllBytes(), StandardCharsets.UTF_8).split("\\R"))
+                if (!line.startsWith("#") && !line.trim().isEmpty()) names.add(line.trim());
+        }
+        return String.join(",", names);
+    }
 
     /** A number of bytes, which may have a unit; below 0 where it is none. */
     private static long bytes(String value) {
@@ -100,9 +144,14 @@ public final class Options {
         return number > Long.MAX_VALUE / factor ? -1 : number * factor;
     }
 
+    /** What isn't the program's. A loader that asks nobody but for java.* makes copies of the agent's own classes, too. */
+    private static final String[] OTHERS = {
+        "java/", "javax/", "jdk/", "sun/", "aerodrome/Agent", "aerodrome/Options", "aerodrome/hooks/", "aerodrome/log/",
+        "aerodrome/names/", "aerodrome/weave/", "aerodrome/asm/"};
+
     /** Whether the class, as a/b/C, is one of the program's that are logged. */
     public static boolean covers(String name) {
-        for (String one : new String[] {"java/", "javax/", "jdk/", "sun/"}) if (name.startsWith(one)) return false;
+        for (String one : OTHERS) if (name.startsWith(one)) return false;
         return (only.isEmpty() || begin(only, name)) && !begin(skip, name);
     }
     private static boolean begin(String prefixes, String name) {
@@ -111,19 +160,20 @@ public final class Options {
     }
 
     /** Whether the method, as a.b.C.m, is a block. One that the compiler made is none unless it is asked for. */
-    public static boolean isBlock(String label, boolean isSynthetic) {
+    public static boolean isBlock(String label, boolean isSynthetic, boolean isAnnotated) {
         if (blocks.equals("all")) return true;
         if (blocks.equals("none")) return false;
-        if (!blocks.startsWith("-")) return isListed(blocks, label);
-        return !isListed(blocks.substring(1), label) && !isSynthetic;
+        if (!blocks.startsWith("-")) return isListed(blocks, label, isAnnotated);
+        return !isListed(blocks.substring(1), label, isAnnotated) && !isSynthetic;
     }
-    /** A name is a method's, or a label, or the begin of labels with a `*` behind it. */
-    private static boolean isListed(String names, String label) {
+    /** A name is a method's, or a label, or the begin of labels with a `*` behind it, or the word for annotated methods. */
+    private static boolean isListed(String names, String label, boolean isAnnotated) {
         String method = label.substring(label.lastIndexOf('.') + 1);
         boolean any = false;
         for (String one : names.split(",")) {
             boolean starts = one.endsWith("*") && label.startsWith(one.substring(0, one.length() - 1));
-            if (!starts && !one.equals(label) && !one.equals(method)) continue;
+            boolean isCalled = one.equals(ANNOTATED) ? isAnnotated : one.equals(label) || one.equals(method);
+            if (!starts && !isCalled) continue;
             any = true;
             synchronized (MET) {
                 MET.add(one);
@@ -136,7 +186,11 @@ public final class Options {
         List<String> left = new ArrayList<>();
         if (blocks.startsWith("-") || blocks.equals("all") || blocks.equals("none")) return left;
         synchronized (MET) {
-            for (String one : blocks.split(",")) if (!MET.contains(one)) left.add("blocks=" + blocks + ": no method is called " + one);
+            for (String one : blocks.split(",")) {
+                if (MET.contains(one)) continue;
+                String what = one.equals(ANNOTATED) ? "no method or class has an annotation @Atomic" : "no method is called " + one;
+                left.add("blocks=" + blocksGiven + ": " + what);
+            }
         }
         return left;
     }

@@ -9,6 +9,17 @@ final class Meet {
     private static volatile int turn, answered;
     private static final long MOST_NANOSECONDS = 20_000_000_000L;
 
+    /** A class that isn't logged, and clones objects of those below it that are. */
+    static class Base implements Cloneable {
+        Base copy() {
+            try {
+                return (Base) clone();
+            } catch (CloneNotSupportedException impossible) {
+                throw new AssertionError(impossible);
+            }
+        }
+    }
+
     private Meet() { }
 
     /** Runs the body in so many threads, each with its number from 0, and waits for their ends. */

@@ -5,9 +5,13 @@ import java.util.ArrayDeque;
 import java.util.ArrayList;
 import java.util.Collections;
 import java.util.HashMap;
+import java.util.HashSet;
+import java.util.Iterator;
 import java.util.List;
 import java.util.Map;
 import java.util.Queue;
+import java.util.Set;
+import java.util.UUID;
 import java.util.concurrent.ArrayBlockingQueue;
 import java.util.concurrent.BlockingQueue;
 import java.util.concurrent.ConcurrentHashMap;
@@ -37,7 +41,7 @@ import sun.misc.Unsafe;
 
 /**
  * What becomes what: behind `//:` stand the events of each line, in their order. There @ stands for an object's number, # for
- * that of a key, an item or a thread.
+ * that of a key, an item, a permit or a thread.
  */
 public class Rules {
     static final int FIXED = Integer.parseInt("3");
@@ -115,6 +119,14 @@ public class Rules {
                 it.wait(1); //: rel(Rules@) rel(Rules@) acq(Rules@) acq(Rules@)
             } //: rel(Rules@)
         } //: rel(Rules@)
+        synchronized (it) { //: acq(Rules@)
+            Thread.currentThread().interrupt();
+            try {
+                it.wait(); //: rel(Rules@) acq(Rules@)
+            } catch (InterruptedException wanted) {
+                it.count = 2; //: w(Rules.count@)
+            }
+        } //: rel(Rules@)
         it.guarded();
         guardedStatic();
         try {
@@ -133,6 +145,7 @@ public class Rules {
         void enter() { super.lock(); } //: acq(ReentrantLock$NonfairSync@)
         @Override public void lock() { super.lock(); } //: acq(ReentrantLock$NonfairSync@)
         void leave() { unlock(); } //: rel(ReentrantLock$NonfairSync@)
+        @Override public void unlock() { super.unlock(); }
     }
     static class Words extends ArrayList<String> {
         void addTwice(String word) {
@@ -171,6 +184,13 @@ public class Rules {
         stamped.unlockWrite(stamp); //: w(StampedLock@)
         stamp = stamped.tryOptimisticRead(); //: r(StampedLock@)
         stamped.validate(stamp); //: r(StampedLock@)
+        stamp = stamped.tryConvertToReadLock(stamp); //: r(StampedLock@)
+        if (stamped.tryWriteLock() != 0) return;
+        stamped.unlock(stamp); //: r(StampedLock@)
+        stamped.asWriteLock().lock(); //: w(StampedLock@)
+        if (stamped.validate(stamp)) return;
+        stamped.asWriteLock().unlock(); //: w(StampedLock@)
+        stamped.asReadLock().lock(); //: r(StampedLock@)
     }
 
     static final AtomicIntegerFieldUpdater<Rules> FLAGGED = AtomicIntegerFieldUpdater.newUpdater(Rules.class, "flagged");
@@ -191,8 +211,9 @@ public class Rules {
         FLAGGED.incrementAndGet(it); //: w(Rules.flagged@)
         FLAGGED.get(it); //: r(Rules.flagged@)
         LongAdder adder = new LongAdder();
-        adder.increment(); //: r(LongAdder@)
-        adder.sum(); //: w(LongAdder@)
+        adder.increment(); //: w(LongAdder@.all#)
+        adder.sum(); //: r(LongAdder@.all#) w(LongAdder@.look#)
+        adder.increment(); //: r(LongAdder@.look#) w(LongAdder@.all#)
         Function<AtomicInteger, Integer> get = AtomicInteger::get; //: r(AtomicInteger@)
         get.apply(number);
     }
@@ -242,31 +263,45 @@ public class Rules {
 
     static void helps() throws Exception {
         Semaphore semaphore = new Semaphore(1);
-        semaphore.acquire(); //: w(Semaphore@)
+        semaphore.acquire();
         semaphore.tryAcquire();
-        semaphore.release(); //: w(Semaphore@)
-        semaphore.tryAcquire(); //: w(Semaphore@)
+        semaphore.release(2); //: w(Semaphore@.permit#)
+        semaphore.tryAcquire(); //: r(Semaphore@.permit#)
+        semaphore.drainPermits(); //: r(Semaphore@.permit#)
+        Semaphore many = new Semaphore(Integer.MAX_VALUE);
+        many.acquire(Integer.MAX_VALUE);
+        many.release(Integer.MAX_VALUE - 1); //: w(Semaphore@.permit#)
+        many.release(); //: w(Semaphore@.permit#)
+        many.acquire(Integer.MAX_VALUE); //: r(Semaphore@.permit#) r(Semaphore@.permit#)
         CountDownLatch latch = new CountDownLatch(1);
-        latch.countDown(); //: w(CountDownLatch@)
-        latch.await(); //: r(CountDownLatch@)
-        new CyclicBarrier(1).await(); //: w(CyclicBarrier@) r(CyclicBarrier@)
+        latch.countDown(); //: w(CountDownLatch@.all#)
+        latch.await(); //: r(CountDownLatch@.all#)
+        new CyclicBarrier(1).await(); //: w(CyclicBarrier@.all#) r(CyclicBarrier@.all#)
         Phaser phaser = new Phaser(1);
-        phaser.arriveAndAwaitAdvance(); //: w(Phaser@) r(Phaser@)
-        phaser.arrive(); //: w(Phaser@)
-        phaser.awaitAdvance(1); //: r(Phaser@)
+        phaser.arriveAndAwaitAdvance(); //: w(Phaser@.all#) r(Phaser@.all#)
+        phaser.arrive(); //: w(Phaser@.all#)
+        phaser.awaitAdvance(1); //: r(Phaser@.all#)
         try {
-            new Exchanger<Object>().exchange(latch, 1, TimeUnit.NANOSECONDS); //: w(Exchanger@)
+            new Exchanger<Object>().exchange(latch, 1, TimeUnit.NANOSECONDS); //: w(Exchanger@.all#)
         } catch (TimeoutException wanted) {
-            LockSupport.unpark(Thread.currentThread()); //: w(Thread@)
+            LockSupport.unpark(Thread.currentThread()); //: w(Thread@.all#)
         }
-        LockSupport.park(); //: r(Thread@)
+        LockSupport.park(); //: r(Thread@.all#)
         BlockingQueue<Object> queue = new ArrayBlockingQueue<>(2);
         queue.put(latch); //: w(ArrayBlockingQueue@.item#)
         queue.offer(phaser); //: w(ArrayBlockingQueue@.item#)
         queue.take(); //: r(ArrayBlockingQueue@.item#)
-        queue.peek(); //: r(ArrayBlockingQueue@.item#)
-        queue.poll(); //: r(ArrayBlockingQueue@.item#)
-        queue.poll();
+        queue.peek(); //: r(ArrayBlockingQueue@.item#) w(ArrayBlockingQueue@.head#)
+        queue.poll(); //: r(ArrayBlockingQueue@.item#) w(ArrayBlockingQueue@.head#)
+        queue.poll(); //: w(ArrayBlockingQueue@.none#)
+        queue.isEmpty(); //: w(ArrayBlockingQueue@.none#)
+        queue.size(); //: w(ArrayBlockingQueue@.none#) w(ArrayBlockingQueue@.head#)
+        queue.add(latch); //: w(ArrayBlockingQueue@.item#)
+        queue.add(latch); //: w(ArrayBlockingQueue@.item#)
+        if (queue.offer(latch)) return; //: w(ArrayBlockingQueue@.item#)
+        queue.remove(latch); //: r(ArrayBlockingQueue@.item#) w(ArrayBlockingQueue@.head#)
+        queue.drainTo(new ArrayList<>()); //: r(ArrayBlockingQueue@.item#)
+        queue.clear();
     }
 
     interface Looking {
@@ -290,12 +325,25 @@ public class Rules {
         map.put("a", 1); //: r(ConcurrentHashMap@.clear) w(ConcurrentHashMap@.key#) w(ConcurrentHashMap@.all#)
         map.get("a"); //: r(ConcurrentHashMap@.clear) r(ConcurrentHashMap@.key#)
         map.putIfAbsent("a", 2); //: r(ConcurrentHashMap@.clear) r(ConcurrentHashMap@.key#)
+        map.computeIfAbsent("a", key -> total); //: r(ConcurrentHashMap@.clear) r(ConcurrentHashMap@.key#)
+        map.computeIfAbsent("b", key -> total); //: r(Rules.total) r(ConcurrentHashMap@.clear) w(ConcurrentHashMap@.key#) w(ConcurrentHashMap@.all#)
+        map.compute("b", (key, before) -> total); //: r(Rules.total) r(ConcurrentHashMap@.clear) w(ConcurrentHashMap@.key#) w(ConcurrentHashMap@.all#)
+        map.computeIfPresent("c", (key, before) -> total); //: r(ConcurrentHashMap@.clear) r(ConcurrentHashMap@.key#)
+        map.merge("c", 1, (one, two) -> total); //: r(ConcurrentHashMap@.clear) w(ConcurrentHashMap@.key#) w(ConcurrentHashMap@.all#)
+        map.get(new UUID(1, 2)); //: r(ConcurrentHashMap@.clear) r(ConcurrentHashMap@.key#.UUID)
+        Set<Object> keys = ConcurrentHashMap.newKeySet();
+        keys.add("a"); //: r(ConcurrentHashMap@.clear) w(ConcurrentHashMap@.key#) w(ConcurrentHashMap@.all#)
+        keys.add("a"); //: r(ConcurrentHashMap@.clear) r(ConcurrentHashMap@.key#)
+        keys.contains("a"); //: r(ConcurrentHashMap@.clear) r(ConcurrentHashMap@.key#)
+        keys.clear(); //: w(ConcurrentHashMap@.clear)
         map.putIfAbsent(Color.RED, 2); //: r(ConcurrentHashMap@.clear) w(ConcurrentHashMap@.key@) w(ConcurrentHashMap@.all#)
+        map.get("negative hash"); //: r(ConcurrentHashMap@.clear) r(ConcurrentHashMap@.key#)
         map.get(new Key()); //: r(ConcurrentHashMap@.clear) r(ConcurrentHashMap@.key)
-        map.size(); //: r(ConcurrentHashMap@.clear) r(ConcurrentHashMap@.all#) r(ConcurrentHashMap@.all#)
+        map.size(); //: r(ConcurrentHashMap@.clear) r(ConcurrentHashMap@.all#) w(ConcurrentHashMap@.look#)
+        map.put("b", 1); //: r(ConcurrentHashMap@.clear) r(ConcurrentHashMap@.look#) w(ConcurrentHashMap@.key#) w(ConcurrentHashMap@.all#)
         map.clear(); //: w(ConcurrentHashMap@.clear)
         Map<Object, Object> seen = map;
-        seen.remove("a"); //: r(ConcurrentHashMap@.clear) w(ConcurrentHashMap@.key#) w(ConcurrentHashMap@.all#)
+        seen.remove("a"); //: r(ConcurrentHashMap@.clear) r(ConcurrentHashMap@.look#) w(ConcurrentHashMap@.key#) w(ConcurrentHashMap@.all#)
         Map<Object, Object> plain = new HashMap<>();
         plain.put("a", 1); //: w(HashMap@)
         plain.get("a"); //: r(HashMap@)
@@ -305,6 +353,13 @@ public class Rules {
         list.add(map); //: w(ArrayList@)
         list.remove(map); //: w(ArrayList@)
         list.isEmpty(); //: r(ArrayList@)
+        list.add(map); //: w(ArrayList@)
+        Iterator<Object> each = list.iterator(); //: r(ArrayList@)
+        each.next();
+        each.remove(); //: w(ArrayList@)
+        Iterator<Object> left = new HashSet<Object>(Collections.singleton(map)).iterator(); //: r(HashSet@)
+        left.next();
+        left.remove(); //: w(HashSet@)
         new CopyOnWriteArrayList<>(list).contains(map); //: r(CopyOnWriteArrayList@)
         new Words().addTwice("word");
         Queue<Object> queue = new ArrayDeque<>();
@@ -325,6 +380,18 @@ public class Rules {
         Thread thread = new Thread(new Counter());
         thread.start();
         thread.join();
+        // One that runs still isn't joined.
+        Thread sleeper = new Thread(() -> {
+            try {
+                Thread.sleep(1_000_000);
+            } catch (InterruptedException wanted) {
+                total = 5; //: w(Rules.total)
+            }
+        });
+        sleeper.start();
+        sleeper.join(1);
+        sleeper.interrupt();
+        sleeper.join();
     }
 
     public static void main(String[] words) throws Exception {

@@ -46,18 +46,20 @@ public class Sides {
     }
     /** The same of a monitor or a lock that is held meanwhile. */
     void locks() throws Exception {
+        Thread waiter = new Thread(() -> { synchronized (monitor) { within = 1; } });
         synchronized (monitor) {
-            Thread waiter = new Thread(() -> { synchronized (monitor) { within = 1; } });
             waiter.start();
             Meet.untilStuck(waiter, Thread.State.BLOCKED);
         }
+        waiter.join();
+        waiter = new Thread(this::guarded);
         synchronized (this) {
-            Thread waiter = new Thread(this::guarded);
             waiter.start();
             Meet.untilStuck(waiter, Thread.State.BLOCKED);
         }
+        waiter.join();
         lock.lock();
-        Thread waiter = new Thread(() -> {
+        waiter = new Thread(() -> {
             lock.lock();
             lock.unlock();
         });
@@ -110,6 +112,7 @@ public class Sides {
             within = number;
             return 5;
         }
+        @Override public boolean equals(Object other) { return this == other; }
         @Override public int compareTo(Key other) {
             within = number;
             return 1;

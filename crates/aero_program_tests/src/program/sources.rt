@@ -1,12 +1,13 @@
 // The sources that are asked for: their names, which may wait, and how many bytes they have.
 use crate::program::streams::{Drawer, Text};
-use aero_batch::source::Source;
+use aero_batch::source::SourceOf;
+use aero_model::{Except, SharedExcept};
 use aero_program::command::Sources;
 use aero_program::files::FilesOf;
-use aero_program::input::Input;
 use aero_program::listing::Unlisted;
 use aero_program::sizes::{Sizes, whole_size};
 use aero_program::sources::sources_of;
+use aero_program::traced::Traced;
 use std::alloc::{AllocError, Global};
 use std::test::Fail;
 
@@ -15,7 +16,7 @@ const EMPTY: Text = Text {
     failures: 0,
 };
 
-type Made<'a> = Vec<Source<Input<Text, &'a Drawer>>>;
+type Made<'a> = Vec<SourceOf<Traced<Text, &'a Drawer>>>;
 
 // The files of the words, or standard input where there are none.
 fn sources_named<'a>(
@@ -23,10 +24,20 @@ fn sources_named<'a>(
     files: &'a Drawer,
     words: &[&str],
 ) -> Result<Made<'a>, Unlisted> {
+    let except = no_labels(alloc)?;
     if words.is_empty() {
-        return sources_of(alloc, files, EMPTY, &Sources::Standard(None));
+        return sources_of(alloc, files, EMPTY, &Sources::Standard(None), &except);
     }
-    sources_of(alloc, files, EMPTY, &Sources::Files(owned(alloc, words)?))
+    let words = Sources::Files(owned(alloc, words)?);
+    sources_of(alloc, files, EMPTY, &words, &except)
+}
+
+// The list without a label.
+fn no_labels(alloc: Global) -> Result<SharedExcept, AllocError> {
+    match Except::new(Vec::new(alloc)) {
+        Some(except) => SharedExcept::new(alloc, except),
+        None => Err(AllocError),
+    }
 }
 
 fn owned(alloc: Global, words: &[&str]) -> Result<Vec<String>, AllocError> {
@@ -91,7 +102,10 @@ fn is_listed(alloc: Global, path: &str, row: &Listed) -> bool {
     let Ok(path) = String::from_str(alloc, path) else {
         return false;
     };
-    match sources_of(alloc, &drawer, stdin, &Sources::Listed(path)) {
+    let Ok(except) = no_labels(alloc) else {
+        return false;
+    };
+    match sources_of(alloc, &drawer, stdin, &Sources::Listed(path), &except) {
         Ok(sources) => are_named(&sources, row.1) && may_wait_so(&sources, row.2),
         Err(_) => false,
     }

@@ -1,5 +1,5 @@
 // Streams and files of which calls fail, once or for ever, or are interrupted.
-ghost use Rattle.std.specs.Prelude.{⊤};
+ghost use Rattle.std.specs.Prelude.{◌≡◌, Some, ⊤};
 
 use aero_program::files::{Opened, Opener};
 use aero_program::sizes::Sizes;
@@ -20,6 +20,8 @@ pub(crate) struct Text {
 }
 
 impl Read for Text {
+    ghost remaining = { λ text. Some text.left.now };
+
     fn read(&mut self, buf: &mut [u8]) -> io::Result<usize> {
         if self.left.is_empty() && self.failures > 0 {
             self.failures -= 1;
@@ -101,7 +103,9 @@ pub(crate) struct Interrupted<T> {
 }
 
 impl<T> Interrupted<T> {
-    pub(crate) fn new(inner: T, times: u32) -> Interrupted<T> {
+    pub(crate) fn new(inner: T, times: u32) -> Interrupted<T>
+        ensures { result.inner ≡ inner }
+    {
         Interrupted {
             inner,
             times,
@@ -109,7 +113,9 @@ impl<T> Interrupted<T> {
         }
     }
 
-    fn interrupt(&mut self) -> io::Result<()> {
+    fn interrupt(&mut self) -> io::Result<()>
+        ensures { self.new.inner ≡ self.old.inner }
+    {
         if self.left == 0 {
             self.left = self.times;
             return Ok(());
@@ -120,6 +126,8 @@ impl<T> Interrupted<T> {
 }
 
 impl<R: Read> Read for Interrupted<R> {
+    ghost remaining = { λ reader. R.remaining reader.inner };
+
     fn read(&mut self, buf: &mut [u8]) -> io::Result<usize> {
         self.interrupt()?;
         self.inner.read(buf)
@@ -138,7 +146,7 @@ impl<W: Write> Write for Interrupted<W> {
     }
 }
 
-// Files that all have one text, of which so many opens are interrupted and then so many fail. Reads go as
+// Files that all have one text, as contracts see, of which so many opens are interrupted and then so many fail. Reads go as
 // those of a `Text`, each interrupted as often as the opens were to be. They are no plain files, or are said to have
 // `size` bytes each.
 #[derive(Drop)]
@@ -256,6 +264,8 @@ impl Sizes for Drawer {
 
 impl Opener for Shelf {
     ghost can_open = { λ _. ⊤ };
+
+    ghost known = { λ shelf _. Some shelf.text.now };
 
     ghost holds = { λ _ _ _. ⊤ };
 

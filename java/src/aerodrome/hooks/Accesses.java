@@ -95,13 +95,4 @@ public final class Accesses {
     private static void append(LoggedThread me, byte[] operation, Object array, int index, int site) {
         if (putElement(me, operation, array, index)) Log.append(me.line.put(Site.get(site).place));
     }
-
-    // ---- initializers of classes
-
-    public static void initializes() {
-        if (Log.on) LoggedThread.current().initializing++;
-    }
-    public static void initialized() {
-        if (Log.on) LoggedThread.current().initializing--;
-    }
 }

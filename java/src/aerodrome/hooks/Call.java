@@ -5,7 +5,10 @@ import aerodrome.log.Log;
 import aerodrome.log.LoggedThread;
 import aerodrome.names.FieldName;
 import aerodrome.names.Numbers;
-import java.util.Map;
+import java.util.Iterator;
+import java.util.NoSuchElementException;
+import java.util.concurrent.ConcurrentHashMap;
+import java.util.concurrent.locks.StampedLock;
 
 /** A call that is logged, from before it to behind it. */
 public final class Call {
@@ -16,6 +19,9 @@ public final class Call {
     private Kind kind;
     /** How often the lock was held that the call gives back. */
     private int times;
+    /** Of a call of a queue. */
+    private Queues.Before queue;
+    private boolean wasWithin;
 
     /** @param index of the element that is accessed, or an offset; below 0: none */
     Call(LoggedThread me, Object receiver, Object argument, long index, int site) {
@@ -33,40 +39,86 @@ public final class Call {
         switch (kind) {
             case READ: case STATE_READ: Log.hold(variable(Events.READ)); return;
             case WRITE: case STATE_WRITE: Log.hold(variable(Events.WRITE)); return;
-            case SWAP: case STATE_SWAP:
-                variable(Events.WRITE);
+            case SWAP: case STATE_SWAP: case OPEN_TRY:
+                variable(kind == Kind.OPEN_TRY ? Events.READ : Events.WRITE);
                 Log.lock();
                 return;
-            case WRITE_BEFORE: case MEET: case COLLECTION_WRITE: write(Events.WRITE); return;
+            case OPEN_ADD: Parts.hold(me, receiver, Parts.Way.ADDS, site); return;
+            case OPEN_LOOK: Parts.hold(me, receiver, Parts.Way.LOOKS, site); return;
+            case OPEN_RESET: Parts.hold(me, receiver, Parts.Way.RESETS, site); return;
+            case SIGNAL: case MEET: Parts.write(me, receiver, Parts.Way.ADDS, site); return;
+            case READ_BEFORE: write(Events.READ); return;
+            case STAMPED: beforeStamped(); return;
+            case WRITE_BEFORE: case COLLECTION_WRITE: write(Events.WRITE); return;
             case UNLOCK: Locks.unlocking(me, receiver, site); return;
             case WAIT: times = Thread.holdsLock(receiver) ? Events.release(me, receiver, Integer.MAX_VALUE, site) : 0; return;
             case AWAIT: times = Locks.giveBack(me, receiver, site); return;
-            case SEND: item(Events.WRITE, argument); return;
+            case RELEASE: Permits.of(me, receiver).release(me, receiver, permits(), site); return;
+            case ACQUIRE: case ACQUIRE_IF_TRUE: case ACQUIRE_ALL: Permits.of(me, receiver); return;
+            case SEND: queue = Queues.of(receiver).put(me, receiver, argument, site); return;
+            case SEND_MANY: queue = Queues.of(receiver).putMany(me, receiver, site); return;
+            case RECEIVE: case PULL: case PURGE: queue = Queues.of(receiver).take(); return;
+            case DRAIN: queue = Queues.of(receiver).drain(argument); return;
+            case PEEK: case LOOK: case COUNT: queue = Queues.of(receiver).look(); return;
             case UNPARK:
-                if (argument != null) Events.write(me, Events.WRITE, argument, site);
+                if (argument != null) Parts.write(me, argument, Parts.Way.ADDS, site);
                 return;
             case KEY_WRITE: case WHOLE_WRITE: Maps.write(me, kind, receiver, argument, site); return;
-            case KEY_IF_ABSENT: beforeIfAbsent(); return;
+            case KEY_IF_ABSENT: case KEY_WITHIN: beforeChange(); return;
+            case ITERATOR_WRITE: beforeIterator(); return;
             default:
         }
     }
 
-    private void beforeIfAbsent() {
-        if (argument != null && ((Map<?, ?>) receiver).get(argument) != null) kind = Kind.KEY_READ;
-        else Maps.write(me, Kind.KEY_WRITE, receiver, argument, site);
+    /** A stamp that stands for no lock may get one. */
+    private void beforeStamped() {
+        if (StampedLock.isWriteLockStamp(index)) write(Events.WRITE);
+        else if (StampedLock.isReadLockStamp(index)) write(Events.READ);
+        else kind = Kind.READ_IF_TRUE;
+    }
+
+    private long permits() { return Math.max(index, index < 0 ? 1 : 0); }
+
+    private void beforeChange() {
+        boolean isIfAbsent = kind == Kind.KEY_IF_ABSENT;
+        kind = receiver.getClass() == ConcurrentHashMap.class ? Kind.KEY_WITHIN
+                : isIfAbsent && argument != null && Maps.hasKey(receiver, argument) ? Kind.KEY_READ : Kind.KEY_WRITE;
+        if (kind == Kind.KEY_WRITE) Maps.write(me, kind, receiver, argument, site);
+    }
+    boolean isWithin() { return kind == Kind.KEY_WITHIN; }
+    /** Within the call: the key is changed, or only looked at. */
+    void within(boolean isChanged) {
+        wasWithin = true;
+        if (Log.on) Maps.write(me, isChanged ? Kind.KEY_WRITE : Kind.KEY_READ, receiver, argument, site);
+    }
+
+    private void beforeIterator() {
+        Object of = Iterators.collection(receiver);
+        if (of != null) Events.write(me, Events.WRITE, of, site);
     }
 
     // ---- behind the call
 
-    /** @param isTrue whether it gave true */
-    void after(Object result, boolean isTrue) {
+    /** @param number what it gave, where that is a number; 1 stands for true */
+    void after(Object result, long number) {
+        boolean isTrue = number != 0;
         switch (kind) {
             case READ: case WRITE: case STATE_READ: case STATE_WRITE: Log.unlock(); return;
+            case OPEN_ADD: case OPEN_LOOK: case OPEN_RESET: Log.unlock(); return;
+            case SIGNALLED: case MEET: Parts.write(me, receiver, Parts.Way.WAITS, site); return;
             case SWAP: case STATE_SWAP: swapped(isTrue); return;
+            case OPEN_TRY: tried(isTrue); return;
+            case READ_IF_TRUE:
+                if (isTrue) write(Events.READ);
+                return;
             case WRITE_IF_TRUE:
                 if (isTrue) write(Events.WRITE);
                 return;
-            case READ_AFTER: case MEET: case COLLECTION_READ: write(Events.READ); return;
+            case COLLECTION_READ:
+                if (result instanceof Iterator) Iterators.made(receiver);
+                write(Events.READ);
+                return;
+            case READ_AFTER: write(Events.READ); return;
             case WRITE_AFTER: write(Events.WRITE); return;
             case LOCK: Locks.locked(me, receiver, site); return;
             case TRY_LOCK:
@@ -74,7 +126,23 @@ public final class Call {
                 return;
             case WAIT: Events.acquire(me, receiver, times, site); return;
             case AWAIT: Locks.takeBack(me, receiver, times, site); return;
-            case RECEIVE: item(Events.READ, result); return;
+            case ACQUIRE: Permits.of(me, receiver).acquire(me, receiver, permits(), site); return;
+            case ACQUIRE_ALL: Permits.of(me, receiver).acquire(me, receiver, number, site); return;
+            case ACQUIRE_IF_TRUE:
+                if (isTrue) Permits.of(me, receiver).acquire(me, receiver, permits(), site);
+                return;
+            case SEND_MANY: Queues.of(receiver).wasPut(null, true, queue); return;
+            case SEND: Queues.of(receiver).wasPut(argument, isTrue, queue); return;
+            case RECEIVE: Queues.of(receiver).took(me, receiver, result, queue, site); return;
+            case DRAIN: Queues.of(receiver).drained(me, receiver, number, queue, site); return;
+            case PEEK: Queues.of(receiver).peeked(me, receiver, result, queue, site); return;
+            case PULL: Queues.of(receiver).pulled(me, receiver, isTrue ? argument : null, queue, site); return;
+            case PURGE: Queues.of(receiver).purged(me, receiver, queue, site); return;
+            case LOOK: Queues.of(receiver).looked(me, receiver, isTrue, queue, site); return;
+            case COUNT: Queues.of(receiver).counted(me, receiver, queue, site); return;
+            case KEY_WITHIN:
+                if (!wasWithin) Maps.write(me, Kind.KEY_READ, receiver, argument, site);
+                return;
             case KEY_READ: case WHOLE_READ: Maps.write(me, kind, receiver, argument, site); return;
             default:
         }
@@ -89,28 +157,39 @@ public final class Call {
         }
     }
 
-    void failed() {
+    private void tried(boolean isTrue) {
+        try {
+            if (isTrue) Log.append(me.line);
+        } finally {
+            Log.unlock();
+        }
+    }
+
+    void failed(Throwable thrown) {
         Log.unlock();
+        if (queue != null) failedQueue(thrown);
         if (kind == Kind.WAIT) Events.acquire(me, receiver, times, site);
         if (kind == Kind.AWAIT) Locks.takeBack(me, receiver, times, site);
+    }
+
+    private void failedQueue(Throwable thrown) {
+        Queues of = Queues.of(receiver);
+        boolean isNone = thrown instanceof NoSuchElementException;
+        if (kind == Kind.SEND || kind == Kind.SEND_MANY) of.wasPut(kind == Kind.SEND ? argument : null, false, queue);
+        else if (kind == Kind.RECEIVE && isNone) of.took(me, receiver, null, queue, site);
+        else if (kind == Kind.PEEK && isNone) of.peeked(me, receiver, null, queue, site);
+        else if (kind != Kind.PEEK && kind != Kind.LOOK && kind != Kind.COUNT) of.ended();
     }
 
     // ---- lines
 
     private void write(byte[] operation) { Events.write(me, operation, receiver, site); }
 
-    private void item(byte[] operation, Object item) {
-        if (item == null) return;
-        Line line = Events.putObject(me.line.begin().put(operation), receiver).put(Calls.ITEM).put(Numbers.of(item));
-        Events.end(line, site);
-        Log.write(line);
-    }
-
     /** The receiver as a variable; where it stands for others, as an updater or a handle of a field, that of the argument. */
     private Line variable(byte[] operation) {
         Line line = me.line.begin().put(operation);
         Object field = Numbers.tied(receiver);
-        if (receiver instanceof sun.misc.Unsafe) Offsets.put(line, (sun.misc.Unsafe) receiver, argument, index);
+        if (Calls.isUnsafe(receiver)) Offsets.put(line, receiver, argument, index);
         else if (field instanceof FieldName && ((FieldName) field).isOf(argument)) ((FieldName) field).put(line, argument);
         else if (Handles.isHandle(receiver)) Handles.putElement(line, argument, index);
         else {

@@ -2,17 +2,13 @@ package aerodrome.hooks;
 
 import aerodrome.log.LoggedThread;
 import aerodrome.names.Numbered;
-import aerodrome.names.Text;
 import java.util.concurrent.BlockingQueue;
 import java.util.concurrent.ConcurrentLinkedDeque;
 import java.util.concurrent.ConcurrentLinkedQueue;
-import java.util.concurrent.ConcurrentMap;
 import java.util.concurrent.locks.AbstractQueuedSynchronizer;
 
 /** What the code round a call calls. Stubs.java has that code, and Call.java what is logged. */
 public final class Calls {
-    static final byte[] ITEM = Text.bytes(".item");
-
     private Calls() { }
 
     /** Of a class: whether calls of its methods stand for its contents, since no event of its own code does. */
@@ -30,6 +26,7 @@ public final class Calls {
         LoggedThread me = receiver == null ? null : LoggedThread.logging();
         Kind kind = me == null ? Kind.NOTHING : kind(code, receiver, argument);
         if (kind == Kind.NOTHING || me.initializing > 0 && kind.isAccess()) return null;
+        Stir.place();
         Call call = new Call(me, receiver, argument, index, site);
         call.before(kind);
         return call;
@@ -37,29 +34,36 @@ public final class Calls {
 
     /** Behind a call. */
     public static void after(Call call) {
-        if (call != null) call.after(null, false);
+        if (call != null) call.after(null, 1);
     }
     public static void after(Call call, Object result) {
-        if (call != null) call.after(result, false);
+        if (call != null) call.after(result, 0);
     }
     public static void after(Call call, boolean isTrue) {
-        if (call != null) call.after(null, isTrue);
+        if (call != null) call.after(null, isTrue ? 1 : 0);
     }
-    public static void failed(Call call) {
-        if (call != null) call.failed();
+    public static void after(Call call, long number) {
+        if (call != null) call.after(null, number);
+    }
+    public static void failed(Call call, Throwable thrown) {
+        if (call != null) call.failed(thrown);
     }
 
     /** The kind that fits the receiver. */
     private static Kind kind(int code, Object receiver, Object argument) {
-        Kind kind = Kind.kind(code), concurrent = Kind.concurrent(code);
+        Kind kind = Kind.kind(code);
         if (kind.ofState()) return receiver instanceof AbstractQueuedSynchronizer ? kind : Kind.NOTHING;
-        if (receiver instanceof sun.misc.Unsafe && argument == null) return Kind.NOTHING;
+        if (kind == Kind.OPEN_TRY) return receiver.getClass().getClassLoader() == null ? kind : Kind.READ_IF_TRUE;
+        if (kind.isOpen()) return receiver.getClass().getClassLoader() == null ? kind.closed() : kind.apart();
+        if (argument == null && isUnsafe(receiver)) return Kind.NOTHING;
         if (!kind.isContents()) return kind;
         if (!OPAQUE.get(receiver.getClass())) return Kind.NOTHING;
-        return concurrent != Kind.NOTHING && isConcurrent(receiver, concurrent) ? concurrent : kind;
+        if (Kind.ofMap(code) != Kind.NOTHING && Maps.hasKeys(receiver)) return Kind.ofMap(code);
+        return Kind.ofQueue(code) != Kind.NOTHING && isQueue(receiver) ? Kind.ofQueue(code) : kind;
     }
-    private static boolean isConcurrent(Object receiver, Kind kind) {
-        if (kind.ofKeys()) return receiver instanceof ConcurrentMap;
+    /** By its name, as its class may not be there. */
+    static boolean isUnsafe(Object receiver) { return receiver.getClass().getName().equals("sun.misc.Unsafe"); }
+    private static boolean isQueue(Object receiver) {
         return receiver instanceof BlockingQueue || receiver instanceof ConcurrentLinkedQueue
                 || receiver instanceof ConcurrentLinkedDeque;
     }

@@ -33,20 +33,31 @@ final class Events {
     }
     static void write(LoggedThread me, byte[] operation, Object object, int site) { write(me, operation, null, object, site); }
 
+    // What is kept of a lock is what stands in the log, even if an error such as a full stack comes between: that needs no call.
+
     /** Acquires the lock so often. */
     static void acquire(LoggedThread me, Object lock, int times, int site) {
-        long number = Numbers.of(lock);
-        for (int left = times; left > 0; left--) {
-            write(me, ACQUIRE, lock, site);
-            me.held.add(number);
-        }
+        int place = me.held.place(Numbers.of(lock));
+        for (int left = times; left > 0; left--)
+            try {
+                me.line.isWritten = false;
+                write(me, ACQUIRE, lock, site);
+            } finally {
+                if (me.line.isWritten) me.held.counts[place]++;
+            }
     }
 
     /** Releases the lock so often, or as often as it is held. Says how often. */
     static int release(LoggedThread me, Object lock, int times, int site) {
-        long number = Numbers.of(lock);
+        int place = me.held.place(Numbers.of(lock));
         int done = 0;
-        for (; done < times && me.held.remove(number); done++) write(me, RELEASE, lock, site);
+        for (; done < times && me.held.counts[place] > 0; done++)
+            try {
+                me.line.isWritten = false;
+                write(me, RELEASE, lock, site);
+            } finally {
+                if (me.line.isWritten) me.held.counts[place]--;
+            }
         return done;
     }
 }

@@ -52,14 +52,14 @@ public final class Handles {
         boolean isThere = field instanceof FieldName ? ((FieldName) field).isOf(first) : first != null;
         if (!isThere || !handle.isAccessModeSupported(forms[form].mode)) return null;
         Call call = new Call(me, handle, first, index, site);
-        call.before(isDirect(handle) ? forms[form].kind : apart(forms[form].kind));
+        call.before(isDirect(handle) ? forms[form].kind : forms[form].kind.apart());
         return call;
     }
 
     /** Whether its accesses run no code of the program. */
-    private static boolean isDirect(VarHandle handle) { return handle.getClass().getName().startsWith("java.lang.invoke.VarHandle"); }
-    /** The kind of an access that isn't made under the lock. */
-    private static Kind apart(Kind kind) { return kind == Kind.READ ? Kind.READ_AFTER : Kind.WRITE_BEFORE; }
+    private static boolean isDirect(VarHandle handle) {
+        return handle.getClass().getName().startsWith("java.lang.invoke.VarHandle");
+    }
 
     static boolean isHandle(Object receiver) { return receiver instanceof VarHandle; }
 

@@ -15,7 +15,8 @@ import java.util.concurrent.locks.ReentrantReadWriteLock.WriteLock;
 /** The locks of java.util.concurrent. A lock, its views and its conditions share a synchronizer, which is the lock by the log. */
 public final class Locks {
     private static final byte[] READ_WRITE = Text.bytes("rw.");
-    private static VarHandle ofLock, ofReader, ofWriter, ofCondition;
+    private static VarHandle ofLock, ofReader, ofWriter, ofCondition, ofReadView, ofWriteView;
+    private static Class<?> readView, writeView;
 
     private Locks() { }
 
@@ -25,6 +26,10 @@ public final class Locks {
         ofReader = handle(ReadLock.class, "sync");
         ofWriter = handle(WriteLock.class, "sync");
         ofCondition = handle(ConditionObject.class, "this$0");
+        readView = Class.forName("java.util.concurrent.locks.StampedLock$ReadLockView");
+        writeView = Class.forName("java.util.concurrent.locks.StampedLock$WriteLockView");
+        ofReadView = handle(readView, "this$0");
+        ofWriteView = handle(writeView, "this$0");
     }
     private static VarHandle handle(Class<?> of, String name) throws ReflectiveOperationException {
         Field field = of.getDeclaredField(name);
@@ -52,6 +57,8 @@ public final class Locks {
     private static void other(LoggedThread me, Object lock, int site) {
         if (lock instanceof ReadLock) Events.write(me, Events.READ, READ_WRITE, ofReader.get(lock), site);
         else if (lock instanceof WriteLock) Events.write(me, Events.WRITE, READ_WRITE, ofWriter.get(lock), site);
+        else if (readView.isInstance(lock)) Events.write(me, Events.READ, ofReadView.get(lock), site);
+        else if (writeView.isInstance(lock)) Events.write(me, Events.WRITE, ofWriteView.get(lock), site);
         else if (lock instanceof Lock && lock.getClass().getClassLoader() == null) Events.write(me, Events.WRITE, lock, site);
     }
 

@@ -3,61 +3,91 @@ package aerodrome.hooks;
 import aerodrome.log.Line;
 import aerodrome.log.Log;
 import aerodrome.log.LoggedThread;
+import aerodrome.names.ClassNames;
 import aerodrome.names.Numbers;
 import aerodrome.names.Text;
+import java.util.Collection;
+import java.util.Map;
+import java.util.UUID;
+import java.util.concurrent.ConcurrentHashMap;
+import java.util.concurrent.ConcurrentMap;
+import java.util.concurrent.ConcurrentSkipListSet;
 
 /**
- * Maps for several threads. Each call reads `clear`, which what changes the whole map writes. A write of a key also writes `all.N`,
- * where N goes by the thread, and what looks at the whole map reads all of these. So neither writes of two keys nor two looks at
- * the whole map conflict.
+ * Maps and sets for several threads. Each call reads `clear`, which what changes the whole map writes. A write of a key is also an
+ * addition to the map, and a look at the whole map is a look at that (Parts), even if the one's thread is started after the other.
+ * So neither writes of two keys nor two looks at the whole map conflict.
  */
 final class Maps {
     private static final byte[] HASHED = Text.bytes(".key"), SAME = Text.bytes(".key@");
-    private static final byte[] ALL = Text.bytes(".all"), CLEAR = Text.bytes(".clear");
-    private static final String KNOWN = "java.lang.(String|Integer|Long|Short|Byte|Character)";
+    private static final byte[] CLEAR = Text.bytes(".clear");
 
     private Maps() { }
 
-    /** How keys of a class are told apart without calling code of the program. */
-    private enum Telling { BY_HASH, BY_IDENTITY, NOT }
-    private static final ClassValue<Telling> TELLING = new ClassValue<Telling>() {
-        @Override protected Telling computeValue(Class<?> of) {
-            if (of.getClassLoader() == null && of.getName().matches(KNOWN)) return Telling.BY_HASH;
-            try {
-                Class<?> by = of.getMethod("hashCode").getDeclaringClass();
-                return by == Object.class || by == Enum.class ? Telling.BY_IDENTITY : Telling.NOT;
-            } catch (Throwable unknown) {
-                return Telling.NOT;
-            }
-        }
-    };
-
-    static void write(LoggedThread me, Kind kind, Object map, Object key, int site) {
-        close(begin(me, kind == Kind.WHOLE_WRITE ? Events.WRITE : Events.READ, map, CLEAR), -1, site);
-        if (kind == Kind.WHOLE_READ)
-            for (int one = 0; one < LoggedThread.groups(); one++) close(begin(me, Events.READ, map, ALL), one, site);
-        if (kind == Kind.KEY_READ) key(me, Events.READ, map, key, site);
-        if (kind != Kind.KEY_WRITE) return;
-        key(me, Events.WRITE, map, key, site);
-        close(begin(me, Events.WRITE, map, ALL), me.group(), site);
+    /** Whether there is a variable for each key. */
+    static boolean hasKeys(Object receiver) {
+        return receiver instanceof ConcurrentMap || receiver instanceof ConcurrentHashMap.KeySetView
+                || receiver instanceof ConcurrentSkipListSet;
+    }
+    /** A view of a map's keys, as newKeySet() gives one, is the map. */
+    private static Object map(Object receiver) {
+        boolean isView = receiver instanceof ConcurrentHashMap.KeySetView;
+        return isView ? ((ConcurrentHashMap.KeySetView<?, ?>) receiver).getMap() : receiver;
+    }
+    static boolean hasKey(Object receiver, Object key) {
+        return receiver instanceof Map ? ((Map<?, ?>) receiver).get(key) != null : ((Collection<?>) receiver).contains(key);
     }
 
-    private static void key(LoggedThread me, byte[] operation, Object map, Object key, int site) {
-        Telling telling = key == null ? Telling.NOT : TELLING.get(key.getClass());
-        long number = -1;
-        if (telling == Telling.BY_HASH) number = key.hashCode() & 0xffffffffL;
-        else if (telling == Telling.BY_IDENTITY) number = Numbers.of(key);
-        close(begin(me, operation, map, telling == Telling.BY_IDENTITY ? SAME : HASHED), number, site);
+    /** Its lines stand in the log without one of another thread between. */
+    static void write(LoggedThread me, Kind kind, Object receiver, Object key, int site) {
+        Object map = map(receiver);
+        boolean isOfKey = kind == Kind.KEY_READ || kind == Kind.KEY_WRITE;
+        Keys telling = isOfKey ? Keys.of(key) : Keys.NOT;
+        long number = isOfKey ? number(me, telling, key) : -1, of = Numbers.of(map);
+        Parts parts = Parts.of(map);
+        try {
+            Log.lock();
+            close(begin(me, kind == Kind.WHOLE_WRITE ? Events.WRITE : Events.READ, map, of, CLEAR), -1, site);
+            if (kind == Kind.WHOLE_READ) parts.look(me, map, site);
+            if (kind == Kind.KEY_WRITE) parts.readLooks(me, map, site);
+            if (!isOfKey) return;
+            byte[] part = telling == Keys.BY_IDENTITY ? SAME : HASHED;
+            Line line = begin(me, kind == Kind.KEY_WRITE ? Events.WRITE : Events.READ, map, of, part);
+            if (number >= 0) line.put(number);
+            if (telling == Keys.BY_HASH_AND_CLASS) line.put('.').put(ClassNames.of(key.getClass()));
+            close(line, -1, site);
+            if (kind == Kind.KEY_WRITE) parts.add(me, map, site);
+        } finally {
+            Log.unlock();
+        }
+    }
+    private static long number(LoggedThread me, Keys telling, Object key) {
+        boolean isHashed = telling == Keys.BY_HASH || telling == Keys.BY_HASH_AND_CLASS;
+        return isHashed ? hash(me, key) : telling == Keys.BY_IDENTITY ? Numbers.of(key) : -1;
+    }
+    /** Also that of a record, whose method isn't the program's though its class is. Some have more to tell than their hash. */
+    private static long hash(LoggedThread me, Object key) {
+        if (key instanceof Long) return (Long) key & Long.MAX_VALUE;
+        if (key instanceof UUID) {
+            UUID id = (UUID) key;
+            return 31 * id.getMostSignificantBits() + id.getLeastSignificantBits() & Long.MAX_VALUE;
+        }
+        me.isQuiet = true;
+        try {
+            return key.hashCode() & 0xffffffffL;
+        } finally {
+            me.isQuiet = false;
+        }
     }
 
     // ---- a line on a part of the map, which has a number behind it unless that is below 0
 
-    private static Line begin(LoggedThread me, byte[] operation, Object map, byte[] part) {
-        return Events.putObject(me.line.begin().put(operation), map).put(part);
+    private static Line begin(LoggedThread me, byte[] operation, Object map, long of, byte[] part) {
+        return me.line.begin().put(operation).put(ClassNames.of(map.getClass())).put('@').put(of).put(part);
     }
     private static void close(Line line, long number, int site) {
         if (number >= 0) line.put(number);
         Events.end(line, site);
-        Log.write(line);
+        Log.append(line);
     }
 }

@@ -8,7 +8,10 @@ import java.util.HashMap;
 import java.util.Map;
 import sun.misc.Unsafe;
 
-/** What Unsafe accesses: an element, or a field by the name that its other accesses have. */
+/**
+ * What Unsafe accesses: an element, or a field by the name that its other accesses have. Unsafe is in a module of its own, which
+ * isn't there for each program: so no other class names it, and this one is loaded once there is an Unsafe.
+ */
 final class Offsets {
     private Offsets() { }
 
@@ -31,7 +34,8 @@ final class Offsets {
         }
     };
 
-    static void put(Line line, Unsafe unsafe, Object object, long offset) {
+    static void put(Line line, Object receiver, Object object, long offset) {
+        Unsafe unsafe = (Unsafe) receiver;
         Class<?> of = object.getClass();
         FieldName field = of.isArray() ? null : FIELDS.get(of).get(offset);
         if (field != null) {

@@ -6,7 +6,7 @@ import aerodrome.names.Numbers;
 import aerodrome.names.Site;
 import aerodrome.names.Text;
 
-/** Starts and ends of threads, and the program's end. The JDK's own methods call these, so it doesn't matter who starts a thread. */
+/** Starts and ends of threads, and the program's end. The JDK's own methods call these, whoever starts a thread. */
 public final class Threads {
     private static final byte[] FORK = Text.bytes("fork(T"), JOIN = Text.bytes("join(T");
 

@@ -9,6 +9,8 @@ public final class Line {
 
     final byte[] bytes = new byte[MOST];
     int length;
+    /** Whether it stands in the log since it was begun. */
+    public boolean isWritten;
     private final int prefix;
 
     Line(int thread) {
@@ -20,6 +22,7 @@ public final class Line {
     /** Begins a new line. */
     public Line begin() {
         length = prefix;
+        isWritten = false;
         return this;
     }
 

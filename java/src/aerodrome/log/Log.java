@@ -27,11 +27,17 @@ public final class Log {
         }
     }
     private static final int SPINS = 50;
+    /** In nanoseconds: how long a thread waits for the lock while no line is written; the most that one look at the clock adds. */
+    private static final long MOST_WAIT = 10_000_000_000L, MOST_STEP = 10_000_000L;
     private static final byte[] BUFFER = new byte[1 << 20];
     private static int used;
     private static long written, limit;
     private static Sink sink;
     private static boolean finished;
+    /** Whether the sink is being written to, which may take as long as its reader likes. */
+    private static volatile boolean isFlushing;
+    /** Whether a thread has kept the lock for ever: so nothing more is logged, and, once what was is written out, it is no lock. */
+    private static volatile boolean isGivenUp, isStuck;
 
     private Log() { }
 
@@ -47,20 +53,63 @@ public final class Log {
     public static void lock() {
         Thread me = Thread.currentThread();
         if (holder == me) return;
-        for (int tries = 0; holder != null || !HOLDER.compareAndSet((Thread) null, me); tries++)
-            if (tries < SPINS) Thread.onSpinWait();
-            else Thread.yield();
+        for (int tries = 0; holder != null || !HOLDER.compareAndSet((Thread) null, me); tries++) {
+            if (tries < SPINS) {
+                Thread.onSpinWait();
+                continue;
+            }
+            waitForHolder();
+            if (isStuck) return;
+        }
+    }
+
+    /**
+     * Until the lock may be free. Nothing that waits comes under it, as far as anybody knows; should it happen, the program has to
+     * go on, and what was logged is written out. Time in which the process is stopped isn't counted.
+     */
+    private static void waitForHolder() {
+        Thread first = holder;
+        long before = written + used, waited = 0, last = System.nanoTime();
+        while (first != null && holder == first && !isStuck) {
+            Thread.yield();
+            long now = System.nanoTime();
+            waited = isFlushing || written + used != before ? 0 : waited + Math.min(now - last, MOST_STEP);
+            before = written + used;
+            last = now;
+            if (waited > MOST_WAIT) giveUp(first);
+        }
+    }
+    private static synchronized void giveUp(Thread on) {
+        if (isGivenUp || holder != on) return;
+        isGivenUp = true;
+        flush();
+        if (Log.on) stop("thread " + on.getName() + " waits within an access");
+        isStuck = true;
     }
 
     /** Does nothing where the thread hasn't the lock, since it wrote no line. */
     public static void unlock() {
-        if (holder == Thread.currentThread()) HOLDER.setRelease((Thread) null);
+        if (holder != Thread.currentThread()) return;
+        try {
+            HOLDER.setRelease((Thread) null);
+        } catch (StackOverflowError full) {
+            holder = null;
+        }
     }
 
     /** Writes the thread's line as one event. */
     public static void write(Line line) {
-        hold(line);
-        unlock();
+        lock();
+        try {
+            append(line);
+        } finally {
+            // Even where the stack is too full for a call.
+            try {
+                HOLDER.setRelease((Thread) null);
+            } catch (StackOverflowError full) {
+                holder = null;
+            }
+        }
     }
 
     /** Writes the line and keeps the lock, for the access behind it. */
@@ -76,7 +125,7 @@ public final class Log {
 
     /** Writes the line; the lock is held. */
     public static void append(Line line) {
-        if (!on) return;
+        if (!on || isGivenUp) return;
         if (limit > 0 && written + used + line.length > limit) {
             flush();
             if (on) stop("limit is reached");
@@ -85,9 +134,11 @@ public final class Log {
         if (used + line.length > BUFFER.length) flush();
         System.arraycopy(line.bytes, 0, BUFFER, used, line.length);
         used += line.length;
+        line.isWritten = true;
     }
 
     private static void flush() {
+        isFlushing = true;
         try {
             sink.write(BUFFER, used);
             written += used;
@@ -96,6 +147,7 @@ public final class Log {
             sink.cut(BUFFER, written);
         }
         used = 0;
+        isFlushing = false;
     }
 
     // ---- the end
@@ -112,6 +164,11 @@ public final class Log {
         on = false;
         unlock();
         if (!isFirst) return;
+        try {
+            ThreadName.write();
+        } catch (IOException wrong) {
+            say("threads=" + Options.threads + ": " + Sink.why(wrong));
+        }
         try {
             sink.close();
         } catch (IOException wrong) {

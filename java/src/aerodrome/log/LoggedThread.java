@@ -3,6 +3,7 @@ package aerodrome.log;
 import aerodrome.names.Numbers;
 import java.util.Arrays;
 import java.util.concurrent.atomic.AtomicInteger;
+import java.util.concurrent.atomic.AtomicReference;
 
 /** What is known of a thread. The threads are T1, T2, .. in the order in which they were started. */
 public final class LoggedThread {
@@ -18,14 +19,18 @@ public final class LoggedThread {
     public final HeldLocks held = new HeldLocks();
     /** In how many initializers of classes it is. */
     public int initializing;
+    /** Whether it is in code of the program that a hook calls. */
+    public boolean isQuiet;
     /** How often it held the monitor that Thread.join has given back. */
     public int gaveBack;
+    /** How many places it has come to where it might have waited, and what the next wait follows from; hooks/Stir.java. */
+    public long places, random;
+    private final ThreadName name;
+    /** What hooks/Parts.java has of it. */
+    public final AtomicReference<Object> parts = new AtomicReference<>();
     private volatile boolean ended;
-    /** The objects whose synchronized methods it is in. */
-    private Object[] monitors = new Object[16];
-    private int depth;
 
-    private LoggedThread() { }
+    private LoggedThread(Thread thread) { name = ThreadName.of(number, thread); }
 
     public static LoggedThread current() { return MINE.get(); }
 
@@ -33,7 +38,7 @@ public final class LoggedThread {
     public static LoggedThread logging() {
         if (!Log.on) return null;
         LoggedThread me = MINE.get();
-        return me.ended ? null : me;
+        return me.ended || me.isQuiet ? null : me;
     }
 
     /** The same for an access. What a class's initializer does isn't logged: the system runs it once, before others see it. */
@@ -48,28 +53,32 @@ public final class LoggedThread {
         LoggedThread known = (LoggedThread) entry.tied;
         if (known != null) return known;
         synchronized (entry) {
-            if (entry.tied == null) entry.tied = new LoggedThread();
+            if (entry.tied == null) entry.tied = new LoggedThread(thread);
             return (LoggedThread) entry.tied;
         }
     }
 
     /** Nothing more is logged of it. */
-    public void end() { ended = true; }
+    public void end() {
+        ended = true;
+        if (name != null) name.note();
+    }
 
     /** A number below `groups()`, which few other threads have. */
     public int group() { return number % GROUPS; }
-    public static int groups() { return Math.min(GROUPS, LAST.get() + 1); }
+    /** The same as a bit of 64. */
+    public long bit() { return 1L << group(); }
 
-    /** Kept for synchronized methods: where an exception leaves one, no variable is sure to have its monitor. */
-    public void enter(Object monitor) {
-        if (depth == monitors.length) monitors = Arrays.copyOf(monitors, 2 * depth);
-        monitors[depth++] = monitor;
-    }
-    /** The monitor of the synchronized method that it leaves, or null if it began before the log. */
-    public Object leave() {
-        if (depth == 0) return null;
-        Object monitor = monitors[--depth];
-        monitors[depth] = null;
-        return monitor;
+    // ---- what is open. It is kept without a call, for which a stack might be too full, once an event is written.
+
+    public static final Object BLOCK = new Object(), INITIALIZER = new Object();
+    /** Synchronized methods stand here by their objects. */
+    public Object[] open = new Object[16];
+    public int depth;
+
+    /** For one more. */
+    public void makeRoom() {
+        if (depth == open.length) open = Arrays.copyOf(open, 2 * depth);
+        line.isWritten = false;
     }
 }

@@ -1,18 +1,19 @@
 package aerodrome.names;
 
 import aerodrome.Options;
+import java.lang.reflect.Modifier;
 import java.util.Map;
 import java.util.concurrent.ConcurrentHashMap;
 
-/** The fields of the instrumented classes. An access may name a class that inherits the field: its name is by the one that has it. */
+/** The fields of the instrumented classes. An access may name a class that inherits the field: its name is by the declaring one. */
 public final class Fields {
     private static final int MOST = 220;
 
     private static final class Known {
         final String above;
         final String[] interfaces;
-        /** By name, whether it is final. */
-        final Map<String, Boolean> fields = new ConcurrentHashMap<>();
+        /** By name, how it was declared: the flags of its class file. */
+        final Map<String, Integer> fields = new ConcurrentHashMap<>();
 
         Known(String above, String[] interfaces) {
             this.above = above;
@@ -26,7 +27,7 @@ public final class Fields {
 
     /** Notes a class, whose fields follow. Names of classes are a/b/C. */
     public static void note(String name, String above, String[] interfaces) { CLASSES.put(name, new Known(above, interfaces)); }
-    public static void noteField(String of, String field, boolean isFinal) { CLASSES.get(of).fields.put(field, isFinal); }
+    public static void noteField(String of, String field, int access) { CLASSES.get(of).fields.put(field, access); }
 
     /** Whether the class itself has the field. */
     public static boolean has(String of, String field) {
@@ -34,9 +35,12 @@ public final class Fields {
         return known != null && known.fields.containsKey(field);
     }
 
-    public static boolean isFinal(String of, String field) {
+    public static boolean isFinal(String of, String field) { return Modifier.isFinal(access(of, field)); }
+    /** Whether it is known to be volatile. */
+    public static boolean isVolatile(String of, String field) { return Modifier.isVolatile(access(declaring(of, field), field)); }
+    private static int access(String of, String field) {
         Known known = CLASSES.get(of);
-        return known != null && Boolean.TRUE.equals(known.fields.get(field));
+        return known == null ? 0 : known.fields.getOrDefault(field, 0);
     }
 
     /** The class that has the field: this one, or one that it extends or implements; itself where that isn't known. */

@@ -11,7 +11,7 @@ public final class Numbers {
     /** What is known of an object that doesn't hold its number. */
     public static final class Entry extends WeakTable.Reference {
         volatile long number;
-        /** What belongs to the object: of a thread what is known of it, of a field's updater or handle the field. */
+        /** What is known of a thread, a queue, a map or a semaphore; the field of an updater or a handle. */
         public volatile Object tied;
 
         Entry(Object object, int hash, WeakTable of) { super(object, hash, of); }
@@ -73,6 +73,9 @@ public final class Numbers {
         else entry.number = -thread;
         return 0;
     }
+
+    /** The number that an object holds, if it isn't one that the object, as a clone, has of another. */
+    public static long own(long number, Object object, Object owner) { return object == owner ? number : 0; }
 
     /** A clone has its original's fields, and so the number too. */
     public static void cloned(Object made) {

@@ -14,7 +14,7 @@ public final class Site {
 
     /** `|Bank.java:12` and a newline. */
     public final byte[] place;
-    /** How the line begins: `r(Bank.balance@` of a field, `r(bank.Bank.total)` of a static one; `begin(bank.Bank.pay)` of a block. */
+    /** How the line begins: `r(Bank.balance@` of a field, `r(bank.Bank.total)` of a static one, `begin(Bank.pay)` of a block. */
     private byte[] text;
     private final char operation;
     private final String owner, field;

@@ -20,6 +20,7 @@ final class Invocation {
         this.isInterface = isInterface;
     }
 
+    boolean isSpecial() { return opcode == INVOKESPECIAL; }
     boolean isStatic() { return opcode == INVOKESTATIC; }
     /** The class whose objects may make the call from within the given class: a call of a method of the class above is its own. */
     String receiver(String within) { return opcode == INVOKESPECIAL ? within : owner; }

@@ -11,10 +11,13 @@ final class JdkHook {
     private final String descriptor;
     final Where where;
     final String hookOwner, hookName, given;
+    /** Whether another JDK has it in the place of the one before. */
+    final boolean isElse;
     boolean isFound;
 
     /** A line of the table: hook CLASS.METHOD[DESCRIPTOR] WHERE CLASS.HOOK [WHAT IT IS GIVEN]. */
     JdkHook(String[] words) {
+        isElse = words[0].equals("else");
         int end = words[1].indexOf('(') < 0 ? words[1].length() : words[1].indexOf('(');
         int dot = words[1].lastIndexOf('.', end);
         owner = words[1].substring(0, dot).replace('.', '/');

@@ -33,16 +33,18 @@ public final class JdkWeaver implements ClassFileTransformer {
     }
 
     public void sayWhatIsMissing() {
-        for (JdkHook one : hooks)
-            if (!one.isFound)
+        for (int at = 0; at < hooks.size(); at++) {
+            JdkHook one = hooks.get(at), next = at + 1 < hooks.size() ? hooks.get(at + 1) : one;
+            if (!one.isFound && !one.isElse && !(next.isElse && next.isFound))
                 Log.say("this JDK has no " + one.owner.replace('/', '.') + "." + one.method + ": what it does isn't logged");
+        }
     }
 
     @Override
     public byte[] transform(ClassLoader loader, String name, Class<?> redefined, ProtectionDomain domain, byte[] bytes) {
         if (redefined == null || loader != null || !isHooked(name)) return null;
         try {
-            ClassReader reader = new ClassReader(bytes);
+            ClassReader reader = ClassFile.reader(bytes);
             ClassWriter writer = new ClassWriter(ClassWriter.COMPUTE_MAXS);
             reader.accept(new ClassVisitor(ASM9, writer) {
                 @Override
@@ -52,7 +54,7 @@ public final class JdkWeaver implements ClassFileTransformer {
                     return here.isEmpty() ? to : new Hooked(to, access, method, descriptor, here);
                 }
             }, ClassReader.EXPAND_FRAMES);
-            return writer.toByteArray();
+            return ClassFile.made(writer.toByteArray(), bytes);
         } catch (Throwable wrong) {
             Log.say(name.replace('/', '.') + " has no hooks: " + wrong);
             return null;
@@ -69,6 +71,9 @@ public final class JdkWeaver implements ClassFileTransformer {
     }
 
     private static final class Hooked extends AdviceAdapter {
+        /** What a hook may be given, by its variable. */
+        private static final List<String> GIVEN = List.of("this", "first", "second");
+
         private final List<JdkHook> hooks;
         private final String result;
         private final Label start = new Label();
@@ -80,11 +85,11 @@ public final class JdkWeaver implements ClassFileTransformer {
             for (JdkHook one : hooks) one.isFound |= one.where != JdkHook.Where.RUN;
         }
 
-        /** Calls the hooks that stand there. They are given `this`, the first argument, or nothing. */
+        /** Calls the hooks that stand there. They are given `this`, an argument, or nothing. */
         private void call(JdkHook.Where where) {
             for (JdkHook one : hooks) {
                 if (one.where != where) continue;
-                if (!one.given.isEmpty()) mv.visitVarInsn(ALOAD, one.given.equals("first") ? 1 : 0);
+                if (!one.given.isEmpty()) mv.visitVarInsn(ALOAD, GIVEN.indexOf(one.given));
                 String type = one.hookOwner.endsWith("Threads") ? "Ljava/lang/Thread;" : "Ljava/lang/Object;";
                 String descriptor = one.given.isEmpty() ? "()V" : "(" + type + ")V";
                 mv.visitMethodInsn(INVOKESTATIC, one.hookOwner, one.hookName, descriptor, false);

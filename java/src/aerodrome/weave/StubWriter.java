@@ -2,8 +2,10 @@ package aerodrome.weave;
 
 import static org.objectweb.asm.Opcodes.*;
 
+import aerodrome.hooks.Kind;
 import java.util.ArrayList;
 import java.util.List;
+import java.util.Set;
 import org.objectweb.asm.Label;
 import org.objectweb.asm.MethodVisitor;
 import org.objectweb.asm.Type;
@@ -24,6 +26,12 @@ import org.objectweb.asm.Type;
 final class StubWriter {
     private static final String CALLS = "aerodrome/hooks/Calls", HANDLES = "aerodrome/hooks/Handles", CALL = "aerodrome/hooks/Call";
     private static final String OBJECT = "Ljava/lang/Object;", HANDLE = "Ljava/lang/invoke/VarHandle;";
+
+    private static final Set<String> WITHIN = Set.of("putIfAbsent(" + OBJECT + OBJECT + ")" + OBJECT,
+            "computeIfAbsent(" + OBJECT + "Ljava/util/function/Function;)" + OBJECT,
+            "computeIfPresent(" + OBJECT + "Ljava/util/function/BiFunction;)" + OBJECT,
+            "compute(" + OBJECT + "Ljava/util/function/BiFunction;)" + OBJECT,
+            "merge(" + OBJECT + OBJECT + "Ljava/util/function/BiFunction;)" + OBJECT);
 
     private final MethodVisitor code;
     private final Stub stub;
@@ -58,7 +66,8 @@ final class StubWriter {
         frame(true, true);
         code.visitVarInsn(ASTORE, result);
         code.visitVarInsn(ALOAD, call);
-        code.visitMethodInsn(INVOKESTATIC, CALLS, "failed", "(L" + CALL + ";)V", false);
+        code.visitVarInsn(ALOAD, result);
+        code.visitMethodInsn(INVOKESTATIC, CALLS, "failed", "(L" + CALL + ";Ljava/lang/Throwable;)V", false);
         code.visitVarInsn(ALOAD, result);
         code.visitInsn(ATHROW);
     }
@@ -102,14 +111,19 @@ final class StubWriter {
         code.visitMethodInsn(INVOKESTATIC, stub.form >= 0 ? HANDLES : CALLS, "before", "(I" + given + "I)L" + CALL + ";", false);
         code.visitVarInsn(ASTORE, call);
     }
-    /** The first argument if it is an int, the second if it is a long behind an object, else -1. */
+    /** The first argument if it is an int, or a stamp, the second if it is a long behind an object, else -1. */
     private void index(boolean hasObject) {
         if (arguments.length > 0 && arguments[0] == Type.INT_TYPE) {
             code.visitVarInsn(ILOAD, stub.firstArgument());
             code.visitInsn(I2L);
-        } else if (hasObject && arguments.length > 1 && arguments[1] == Type.LONG_TYPE)
+        } else if (isStamp()) code.visitVarInsn(LLOAD, stub.firstArgument());
+        else if (hasObject && arguments.length > 1 && arguments[1] == Type.LONG_TYPE)
             code.visitVarInsn(LLOAD, stub.firstArgument() + 1);
         else code.visitLdcInsn(-1L);
+    }
+    private boolean isStamp() {
+        boolean isLong = arguments.length > 0 && arguments[0] == Type.LONG_TYPE;
+        return isLong && stub.call.owner.equals("java/util/concurrent/locks/StampedLock");
     }
     private void handleIndex() {
         if (arguments.length > 1 && arguments[0].getSize() == 1 && arguments[1] == Type.INT_TYPE) code.visitVarInsn(ILOAD, 2);
@@ -119,7 +133,18 @@ final class StubWriter {
     private void invoke() {
         if (!stub.call.isStatic()) code.visitVarInsn(ALOAD, 0);
         loadArguments();
-        stub.call.write(code);
+        if (!isWithin()) {
+            stub.call.write(code);
+            return;
+        }
+        code.visitVarInsn(ALOAD, call);
+        String given = "(Ljava/util/Map;" + stub.call.descriptor.substring(1).replace(")", "L" + CALL + ";)");
+        code.visitMethodInsn(INVOKESTATIC, "aerodrome/hooks/Within", stub.call.name, given, false);
+    }
+    /** Whether Within makes the call. */
+    private boolean isWithin() {
+        boolean isOne = WITHIN.contains(stub.call.name + stub.call.descriptor);
+        return isOne && Kind.isWithin(stub.code) && !stub.call.isSpecial();
     }
     private void loadArguments() {
         int at = stub.firstArgument();
@@ -131,9 +156,10 @@ final class StubWriter {
 
     private void after() {
         code.visitVarInsn(ALOAD, call);
-        boolean isObject = gives.getSort() >= Type.ARRAY, isTruth = gives == Type.BOOLEAN_TYPE;
-        if (isObject || isTruth) code.visitVarInsn(isObject ? ALOAD : ILOAD, result);
-        String given = isObject ? OBJECT : isTruth ? "Z" : "";
+        boolean isObject = gives.getSort() >= Type.ARRAY, isInt = gives == Type.INT_TYPE;
+        String given = isObject ? OBJECT : gives == Type.BOOLEAN_TYPE ? "Z" : isInt || gives == Type.LONG_TYPE ? "J" : "";
+        if (!given.isEmpty()) code.visitVarInsn(gives.getOpcode(ILOAD), result);
+        if (isInt) code.visitInsn(I2L);
         code.visitMethodInsn(INVOKESTATIC, CALLS, "after", "(L" + CALL + ";" + given + ")V", false);
     }
 

@@ -13,7 +13,7 @@ import org.objectweb.asm.Handle;
 import org.objectweb.asm.MethodVisitor;
 import org.objectweb.asm.Type;
 
-/** The stubs of a class, each in the place of the calls of one method. As methods of the class they may make any call that it may. */
+/** The stubs of a class, each in the place of the calls of one method. As methods of the class they may make any call it may. */
 final class Stubs {
     private final WovenClass of;
     private final ClassVisitor to;

@@ -32,10 +32,12 @@ public final class Table {
         final int code;
 
         Row(String kinds, String[] methods) {
-            String[] both = kinds.toUpperCase(Locale.ROOT).replace('-', '_').split("/");
+            String[] words = kinds.toUpperCase(Locale.ROOT).replace('-', '_').split("/");
             this.methods = methods;
-            kind = Kind.valueOf(both[0]);
-            code = Kind.code(kind, both.length > 1 ? Kind.valueOf(both[1]) : Kind.NOTHING);
+            Kind[] all = new Kind[words.length];
+            for (int one = 0; one < all.length; one++) all[one] = Kind.valueOf(words[one]);
+            kind = all[0];
+            code = Kind.code(all);
         }
 
         boolean fits(String name, String descriptor) {
@@ -74,7 +76,7 @@ public final class Table {
 
     private void read(String[] words) {
         switch (words[0]) {
-            case "hook": hooks.add(new JdkHook(words)); return;
+            case "hook": case "else": hooks.add(new JdkHook(words)); return;
             case "in": prefix = words[1].equals(ANY) ? "" : words[1].replace('.', '/') + "/"; return;
             case "of":
                 if (hasRow) classes = new ArrayList<>();

@@ -1,22 +1,16 @@
 package aerodrome.weave;
 
-import static org.objectweb.asm.Opcodes.ASM9;
-
 import aerodrome.Options;
 import aerodrome.log.Log;
 import java.lang.instrument.ClassFileTransformer;
 import java.lang.instrument.Instrumentation;
 import java.security.ProtectionDomain;
-import java.util.HashMap;
 import java.util.HashSet;
 import java.util.Map;
 import java.util.Set;
 import org.objectweb.asm.ClassReader;
-import org.objectweb.asm.ClassVisitor;
 import org.objectweb.asm.ClassWriter;
-import org.objectweb.asm.Label;
 import org.objectweb.asm.MethodTooLargeException;
-import org.objectweb.asm.MethodVisitor;
 
 /**
  * Instruments the classes of the program when they are loaded. No frames are computed, so no class is loaded for it: the code
@@ -59,31 +53,18 @@ public final class Weaver implements ClassFileTransformer {
     /** A method that would be too long has its accesses left out. */
     private byte[] weave(String name, byte[] bytes) {
         Set<String> light = new HashSet<>();
-        ClassReader reader = new ClassReader(bytes);
-        Map<String, Integer> lines = firstLines(reader);
+        ClassReader reader = ClassFile.reader(bytes);
+        Outline outline = new Outline();
+        reader.accept(outline, ClassReader.SKIP_FRAMES);
         for (;;) {
             ClassWriter writer = new ClassWriter(ClassWriter.COMPUTE_MAXS);
-            reader.accept(new WovenClass(writer, table, light, lines), ClassReader.EXPAND_FRAMES);
+            reader.accept(new WovenClass(writer, table, light, outline), ClassReader.EXPAND_FRAMES);
             try {
-                return writer.toByteArray();
+                return ClassFile.made(writer.toByteArray(), bytes);
             } catch (MethodTooLargeException wrong) {
                 if (!light.add(wrong.getMethodName() + wrong.getDescriptor())) throw wrong;
                 Log.say(name.replace('/', '.') + "." + wrong.getMethodName() + " is too long: its accesses aren't logged");
             }
         }
-    }
-
-    /** The lines in which the methods begin. */
-    private static Map<String, Integer> firstLines(ClassReader reader) {
-        Map<String, Integer> lines = new HashMap<>();
-        reader.accept(new ClassVisitor(ASM9) {
-            @Override
-            public MethodVisitor visitMethod(int access, String name, String descriptor, String signature, String[] thrown) {
-                return new MethodVisitor(ASM9) {
-                    @Override public void visitLineNumber(int line, Label at) { lines.putIfAbsent(name + descriptor, line); }
-                };
-            }
-        }, ClassReader.SKIP_FRAMES);
-        return lines;
     }
 }

@@ -8,7 +8,6 @@ import aerodrome.names.Fields;
 import aerodrome.names.Site;
 import aerodrome.names.Text;
 import java.util.Arrays;
-import java.util.Map;
 import java.util.Set;
 import org.objectweb.asm.ClassVisitor;
 import org.objectweb.asm.FieldVisitor;
@@ -19,26 +18,29 @@ import org.objectweb.asm.commons.JSRInlinerAdapter;
 final class WovenClass extends ClassVisitor {
     /** The versions of class files from which on there are frames, constants that are classes, and code in interfaces. */
     static final int FRAMES = V1_6, CLASS_CONSTANTS = V1_5, CODE_IN_INTERFACES = V1_8;
-    private static final String NUMBER = Hidden.PREFIX + "number", NUMBERED = "aerodrome/names/Numbered";
+    private static final String NUMBER = Hidden.PREFIX + "number", OWNER = Hidden.PREFIX + "owner";
+    private static final String NUMBERED = "aerodrome/names/Numbered";
+    private static final String OBJECT = "Ljava/lang/Object;";
     private static final int MOST_SOURCE = 200;
 
     private final Set<String> light;
-    private final Map<String, Integer> lines;
+    private final Outline outline;
     final Stubs stubs;
     String name;
     int version;
     boolean isInterface;
     private String source;
-    private boolean isNumbered;
+    /** Whether it gets the number, and whether a class above it, which isn't instrumented, may clone its objects with it. */
+    private boolean isNumbered, mayBeCloned;
 
     /**
      * @param light the methods whose accesses are left out
-     * @param lines the lines in which methods begin
+     * @param outline what is to be known of the class before
      */
-    WovenClass(ClassVisitor to, Table table, Set<String> light, Map<String, Integer> lines) {
+    WovenClass(ClassVisitor to, Table table, Set<String> light, Outline outline) {
         super(ASM9, to);
         this.light = light;
-        this.lines = lines;
+        this.outline = outline;
         stubs = new Stubs(this, to, table);
     }
 
@@ -51,6 +53,7 @@ final class WovenClass extends ClassVisitor {
         String[] all = interfaces == null ? new String[0] : interfaces;
         Fields.note(name, above, all);
         isNumbered = (access & (ACC_INTERFACE | ACC_MODULE)) == 0 && above != null && !Options.covers(above);
+        mayBeCloned = isNumbered && !above.equals("java/lang/Object");
         if (isNumbered) {
             all = Arrays.copyOf(all, all.length + 1);
             all[all.length - 1] = NUMBERED;
@@ -66,7 +69,7 @@ final class WovenClass extends ClassVisitor {
 
     @Override
     public FieldVisitor visitField(int access, String name, String descriptor, String signature, Object value) {
-        Fields.noteField(this.name, name, (access & ACC_FINAL) != 0);
+        Fields.noteField(this.name, name, access);
         return super.visitField(access, name, descriptor, signature, value);
     }
 
@@ -87,10 +90,17 @@ final class WovenClass extends ClassVisitor {
 
     private void addNumber() {
         super.visitField(ACC_PRIVATE | ACC_TRANSIENT | ACC_SYNTHETIC, NUMBER, "J", null, null).visitEnd();
+        if (mayBeCloned) super.visitField(ACC_PRIVATE | ACC_TRANSIENT | ACC_SYNTHETIC, OWNER, OBJECT, null, null).visitEnd();
         MethodVisitor get = super.visitMethod(ACC_PUBLIC | ACC_SYNTHETIC, NUMBER, "()J", null, null);
         get.visitCode();
         get.visitVarInsn(ALOAD, 0);
         get.visitFieldInsn(GETFIELD, name, NUMBER, "J");
+        if (mayBeCloned) {
+            get.visitVarInsn(ALOAD, 0);
+            get.visitVarInsn(ALOAD, 0);
+            get.visitFieldInsn(GETFIELD, name, OWNER, OBJECT);
+            get.visitMethodInsn(INVOKESTATIC, "aerodrome/names/Numbers", "own", "(J" + OBJECT + OBJECT + ")J", false);
+        }
         get.visitInsn(LRETURN);
         get.visitMaxs(0, 0);
         get.visitEnd();
@@ -99,6 +109,11 @@ final class WovenClass extends ClassVisitor {
         set.visitVarInsn(ALOAD, 0);
         set.visitVarInsn(LLOAD, 1);
         set.visitFieldInsn(PUTFIELD, name, NUMBER, "J");
+        if (mayBeCloned) {
+            set.visitVarInsn(ALOAD, 0);
+            set.visitVarInsn(ALOAD, 0);
+            set.visitFieldInsn(PUTFIELD, name, OWNER, OBJECT);
+        }
         set.visitInsn(RETURN);
         set.visitMaxs(0, 0);
         set.visitEnd();
@@ -107,7 +122,9 @@ final class WovenClass extends ClassVisitor {
     // ---- for its methods
 
     boolean isLight(String method, String descriptor) { return light.contains(method + descriptor); }
-    int firstLine(String method, String descriptor) { return lines.getOrDefault(method + descriptor, 0); }
+    boolean isCatching(String method, String descriptor) { return outline.catching.contains(method + descriptor); }
+    boolean isAnnotated(String method, String descriptor) { return outline.annotated.contains(method + descriptor); }
+    int firstLine(String method, String descriptor) { return outline.lines.getOrDefault(method + descriptor, 0); }
 
     /** Whether methods may be added that have code. */
     boolean takesStubs() { return !isInterface || version >= CODE_IN_INTERFACES; }

@@ -5,6 +5,9 @@ import static org.objectweb.asm.Opcodes.*;
 import aerodrome.Options;
 import aerodrome.names.Fields;
 import aerodrome.names.Site;
+import java.util.Arrays;
+import java.util.HashSet;
+import java.util.Set;
 import org.objectweb.asm.Handle;
 import org.objectweb.asm.Label;
 import org.objectweb.asm.MethodVisitor;
@@ -20,6 +23,12 @@ final class WovenMethod extends AdviceAdapter {
     private final String label;
     private final boolean isLight, isBlock, isSynchronized, isStatic, isConstructor, isInitializer;
     private final Label start = new Label();
+    private final boolean isCatching;
+    /** The handlers of errors, and whether one has begun whose first instruction hasn't come. */
+    private final Set<Label> handlers = new HashSet<>();
+    private boolean isCaught;
+    /** The variable that has how much was open when the method began; below 0 where there is none. */
+    private int depth = -1;
     private boolean entered;
     private int line;
 
@@ -29,10 +38,11 @@ final class WovenMethod extends AdviceAdapter {
         line = of.firstLine(method, descriptor);
         label = of.name.replace('/', '.') + "." + method;
         isLight = of.isLight(method, descriptor);
-        isBlock = Options.isBlock(label, (access & ACC_SYNTHETIC) != 0);
+        isBlock = Options.isBlock(label, (access & ACC_SYNTHETIC) != 0, of.isAnnotated(method, descriptor));
         isSynchronized = (access & ACC_SYNCHRONIZED) != 0;
         isStatic = (access & ACC_STATIC) != 0;
         isConstructor = method.equals("<init>");
+        isCatching = !isConstructor && !isLight && of.isCatching(method, descriptor);
         isInitializer = method.equals("<clinit>") && !Options.finals;
     }
 
@@ -52,6 +62,10 @@ final class WovenMethod extends AdviceAdapter {
     @Override
     protected void onMethodEnter() {
         entered = true;
+        if (opened() == 0 && !isCatching) return;
+        depth = newLocal(Type.INT_TYPE);
+        call(BLOCKS, "depth", "()I");
+        mv.visitVarInsn(ISTORE, depth);
         if (isBlock) {
             mv.visitLdcInsn(Site.block(of.place(line), label));
             call(BLOCKS, "begin", "(I)V");
@@ -61,9 +75,11 @@ final class WovenMethod extends AdviceAdapter {
             pushSite();
             call(BLOCKS, "enteredMethod", "(" + OBJECT + "I)V");
         }
-        if (isInitializer) call(ACCESSES, "initializes", "()V");
-        if (isBlock || isSynchronized || isInitializer) mv.visitLabel(start);
+        if (isInitializer) call(BLOCKS, "initializes", "()V");
+        if (opened() > 0) mv.visitLabel(start);
     }
+    /** How much the method itself opens. */
+    private int opened() { return (isBlock ? 1 : 0) + (isSynchronized ? 1 : 0) + (isInitializer ? 1 : 0); }
     private void pushMonitor() {
         if (!isStatic) mv.visitVarInsn(ALOAD, 0);
         else if (of.version >= WovenClass.CLASS_CONSTANTS) mv.visitLdcInsn(Type.getObjectType(of.name));
@@ -78,30 +94,68 @@ final class WovenMethod extends AdviceAdapter {
         if (opcode != ATHROW) leave();
     }
     private void leave() {
-        if (!entered) return;
-        if (isInitializer) call(ACCESSES, "initialized", "()V");
-        if (isSynchronized) {
-            pushSite();
-            call(BLOCKS, "leavingMethod", "(I)V");
-        }
-        if (isBlock) {
-            pushSite();
-            call(BLOCKS, "end", "(I)V");
-        }
+        if (!entered || opened() == 0) return;
+        mv.visitVarInsn(ILOAD, depth);
+        pushSite();
+        call(BLOCKS, "leave", "(II)V");
     }
 
     /** An exception that leaves the method: one handler for all of it. */
     @Override
     public void visitMaxs(int stack, int locals) {
-        if (entered && (isBlock || isSynchronized || isInitializer)) {
+        if (entered && opened() > 0) {
             Label end = new Label();
             mv.visitTryCatchBlock(start, end, end, null);
             mv.visitLabel(end);
-            if (of.version >= WovenClass.FRAMES) mv.visitFrame(F_NEW, 0, null, 1, new Object[] {"java/lang/Throwable"});
+            if (of.version >= WovenClass.FRAMES) visitHandlerFrame();
             leave();
             mv.visitInsn(ATHROW);
         }
         super.visitMaxs(stack, locals);
+    }
+
+    /** Of the variables it has that of the depth alone. */
+    private void visitHandlerFrame() {
+        Object[] variables = new Object[depth + 1];
+        Arrays.fill(variables, TOP);
+        variables[depth] = INTEGER;
+        mv.visitFrame(F_NEW, depth + 1, variables, 1, new Object[] {"java/lang/Throwable"});
+    }
+
+    // ---- errors that are caught: a full stack may have come between a hook and what it was to write
+
+    static boolean isOfErrors(String type) {
+        return type == null || type.matches("java/lang/(Throwable|Error|VirtualMachineError|StackOverflowError)");
+    }
+
+    @Override
+    public void visitTryCatchBlock(Label start, Label end, Label handler, String type) {
+        if (isCatching && isOfErrors(type)) handlers.add(handler);
+        super.visitTryCatchBlock(start, end, handler, type);
+    }
+    @Override
+    public void visitLabel(Label label) {
+        isCaught |= handlers.contains(label);
+        super.visitLabel(label);
+    }
+    /** Before the first instruction of a handler. */
+    private void caught() {
+        if (!isCaught) return;
+        isCaught = false;
+        mv.visitVarInsn(ILOAD, depth);
+        mv.visitLdcInsn(opened());
+        pushSite();
+        call(BLOCKS, "caught", "(III)V");
+    }
+    @Override
+    public void visitVarInsn(int opcode, int variable) {
+        caught();
+        super.visitVarInsn(opcode, variable);
+    }
+    @Override
+    public void visitTypeInsn(int opcode, String type) {
+        caught();
+        super.visitTypeInsn(opcode, type);
     }
 
     // ---- fields
@@ -114,9 +168,10 @@ final class WovenMethod extends AdviceAdapter {
             super.visitFieldInsn(opcode, owner, name, descriptor);
             return;
         }
+        if (Fields.isVolatile(owner, name)) stir();
         int site = Site.field(of.place(line), opcode == GETFIELD || opcode == GETSTATIC ? 'r' : 'w', owner, name);
         if (opcode == GETSTATIC || opcode == PUTSTATIC) {
-            if (!isOwn || !Fields.has(owner, name)) readOnce(GETSTATIC, owner, name, descriptor);
+            readOnce(GETSTATIC, owner, name, descriptor);
             mv.visitLdcInsn(site);
             call(ACCESSES, "staticField", "(I)V");
         } else {
@@ -130,9 +185,13 @@ final class WovenMethod extends AdviceAdapter {
         super.visitFieldInsn(opcode, owner, name, descriptor);
         call(ACCESSES, "done", "()V");
     }
+    /** Asks whether to wait here, where the options say so. */
+    private void stir() {
+        if (Options.stir >= 0) call("aerodrome/hooks/Stir", "place", "()V");
+    }
     private static boolean isWide(String descriptor) { return descriptor.equals("J") || descriptor.equals("D"); }
 
-    /** Reads the field before the log's lock is taken: so by then its class is loaded and initialized, and its object isn't null. */
+    /** Reads the field before the log's lock is taken: by then its class is loaded and initialized, and its object isn't null. */
     private void readOnce(int opcode, String owner, String name, String descriptor) {
         mv.visitFieldInsn(opcode, owner, name, descriptor);
         mv.visitInsn(isWide(descriptor) ? POP2 : POP);
@@ -148,6 +207,7 @@ final class WovenMethod extends AdviceAdapter {
 
     @Override
     public void visitInsn(int opcode) {
+        caught();
         boolean logsArrays = !isLight && Options.arrays != Options.Grain.OFF;
         if (logsArrays && opcode >= IALOAD && opcode <= SALOAD) {
             mv.visitInsn(DUP2);
@@ -160,6 +220,7 @@ final class WovenMethod extends AdviceAdapter {
             mv.visitInsn(isWide ? DUP2_X2 : DUP2_X1);
             element("writeElement", opcode);
         } else if (opcode == MONITORENTER) {
+            call(BLOCKS, "entering", "()V");
             mv.visitInsn(DUP);
             super.visitInsn(opcode);
             monitor("entered");
@@ -185,6 +246,7 @@ final class WovenMethod extends AdviceAdapter {
 
     @Override
     public void visitMethodInsn(int opcode, String owner, String name, String descriptor, boolean isInterface) {
+        caught();
         if (opcode == INVOKESTATIC && owner.equals("java/lang/System") && name.equals("arraycopy")) {
             replace(ACCESSES, "copy", descriptor.replace(")", "I)"));
             return;
@@ -195,6 +257,8 @@ final class WovenMethod extends AdviceAdapter {
             super.visitMethodInsn(INVOKESTATIC, of.name, stub.name, stub.descriptor, of.isInterface);
             return;
         }
+        // The method may be synchronized, and then it is too late within.
+        if (Options.covers(owner) && !name.equals("<init>")) stir();
         super.visitMethodInsn(opcode, owner, name, descriptor, isInterface);
         if (name.equals("clone") && descriptor.equals("()" + OBJECT) && !Options.covers(owner)) {
             mv.visitInsn(DUP);

@@ -8,8 +8,8 @@ use Rattle.aero_intake.specs.PlanTerms.{terms_of}
 
 pub find_on-requires-clause-begun : goal.find_on-requires-clause-begun
 find_on-requires-clause-begun g c =
-    let old = map (sighted g.R.Read.remaining) c.args.sources.now in
-    let one = length-map c.args.sources.now (sighted g.R.Read.remaining) ∙ c.requires in
+    let old = map (sighted g.R.Followed.sight) c.args.sources.now in
+    let one = length-map c.args.sources.now (sighted g.R.Followed.sight) ∙ c.requires in
     begun_alone (terms_of c.args.setting.now.plan.now) old c.in-Ok.underway
     (subst (λ n. IsStart (terms_of c.args.setting.now.plan.now) n c.in-Ok.underway) (sym one) c.in-Ok.ensures)
     (omega (arith, one)) (search rules)

@@ -7,4 +7,4 @@ use Rattle.aero_batch.proofs.find.find_on.Given as goal
 
 abbrev pub invariant-steps : goal.invariant-steps
 invariant-steps g l =
-    GoesOnAlone (terms_of l.setting.plan.now) (map (sighted g.R.Read.remaining) l.fn.sources) (map (sighted g.R.Read.remaining) l.sources) l.underway
+    GoesOnAlone (terms_of l.setting.plan.now) (map (sighted g.R.Followed.sight) l.fn.sources) (map (sighted g.R.Followed.sight) l.sources) l.underway

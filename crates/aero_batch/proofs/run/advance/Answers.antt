@@ -15,8 +15,8 @@ pub returns-in-Ok-clause-stands : goal.returns-in-Ok-clause-stands
 returns-in-Ok-clause-stands g c = λ old before st.
     let terms = (terms_of c.args.setting.now.plan.now) in
     let form = c.args.setting.now.plan.now.form in
-    let now = map (sighted g.R.Read.remaining) c.args.sources.now in
-    let after = map (sighted g.R.Read.remaining) c.step.new.sources in
+    let now = map (sighted g.R.Followed.sight) c.args.sources.now in
+    let after = map (sighted g.R.Followed.sight) c.step.new.sources in
     let mid = seen_by g.W.Write.contents c.args.writer.now in
     let same = c.in_ok-tell_ready.ensures.unchanged c.if-branch.false in
     let next = step_stands terms form old now after before mid c.args.standing.now.underway c.step.new.underway c.args.standing.now.told c.in-Ok.ensures.steps
@@ -28,8 +28,8 @@ pub returns-in-Err-clause-stopped : goal.returns-in-Err-clause-stopped
 returns-in-Err-clause-stopped g c = λ old before st.
     let terms = (terms_of c.args.setting.now.plan.now) in
     let form = c.args.setting.now.plan.now.form in
-    let now = map (sighted g.R.Read.remaining) c.args.sources.now in
-    let after = map (sighted g.R.Read.remaining) c.step.new.sources in
+    let now = map (sighted g.R.Followed.sight) c.args.sources.now in
+    let after = map (sighted g.R.Followed.sight) c.step.new.sources in
     let mid = seen_by g.W.Write.contents c.args.writer.now in
     let same = c.in_ok-tell_ready.ensures.unchanged c.if-branch.false in
     let stops = memory_stops terms form old now after before mid mid c.args.standing.now.underway c.args.standing.now.told st

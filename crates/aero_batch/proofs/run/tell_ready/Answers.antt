@@ -12,7 +12,7 @@ use Rattle.aero_intake.specs.PlanTerms.{terms_of}
 pub returns : goal.returns
 returns g c =
     let sources = c.args.sources.now in
-    let known = g.R.Read.remaining in
+    let known = g.R.Followed.sight in
     let p = c.args.underway.now in
     let a = c.args.told.now in
     let place = a.endings.len in

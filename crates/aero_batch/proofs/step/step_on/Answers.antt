@@ -14,7 +14,7 @@ returns-then-underway-sources g c =
     let within : place < length sources = search rules in
     let x = slice_index_or sources place c.index-sources-underway.result in
     let at = slice_get-get_or sources place c.index-sources-underway.result within in
-    let known = g.R.Read.remaining in
+    let known = g.R.Followed.sight in
     record {
       steps = on_ok_weaker c.read_on.result (λ reads. inr
           (inr (record {
@@ -24,7 +24,7 @@ returns-then-underway-sources g c =
             from = read_from known sources place x c.read_on.new.reader at;
             may = search rules;
             unread = subst (λ n. place < n) (sym (length-map sources (sighted known))) within;
-          }))) c.read_on.ensures;
-      names = names_stay known sources place x c.read_on.new.reader at;
+          }))) c.read_on.ensures.reads;
+      names = names_stay known sources place x c.read_on.new.reader at c.read_on.ensures.origin;
       others = others_stay known sources place x c.read_on.new.reader at;
     }

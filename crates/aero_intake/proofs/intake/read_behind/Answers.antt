@@ -1,5 +1,4 @@
 use Rattle.std.proofs.Common.{◌≡◌, ◌≤◌, ◌+◌, ◌-◌, length, rules, arith}
-use Rattle.aero_model.specs.CallCounts.{seen_by}
 use Rattle.aero_intake.proofs.Filled.{fills}
 use Rattle.aero_intake.proofs.intake.read_behind.Goals as goal
 
@@ -7,6 +6,6 @@ pub returns : goal.returns
 returns g c =
     let within : c.args.held ≤ length c.args.buffer.now = omega (arith, c.requires.fits) in
     let long : length c.read.new.buf ≡ c.args.room = search rules in
-    fills (seen_by g.R.Read.remaining c.args.reader.now) (seen_by g.R.Read.remaining c.read.new.self) c.args.held c.args.room
+    fills (g.R.Followed.sight c.args.reader.now) (g.R.Followed.sight c.read.new.self) c.args.held c.args.room
     (c.args.held + c.args.room - c.args.held) c.args.buffer.now c.read.new.buf c.read.result
-    within long c.requires.some c.read.ensures.bound c.read.ensures.bytes c.read.ensures.faults c.read.ensures.ends
+    within long c.requires.some c.read.ensures.bound c.read.ensures.bytes c.read.ensures.faults c.read.ensures.ends c.read.ensures.trail

@@ -8,4 +8,4 @@ returns-clause-goes g c =
     let seats = c.args.lanes.now.seats in
     let place = c.args.lanes.now.started in
     let at = slice_get_read seats.items seats.len place c.index_mut.result.now seats.ok.0 c.requires c.index_mut.ensures.value in
-    goes_on g.R.Read.remaining (terms_of c.args.shared.plan.now) seats.items place c.index_mut.result.now c.start.new.seat at c.start.ensures.fits c.start.ensures.done
+    goes_on g.R.Followed.sight (terms_of c.args.shared.plan.now) seats.items place c.index_mut.result.now c.start.new.seat at c.start.ensures.fits c.start.ensures.done

@@ -11,7 +11,7 @@ use Rattle.aero_model.specs.CallCounts.{seen_by}
 pub returns : goal.returns
 returns g c = record {
   told = λ origin seated.
-      let known = g.R.Read.remaining in
+      let known = g.R.Followed.sight in
       let terms = terms_of c.args.shared.plan.now in
       let form = c.args.shared.plan.now.form in
       let before = seen_by g.W.Write.contents c.args.writer.now in

@@ -17,7 +17,7 @@ returns g c =
     let form = c.args.shared.plan.now.form in
     let tells = subst (λ (f : Form). TellsNextSeat f (slice_get seats.items a.endings.len) mid after a b r) c.style_of.ensures
     (subst (λ xs. TellsNextSeat c.style_of.result.form (slice_get xs a.endings.len) mid after a b r) c.deref.ensures.value c.tell_next_seat.ensures) in
-    let t = telling g.R.Read.remaining (terms_of c.args.shared.plan.now) form seats.items mid after a b r tells in
+    let t = telling g.R.Followed.sight (terms_of c.args.shared.plan.now) form seats.items mid after a b r tells in
     record {
       numbers = numbers_told _ form seats.len mid after a b c.requires seats.items (sym seats.ok.0) (slice_get seats.items a.endings.len) r refl tells;
       stands = t.stands;

@@ -1,4 +1,4 @@
-use Rattle.std.proofs.Common.{Bool, ◌≡◌, ◌≤◌, ◌^◌, ◌∙◌, ◌+◌, ap, sym, subst, inl, inr, map, refl, if◌then◌else◌, [], ◌++◌, List, ℕ, None}
+use Rattle.std.proofs.Common.{Bool, ◌≡◌, ◌≤◌, ◌^◌, ◌∙◌, ◌+◌, ap, sym, subst, inl, inr, map, refl, if◌then◌else◌, [], ◌++◌, List, ℕ, Option, None}
 use Rattle.aero_model.specs.CallCounts.{seen_by}
 use Rattle.aero_model.specs.Exempt.{Listed}
 use Rattle.aero_model.specs.declared.verdict.Ending.{Ending}
@@ -10,19 +10,20 @@ use Rattle.aero_intake.specs.PlanTerms.{options_with, terms_of}
 use Rattle.aero_report.specs.Asked.{note_of}
 use Rattle.aero_report.specs.Forms.{summary_line_in}
 use Rattle.aero_report.specs.Options.{Note}
+use Rattle.aero_program.specs.Traces.{input_of, sight_of, unused_in}
 use Rattle.aero_program.proofs.Unused.{found_labels, lines_told, summed_beside, told_labels}
 use Rattle.aero_program.specs.declared.command.Sources.{Sources}
 use Rattle.aero_program.specs.Executed.{Ends, TellsUnlisted}
 use Rattle.aero_program.specs.Command.{are_words, count_named, list_path, listed_by}
-use Rattle.aero_program.specs.Inputs.{bytes_left, standing_of}
-use Rattle.aero_program.specs.Sightings.{AreNames, AreUnlisted, bytes_known, resighted, source_sightings}
+use Rattle.aero_program.specs.Sightings.{AreNames, AreUnlisted, source_sightings}
 use Rattle.aero_program.specs.Notes.{all_read, label_lines, labels_told, note_texts, noted_of_all, notes_on}
 use Rattle.aero_program.proofs.Noting.{told_as}
 use Rattle.aero_program.specs.Faults.{fault_of}
 use Rattle.aero_program.specs.Streams.{shown_by, written_by}
 use Rattle.aero_program.proofs.Faulting.{is_fault}
-use Rattle.aero_program.proofs.Judged.{judged, resighted_sightings}
-use Rattle.aero_program.proofs.Sending.{input_row_send}
+use Rattle.aero_program.proofs.Judged.{judged}
+use Rattle.aero_program.proofs.Owning.{are_own, noted_by}
+use Rattle.aero_program.proofs.Sending.{traced_row_send}
 use denote.Exit
 use denote.Param.{param}
 use denote.Param.Send.{arg_send, param_send, sendable}
@@ -33,55 +34,60 @@ use Rattle.aero_program.proofs.execute.judge.Goals as goal
 pub returns : goal.returns
 returns g c =
     let given = g.S.Read.remaining c.args.stdin in
+    let known : List ℕ → Option (List ℕ) = g.F.Opener.known c.args.place.files.now in
     let config = c.args.config in
     let asked_is = c.in-Ok.ensures.files in
     let names : List (List ℕ) = map (λ s. s.name.items) c.in-Ok-sources_of.sources.items in
-    let named : AreNames config.files given names = subst (λ (s : Sources). AreNames s given names) asked_is c.in-Ok-sources_of.ensures.names in
-    let seen = c.in-Ok-watched.ensures.sighted ∙ ap (map resighted) (c.in-Ok-sources_of.ensures.sighted ∙ ap (λ (s : Sources). source_sightings s given names) asked_is)
-    ∙ resighted_sightings (bytes_known config.files given) names in
+    let named : AreNames known config.files given names = subst (λ (s : Sources). AreNames known s given names) asked_is c.in-Ok-sources_of.ensures.names in
+    let labels : List (List ℕ) = (listed_by config.except.items config.only.items).labels in
+    let looked_for : c.shared_except.result.now.labels ≡ labels = ap (λ (l : Listed). l.labels) (c.shared_except.ensures ∙ c.in-Ok.ensures.except) in
+    let seen = c.in-Ok-sources_of.ensures.sighted ∙ ap (λ (s : Sources). source_sightings known c.shared_except.result.now.labels s given names) asked_is
+    ∙ ap (λ ls. source_sightings known ls config.files given names) looked_for in
     let words : Bool = are_words config.files in
     let on : Bool = config.terminals.errors in
     let terms = terms_of c.in-Ok.plan in
     let form = c.in-Ok.plan.form in
     let report = c.run_all-report.result.0 in
     let left = c.run_all-report.result.1.items in
+    let sight = sight_of g.S.Read.remaining (λ f. g.F.Opener.known f.now) g.F.File.Read.remaining in
     let unused = c.unused_labels-unused.result.0 in
     let cause = c.sum_up_with-cause.result in
     let before = shown_by g.O.Write.contents c.args.output.now in
     let mid = seen_by (λ w. g.O.Write.contents (written_by w)) c.run_all-report.new.writer in
     let after = seen_by (λ w. g.O.Write.contents (written_by w)) c.sum_up_with-cause.new.writer in
     let noted_endings : List (ℕ × Ending) = if config.long then [] else report.endings.items in
-    let noted = noted_of_all words left noted_endings report.faults.items in
-    let labels : List (List ℕ) = (listed_by config.except.items config.only.items).labels in
+    let noted = noted_of_all input_of unused_in words left noted_endings report.faults.items in
     let labels_are : c.labels.result.now ≡ labels = c.labels.ensures ∙ ap (λ (l : Listed). l.labels) (c.except.ensures ∙ c.in-Ok.ensures.except) in
     let listed_are : c.told_of-labels.result.now ≡ (if all_read report.cause report.endings.items then labels else []) =
     c.told_of-labels.ensures ∙ ap (λ b. if b then c.labels.result.now else []) (c.all_read.ensures ∙ ap (all_read report.cause) c.deref-3.ensures.value)
     ∙ ap (λ ls. if all_read report.cause report.endings.items then ls else []) labels_are in
-    let found = found_labels unused (λ u. map (λ label. label.now) u.items) report.cause report.endings.items words left noted_endings report.faults.items c.told_of-labels.result.now labels
+    let found = found_labels input_of unused_in unused (λ u. map (λ label. label.now) u.items) report.cause report.endings.items words left noted_endings report.faults.items c.told_of-labels.result.now labels
     c.unused_labels-unused.ensures.unused listed_are in
-    let told = told_as g.F.Opener.holds (λ ns. map note_of ns.items) c.are_words.result words c.unused_labels-unused.result.1.items left noted_endings report.faults.items
+    let told = told_as input_of unused_in g.F.Opener.holds (λ ns. map note_of ns.items) c.are_words.result words c.unused_labels-unused.result.1.items left noted_endings report.faults.items
     (c.are_words.ensures ∙ ap are_words asked_is) c.unused_labels-unused.ensures.kept c.all_notes-notes.result c.all_notes-notes.ensures in
     let notes : List Note = notes_on told.remarks in
     let text : List (List ℕ) → List Note → List ℕ = λ ls ns. summary_line_in form (options_with terms ls ns) report.counts in
     let sums = summed_beside unused (λ u. map (λ label. label.now) u.items) c.all_notes-notes.result (λ ns. map note_of ns.items) text (labels_told None report.endings.items noted labels) notes
     report.cause cause mid after found told.told c.sum_up_with-cause.ensures.summed in
-    let run = summed terms form (summary_line_in form (options_with terms (labels_told None report.endings.items noted labels) notes)) (map (sighted (λ input. bytes_left (standing_of g.S.Read.remaining input))) c.in-Ok-watched.sources.items) (map (sighted (λ input. bytes_left (standing_of g.S.Read.remaining input))) left)
+    let run = summed terms form (summary_line_in form (options_with terms (labels_told None report.endings.items noted labels) notes)) (map (sighted sight) c.in-Ok-sources_of.sources.items) (map (sighted sight) left)
     before.writer mid after report.endings.items report.faults.items report.counts report.cause cause c.run_all-report.ensures.told sums in
-    let labels_are_told = told_labels unused (λ u. u.items) (λ label. label.now) c.told_after-told.result.now report.cause cause report.endings.items words left noted_endings report.faults.items labels
+    let labels_are_told = told_labels input_of unused_in unused (λ u. u.items) (λ label. label.now) c.told_after-told.result.now report.cause cause report.endings.items words left noted_endings report.faults.items labels
     found c.sum_up_with-cause.ensures.known c.sum_up_with-cause.ensures.whole c.told_after-told.ensures.whole c.told_after-told.ensures.stopped in
     let lines_of : List Note → List ℕ = λ ns. note_texts on ns ++ label_lines on (map (λ label. label.now) c.told_after-told.result.now) in
     let lines = lines_told c.all_lines-lines.result (λ text. text.items) c.all_notes-notes.result (λ ns. map note_of ns.items) lines_of notes
     c.all_lines-lines.ensures.known c.all_lines-lines.ensures.lines told.told in
-    inl (judged g.F.Opener.holds (λ input. bytes_left (standing_of g.S.Read.remaining input)) config given
-    c.in-Ok.plan.terms.rules.limits names c.in-Ok-watched.sources.items c.in-Ok-watched.sources.items left
+    inl (judged input_of unused_in sight known g.F.Opener.holds config given
+    c.in-Ok.plan.terms.rules.limits names left (map (sighted sight) c.in-Ok-sources_of.sources.items)
     before
     (record { writer = after; unflushed = c.args.output.now.unflushed.number })
     (shown_by g.O.Write.contents c.flush-flushed.new.self)
     report.endings.items report.faults.items report.counts cause (fault_of error_kind c.flush-flushed.result) c.end_after-end.result _ _ c.finish.result terms form
     (λ i. asking c.in-Ok.plan.terms.rules.limits (c.in-Ok.ensures.except i) (c.in-Ok.ensures.order i) (c.in-Ok.ensures.explain i)) c.in-Ok.ensures.form c.in-Ok.ensures.limits
     named seen
-    refl
     told.remarks told.are told.shown
+    (are_own input_of unused_in sight g.F.Opener.holds words
+    (λ source too_large fault. noted_by g.S.Read.remaining (λ f. g.F.Opener.known f.now) g.F.File.Read.remaining g.F.Opener.holds input_of unused_in source words too_large fault source.reader.first.value source.reader.given.bytes source.reader.faults.number source.reader.ends.number refl source.reader.led)
+    left noted_endings report.faults.items)
     run refl
     (record {
       bytes = c.flush-flushed.ensures.bytes;
@@ -95,11 +101,11 @@ returns g c =
 pub run_all-report-requires-after_bounds : goal.run_all-report-requires-after_bounds
 run_all-report-requires-after_bounds g c = λ κs within.
     let few : count_named c.in-Ok.asked ≤ 2 ^ 16 = subst (λ (s : Sources). count_named s ≤ 2 ^ 16) (sym c.in-Ok.ensures.files) c.args.config.most_files in
-    subst (λ n. n ≤ 65536) (sym c.in-Ok-watched.ensures.few) (c.in-Ok-sources_of.ensures.few few)
+    c.in-Ok-sources_of.ensures.few few
 
 pub run_all-report-requires-send-R : goal.run_all-report-requires-send-R
-run_all-report-requires-send-R g c κs within = param_send 0 _ (arg_send _ Exit.no _ (input_row_send (param 0 g.row.S)
-    (shr_ref_field (record { mir = named 5; lft = κs.1.1.1.1.1.0 }) (param 1 g.row.F) tt).row (param 5 g.row.F-File)
+run_all-report-requires-send-R g c κs within = param_send 0 _ (arg_send _ Exit.no _ (traced_row_send (param 0 g.row.S)
+    (shr_ref_field (record { mir = named 5; lft = κs.1.1.1.1.1.0 }) (param 1 g.row.F) tt).row (param 5 g.row.F-File) _ _ _
     c.type_bounds.send-S (search (sendable, c.type_bounds.sync-F) depth 20) c.type_bounds.send-F-File))
 
 pub returns-in-Err : goal.returns-in-Err
@@ -112,12 +118,9 @@ returns-in-Err g c =
         refl,
         inl (record {
           why = why;
-          are = subst (λ (s : Sources). AreUnlisted s given why) asked_is c.in-Err.ensures.unlisted;
+          are = subst (λ (s : Sources). AreUnlisted (g.F.Opener.known c.args.place.files.now) s given why) asked_is c.in-Err.ensures.unlisted;
           tells = subst (λ (path : List ℕ). TellsUnlisted c.args.config.terminals.errors path why (seen_by g.E.Write.contents c.args.errors.now) (seen_by g.E.Write.contents c.tell_unlisted.new.errors) c.tell_unlisted.result) (c.list_path.ensures ∙ ap list_path asked_is) tells;
         }),
       )
       | inr fails ↦ inr (refl, inr fails)
     ]
-
-pub returns-in_default-watched : goal.returns-in_default-watched
-returns-in_default-watched g c = inr (refl, inr c.fail-in_default-watched.ensures)

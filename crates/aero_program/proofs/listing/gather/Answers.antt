@@ -12,7 +12,9 @@ use Rattle.aero_program.proofs.listing.gather.Goals as goal
 
 pub returns-then-ends-gt-MOST_FILES-clause-fault : goal.returns-then-ends-gt-MOST_FILES-clause-fault
 returns-then-ends-gt-MOST_FILES-clause-fault g c = λ none.
-    let known = g.S.Read.remaining in
+    let stdin = g.S.Read.remaining in
+    let known = g.O.Opener.known in
+    let file = g.O.File.Read.remaining in
     let list = c.extend_from_slice.new.self.items in
     let piece = take c.in-Ok.count c.read.new.buf in
     let both : count_by is_name_end list ≡ c.loop.ends + c.count_ends-ends.result =
@@ -23,20 +25,22 @@ returns-then-ends-gt-MOST_FILES-clause-fault g c = λ none.
     let more : 2 ^ 16 < c.loop.ends + c.count_ends-ends.result = c.if-ends-gt-MOST_FILES.true in
     record {
       list = list;
-      left = bytes_left (standing_of known c.read.new.self);
-      came = subst (Consumes (bytes_left (standing_of known c.args.input.now)) (bytes_left (standing_of known c.read.new.self))) (sym c.in_ok-extend_from_slice.ensures.items)
-          (Consumes-trans (bytes_left (standing_of known c.args.input.now)) (bytes_left (standing_of known c.loop.input)) (bytes_left (standing_of known c.read.new.self)) c.loop.list.items piece
+      left = bytes_left (standing_of stdin known file c.read.new.self);
+      came = subst (Consumes (bytes_left (standing_of stdin known file c.args.input.now)) (bytes_left (standing_of stdin known file c.read.new.self))) (sym c.in_ok-extend_from_slice.ensures.items)
+          (Consumes-trans (bytes_left (standing_of stdin known file c.args.input.now)) (bytes_left (standing_of stdin known file c.loop.input)) (bytes_left (standing_of stdin known file c.read.new.self)) c.loop.list.items piece
           c.loop.invariant.came c.in-Ok.ensures.bytes.0);
       many = omega (arith, both, ended, more);
     }
 
 pub loop-preserved : goal.loop-preserved
 loop-preserved g c =
-    let known = g.S.Read.remaining in
+    let stdin = g.S.Read.remaining in
+    let known = g.O.Opener.known in
+    let file = g.O.File.Read.remaining in
     let piece = take c.in-Ok.count c.read.new.buf in
     record {
-      came = subst (Consumes (bytes_left (standing_of known c.args.input.now)) (bytes_left (standing_of known c.read.new.self))) (sym c.in_ok-extend_from_slice.ensures.items)
-          (Consumes-trans (bytes_left (standing_of known c.args.input.now)) (bytes_left (standing_of known c.loop.input)) (bytes_left (standing_of known c.read.new.self)) c.loop.list.items piece
+      came = subst (Consumes (bytes_left (standing_of stdin known file c.args.input.now)) (bytes_left (standing_of stdin known file c.read.new.self))) (sym c.in_ok-extend_from_slice.ensures.items)
+          (Consumes-trans (bytes_left (standing_of stdin known file c.args.input.now)) (bytes_left (standing_of stdin known file c.loop.input)) (bytes_left (standing_of stdin known file c.read.new.self)) c.loop.list.items piece
           c.loop.invariant.came c.in-Ok.ensures.bytes.0);
       reason = c.in-Ok.ensures.reason ∙ reason_stays raw_os_error (reason_of c.loop.input) c.in-Ok.count ∙ c.loop.invariant.reason;
       ends = ap₂ (λ (a b : ℕ). a + b) c.loop.invariant.ends c.count_ends-ends.ensures

@@ -1,6 +1,9 @@
-use Rattle.std.proofs.Common.{◌≤◌, arith, subst}
+use Rattle.std.proofs.Common.{◌≡◌, ◌≤◌, ◌∙◌, List, ℕ, IfOk, ap, arith, map, subst, sym}
+use Rattle.aero_batch.specs.Founds.{sighted}
+use Rattle.aero_program.specs.Traces.{sight_of}
 use Rattle.aero_program.specs.declared.command.Sources.{Sources}
 use Rattle.aero_program.specs.Command.{count_named}
+use Rattle.aero_program.specs.Sightings.{file_made, sightings, source_sightings}
 use Rattle.aero_program.proofs.Gathering.{named_as_many}
 use Rattle.aero_program.proofs.sources.sources_of.Goals as goal
 
@@ -13,3 +16,20 @@ returns-in_ok-files_of-in-Files-clause-few g c = λ few.
     let bound = subst (λ (s : Sources). count_named s ≤ 65536) c.in-Files.is few in
     let same = named_as_many _ _ sources.items c.deref.result.now words.items c.in_ok-files_of-in-Files.ensures.names c.deref.ensures.value in
     omega (arith, known, words_known, bound, same)
+
+pub returns-in_ok-files_of-in-Files-clause-sighted : goal.returns-in_ok-files_of-in-Files-clause-sighted
+returns-in_ok-files_of-in-Files-clause-sighted g c =
+    let known = g.F.Opener.known c.args.files.now in
+    let given = g.S.Read.remaining c.args.stdin in
+    let labels = c.args.except.now.labels in
+    let names : List (List ℕ) = map (λ s. s.name.items) c.in_ok-files_of-in-Files.field-0.items in
+    let made = c.in_ok-files_of-in-Files.ensures in
+    made.sighted ∙ ap (sightings (file_made known labels)) (sym made.names) ∙ ap (λ (s : Sources). source_sightings known labels s given names) (sym c.in-Files.is)
+
+pub returns-in-Listed-clause-sighted : goal.returns-in-Listed-clause-sighted
+returns-in-Listed-clause-sighted g c =
+    let known = g.F.Opener.known c.args.files.now in
+    let given = g.S.Read.remaining c.args.stdin in
+    let labels = c.args.except.now.labels in
+    subst (λ (s : Sources). IfOk c.listed_at.result (λ made. map (sighted (sight_of g.S.Read.remaining (λ f. g.F.Opener.known f.now) g.F.File.Read.remaining)) made.items
+    ≡ source_sightings known labels s given (map (λ s. s.name.items) made.items))) (sym c.in-Listed.is) c.listed_at.ensures.sighted

@@ -4,7 +4,7 @@ use Rattle.std.proofs.lemmas.Option.{slice_get-get_or}
 use Rattle.aero_model.specs.declared.numbered.Numbered.{Numbered}
 use Rattle.aero_model.specs.declared.numbered.What.TheVariants.{Read}
 use Rattle.aero_witness.specs.declared.kinds.Kind.{Kind}
-use Rattle.aero_witness.specs.Kinds.{source_number, of_event, sources, targets}
+use Rattle.aero_witness.specs.Kinds.{source_number, of_event, sources}
 use Rattle.aero_witness.specs.Lanes.{AreHeads, AreDrawn}
 use Rattle.aero_witness.proofs.Drawing.{still_but, still_lane, more_drawn}
 use Rattle.aero_witness.proofs.left.gather_lane.Goals as goal
@@ -26,13 +26,14 @@ loop-place-preserved c =
     let place = get_or front at 0 in
     let inv = c.loop-place.invariant in
     let s = sources trace old.kind in
-    let t = targets trace old.kind in
-    let lane = still_lane trace old.kind old cur c.requires.lane inv.same inv.drawn.are in
     let source : s place ≡ c.source_number-number.result =
     ap (of_event (source_number old.kind)) (slice_get-get_or trace place any (c.requires.within at 0 c.loop-place-test.true)) ∙ ap (λ (k : Kind). source_number k (get_or trace place any)) (sym {A = Kind} inv.same.kind) ∙ sym c.source_number-number.ensures in
-    let drawn : AreDrawn s t (place ∷ []) (length trace) cur.heads.items new.heads.items leads' leads'' =
-    subst (λ n. AreDrawn s t (place ∷ []) n cur.heads.items new.heads.items leads' leads'') lane.each (c.in_ok-take.ensures.drawn s t source lane.links (subst (λ n. AreHeads t n cur.heads.items) (sym lane.each) lane.heads)) in
     record {
       same = still_but old cur new inv.same c.in_ok-take.ensures.same;
-      drawn = subst (λ (xs : List ℕ). AreDrawn s t xs (length trace) old.heads.items new.heads.items leads leads'') (sym {A = List ℕ} (take_more front at 0 c.loop-place-test.true)) (more_drawn s t (length trace) (take at front) place old.heads.items cur.heads.items new.heads.items leads leads' leads'' inv.drawn drawn);
+      drawn = λ outer is. (let t = outer old.kind in
+          let was = inv.drawn outer is in
+          let lane = still_lane trace outer old.kind old cur is inv.same was.are in
+          let drawn : AreDrawn s t (place ∷ []) (length trace) cur.heads.items new.heads.items leads' leads'' =
+          subst (λ n. AreDrawn s t (place ∷ []) n cur.heads.items new.heads.items leads' leads'') lane.each (c.in_ok-take.ensures.drawn s t source lane.links (subst (λ n. AreHeads t n cur.heads.items) (sym lane.each) lane.heads)) in
+          subst (λ (xs : List ℕ). AreDrawn s t xs (length trace) old.heads.items new.heads.items leads leads'') (sym {A = List ℕ} (take_more front at 0 c.loop-place-test.true)) (more_drawn s t (length trace) (take at front) place old.heads.items cur.heads.items new.heads.items leads leads' leads'' was drawn));
     }

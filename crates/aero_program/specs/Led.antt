@@ -1,0 +1,66 @@
+-- What an input has noted since it was made.
+use Rattle.std.specs.Prelude.{◌≡◌, ◌<◌, ℕ, true, List, take, is_some, IfSome, Option, Some, None, ⊤}
+use Rattle.aero_intake.specs.Source.{Origin, Place, Stream, File, Nowhere, Sight, Trail}
+use Rattle.aero_program.specs.declared.input.Input.{Input}
+use Rattle.aero_program.specs.declared.reason.Reason.{Reason}
+use Rattle.aero_program.specs.declared.reason.Reason.TheVariants.{NotUtf8}
+use Rattle.aero_program.specs.declared.stamp.Stamp.{Stamp}
+use Rattle.aero_program.specs.Inputs.{Standing, Standard, Unopened, Reading, Ended, Failed, bytes_left, opened_of, reason_of, standing_of, start_of}
+use Rattle.aero_program.specs.Labels.{HasWatched, watched_in}
+use Rattle.aero_watch.specs.Watches.{unbegun}
+
+-- where an input reads that was just made, and stands so
+abbrev pub place_of : Standing → Place
+place_of (Standard reader) = Stream
+place_of (Unopened path left) = File path
+place_of (Reading left) = Nowhere
+place_of Ended = Nowhere
+place_of (Failed left) = Nowhere
+
+-- why an input can't be read, as far as that is known before: it has no path, since its name isn't UTF-8
+abbrev pub reason_at : Place → Option Reason
+reason_at Stream = None
+reason_at (File path) = None
+reason_at Nowhere = Some NotUtf8
+
+-- The stamp is one of a file that was opened at the place, where there is one. `holds` says which bytes a file may have that was opened at a path and had a stamp.
+abbrev pub IsOpenedAt : (holds : List ℕ → Stamp → Option (List ℕ) → Type 0) → Place → Option Stamp → Type 0
+IsOpenedAt holds Stream opened = opened ≡ None
+IsOpenedAt holds (File path) opened = IfSome opened (λ stamp. (given : Option (List ℕ)) × holds path stamp given)
+IsOpenedAt holds Nowhere opened = opened ≡ None
+
+-- an input that wasn't opened yet stands as it did at first
+abbrev pub IsStill : (first now : Standing) → Type 0
+IsStill first (Standard reader) = ⊤
+IsStill first (Unopened path left) = first ≡ Unopened path left
+IsStill first (Reading left) = ⊤
+IsStill first Ended = ⊤
+IsStill first (Failed left) = ⊤
+
+-- The input was this at first, and by reads these bytes came from it, and so many reads failed.
+pub record IsLed {S O F : Type 0} (stdin : S → Option (List ℕ)) (known : O → List ℕ → Option (List ℕ)) (file : F → Option (List ℕ)) (holds : List ℕ → Stamp → Option (List ℕ) → Type 0)
+    (first now : Input S O F) (came : List ℕ) (faults : ℕ) : Type 0 where
+  pub start : start_of now ≡ take 3 came
+  pub reason : faults ≡ 0 → reason_of now ≡ reason_at (place_of (standing_of stdin known file first))
+  pub failed : 0 < faults → is_some (reason_of now) ≡ true
+  pub labels : watched_in now.watch ≡ watched_in first.watch
+  pub seen : HasWatched now.watch came
+  pub opened : IsOpenedAt holds (place_of (standing_of stdin known file first)) (opened_of now)
+  pub still : IsStill (standing_of stdin known file first) (standing_of stdin known file now)
+
+-- what an input was made for, by how it was at first
+abbrev pub origin_of : {S O F : Type 0} → (stdin : S → Option (List ℕ)) → (known : O → List ℕ → Option (List ℕ)) → (file : F → Option (List ℕ)) → Input S O F → Origin
+origin_of stdin known file first = record { place = place_of (standing_of stdin known file first); labels = watched_in first.watch }
+
+-- the labels that an input which was this at first looks for, and with which no line of these bytes begins a block
+abbrev pub unbegun_in : {S O F : Type 0} → (first : Input S O F) → (given : List ℕ) → List (List ℕ)
+unbegun_in first given = unbegun (watched_in first.watch) given
+
+-- what contracts see of an input that was this at first and gave these bytes, and so many of whose reads failed and found the end
+abbrev pub sight_at : {S O F : Type 0} → (stdin : S → Option (List ℕ)) → (known : O → List ℕ → Option (List ℕ)) → (file : F → Option (List ℕ)) → (first now : Input S O F) → (given : List ℕ) → (faults ends : ℕ) → Sight
+sight_at stdin known file first now given faults ends = record {
+  bytes = bytes_left (standing_of stdin known file now);
+  faults = faults;
+  ends = ends;
+  trail = Some (record { origin = origin_of stdin known file first; given = given });
+}

@@ -1,0 +1,79 @@
+/* System calls that the program makes by itself, by syscall(), and prctl: after some of these the log can't be written any more,
+ * so it is written out before. */
+#include "log.h"
+
+#include <linux/seccomp.h>
+#include <sched.h>
+#include <stdarg.h>
+#include <sys/prctl.h>
+#include <sys/syscall.h>
+#include <unistd.h>
+
+/* Nothing is asked of the system where no log is open: it may not be allowed. */
+static int has_log(void) { return aero_log.number >= 0 && getpid() == aero_owner && aero_enter(); }
+
+static void write_out(int ends_thread) {
+    if (!has_log()) return;
+    aero_lock();
+    if (ends_thread) aero_end_thread();
+    aero_clear();
+    aero_flush();
+    aero_unlock();
+    aero_leave();
+}
+
+/* What a child of vfork() has entered its parent has left. */
+static void note_end(void) { aero_me.jumped |= aero_log.number >= 0 && getpid() != aero_owner; }
+
+/* Of SYS_clone: a child with memory of its own. */
+static int is_fork(long number, const long *with) {
+#ifdef SYS_fork
+    if (number == SYS_fork) return 1;
+#endif
+    return number == SYS_clone && !(with[0] & CLONE_VM);
+}
+
+/* In seccomp's strict mode a thread may read, write and exit only, and the logger needs more. */
+static void before_strict_mode(void) {
+    if (!has_log()) return;
+    aero_leave();
+    aero_say("seccomp", "the program asks for its strict mode: the rest isn't logged");
+    aero_finish();
+}
+
+EXPORT long syscall(long number, ...) {
+    REAL(long, syscall, long, ...)
+    long with[6];
+    va_list list;
+    va_start(list, number);
+    for (size_t place = 0; place < 6; place++) with[place] = va_arg(list, long);
+    va_end(list);
+    if (number == SYS_exit_group || number == SYS_exit) note_end();
+    if (number == SYS_exit_group) aero_finish();
+    if (number == SYS_exit) write_out(1);
+    if (number == SYS_seccomp && with[0] == SECCOMP_SET_MODE_STRICT) before_strict_mode();
+    if (number == SYS_seccomp) write_out(0);
+    int entered = (number == SYS_execve || number == SYS_execveat) && aero_log.number >= 0 && aero_before_exec();
+    long result = real(number, with[0], with[1], with[2], with[3], with[4], with[5]);
+    if (!result && is_fork(number, with)) aero_forked_apart();
+    if (entered) aero_behind_exec(1);
+    return result;
+}
+
+EXPORT int prctl(int option, ...) {
+    REAL(int, prctl, int, ...)
+    unsigned long with[4];
+    va_list list;
+    va_start(list, option);
+    for (size_t place = 0; place < 4; place++) with[place] = va_arg(list, unsigned long);
+    va_end(list);
+    if (option == PR_SET_SECCOMP && with[0] == SECCOMP_MODE_STRICT) before_strict_mode();
+    if (option == PR_SET_SECCOMP) write_out(0);
+    return real(option, with[0], with[1], with[2], with[3]);
+}
+
+/* They are looked up here, and not where a signal handler or a child of vfork() is the first to call them. */
+void aero_calls_start(void) {
+    syscall(SYS_getpid);
+    prctl(PR_GET_DUMPABLE);
+}
