@@ -18,7 +18,7 @@ use Rattle.aero_program.specs.declared.command.Config.{Config}
 use Rattle.aero_program.specs.declared.failure.Failure.{Failure}
 use Rattle.aero_program.specs.declared.input.Input.{Input}
 use Rattle.aero_program.specs.declared.stamp.Stamp.{Stamp}
-use Rattle.aero_program.specs.Executed.{Ends, WasJudged, unused_of}
+use Rattle.aero_program.specs.Executed.{Ends, IsLeftBy, WasJudged, unused_of}
 use Rattle.aero_program.specs.Command.{AreLimitsFor, are_words, form_on, listed_by}
 use Rattle.aero_program.specs.Notes.{AreOwn, AreShown, Remark, label_lines, note_texts, noted_of_all, notes_on}
 use Rattle.aero_program.proofs.Noting.{are_faulty, are_noted}
@@ -48,19 +48,20 @@ names_noted input unused sight words (source ∷ more) [] (fault ∷ faults) = a
 names_noted input unused sight words (source ∷ more) (ending ∷ rest) [] = ap (λ l. source.name.items ∷ l) (names_noted input unused sight words more rest [])
 names_noted input unused sight words (source ∷ more) (ending ∷ rest) (fault ∷ faults) = ap (λ l. source.name.items ∷ l) (names_noted input unused sight words more rest faults)
 
-pub judged : {R S O F : Type 0} (input : R → Input S O F) (missing : R → List (List ℕ)) (sight : R → Sight) (paths : List ℕ → Option (List ℕ)) (holds : List ℕ → Stamp → Option (List ℕ) → Type 0) (config : Config) (given : Option (List ℕ)) (limits : Limits) (names : List (List ℕ))
+pub judged : {R S O F : Type 0} (input : R → Input S O F) (missing : R → List (List ℕ)) (sight : R → Sight) (paths : List ℕ → Option (List ℕ)) (can_fail : List ℕ → Type 0) (holds : List ℕ → Stamp → Option (List ℕ) → Type 0) (config : Config) (given : Option (List ℕ)) (left : Option Seen) (limits : Limits) (names : List (List ℕ))
     (new : List (SourceOf R)) (were : List Sighted) (before between after : Shown) (endings : List (ℕ × Ending)) (faults : List (Option FaultyLine)) (counts : Counts) (cause : Option Cause)
     (fault : Option ErrorKind) (end : Result ℕ Failure) (told told_after : Seen) (status : ℕ) (terms : Terms) (made : Form)
     → terms ≡ asking limits (listed_by config.except.items config.only.items) config.order config.explain → made ≡ form_on config.terminals config.form → AreLimitsFor config.long limits
     → AreNames paths config.files given names → were ≡ source_sightings paths (listed_by config.except.items config.only.items).labels config.files given names
     → (remarks : List Remark) → map (λ r. r.noted) remarks ≡ noted_of_all input missing (are_words config.files) new (if config.long then [] else endings) faults → AreShown holds remarks
-    → AreOwn holds (map (sighted sight) new) (noted_of_all input missing (are_words config.files) new (if config.long then [] else endings) faults)
+    → AreOwn can_fail holds (map (sighted sight) new) (noted_of_all input missing (are_words config.files) new (if config.long then [] else endings) faults)
+    → IsLeftBy config.files (map (sighted sight) new) left
     → WasRunTo terms made (summary_line_in made (options_with terms (unused_of config None endings (noted_of_all input missing (are_words config.files) new (if config.long then [] else endings) faults)) (notes_on remarks))) were (map (sighted sight) new) before.writer between.writer endings faults counts cause
     → between.unflushed ≡ before.unflushed → WasFlushed between after fault → end ≡ end_of_run config.fail_open cause counts fault
     → Ends (note_texts config.terminals.errors (notes_on remarks) ++ label_lines config.terminals.errors (unused_of config cause endings (noted_of_all input missing (are_words config.files) new (if config.long then [] else endings) faults))) end told told_after status
-    → WasJudged paths holds config given before after told told_after status
-judged input missing sight paths holds config given limits names new were before between after endings faults counts cause fault end told told_after status terms made
-    on_terms in_form are named seen remarks on_noted shown_all own run same flushed ended ends =
+    → WasJudged paths can_fail holds config given left before after told told_after status
+judged input missing sight paths can_fail holds config given left limits names new were before between after endings faults counts cause fault end told told_after status terms made
+    on_terms in_form are named seen remarks on_noted shown_all own stays run same flushed ended ends =
     let labels : List (List ℕ) = (listed_by config.except.items config.only.items).labels in
     let sightings : List Sighted = source_sightings paths labels config.files given names in
     let wanted : Terms = asking limits (listed_by config.except.items config.only.items) config.order config.explain in
@@ -92,6 +93,7 @@ judged input missing sight paths holds config given limits names new were before
       are_noted = are_noted input missing words new noted_endings faults;
       are_faulty = are_faulty input missing words new noted_endings faults;
       are_own = own;
+      left_by = stays;
       remarks = remarks;
       on_noted = on_noted;
       are_shown = shown_all;

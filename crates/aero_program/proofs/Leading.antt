@@ -1,18 +1,19 @@
 -- What an input has noted, after one more read.
-use Rattle.std.proofs.Common.{◌≡◌, ◌∙◌, ◌+◌, ◌<◌, ℕ, ℤ, Bool, true, List, [], ◌++◌, take, Option, None, Some, Result, Ok, Err, if◌then◌else◌, ap, sym, subst, arith}
-use Rattle.std.specs.Prelude.{IfOk, bytes_eq, is_err, is_some}
+use Rattle.std.proofs.Common.{◌≡◌, ◌∙◌, ◌+◌, ◌<◌, ℕ, ℤ, Bool, true, List, [], ◌++◌, take, Option, None, Some, Result, Ok, Err, if◌then◌else◌, ap, sym, subst, refl, true≢false, arith}
+use Rattle.std.specs.Prelude.{IfErr, IfOk, bytes_eq, is_err, is_some}
 use Rattle.std.specs.Coded.{Coded, Coded-set, codes}
 use Rattle.std.specs.List.{list_any}
 use Rattle.std.proofs.Math.Logic.{∥∥₁_elim}
 use Rattle.std.proofs.lemmas.Grind.{merely}
 use Rattle.std.proofs.lemmas.List.{append-nil}
-use Rattle.aero_intake.specs.Source.{Place, gained}
+use Rattle.aero_intake.specs.Source.{Place, Stream, File, Nowhere, gained}
+use Rattle.aero_model.specs.CallCounts.{moves_nothing}
 use Rattle.aero_program.specs.declared.input.Input.{Input}
 use Rattle.aero_program.specs.declared.reason.Reason.{Reason}
 use Rattle.aero_program.specs.declared.stamp.Stamp.{Stamp}
-use Rattle.aero_program.specs.Inputs.{Standing, Standard, Unopened, Reading, Ended, Failed, OpensTo, StepsTo, opened_of, reason_of, standing_of, start_of}
+use Rattle.aero_program.specs.Inputs.{Standing, Standard, Unopened, Reading, Ended, Failed, MayFailFrom, OpensTo, StepsTo, opened_of, reason_of, standing_of, start_of}
 use Rattle.aero_program.specs.Labels.{HasWatched, came_after, watched_in}
-use Rattle.aero_program.specs.Led.{IsLed, IsOpenedAt, IsStill, place_of, reason_at, unbegun_in}
+use Rattle.aero_program.specs.Led.{HasCounted, HasRightlyFailed, IsLed, IsOpenedAt, IsStill, IsUnread, MayFailAt, StaysStream, place_of, reason_at, unbegun_in}
 use Rattle.aero_program.specs.Reasons.{reason_after}
 use Rattle.aero_program.specs.Starts.{start_after}
 use Rattle.aero_program.proofs.Fronts.{front_more}
@@ -47,60 +48,183 @@ opened_on holds first (Reading left) before after still was is = subst (IsOpened
 opened_on holds first Ended before after still was is = subst (IsOpenedAt holds (place_of first)) (sym is) was
 opened_on holds first (Failed left) before after still was is = subst (IsOpenedAt holds (place_of first)) (sym is) was
 
--- no read leaves a file unopened
-still_on : {E : Type 0} (can_open : List ℕ → Type 0) (first old new : Standing) (buffer : List ℕ) (r : Result ℕ E) → StepsTo can_open old new buffer r → IsStill first new
-still_on can_open first old (Standard reader) buffer r steps = tt
-still_on can_open first old (Reading left) buffer r steps = tt
-still_on can_open first old Ended buffer r steps = tt
-still_on can_open first old (Failed left) buffer r steps = tt
-still_on can_open first (Standard before) (Unopened path left) buffer r steps = absurd steps
-still_on can_open first (Unopened at had) (Unopened path left) buffer (Ok n) steps = absurd steps.1
-still_on can_open first (Unopened at had) (Unopened path left) buffer (Err e) steps = absurd steps.1
-still_on can_open first (Reading had) (Unopened path left) buffer (Ok n) steps = absurd steps
-still_on can_open first (Reading had) (Unopened path left) buffer (Err e) steps = absurd steps
-still_on can_open first Ended (Unopened path left) buffer r steps = absurd steps
-still_on can_open first (Failed had) (Unopened path left) buffer r steps = absurd steps
+-- no read leaves a file unopened, or makes another input standard input
+still_on : {E : Type 0} (can_open : List ℕ → Type 0) (first old new : Standing) (buffer : List ℕ) (r : Result ℕ E) → StepsTo can_open old new buffer r → IsStill first old → IsStill first new
+still_on can_open first old (Reading left) buffer r steps still = tt
+still_on can_open first old Ended buffer r steps still = tt
+still_on can_open first old (Failed left) buffer r steps still = tt
+still_on can_open first (Standard before) (Standard reader) buffer r steps still = still
+still_on can_open first (Unopened at had) (Standard reader) buffer (Ok n) steps still = absurd steps.1
+still_on can_open first (Unopened at had) (Standard reader) buffer (Err e) steps still = absurd steps.1
+still_on can_open first (Reading had) (Standard reader) buffer (Ok n) steps still = absurd steps
+still_on can_open first (Reading had) (Standard reader) buffer (Err e) steps still = absurd steps
+still_on can_open first Ended (Standard reader) buffer r steps still = absurd steps
+still_on can_open first (Failed had) (Standard reader) buffer r steps still = absurd steps
+still_on can_open first (Standard before) (Unopened path left) buffer r steps still = absurd steps
+still_on can_open first (Unopened at had) (Unopened path left) buffer (Ok n) steps still = absurd steps.1
+still_on can_open first (Unopened at had) (Unopened path left) buffer (Err e) steps still = absurd steps.1
+still_on can_open first (Reading had) (Unopened path left) buffer (Ok n) steps still = absurd steps
+still_on can_open first (Reading had) (Unopened path left) buffer (Err e) steps still = absurd steps
+still_on can_open first Ended (Unopened path left) buffer r steps still = absurd steps
+still_on can_open first (Failed had) (Unopened path left) buffer r steps still = absurd steps
 
-led_on : {S O F E : Type 0} (stdin : S → Option (List ℕ)) (known : O → List ℕ → Option (List ℕ)) (file : F → Option (List ℕ)) (holds : List ℕ → Stamp → Option (List ℕ) → Type 0)
-    (can_open : List ℕ → Type 0) (number : E → Option ℤ) (first old new : Input S O F) (came : List ℕ) (faults : ℕ) (r : Result ℕ E) (buffer : List ℕ)
-    → StepsTo can_open (standing_of stdin known file old) (standing_of stdin known file new) buffer r
-    → OpensTo holds (standing_of stdin known file old) (opened_of old) (opened_of new)
-    → start_of new ≡ start_after (start_of old) r buffer → reason_of new ≡ reason_after number (reason_of old) r → watched_in new.watch ≡ watched_in old.watch
-    → ((c : List ℕ) → HasWatched old.watch c → HasWatched new.watch (came_after c r buffer))
-    → IsLed stdin known file holds first old came faults → IsLed stdin known file holds first new (came ++ gained r buffer) (faults + (if is_err r then 1 else 0))
-led_on stdin known file holds can_open number first old new came faults r buffer steps opens starts reasons watched seen led = record {
-  start = start_on (start_of old) came r buffer (start_of new) led.start starts;
-  reason = reason_on number faults (place_of (standing_of stdin known file first)) (reason_of old) (reason_of new) r led.reason reasons;
-  failed = failed_on number faults (reason_of old) (reason_of new) r led.failed reasons;
-  labels = watched ∙ led.labels;
-  seen = seen_on old.watch new.watch came r buffer led.seen seen;
-  opened = opened_on holds (standing_of stdin known file first) (standing_of stdin known file old) (opened_of old) (opened_of new) led.still led.opened opens;
-  still = still_on can_open (standing_of stdin known file first) (standing_of stdin known file old) (standing_of stdin known file new) buffer r steps;
-}
+everywhere : (can_fail : List ℕ → Type 0) (place : Place) → ((path : List ℕ) → can_fail path) → MayFailAt can_fail place
+everywhere can_fail Stream all = tt
+everywhere can_fail (File path) all = all path
+everywhere can_fail Nowhere all = tt
 
--- the same where it is known that there is such a reading, of what counts as the bytes that came and as the reads that failed
-pub merely_led_on : {S O F E : Type 0} (stdin : S → Option (List ℕ)) (known : O → List ℕ → Option (List ℕ)) (file : F → Option (List ℕ)) (holds : List ℕ → Stamp → Option (List ℕ) → Type 0)
-    (can_open : List ℕ → Type 0) (number : E → Option ℤ) (first old new : Input S O F) (came given : List ℕ) (faults failures : ℕ) (r : Result ℕ E) (buffer : List ℕ)
-    → StepsTo can_open (standing_of stdin known file old) (standing_of stdin known file new) buffer r
-    → OpensTo holds (standing_of stdin known file old) (opened_of old) (opened_of new)
-    → start_of new ≡ start_after (start_of old) r buffer → reason_of new ≡ reason_after number (reason_of old) r → watched_in new.watch ≡ watched_in old.watch
-    → ((c : List ℕ) → HasWatched old.watch c → HasWatched new.watch (came_after c r buffer))
-    → given ≡ came ++ gained r buffer → failures ≡ faults + (if is_err r then 1 else 0)
-    → ∥ IsLed stdin known file holds first old came faults ∥₁ → ∥ IsLed stdin known file holds first new given failures ∥₁
-merely_led_on stdin known file holds can_open number first old new came given faults failures r buffer steps opens starts reasons watched seen given_is failures_are led =
-    ∥∥₁_elim led squash₁ (λ l. merely (subst (λ g. IsLed stdin known file holds first new g failures) (sym given_is)
-    (subst (λ n. IsLed stdin known file holds first new (came ++ gained r buffer) n) (sym failures_are)
-    (led_on stdin known file holds can_open number first old new came faults r buffer steps opens starts reasons watched seen l))))
+-- what may fail as it stands may fail by what it was made for
+may_from : (can_fail : List ℕ → Type 0) (first old : Standing) → IsStill first old → HasRightlyFailed can_fail (place_of first) old → MayFailFrom can_fail old → MayFailAt can_fail (place_of first)
+may_from can_fail first (Standard reader) still rightly may = subst (MayFailAt can_fail) (sym still) tt
+may_from can_fail first (Unopened path left) still rightly may = subst (λ (s : Standing). MayFailAt can_fail (place_of s)) (sym still) may
+may_from can_fail first (Reading left) still rightly may = everywhere can_fail (place_of first) may
+may_from can_fail first Ended still rightly may = absurd may
+may_from can_fail first (Failed left) still rightly may = rightly
+
+may_on : {E : Type 0} (can_fail : List ℕ → Type 0) (first old : Standing) (faults : ℕ) (r : Result ℕ E) → IsStill first old → HasRightlyFailed can_fail (place_of first) old
+    → IfErr r (λ _. MayFailFrom can_fail old) → (0 < faults → MayFailAt can_fail (place_of first)) → 0 < faults + (if is_err r then 1 else 0) → MayFailAt can_fail (place_of first)
+may_on can_fail first old faults (Ok n) still rightly fails was some = was (omega (arith, some))
+may_on can_fail first old faults (Err e) still rightly fails was some = may_from can_fail first old still rightly fails
+
+-- an input fails only at a read that fails
+rightly_on : {E : Type 0} (can_open can_fail : List ℕ → Type 0) (first old new : Standing) (buffer : List ℕ) (r : Result ℕ E) → StepsTo can_open old new buffer r → IsStill first old
+    → HasRightlyFailed can_fail (place_of first) old → IfErr r (λ _. MayFailFrom can_fail old) → HasRightlyFailed can_fail (place_of first) new
+rightly_on can_open can_fail first old (Standard reader) buffer r steps still rightly fails = tt
+rightly_on can_open can_fail first old (Unopened path left) buffer r steps still rightly fails = tt
+rightly_on can_open can_fail first old (Reading left) buffer r steps still rightly fails = tt
+rightly_on can_open can_fail first old Ended buffer r steps still rightly fails = tt
+rightly_on can_open can_fail first old (Failed left) buffer (Err e) steps still rightly fails = may_from can_fail first old still rightly fails
+rightly_on can_open can_fail first (Standard before) (Failed left) buffer (Ok n) steps still rightly fails = absurd steps
+rightly_on can_open can_fail first (Unopened at had) (Failed left) buffer (Ok n) steps still rightly fails = absurd (true≢false (sym steps))
+rightly_on can_open can_fail first (Reading had) (Failed left) buffer (Ok n) steps still rightly fails = absurd steps
+rightly_on can_open can_fail first Ended (Failed left) buffer (Ok n) steps still rightly fails = absurd steps
+rightly_on can_open can_fail first (Failed had) (Failed left) buffer (Ok n) steps still rightly fails = absurd (true≢false (sym steps))
+
+-- a read of standard input is counted as its stream counts it
+counted_on : {E : Type 0} (can_open : List ℕ → Type 0) (old new : Standing) (buffer : List ℕ) (r : Result ℕ E) (faults ends : ℕ) → StepsTo can_open old new buffer r
+    → HasCounted old faults ends → HasCounted new (faults + (if is_err r then 1 else 0)) (ends + (if moves_nothing r buffer then 1 else 0))
+counted_on can_open (Standard before) (Standard after) buffer r faults ends steps was =
+    (steps.faults ∙ ap (λ n. n + (if is_err r then 1 else 0)) was.0, steps.ends ∙ ap (λ n. n + (if moves_nothing r buffer then 1 else 0)) was.1)
+counted_on can_open (Standard before) (Unopened path left) buffer r faults ends steps was = absurd steps
+counted_on can_open (Standard before) (Reading left) buffer r faults ends steps was = absurd steps
+counted_on can_open (Standard before) Ended buffer r faults ends steps was = absurd steps
+counted_on can_open (Standard before) (Failed left) buffer r faults ends steps was = absurd steps
+counted_on can_open (Unopened at had) new buffer r faults ends steps was = absurd was
+counted_on can_open (Reading had) new buffer r faults ends steps was = absurd was
+counted_on can_open Ended new buffer r faults ends steps was = absurd was
+counted_on can_open (Failed had) new buffer r faults ends steps was = absurd was
+
+stream_on : {E : Type 0} (can_open : List ℕ → Type 0) (first old new : Standing) (buffer : List ℕ) (r : Result ℕ E) (faults ends : ℕ) → StepsTo can_open old new buffer r
+    → StaysStream first old faults ends → StaysStream first new (faults + (if is_err r then 1 else 0)) (ends + (if moves_nothing r buffer then 1 else 0))
+stream_on can_open (Standard reader) old new buffer r faults ends steps was = counted_on can_open old new buffer r faults ends steps was
+stream_on can_open (Unopened path left) old new buffer r faults ends steps was = tt
+stream_on can_open (Reading left) old new buffer r faults ends steps was = tt
+stream_on can_open Ended old new buffer r faults ends steps was = tt
+stream_on can_open (Failed left) old new buffer r faults ends steps was = tt
+
+-- an input that was just made
+
+opened_new : (holds : List ℕ → Stamp → Option (List ℕ) → Type 0) (place : Place) (opened : Option Stamp) → opened ≡ None → IsOpenedAt holds place opened
+opened_new holds Stream opened none = none
+opened_new holds (File path) None none = tt
+opened_new holds (File path) (Some stamp) none = absurd (cc)
+opened_new holds Nowhere opened none = none
+
+still_new : (first : Standing) → IsStill first first
+still_new (Standard reader) = refl
+still_new (Unopened path left) = refl
+still_new (Reading left) = tt
+still_new Ended = tt
+still_new (Failed left) = tt
+
+rightly_new : (can_fail : List ℕ → Type 0) (first : Standing) → HasRightlyFailed can_fail (place_of first) first
+rightly_new can_fail (Standard reader) = tt
+rightly_new can_fail (Unopened path left) = tt
+rightly_new can_fail (Reading left) = tt
+rightly_new can_fail Ended = tt
+rightly_new can_fail (Failed left) = tt
+
+stream_new : (first : Standing) → IsUnread first → StaysStream first first 0 0
+stream_new (Standard reader) unread = unread
+stream_new (Unopened path left) unread = tt
+stream_new (Reading left) unread = tt
+stream_new Ended unread = tt
+stream_new (Failed left) unread = tt
+
+pub merely_led_new : {S O F : Type 0} (stdin : S → Option (List ℕ)) (known : O → List ℕ → Option (List ℕ)) (file : F → Option (List ℕ)) (can_fail : List ℕ → Type 0) (holds : List ℕ → Stamp → Option (List ℕ) → Type 0)
+    (input first : Input S O F) (given : List ℕ) (faults ends : ℕ) → first ≡ input → given ≡ [] → faults ≡ 0 → ends ≡ 0
+    → start_of input ≡ [] → reason_of input ≡ reason_at (place_of (standing_of stdin known file input)) → opened_of input ≡ None → HasWatched input.watch [] → IsUnread (standing_of stdin known file input)
+    → ∥ IsLed stdin known file can_fail holds first input given faults ends ∥₁
+merely_led_new stdin known file can_fail holds input first given faults ends first_is given_is faults_are ends_are start reason opened seen unread =
+    let made : IsLed stdin known file can_fail holds input input [] 0 0 = record {
+      start = start;
+      reason = λ _. reason;
+      failed = λ some. absurd (omega (arith, some));
+      may = λ some. absurd (omega (arith, some));
+      rightly = rightly_new can_fail (standing_of stdin known file input);
+      stream = stream_new (standing_of stdin known file input) unread;
+      labels = refl;
+      seen = seen;
+      opened = opened_new holds (place_of (standing_of stdin known file input)) (opened_of input) opened;
+      still = still_new (standing_of stdin known file input);
+    } in
+    merely (subst (λ f. IsLed stdin known file can_fail holds f input given faults ends) (sym first_is)
+    (subst (λ l. IsLed stdin known file can_fail holds input input l faults ends) (sym given_is)
+    (subst (λ n. IsLed stdin known file can_fail holds input input [] n ends) (sym faults_are)
+    (subst (λ n. IsLed stdin known file can_fail holds input input [] 0 n) (sym ends_are) made))))
+
+-- what one read of an input does, as its contract says
+pub record WasReadOnce {S O F E : Type 0} (stdin : S → Option (List ℕ)) (known : O → List ℕ → Option (List ℕ)) (file : F → Option (List ℕ)) (can_open can_fail : List ℕ → Type 0)
+    (holds : List ℕ → Stamp → Option (List ℕ) → Type 0) (number : E → Option ℤ) (old new : Input S O F) (r : Result ℕ E) (buffer : List ℕ) : Type 0 where
+  pub steps : StepsTo can_open (standing_of stdin known file old) (standing_of stdin known file new) buffer r
+  pub fails : IfErr r (λ _. MayFailFrom can_fail (standing_of stdin known file old))
+  pub opens : OpensTo holds (standing_of stdin known file old) (opened_of old) (opened_of new)
+  pub starts : start_of new ≡ start_after (start_of old) r buffer
+  pub reasons : reason_of new ≡ reason_after number (reason_of old) r
+  pub watched : watched_in new.watch ≡ watched_in old.watch
+  pub sees : (c : List ℕ) → HasWatched old.watch c → HasWatched new.watch (came_after c r buffer)
+
+module _ {S O F E : Type 0} (stdin : S → Option (List ℕ)) (known : O → List ℕ → Option (List ℕ)) (file : F → Option (List ℕ)) (can_open can_fail : List ℕ → Type 0)
+    (holds : List ℕ → Stamp → Option (List ℕ) → Type 0) (number : E → Option ℤ) (first old new : Input S O F) (r : Result ℕ E) (buffer : List ℕ)
+    (once : WasReadOnce stdin known file can_open can_fail holds number old new r buffer) where
+  led_on : (came : List ℕ) (faults ends : ℕ) → IsLed stdin known file can_fail holds first old came faults ends
+      → IsLed stdin known file can_fail holds first new (came ++ gained r buffer) (faults + (if is_err r then 1 else 0)) (ends + (if moves_nothing r buffer then 1 else 0))
+  led_on came faults ends led =
+      let at_first = standing_of stdin known file first in
+      let before = standing_of stdin known file old in
+      let after = standing_of stdin known file new in
+      record {
+        start = start_on (start_of old) came r buffer (start_of new) led.start once.starts;
+        reason = reason_on number faults (place_of at_first) (reason_of old) (reason_of new) r led.reason once.reasons;
+        failed = failed_on number faults (reason_of old) (reason_of new) r led.failed once.reasons;
+        may = may_on can_fail at_first before faults r led.still led.rightly once.fails led.may;
+        rightly = rightly_on can_open can_fail at_first before after buffer r once.steps led.still led.rightly once.fails;
+        stream = stream_on can_open at_first before after buffer r faults ends once.steps led.stream;
+        labels = once.watched ∙ led.labels;
+        seen = seen_on old.watch new.watch came r buffer led.seen once.sees;
+        opened = opened_on holds at_first before (opened_of old) (opened_of new) led.still led.opened once.opens;
+        still = still_on can_open at_first before after buffer r once.steps led.still;
+      }
+
+  -- the same where it is known that there is such a reading, of what counts as the bytes that came, and as the reads that failed and found the end
+  pub merely_led_on : (came given : List ℕ) (faults failures ends finds : ℕ) → given ≡ came ++ gained r buffer → failures ≡ faults + (if is_err r then 1 else 0)
+      → finds ≡ ends + (if moves_nothing r buffer then 1 else 0)
+      → ∥ IsLed stdin known file can_fail holds first old came faults ends ∥₁ → ∥ IsLed stdin known file can_fail holds first new given failures finds ∥₁
+  merely_led_on came given faults failures ends finds given_is failures_are finds_are led =
+      ∥∥₁_elim led squash₁ (λ l. merely (subst (λ g. IsLed stdin known file can_fail holds first new g failures finds) (sym given_is)
+      (subst (λ n. IsLed stdin known file can_fail holds first new (came ++ gained r buffer) n finds) (sym failures_are)
+      (subst (λ n. IsLed stdin known file can_fail holds first new (came ++ gained r buffer) (faults + (if is_err r then 1 else 0)) n) (sym finds_are)
+      (led_on came faults ends l)))))
 
 bool_code : Coded Bool
 bool_code = hlevel codes
 
 -- what an input that was led so lacks
-pub lacks_so : {S O F E : Type 0} (stdin : S → Option (List ℕ)) (known : O → List ℕ → Option (List ℕ)) (file : F → Option (List ℕ)) (holds : List ℕ → Stamp → Option (List ℕ) → Type 0)
-    (first now : Input S O F) (came : List ℕ) (faults : ℕ) (label : List ℕ) (result : Result Bool E)
+pub lacks_so : {S O F E : Type 0} (stdin : S → Option (List ℕ)) (known : O → List ℕ → Option (List ℕ)) (file : F → Option (List ℕ)) (can_fail : List ℕ → Type 0) (holds : List ℕ → Stamp → Option (List ℕ) → Type 0)
+    (first now : Input S O F) (came : List ℕ) (faults ends : ℕ) (label : List ℕ) (result : Result Bool E)
     → ((c : List ℕ) → HasWatched now.watch c → IfOk result (λ lacks. lacks ≡ list_any (bytes_eq label) (unbegun (watched_in now.watch) c)))
-    → ∥ IsLed stdin known file holds first now came faults ∥₁ → IfOk result (λ lacks. lacks ≡ list_any (bytes_eq label) (unbegun_in first came))
-lacks_so stdin known file holds first now came faults label (Err e) whole led = tt
-lacks_so stdin known file holds first now came faults label (Ok lacks) whole led =
+    → ∥ IsLed stdin known file can_fail holds first now came faults ends ∥₁ → IfOk result (λ lacks. lacks ≡ list_any (bytes_eq label) (unbegun_in first came))
+lacks_so stdin known file can_fail holds first now came faults ends label (Err e) whole led = tt
+lacks_so stdin known file can_fail holds first now came faults ends label (Ok lacks) whole led =
     ∥∥₁_elim led (Coded-set bool_code lacks (list_any (bytes_eq label) (unbegun_in first came)))
     (λ l. whole came l.seen ∙ ap (λ ls. list_any (bytes_eq label) (unbegun ls came)) l.labels)

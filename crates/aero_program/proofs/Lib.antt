@@ -18,3 +18,4 @@ mod Tells
 mod Unused
 mod Wording
 mod Sending
+mod Leaving

@@ -14,8 +14,7 @@ use Rattle.aero_intake.specs.declared.source.SourceOf.{SourceOf}
 use Rattle.aero_report.specs.Options.{Note}
 use Rattle.aero_program.specs.declared.input.Input.{Input}
 use Rattle.aero_program.specs.declared.stamp.Stamp.{Stamp}
-use Rattle.aero_program.specs.Inputs.{opened_of, reason_of, start_of}
-use Rattle.aero_program.specs.Notes.{AreFaulty, AreNoted, AreNotes, AreShown, GrowsBy, Noted, Remark, fault_told, missing_in_each, named_input, note_items, noted_of, noted_of_all, notes_on, was_too_large}
+use Rattle.aero_program.specs.Notes.{AreFaulty, AreNoted, AreNotes, AreShown, GrowsBy, Noted, Remark, fault_told, missing_in_each, note_items, noted_of, noted_of_all, notes_on, was_too_large}
 use Rattle.aero_program.specs.Looks.{ShowsAs}
 use Rattle.aero_faults.specs.declared.look.Look.TheVariants.{Nothing}
 
@@ -120,40 +119,6 @@ pub record ToldRemarks {V : Type 0} (holds : List ℕ → Stamp → Option (List
   pub shown : AreShown holds remarks
   pub told : IfSome notes (λ n. items n ≡ notes_on remarks)
 
--- what is noted is noted of names and inputs
-noted_pair : {S O F : Type 0} → Bool → List ℕ × (Input S O F × List (List ℕ)) → Bool → Option FaultyLine → Noted
-noted_pair words pair too_large fault = record {
-  name = pair.0;
-  is_word = words;
-  start = start_of pair.1.0;
-  reason = reason_of pair.1.0;
-  too_large = too_large;
-  fault = fault;
-  opened = opened_of pair.1.0;
-  missing = pair.1.1;
-}
-
-noted_pairs : {S O F : Type 0} → Bool → List (List ℕ × (Input S O F × List (List ℕ))) → List (ℕ × Ending) → List (Option FaultyLine) → List Noted
-noted_pairs words [] endings faults = []
-noted_pairs words (pair ∷ more) [] [] = noted_pair words pair false None ∷ noted_pairs words more [] []
-noted_pairs words (pair ∷ more) [] (fault ∷ faults) = noted_pair words pair false fault ∷ noted_pairs words more [] faults
-noted_pairs words (pair ∷ more) (ending ∷ rest) [] = noted_pair words pair (was_too_large (Some ending)) None ∷ noted_pairs words more rest []
-noted_pairs words (pair ∷ more) (ending ∷ rest) (fault ∷ faults) = noted_pair words pair (was_too_large (Some ending)) fault ∷ noted_pairs words more rest faults
-
-as_pairs : {R S O F : Type 0} (input : R → Input S O F) (unused : R → List (List ℕ)) (words : Bool) (sources : List (SourceOf R)) (endings : List (ℕ × Ending)) (faults : List (Option FaultyLine))
-    → noted_of_all input unused words sources endings faults ≡ noted_pairs words (map (named_input input unused) sources) endings faults
-unfolding noted_pair noted_pairs
-as_pairs input unused words [] endings faults = refl
-as_pairs input unused words (source ∷ more) [] [] = ap (λ l. noted_of input unused words source false None ∷ l) (as_pairs input unused words more [] [])
-as_pairs input unused words (source ∷ more) [] (fault ∷ faults) = ap (λ l. noted_of input unused words source false fault ∷ l) (as_pairs input unused words more [] faults)
-as_pairs input unused words (source ∷ more) (ending ∷ rest) [] = ap (λ l. noted_of input unused words source (was_too_large (Some ending)) None ∷ l) (as_pairs input unused words more rest [])
-as_pairs input unused words (source ∷ more) (ending ∷ rest) (fault ∷ faults) = ap (λ l. noted_of input unused words source (was_too_large (Some ending)) fault ∷ l) (as_pairs input unused words more rest faults)
-
-noted_same : {R S O F : Type 0} (input : R → Input S O F) (unused : R → List (List ℕ)) (words : Bool) (kept sources : List (SourceOf R)) (endings : List (ℕ × Ending)) (faults : List (Option FaultyLine)) → map (named_input input unused) kept ≡ map (named_input input unused) sources
-    → noted_of_all input unused words kept endings faults ≡ noted_of_all input unused words sources endings faults
-noted_same input unused words kept sources endings faults same =
-    as_pairs input unused words kept endings faults ∙ ap (λ pairs. noted_pairs words pairs endings faults) same ∙ sym (as_pairs input unused words sources endings faults)
-
 pub missing_noted : {R S O F : Type 0} (input : R → Input S O F) (unused : R → List (List ℕ)) (words : Bool) (sources : List (SourceOf R)) (endings : List (ℕ × Ending)) (faults : List (Option FaultyLine))
     → map (λ n. n.missing) (noted_of_all input unused words sources endings faults) ≡ map (λ s. unused s.reader) sources
 missing_noted input unused words [] endings faults = refl
@@ -167,16 +132,15 @@ told_on : {V : Type 0} (holds : List ℕ → Stamp → Option (List ℕ) → Typ
 told_on holds items noted (Some n) h = record { remarks = h.remarks; are = h.are; shown = h.shown; told = h.told }
 told_on holds items noted None h = record { remarks = map unseen noted; are = unseen_are noted; shown = unseen_shown holds noted; told = tt }
 
--- the notes on sources that are named so, and whose names and inputs were kept
-pub told_as : {R S O F V : Type 0} (input : R → Input S O F) (unused : R → List (List ℕ)) (holds : List ℕ → Stamp → Option (List ℕ) → Type 0) (items : V → List Note) (is words : Bool) (kept sources : List (SourceOf R))
+-- the notes on sources that are named so
+pub told_as : {R S O F V : Type 0} (input : R → Input S O F) (unused : R → List (List ℕ)) (holds : List ℕ → Stamp → Option (List ℕ) → Type 0) (items : V → List Note) (is words : Bool) (sources : List (SourceOf R))
     (given : List (ℕ × Ending)) (faults : List (Option FaultyLine))
-    → is ≡ words → map (named_input input unused) kept ≡ map (named_input input unused) sources → (notes : Option V)
-    → IfSome notes (λ n. AreNotes holds (noted_of_all input unused is kept given faults) (items n))
+    → is ≡ words → (notes : Option V)
+    → IfSome notes (λ n. AreNotes holds (noted_of_all input unused is sources given faults) (items n))
     → ToldRemarks holds items (noted_of_all input unused words sources given faults) notes
-told_as input unused holds items is words kept sources given faults known same notes h =
+told_as input unused holds items is words sources given faults known notes h =
     told_on holds items (noted_of_all input unused words sources given faults) notes
-    (subst (λ noted. IfSome notes (λ n. AreNotes holds noted (items n))) (noted_same input unused words kept sources given faults same)
-    (subst (λ w. IfSome notes (λ n. AreNotes holds (noted_of_all input unused w kept given faults) (items n))) known h))
+    (subst (λ w. IfSome notes (λ n. AreNotes holds (noted_of_all input unused w sources given faults) (items n))) known h)
 
 -- labels and lists of missing ones
 

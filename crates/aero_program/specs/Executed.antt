@@ -1,11 +1,12 @@
 -- What the program does with what its words ask for: what goes out on standard output and standard error, and the exit status.
-use Rattle.std.specs.Prelude.{◌≡◌, ◌⊎◌, ℕ, Bool, if◌then◌else◌, List, [], ◌++◌, map, Option, None, Result, Ok, Err, string_bytes}
+use Rattle.std.specs.Prelude.{◌≡◌, ◌⊎◌, ℕ, Bool, if◌then◌else◌, List, [], ◌++◌, map, slice_get, Option, None, Some, Result, Ok, Err, ⊤, string_bytes}
 use Rattle.std.specs.declared.io.ErrorKind.{ErrorKind}
 use Rattle.aero_model.specs.declared.limits.Limits.{Limits}
 use Rattle.aero_model.specs.declared.verdict.Counts.{Counts}
 use Rattle.aero_model.specs.declared.verdict.Ending.{Ending}
 use Rattle.aero_model.specs.CallCounts.{Seen}
 use Rattle.aero_intake.specs.PlanTerms.{options_with}
+use Rattle.aero_intake.specs.Source.{Origin, Sight, Stream, origin_in}
 use Rattle.aero_report.specs.Forms.{summary_line_in}
 use Rattle.aero_verdict.specs.Finding.{Terms, asking}
 use Rattle.aero_batch.specs.declared.outcome.Cause.{Cause}
@@ -14,6 +15,8 @@ use Rattle.aero_batch.specs.Founds.{Sighted, Took, WasRunTo}
 use Rattle.aero_program.specs.declared.arguments.Unread.{Unread}
 use Rattle.aero_program.specs.declared.arguments.Unread.TheVariants as unread
 use Rattle.aero_program.specs.declared.command.Config.{Config}
+use Rattle.aero_program.specs.declared.command.Sources.{Sources}
+use Rattle.aero_program.specs.declared.command.Sources.TheVariants as sources
 use Rattle.aero_program.specs.declared.command.Refused.TheVariants as refused
 use Rattle.aero_program.specs.declared.command.Stop.{Stop}
 use Rattle.aero_program.specs.declared.command.Stop.TheVariants as stop
@@ -98,8 +101,22 @@ terms_asked config limits = asking limits (listed_by config.except.items config.
 abbrev pub unused_of : Config → Option Cause → List (ℕ × Ending) → List Noted → List (List ℕ)
 unused_of config cause endings noted = labels_told cause endings noted (listed_by config.except.items config.only.items).labels
 
+-- what is seen of a stream that is read as this reader was
+abbrev pub seen_in : Sight → Seen
+seen_in sight = record { bytes = sight.bytes; faults = sight.faults; ends = sight.ends }
+
+-- where the source reads standard input, that is left with the bytes that the source has left, and has failed and found the end as often as it
+abbrev pub IsLeftOf : Sighted → (left : Option Seen) → Type 0
+IsLeftOf s left = (o : Origin) → origin_in s.reader ≡ Some o → o.place ≡ Stream → ∥ left ≡ Some (seen_in s.reader) ∥₁
+
+-- Standard input, as it is left: where it was the source, its stream has the bytes that the source has left, and has failed and found the end as often as the source.
+abbrev pub IsLeftBy : Sources → (judged : List Sighted) → (left : Option Seen) → Type 0
+IsLeftBy (sources.Standard name) judged left = (s : Sighted) → slice_get judged 0 ≡ Some s → ∥ left ≡ Some (seen_in s.reader) ∥₁
+IsLeftBy (sources.Files words) judged left = ⊤
+IsLeftBy (sources.Listed path) judged left = ⊤
+
 -- What the configuration asks for was judged: its sources, under the limits that it asks for, blocks that its labels leave out as no transactions. The report in its form went out on standard output, as every run's does, and a flush and the ends of the run decide. The notes on the sources and the labels with which no block begins stand in the summary, and their lines go out on standard error.
-pub record WasJudged (known : List ℕ → Option (List ℕ)) (holds : List ℕ → Stamp → Option (List ℕ) → Type 0) (config : Config) (given : Option (List ℕ)) (shown shown_after : Shown) (told told_after : Seen) (status : ℕ) : Type 0 where
+pub record WasJudged (known : List ℕ → Option (List ℕ)) (can_fail : List ℕ → Type 0) (holds : List ℕ → Stamp → Option (List ℕ) → Type 0) (config : Config) (given : Option (List ℕ)) (left : Option Seen) (shown shown_after : Shown) (told told_after : Seen) (status : ℕ) : Type 0 where
   pub limits : Limits
   pub limits_are : AreLimitsFor config.long limits
   pub names : List (List ℕ)
@@ -114,7 +131,8 @@ pub record WasJudged (known : List ℕ → Option (List ℕ)) (holds : List ℕ 
   pub of_names : map (λ n. n.name) noted ≡ names
   pub are_noted : AreNoted (are_words config.files) (if config.long then [] else endings) noted
   pub are_faulty : AreFaulty faults noted
-  pub are_own : AreOwn holds sources noted
+  pub are_own : AreOwn can_fail holds sources noted
+  pub left_by : IsLeftBy config.files sources left
   pub remarks : List Remark
   pub on_noted : map (λ r. r.noted) remarks ≡ noted
   pub are_shown : AreShown holds remarks
@@ -133,18 +151,18 @@ TellsUnlisted on_terminal path unlisted.TooMany told told_after status = Fails f
 TellsUnlisted on_terminal path unlisted.Memory told told_after status = Fails failure.Memory told told_after status
 
 -- there are no sources, and that is told
-pub record WasUnlisted (known : List ℕ → Option (List ℕ)) (config : Config) (given : Option (List ℕ)) (told told_after : Seen) (status : ℕ) : Type 0 where
+pub record WasUnlisted (known : List ℕ → Option (List ℕ)) (can_fail : List ℕ → Type 0) (config : Config) (given : Option (List ℕ)) (told told_after : Seen) (status : ℕ) : Type 0 where
   pub why : Unlisted
-  pub are : AreUnlisted known config.files given why
+  pub are : AreUnlisted known can_fail config.files given why
   pub tells : TellsUnlisted config.terminals.errors (list_path config.files) why told told_after status
 
 -- or memory was refused before that
-abbrev pub Judges : (known : List ℕ → Option (List ℕ)) → (holds : List ℕ → Stamp → Option (List ℕ) → Type 0) → Config → Option (List ℕ) → Shown → Shown → Seen → Seen → ℕ → Type 0
-Judges known holds config given shown shown_after told told_after status =
-    WasJudged known holds config given shown shown_after told told_after status
-    ⊎ ((shown_after ≡ shown) × (WasUnlisted known config given told told_after status ⊎ Fails failure.Memory told told_after status))
+abbrev pub Judges : (known : List ℕ → Option (List ℕ)) → (can_fail : List ℕ → Type 0) → (holds : List ℕ → Stamp → Option (List ℕ) → Type 0) → Config → (given : Option (List ℕ)) → (left : Option Seen) → Shown → Shown → Seen → Seen → ℕ → Type 0
+Judges known can_fail holds config given left shown shown_after told told_after status =
+    WasJudged known can_fail holds config given left shown shown_after told told_after status
+    ⊎ ((shown_after ≡ shown) × (WasUnlisted known can_fail config given told told_after status ⊎ Fails failure.Memory told told_after status))
 
--- `known` says which bytes each file has that is opened at a path, `holds` which bytes a file may have that was opened at a path and had a stamp, and `given` is what standard input has, where these are known
-abbrev pub Executes : (known : List ℕ → Option (List ℕ)) → (holds : List ℕ → Stamp → Option (List ℕ) → Type 0) → Result Config Stop → Option (List ℕ) → Shown → Shown → Seen → Seen → ℕ → Type 0
-Executes known holds (Ok config) given shown shown_after told told_after status = Judges known holds config given shown shown_after told told_after status
-Executes known holds (Err why) given shown shown_after told told_after status = Stops why shown shown_after told told_after status
+-- `known` says which bytes each file has that is opened at a path, `can_fail` of which paths an open may fail, or a read of the file that it gave, `holds` which bytes a file may have that was opened at a path and had a stamp, and `given` is what standard input has, where these are known; `left` is standard input as it is left, where it was the source
+abbrev pub Executes : (known : List ℕ → Option (List ℕ)) → (can_fail : List ℕ → Type 0) → (holds : List ℕ → Stamp → Option (List ℕ) → Type 0) → Result Config Stop → (given : Option (List ℕ)) → (left : Option Seen) → Shown → Shown → Seen → Seen → ℕ → Type 0
+Executes known can_fail holds (Ok config) given left shown shown_after told told_after status = Judges known can_fail holds config given left shown shown_after told told_after status
+Executes known can_fail holds (Err why) given left shown shown_after told told_after status = Stops why shown shown_after told told_after status

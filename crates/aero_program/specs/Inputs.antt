@@ -7,7 +7,7 @@ use Rattle.aero_program.specs.declared.input.Stage.{Stage}
 use Rattle.aero_program.specs.declared.input.Stage.TheVariants as stage
 use Rattle.aero_program.specs.declared.reason.Reason.{Reason}
 use Rattle.aero_program.specs.declared.stamp.Stamp.{Stamp}
-use Rattle.aero_program.specs.Retries.{seen_within, tried_by}
+use Rattle.aero_program.specs.Retries.{seen_within}
 use Rattle.aero_program.specs.Starts.{start_bytes}
 
 -- standard input, whose stream is seen so; a file that wasn't opened yet; a file that is open; a file whose end was found; a file that couldn't be opened or read. What a file has left is said, where it is known.
@@ -26,11 +26,11 @@ unopened known path = Unopened path (known path)
 abbrev pub stage_standing : {S O F : Type 0} → (stdin : S → Option (List ℕ)) → (known : O → List ℕ → Option (List ℕ)) → (file : F → Option (List ℕ)) → Stage S O F → Standing
 stage_standing stdin known file (stage.Standard reader) = Standard (seen_within stdin reader)
 stage_standing stdin known file (stage.Unopened files path) = unopened (known files) (string_bytes path)
-stage_standing stdin known file (stage.Reading reader stamp) = Reading (file (tried_by reader))
+stage_standing stdin known file (stage.Reading reader stamp) = Reading (file reader)
 stage_standing stdin known file (stage.Ended stamp) = Ended
 stage_standing stdin known file stage.Unnamed = Failed None
 stage_standing stdin known file (stage.Refused kind files path) = Failed (known files (string_bytes path.value))
-stage_standing stdin known file (stage.Failed kind stamp was) = Failed (file (tried_by was.value))
+stage_standing stdin known file (stage.Failed kind stamp was) = Failed (file was.value)
 
 abbrev pub standing_of : {S O F : Type 0} → (stdin : S → Option (List ℕ)) → (known : O → List ℕ → Option (List ℕ)) → (file : F → Option (List ℕ)) → Input S O F → Standing
 standing_of stdin known file input = stage_standing stdin known file input.stage
@@ -99,3 +99,19 @@ StepsTo can_open (Reading left) new buffer result = Leaves new buffer result
 StepsTo can_open Ended Ended buffer result = result ≡ Ok 0
 StepsTo can_open (Failed before) (Failed after) buffer result = IsErr result
 StepsTo can_open old new buffer result = ⊥
+
+-- whether a read may fail of an input that stands so: of standard input where its stream does, of a file that wasn't opened yet where the opener says so of its path, and of one that is open only where the opener says so of each path
+abbrev pub MayFailFrom : (can_fail : List ℕ → Type 0) → Standing → Type 0
+MayFailFrom can_fail (Standard reader) = ⊤
+MayFailFrom can_fail (Unopened path left) = can_fail path
+MayFailFrom can_fail (Reading left) = (path : List ℕ) → can_fail path
+MayFailFrom can_fail Ended = ⊥
+MayFailFrom can_fail (Failed left) = ⊤
+
+-- standard input, as its stream is seen, of an input that is that, and none of another
+abbrev pub IsStandardOf : Standing → Option Seen → Type 0
+IsStandardOf (Standard reader) given = given ≡ Some reader
+IsStandardOf (Unopened path left) given = given ≡ None
+IsStandardOf (Reading left) given = given ≡ None
+IsStandardOf Ended given = given ≡ None
+IsStandardOf (Failed left) given = given ≡ None

@@ -1,16 +1,23 @@
--- What is told of a source whose bytes are known.
-use Rattle.std.specs.Prelude.{◌≡◌, ℕ, List, ◌++◌, [], slice_get, Option, Some}
+-- What is told of sources whose bytes are known.
+use Rattle.std.specs.Prelude.{◌≡◌, ◌≤◌, ℕ, true, List, ◌++◌, [], length, slice_get, take, Option, None, Some}
 use Rattle.aero_model.specs.declared.verdict.Counts.{Counts}
 use Rattle.aero_model.specs.declared.verdict.Ending.{Ending}
 use Rattle.aero_model.specs.declared.verdict.Ending.TheVariants.{Whole}
 use Rattle.aero_model.specs.CallCounts.{Seen}
 use Rattle.aero_report.specs.declared.form.Form.{Form}
-use Rattle.aero_verdict.specs.Finding.{Terms}
+use Rattle.aero_verdict.specs.Finding.{Terms, IsFinding}
 use Rattle.aero_batch.specs.declared.outcome.Cause.{Cause}
 use Rattle.aero_batch.specs.declared.outcome.FaultyLine.{FaultyLine}
 use Rattle.aero_batch.specs.Founds.{Found, Sighted, WasRunTo}
 use Rattle.aero_intake.specs.Source.{Sight}
+use Rattle.aero_program.specs.declared.command.Config.{Config}
+use Rattle.aero_program.specs.declared.stamp.Stamp.{Stamp}
+use Rattle.aero_program.specs.Command.{are_words, listed_by}
+use Rattle.aero_program.specs.Executed.{WasJudged, terms_asked}
+use Rattle.aero_program.specs.Notes.{Noted}
 use Rattle.aero_program.specs.Sightings.{sightings}
+use Rattle.aero_program.specs.Streams.{Shown}
+use Rattle.aero_watch.specs.Watches.{unbegun}
 
 -- these bytes are a front of the text, and all of it where they ended as a whole source does
 pub record IsFrontOf (text bytes : List ℕ) (ending : Ending) : Type 0 where
@@ -25,3 +32,21 @@ KnownBytesAreJudged =
     (endings : List (ℕ × Ending)) (faults : List (Option FaultyLine)) (counts : Counts) (cause : Option Cause)
     (ran : WasRunTo terms form last (sightings made names) new before after endings faults counts cause) (place : ℕ) (found : Found) (text : List ℕ)
     → slice_get ran.founds place ≡ Some found → (made found.name).bytes ≡ Some text → IsFrontOf text found.bytes found.ending
+
+-- What was found of a source is what the definitions say of this text, read to its end, and what was noted of it is of the text too, with no reason why a read failed.
+pub record IsOfText (terms : Terms) (labels : List (List ℕ)) (text : List ℕ) (found : Found) (n : Noted) : Type 0 where
+  pub bytes : found.bytes ≡ text
+  pub ending : found.ending ≡ Whole
+  pub finding : ∥ IsFinding text Whole terms found.finding ∥₁
+  pub start : n.start ≡ take 3 text
+  pub reason : n.reason ≡ None
+  pub missing : n.missing ≡ unbegun labels text
+
+-- Of a file that a word names, that has this text and that can't fail, the program tells what the definitions say of the text, where the text isn't too large.
+abbrev pub KnownFilesAreJudged : (can_fail : List ℕ → Type 0) → (holds : List ℕ → Stamp → Option (List ℕ) → Type 0) → Type 0
+KnownFilesAreJudged can_fail holds =
+    (known : List ℕ → Option (List ℕ)) (config : Config) (given : Option (List ℕ)) (left : Option Seen) (shown shown_after : Shown) (told told_after : Seen) (status : ℕ)
+    (was : WasJudged known can_fail holds config given left shown shown_after told told_after status) (place : ℕ) (found : Found) (n : Noted) (text : List ℕ)
+    → are_words config.files ≡ true → slice_get was.ran.founds place ≡ Some found → slice_get was.noted place ≡ Some n
+    → known found.name ≡ Some text → (can_fail found.name → ⊥) → length text ≤ was.limits.bytes
+    → ∥ IsOfText (terms_asked config was.limits) (listed_by config.except.items config.only.items).labels text found n ∥₁

@@ -29,20 +29,61 @@ IsOpenedAt holds Stream opened = opened ≡ None
 IsOpenedAt holds (File path) opened = IfSome opened (λ stamp. (given : Option (List ℕ)) × holds path stamp given)
 IsOpenedAt holds Nowhere opened = opened ≡ None
 
--- an input that wasn't opened yet stands as it did at first
+-- whether a read of what an input was made for may fail: of standard input where its stream does, of a file where the opener says so of its path, and without a path it always does
+abbrev pub MayFailAt : (can_fail : List ℕ → Type 0) → Place → Type 0
+MayFailAt can_fail Stream = ⊤
+MayFailAt can_fail (File path) = can_fail path
+MayFailAt can_fail Nowhere = ⊤
+
+-- an input of which an open or a read has failed may fail
+abbrev pub HasRightlyFailed : (can_fail : List ℕ → Type 0) → Place → Standing → Type 0
+HasRightlyFailed can_fail place (Standard reader) = ⊤
+HasRightlyFailed can_fail place (Unopened path left) = ⊤
+HasRightlyFailed can_fail place (Reading left) = ⊤
+HasRightlyFailed can_fail place Ended = ⊤
+HasRightlyFailed can_fail place (Failed left) = MayFailAt can_fail place
+
+-- the stream of standard input was never read
+abbrev pub IsUnread : Standing → Type 0
+IsUnread (Standard reader) = (reader.faults ≡ 0) × (reader.ends ≡ 0)
+IsUnread (Unopened path left) = ⊤
+IsUnread (Reading left) = ⊤
+IsUnread Ended = ⊤
+IsUnread (Failed left) = ⊤
+
+-- it is standard input, and its stream has failed so often, and found the end so often
+abbrev pub HasCounted : Standing → (faults ends : ℕ) → Type 0
+HasCounted (Standard reader) faults ends = (reader.faults ≡ faults) × (reader.ends ≡ ends)
+HasCounted (Unopened path left) faults ends = ⊥
+HasCounted (Reading left) faults ends = ⊥
+HasCounted Ended faults ends = ⊥
+HasCounted (Failed left) faults ends = ⊥
+
+-- the same where the input was standard input at first
+abbrev pub StaysStream : (first now : Standing) → (faults ends : ℕ) → Type 0
+StaysStream (Standard reader) now faults ends = HasCounted now faults ends
+StaysStream (Unopened path left) now faults ends = ⊤
+StaysStream (Reading left) now faults ends = ⊤
+StaysStream Ended now faults ends = ⊤
+StaysStream (Failed left) now faults ends = ⊤
+
+-- an input that wasn't opened yet stands as it did at first, and standard input was that at first
 abbrev pub IsStill : (first now : Standing) → Type 0
-IsStill first (Standard reader) = ⊤
+IsStill first (Standard reader) = place_of first ≡ Stream
 IsStill first (Unopened path left) = first ≡ Unopened path left
 IsStill first (Reading left) = ⊤
 IsStill first Ended = ⊤
 IsStill first (Failed left) = ⊤
 
--- The input was this at first, and by reads these bytes came from it, and so many reads failed.
-pub record IsLed {S O F : Type 0} (stdin : S → Option (List ℕ)) (known : O → List ℕ → Option (List ℕ)) (file : F → Option (List ℕ)) (holds : List ℕ → Stamp → Option (List ℕ) → Type 0)
-    (first now : Input S O F) (came : List ℕ) (faults : ℕ) : Type 0 where
+-- The input was this at first, and by reads these bytes came from it, and so many reads failed, and found the end.
+pub record IsLed {S O F : Type 0} (stdin : S → Option (List ℕ)) (known : O → List ℕ → Option (List ℕ)) (file : F → Option (List ℕ)) (can_fail : List ℕ → Type 0) (holds : List ℕ → Stamp → Option (List ℕ) → Type 0)
+    (first now : Input S O F) (came : List ℕ) (faults ends : ℕ) : Type 0 where
   pub start : start_of now ≡ take 3 came
   pub reason : faults ≡ 0 → reason_of now ≡ reason_at (place_of (standing_of stdin known file first))
   pub failed : 0 < faults → is_some (reason_of now) ≡ true
+  pub may : 0 < faults → MayFailAt can_fail (place_of (standing_of stdin known file first))
+  pub rightly : HasRightlyFailed can_fail (place_of (standing_of stdin known file first)) (standing_of stdin known file now)
+  pub stream : StaysStream (standing_of stdin known file first) (standing_of stdin known file now) faults ends
   pub labels : watched_in now.watch ≡ watched_in first.watch
   pub seen : HasWatched now.watch came
   pub opened : IsOpenedAt holds (place_of (standing_of stdin known file first)) (opened_of now)

@@ -1,5 +1,5 @@
 -- The names of files in a list, each ended by a byte 0.
-use Rattle.std.specs.Prelude.{◌≡◌, ◌<◌, ◌^◌, ℕ, ◌==◌, Bool, if◌then◌else◌, List, length, Option, Some, ⊤, codes}
+use Rattle.std.specs.Prelude.{◌≡◌, ◌<◌, ◌^◌, ℕ, ◌==◌, Bool, false, if◌then◌else◌, List, length, Option, Some, ⊤, codes}
 use Rattle.std.specs.Io.KnownBytes.{Consumes, IsAtEnd}
 use Rattle.std.specs.List.{slice_split}
 use Rattle.std.specs.Str.{bytes_eq}
@@ -32,14 +32,18 @@ pub record HasTooMany (given : Option (List ℕ)) : Type 0 where
   pub came : Consumes given left list
   pub many : 2 ^ 16 < length (names_in list)
 
--- why a list couldn't be had: a read failed, or it has too many names, or memory was refused
-abbrev pub IsListFault : (given : Option (List ℕ)) → Unlisted → Type 0
-IsListFault given (Unread why) = ⊤
-IsListFault given TooMany = HasTooMany given
-IsListFault given Memory = ⊤
+-- whether the list at this path may fail to be opened or read: standard input, which is at `-`, may, and a file where `can_fail` says so of its path
+abbrev pub MayFailListed : (can_fail : List ℕ → Type 0) → (path : List ℕ) → Type 0
+MayFailListed can_fail path = bytes_eq path (codes "-") ≡ false → can_fail path
 
--- why a list wasn't read to its end: a read failed, of whose reader this is the first reason then, or there are too many names, or memory was refused
-abbrev pub IsFaultOf : (given : Option (List ℕ)) → Option Reason → Unlisted → Type 0
-IsFaultOf given reason (Unread why) = reason ≡ Some why
-IsFaultOf given reason TooMany = HasTooMany given
-IsFaultOf given reason Memory = ⊤
+-- why a list couldn't be had: an open or a read failed, as it may, or it has too many names, or memory was refused
+abbrev pub IsListFault : (may_fail : Type 0) → (given : Option (List ℕ)) → Unlisted → Type 0
+IsListFault may_fail given (Unread why) = may_fail
+IsListFault may_fail given TooMany = HasTooMany given
+IsListFault may_fail given Memory = ⊤
+
+-- why a list wasn't read to its end: a read failed, as it may, of whose reader this is the first reason then, or there are too many names, or memory was refused
+abbrev pub IsFaultOf : (may_fail : Type 0) → (given : Option (List ℕ)) → Option Reason → Unlisted → Type 0
+IsFaultOf may_fail given reason (Unread why) = may_fail × (reason ≡ Some why)
+IsFaultOf may_fail given reason TooMany = HasTooMany given
+IsFaultOf may_fail given reason Memory = ⊤

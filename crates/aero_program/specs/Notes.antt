@@ -19,7 +19,7 @@ use Rattle.aero_program.specs.declared.reason.Reason.{Reason}
 use Rattle.aero_program.specs.declared.reason.Reason.TheVariants.{System, Unnumbered, NotUtf8}
 use Rattle.aero_program.specs.declared.stamp.Stamp.{Stamp}
 use Rattle.aero_program.specs.Inputs.{start_of, reason_of, opened_of}
-use Rattle.aero_program.specs.Led.{IsOpenedAt, reason_at}
+use Rattle.aero_program.specs.Led.{IsOpenedAt, MayFailAt, reason_at}
 use Rattle.aero_program.specs.Looks.{ShowsAs}
 use Rattle.aero_program.specs.Reasons.{reason_words}
 use Rattle.aero_program.specs.Starts.{byte_order_mark, gzip_mark}
@@ -72,23 +72,24 @@ AreNoted are_words endings noted =
     (at : ℕ) (n : Noted) → slice_get noted at ≡ Some n
     → (n.too_large ≡ was_too_large (slice_get endings at)) × (n.is_word ≡ are_words)
 
--- What was noted of a source is of the bytes that its reader gave, and of its reads, of which so many failed, and its stamp is one of a file that was opened at its path: its first bytes, a reason exactly where a read failed or the name is no path, and the labels that were looked for with which no line of these bytes begins a block. `holds` says which bytes a file may have that was opened at a path and had a stamp.
-pub record IsNotedFrom (holds : List ℕ → Stamp → Option (List ℕ) → Type 0) (n : Noted) (faults : ℕ) (t : Trail) : Type 0 where
+-- What was noted of a source is of the bytes that its reader gave, and of its reads, of which so many failed, and its stamp is one of a file that was opened at its path: its first bytes, a reason exactly where a read failed or the name is no path, and the labels that were looked for with which no line of these bytes begins a block. A read failed only where it may. `can_fail` says of which paths an open may fail, or a read of the file that it gave, and `holds` which bytes a file may have that was opened at a path and had a stamp.
+pub record IsNotedFrom (can_fail : List ℕ → Type 0) (holds : List ℕ → Stamp → Option (List ℕ) → Type 0) (n : Noted) (faults : ℕ) (t : Trail) : Type 0 where
   pub start : n.start ≡ take 3 t.given
   pub reason : faults ≡ 0 → n.reason ≡ reason_at t.origin.place
   pub failed : 0 < faults → is_some n.reason ≡ true
+  pub may : 0 < faults → MayFailAt can_fail t.origin.place
   pub opened : IsOpenedAt holds t.origin.place n.opened
   pub missing : n.missing ≡ unbegun t.origin.labels t.given
 
 -- the same, by what a reader says of itself
-abbrev pub IsNotedBy : (holds : List ℕ → Stamp → Option (List ℕ) → Type 0) → Noted → (faults : ℕ) → Option Trail → Type 0
-IsNotedBy holds n faults None = ⊥
-IsNotedBy holds n faults (Some t) = ∥ IsNotedFrom holds n faults t ∥₁
+abbrev pub IsNotedBy : (can_fail : List ℕ → Type 0) → (holds : List ℕ → Stamp → Option (List ℕ) → Type 0) → Noted → (faults : ℕ) → Option Trail → Type 0
+IsNotedBy can_fail holds n faults None = ⊥
+IsNotedBy can_fail holds n faults (Some t) = ∥ IsNotedFrom can_fail holds n faults t ∥₁
 
 -- what was noted of each source was noted by its own reader
-abbrev pub AreOwn : (holds : List ℕ → Stamp → Option (List ℕ) → Type 0) → List Sighted → List Noted → Type 0
-AreOwn holds sources noted =
-    (at : ℕ) (n : Noted) (s : Sighted) → slice_get noted at ≡ Some n → slice_get sources at ≡ Some s → IsNotedBy holds n s.reader.faults s.reader.trail
+abbrev pub AreOwn : (can_fail : List ℕ → Type 0) → (holds : List ℕ → Stamp → Option (List ℕ) → Type 0) → List Sighted → List Noted → Type 0
+AreOwn can_fail holds sources noted =
+    (at : ℕ) (n : Noted) (s : Sighted) → slice_get noted at ≡ Some n → slice_get sources at ≡ Some s → IsNotedBy can_fail holds n s.reader.faults s.reader.trail
 
 -- the sources were noted with the faulty lines that were told
 abbrev pub AreFaulty : List (Option FaultyLine) → List Noted → Type 0
@@ -187,10 +188,6 @@ note_text on_terminal note =
 -- the lines of notes, in order
 abbrev pub note_texts : (on_terminal : Bool) → List Note → List ℕ
 note_texts on_terminal notes = flat_map (note_text on_terminal) notes
-
--- what a source is named as, how its input stands, and which labels begin no block in what came
-abbrev pub named_input : {R S O F : Type 0} → (input : R → Input S O F) → (unused : R → List (List ℕ)) → SourceOf R → List ℕ × (Input S O F × List (List ℕ))
-named_input input unused source = (source.name.items, (input source.reader, unused source.reader))
 
 -- the labels that each of these lists of missing labels has
 abbrev pub missing_in_each : List (List (List ℕ)) → List (List ℕ) → List (List ℕ)

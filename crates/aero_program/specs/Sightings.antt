@@ -10,7 +10,7 @@ use Rattle.aero_program.specs.declared.listing.Unlisted.TheVariants as unlisted
 use Rattle.aero_program.specs.declared.reason.Reason.{Reason}
 use Rattle.aero_program.specs.declared.reason.Reason.TheVariants.{NotUtf8}
 use Rattle.aero_program.specs.Inputs.{Standing, Standard, Failed, unopened, unread}
-use Rattle.aero_program.specs.Listing.{IsListFault, IsWhole, list_given, names_in}
+use Rattle.aero_program.specs.Listing.{IsListFault, IsWhole, MayFailListed, list_given, names_in}
 
 -- the names, in order: that of standard input, or `-`, the words, or what stands in the list; `known` says which bytes each file has that is opened at a path, and `given` is what standard input has, where these are known
 abbrev pub AreNames : (known : List ℕ → Option (List ℕ)) → Sources → (given : Option (List ℕ)) → List (List ℕ) → Type 0
@@ -62,8 +62,8 @@ source_reasons (sources.Standard name) names = map (λ _. None) names
 source_reasons (sources.Files words) names = map (λ _. None) names
 source_reasons (sources.Listed path) names = map listed_reason names
 
--- why there are no sources: a list couldn't be read, or has too many names, or memory was refused
-abbrev pub AreUnlisted : (known : List ℕ → Option (List ℕ)) → Sources → (given : Option (List ℕ)) → Unlisted → Type 0
-AreUnlisted known (sources.Listed path) given why = IsListFault (list_given known (string_bytes path) given) why
-AreUnlisted known sources given unlisted.Memory = ⊤
-AreUnlisted known sources given why = ⊥
+-- why there are no sources: a list couldn't be read, as it may, or has too many names, or memory was refused
+abbrev pub AreUnlisted : (known : List ℕ → Option (List ℕ)) → (can_fail : List ℕ → Type 0) → Sources → (given : Option (List ℕ)) → Unlisted → Type 0
+AreUnlisted known can_fail (sources.Listed path) given why = IsListFault (MayFailListed can_fail (string_bytes path)) (list_given known (string_bytes path) given) why
+AreUnlisted known can_fail sources given unlisted.Memory = ⊤
+AreUnlisted known can_fail sources given why = ⊥

@@ -1,16 +1,16 @@
 //! What the program does with what its words ask for.
-ghost use Rattle.std.specs.Prelude.{◌≡◌, ◌⊎◌, ◌≤◌, ◌++◌, ℕ, List, [], if◌then◌else◌, map, vec_len, None, IfOk, IfSome, IsSome, OnOk, OnErr};
+ghost use Rattle.std.specs.Prelude.{◌≡◌, ◌⊎◌, ◌≤◌, ◌++◌, ℕ, List, [], if◌then◌else◌, map, option_map, slice_get, vec_len, None, Some, IfOk, IfSome, IsSome, OnOk, OnErr};
 ghost use Rattle.aero_model.specs.CallCounts.{Seen, seen_by};
-ghost use Rattle.aero_batch.specs.Founds.{sighted, Took, WasTold};
+ghost use Rattle.aero_batch.specs.Founds.{Sighted, sighted, Took, WasTold};
 ghost use Rattle.aero_batch.specs.Telling.{SumsUp};
 ghost use Rattle.aero_intake.specs.PlanTerms.{options_with, terms_of};
-ghost use Rattle.aero_program.specs.Executed.{Executes, Ends, Fails, Helps, Judges, Stops, TellsNoWords, TellsUnlisted, TellsWord};
+ghost use Rattle.aero_program.specs.Executed.{Executes, Ends, IsLeftOf, Fails, Helps, Judges, Stops, TellsNoWords, TellsUnlisted, TellsWord};
 ghost use Rattle.aero_program.specs.declared.failure.Failure.TheVariants.{Memory};
 ghost use Rattle.aero_program.specs.declared.listing.Unlisted.TheVariants.{Unread};
 ghost use Rattle.aero_program.specs.Notes.{AreNotes, label_lines, note_texts, noted_of_all};
-ghost use Rattle.aero_program.specs.Retries.{tried_by};
+ghost use Rattle.aero_program.specs.Retries.{seen_within, tried_by};
 ghost use Rattle.aero_program.specs.Streams.{WasCut, shown_by};
-ghost use Rattle.aero_program.specs.Traces.{input_of, unused_in};
+ghost use Rattle.aero_program.specs.Traces.{input_of, sight_of, unused_in};
 ghost use Rattle.aero_report.specs.Asked.{note_of};
 ghost use Rattle.aero_report.specs.Forms.{summary_line_in};
 
@@ -55,7 +55,7 @@ pub struct Streams<'a, O: Write, E: Write> {
     pub errors: &'a mut Counting<Retrying<E>>,
 }
 
-/// Does what the words ask for, and gives the exit status.
+/// Does what the words ask for, and gives the exit status, and standard input as it left it, where that was the source.
 ///
 /// Where they ask for traces to be judged, it judges the files, or standard input where there are
 /// none, in which blocks with the labels that they give are no transactions, writes the report, with
@@ -72,16 +72,22 @@ pub fn execute<
     O: Write,
     E: Write,
     T: Threads + Wait + Copy + Send + Sync + 'static,
->(host: Host<T>, asked: Result<Config, Stop>, files: &F, stdin: S, streams: Streams<'_, O, E>) -> u8
+>(
+    host: Host<T>,
+    asked: Result<Config, Stop>,
+    files: &F,
+    stdin: S,
+    streams: Streams<'_, O, E>,
+) -> (u8, Option<Retrying<S>>)
 where
     F::File: Send,
-    ensures { Executes (F.known files.now) F.holds asked (S.remaining stdin) (shown_by O.contents streams.entry.output.now) (shown_by O.contents streams.exit.0.now)
-        (seen_by (λ w. E.contents (tried_by w)) streams.entry.errors.now) (seen_by (λ w. E.contents (tried_by w)) streams.exit.1.0.now) result }
+    ensures { Executes (F.known files.now) F.can_fail F.holds asked (S.remaining stdin) (option_map (seen_within S.remaining) result.1) (shown_by O.contents streams.entry.output.now) (shown_by O.contents streams.exit.0.now)
+        (seen_by (λ w. E.contents (tried_by w)) streams.entry.errors.now) (seen_by (λ w. E.contents (tried_by w)) streams.exit.1.0.now) result.0 }
 {
     let Streams { output, errors } = streams;
     match asked {
         Ok(config) => judge(Place { host, files }, config, stdin, output, errors),
-        Err(stop) => tell_stop(host.alloc, &stop, output, errors),
+        Err(stop) => (tell_stop(host.alloc, &stop, output, errors), None),
     }
 }
 
@@ -104,11 +110,11 @@ fn judge<
     stdin: S,
     output: &mut Output<O>,
     errors: &mut Counting<E>,
-) -> u8
+) -> (u8, Option<Retrying<S>>)
 where
     F::File: Send,
-    ensures { Judges (F.known place.entry.files.now) F.holds config (S.remaining stdin) (shown_by O.contents output.old) (shown_by O.contents output.new)
-        (seen_by E.contents errors.old) (seen_by E.contents errors.new) result }
+    ensures { Judges (F.known place.entry.files.now) F.can_fail F.holds config (S.remaining stdin) (option_map (seen_within S.remaining) result.1) (shown_by O.contents output.old) (shown_by O.contents output.new)
+        (seen_by E.contents errors.old) (seen_by E.contents errors.new) result.0 }
 {
     let Place { host, files } = place;
     let alloc = host.alloc;
@@ -116,11 +122,14 @@ where
     let fail_open = config.fail_open;
     let on_terminal = config.terminals.errors;
     let Ok((plan, asked)) = config.into_plan(alloc) else {
-        return fail(Failure::Memory, errors);
+        return (fail(Failure::Memory, errors), None);
     };
     let sources = match sources_of(alloc, files, stdin, &asked, plan.terms.shared_except()) {
         Ok(sources) => sources,
-        Err(why) => return tell_unlisted(alloc, asked.list_path(), why, on_terminal, errors),
+        Err(why) => {
+            let status = tell_unlisted(alloc, asked.list_path(), why, on_terminal, errors);
+            return (status, None);
+        }
     };
     tell_work(files, &asked, &sources);
     let in_lanes = are_worth_threads(files, &sources);
@@ -129,16 +138,28 @@ where
         plan.terms.except().labels(),
         all_read(report.cause, &report.endings),
     );
-    let (unused, sources) = unused_labels(alloc, sources, labels);
+    let unused = unused_labels(alloc, &sources, labels);
     let looker = Looker::new(alloc, files);
-    let notes = all_notes(&looker, sources, &report, long, asked.are_words());
+    let notes = all_notes(&looker, &sources, &report, long, asked.are_words());
     let beside = Asides { unused, notes };
     let cause = sum_up_with(alloc, &plan, &report, &beside, &mut output.writer);
     let flushed = output.flush();
     let end = end_after(cause, &report.counts, &flushed, fail_open);
     let told = told_after(&beside.unused, cause);
     let lines = all_lines(alloc, &beside.notes, told, on_terminal);
-    finish(end, lines, errors)
+    (finish(end, lines, errors), standard_left(sources))
+}
+
+// Standard input as a run left it, where it was the one source.
+fn standard_left<S: Read + Drop, F: Opener + Drop>(
+    mut sources: Vec<SourceOf<Traced<S, F>>>,
+) -> Option<Retrying<S>>
+    ensures { vec_len sources ≡ 1 → (s : Sighted) → slice_get (map (sighted (sight_of S.remaining F.known F.File.remaining)) sources.items) 0 ≡ Some s
+        → IsLeftOf s (option_map (seen_within S.remaining) result) }
+{
+    let source = sources.pop()?;
+    let SourceOf { reader, .. } = source;
+    reader.into_inner().into_standard()
 }
 
 // What is told beside the lines of the sources: the labels with which no block begins, and the notes on the sources.
@@ -213,12 +234,12 @@ fn found_in<'u, 'a>(unused: &'u Option<Vec<&'a Name>>) -> &'u [&'a Name]
 // The notes on the sources of a run, where memory isn't refused for them.
 fn all_notes<S: Read + Drop, F: Opener + Drop, G: Opener>(
     looker: &Looker<'_, G>,
-    sources: Vec<SourceOf<Traced<S, F>>>,
+    sources: &[SourceOf<Traced<S, F>>],
     report: &Report,
     long: bool,
     are_words: bool,
 ) -> Option<Vec<Note>>
-    ensures { IfSome result (λ notes. AreNotes G.holds (noted_of_all input_of unused_in are_words sources.items (if long then [] else report.now.endings.items) report.now.faults.items) (map note_of notes.items)) }
+    ensures { IfSome result (λ notes. AreNotes G.holds (noted_of_all input_of unused_in are_words sources.now (if long then [] else report.now.endings.items) report.now.faults.items) (map note_of notes.items)) }
 {
     let endings = noted(&report.endings, long);
     match notes_of(looker, sources, endings, &report.faults, are_words) {

@@ -1,6 +1,7 @@
 //! The files of a run, which tell a meter what is read of them.
-ghost use Rattle.std.specs.Prelude.{◌≡◌, ℕ, List, Option, None, IfOk, IfSome, ⊤};
-ghost use Rattle.std.specs.Io.KnownBytes.{Keeps};
+ghost use Rattle.std.specs.Prelude.{◌≡◌, ℕ, List, Option, None, IfErr, IfOk, IfSome, ⊤};
+ghost use Rattle.std.specs.Io.{ReadsAtMost};
+ghost use Rattle.std.specs.Io.KnownBytes.{Keeps, ReadConsumes};
 ghost use Rattle.aero_program.specs.declared.stamp.Stamp.{Stamp};
 
 use crate::stamp::{Stamp, stamp_in, stamp_of};
@@ -21,11 +22,13 @@ pub struct Opened<T> {
     pub stamp: Option<Stamp>,
 }
 
-/// What a run needs of files. Its ghost member `can_open` says of which paths an open may work, `known` which bytes each file
-/// has that is opened at a path, where they are known, and `holds` which bytes a file may have that was opened at a path and
-/// bore a stamp, also when it is opened again.
+/// What a run needs of files. Its ghost member `can_open` says of which paths an open may work, `can_fail` of which an open may
+/// fail, or a read of the file that it gave, `known` which bytes each file has that is opened at a path, where they are known,
+/// and `holds` which bytes a file may have that was opened at a path and bore a stamp, also when it is opened again.
 pub trait Opener {
     ghost can_open: { List ℕ → Type 0 };
+
+    ghost can_fail: { List ℕ → Type 0 } = { λ _. ⊤ };
 
     ghost known: { Self → List ℕ → Option (List ℕ) } = { λ _ _. None };
 
@@ -36,8 +39,16 @@ pub trait Opener {
     /// Opens the file at the path, to be read from its start.
     fn open(&self, path: &str) -> io::Result<Opened<Self::File>>
         ensures worked { IfOk result (λ _. can_open path.now) }
+        ensures failed { IfErr result (λ _. can_fail path.now) }
         ensures given { IfOk result (λ opened. Keeps (known self.now path.now) (Self.File.remaining opened.file)) }
         ensures stamped { IfOk result (λ opened. IfSome opened.stamp (λ stamp. holds path.now stamp (Self.File.remaining opened.file))) };
+
+    /// One read of a file that `open` gave, as that of std's `Read`. Contracts don't see at which path it was opened: a read
+    /// fails only if a file may fail wherever it is.
+    fn read_file(file: &mut Self::File, buf: &mut [u8]) -> io::Result<usize>
+        ensures bound { ReadsAtMost result buf.new }
+        ensures bytes { ReadConsumes (Self.File.remaining file.old) (Self.File.remaining file.new) result buf.new }
+        ensures failed { IfErr result (λ _. (path : List ℕ) → can_fail path) };
 
     /// Opens it again once the run is over, which no meter hears of.
     fn open_again(&self, path: &str) -> io::Result<Opened<Self::File>>
@@ -57,6 +68,8 @@ pub trait Opener {
 impl<O: Opener> Opener for &O {
     ghost can_open = { O.can_open };
 
+    ghost can_fail = { O.can_fail };
+
     ghost known = { λ o path. O.known o.now path };
 
     ghost holds = { O.holds };
@@ -65,6 +78,10 @@ impl<O: Opener> Opener for &O {
 
     fn open(&self, path: &str) -> io::Result<Opened<O::File>> {
         (**self).open(path)
+    }
+
+    fn read_file(file: &mut O::File, buf: &mut [u8]) -> io::Result<usize> {
+        O::read_file(file, buf)
     }
 
     fn open_again(&self, path: &str) -> io::Result<Opened<O::File>> {
@@ -105,6 +122,8 @@ impl<F: Files> Opener for FilesOf<F> {
     // Of the system's files nothing is known.
     ghost can_open = { λ _. ⊤ };
 
+    ghost can_fail = { λ _. ⊤ };
+
     ghost known = { λ _ _. None };
 
     ghost holds = { λ _ _ _. ⊤ };
@@ -115,6 +134,10 @@ impl<F: Files> Opener for FilesOf<F> {
         let file = File::open(&self.files, path)?;
         let stamp = stamp_of(&file);
         Ok(Opened { file, stamp })
+    }
+
+    fn read_file(file: &mut F::File, buf: &mut [u8]) -> io::Result<usize> {
+        file.read(buf)
     }
 
     fn open_again(&self, path: &str) -> io::Result<Opened<F::File>> {
@@ -153,6 +176,8 @@ impl<'a, O: Opener> MeteredFiles<'a, O> {
 impl<'a, O: Opener> Opener for MeteredFiles<'a, O> {
     ghost can_open = { O.can_open };
 
+    ghost can_fail = { O.can_fail };
+
     ghost known = { λ o path. O.known o.opener path };
 
     ghost holds = { O.holds };
@@ -169,6 +194,13 @@ impl<'a, O: Opener> Opener for MeteredFiles<'a, O> {
                 Err(error)
             }
         }
+    }
+
+    fn read_file(file: &mut Metered<'a, O::File>, buf: &mut [u8]) -> io::Result<usize> {
+        let asked = buf.len();
+        let outcome = O::read_file(&mut file.inner, buf);
+        file.note_read(&outcome, asked);
+        outcome
     }
 
     fn open_again(&self, path: &str) -> io::Result<Opened<Metered<'a, O::File>>> {

@@ -1,7 +1,8 @@
 //! Standard input or a file, as a reader that opens its file at the first read, and notes which file that
 //! was, how its bytes begin, why a read failed, and, where it is asked for, which labels begin no block in them.
 ghost use Rattle.std.specs.Prelude.{◌≡◌, ◌≢◌, ◌++◌, ℕ, List, IfErr, IfOk, IfSome};
-ghost use Rattle.std.specs.Io.KnownBytes.{Keeps};
+ghost use Rattle.std.specs.Io.{ReadsAtMost};
+ghost use Rattle.std.specs.Io.KnownBytes.{Keeps, ReadConsumes};
 ghost use Rattle.std.specs.IoError.{error_kind};
 ghost use Rattle.std.specs.declared.io.ErrorKind.TheVariants.{Interrupted};
 ghost use Rattle.aero_program.specs.Labels.{HasWatched, watched_in};
@@ -37,20 +38,21 @@ pub struct Input<S, O: Opener> {
 enum Stage<S, O: Opener> {
     Standard(Retrying<S>),
     Unopened(O, String),
-    Reading(Retrying<O::File>, Option<Stamp>),
+    Reading(O::File, Option<Stamp>),
     Ended(Option<Stamp>),
     // Its name isn't UTF-8.
     Unnamed,
     // An open failed so.
     Refused(ErrorKind, O, Snapshot<String>),
     // A read failed so.
-    Failed(ErrorKind, Option<Stamp>, Snapshot<Retrying<O::File>>),
+    Failed(ErrorKind, Option<Stamp>, Snapshot<O::File>),
 }
 
 impl<S: Read + Drop, O: Opener + Drop> Input<S, O> {
-    ghost use Rattle.std.specs.Prelude.{◌≡◌, [], Some, None, IfOk, bytes_eq, take};
+    ghost use Rattle.std.specs.Prelude.{◌≡◌, [], Some, None, IfOk, bytes_eq, option_map, take};
     ghost use Rattle.std.specs.List.{list_any};
-    ghost use Rattle.aero_program.specs.Inputs.{opened_of, standing_of, start_of, reason_of, unopened, unread, Standard, Failed};
+    ghost use Rattle.aero_program.specs.Inputs.{opened_of, standing_of, start_of, reason_of, unopened, unread, IsStandardOf, Standard, Failed};
+    ghost use Rattle.aero_program.specs.Retries.{seen_within};
     ghost use Rattle.aero_program.specs.Labels.{HasWatched, missing_of, watched_in};
     ghost use Rattle.aero_watch.specs.Watches.{unbegun};
     ghost use Rattle.aero_program.specs.declared.reason.Reason.TheVariants.{NotUtf8};
@@ -127,6 +129,22 @@ impl<S: Read + Drop, O: Opener + Drop> Input<S, O> {
         }
     }
 
+    /// Standard input, if it is that, as the reads of it have left it.
+    pub fn into_standard(self) -> Option<Retrying<S>>
+        ensures { IsStandardOf (standing_of S.remaining O.known O.File.remaining self) (option_map (seen_within S.remaining) result) }
+    {
+        let Input { stage, .. } = self;
+        match stage {
+            Stage::Standard(stdin) => Some(stdin),
+            Stage::Unopened(_, _)
+            | Stage::Reading(_, _)
+            | Stage::Ended(_)
+            | Stage::Unnamed
+            | Stage::Refused(_, _, _)
+            | Stage::Failed(_, _, _) => None,
+        }
+    }
+
     /// Whether the bytes that came begin with a byte order mark, EF BB BF.
     pub fn has_mark(&self) -> bool
         ensures { result ≡ bytes_eq (start_of self.now) byte_order_mark }
@@ -161,10 +179,10 @@ impl<S: Read + Drop, O: Opener + Drop> Input<S, O> {
 }
 
 impl<S: Read + Drop, O: Opener + Drop> Read for Input<S, O> {
-    ghost use Rattle.std.specs.Prelude.{ℕ, List};
+    ghost use Rattle.std.specs.Prelude.{ℕ, List, IfErr};
     ghost use Rattle.std.specs.Io.{ReadsAtMost};
     ghost use Rattle.std.specs.Io.KnownBytes.{ReadConsumes};
-    ghost use Rattle.aero_program.specs.Inputs.{standing_of, bytes_left, opened_of, start_of, reason_of, OpensTo, StepsTo};
+    ghost use Rattle.aero_program.specs.Inputs.{standing_of, bytes_left, opened_of, start_of, reason_of, MayFailFrom, OpensTo, StepsTo};
     ghost use Rattle.aero_program.specs.Labels.{came_after, HasWatched, watched_in};
     ghost use Rattle.aero_program.specs.Starts.{start_after};
     ghost use Rattle.std.specs.IoError.{raw_os_error};
@@ -176,6 +194,7 @@ impl<S: Read + Drop, O: Opener + Drop> Read for Input<S, O> {
         ensures bound { ReadsAtMost result buf.new }
         ensures bytes { ReadConsumes (bytes_left (standing_of S.remaining O.known O.File.remaining self.old)) (bytes_left (standing_of S.remaining O.known O.File.remaining self.new)) result buf.new }
         ensures steps { StepsTo O.can_open (standing_of S.remaining O.known O.File.remaining self.old) (standing_of S.remaining O.known O.File.remaining self.new) buf.new result }
+        ensures failed { IfErr result (λ _. MayFailFrom O.can_fail (standing_of S.remaining O.known O.File.remaining self.old)) }
         ensures opened { OpensTo O.holds (standing_of S.remaining O.known O.File.remaining self.old) (opened_of self.old) (opened_of self.new) }
         ensures start { start_of self.new ≡ start_after (start_of self.old) result buf.new }
         ensures reason { reason_of self.new ≡ reason_after raw_os_error (reason_of self.old) result }
@@ -198,15 +217,15 @@ impl<S: Read + Drop, O: Opener + Drop> Read for Input<S, O> {
 impl<S: Read + Drop, O: Opener + Drop> Stage<S, O> {
     ghost use Rattle.std.specs.Io.{ReadsAtMost};
     ghost use Rattle.std.specs.Io.KnownBytes.{ReadConsumes};
-    ghost use Rattle.std.specs.Prelude.{◌≡◌};
-    ghost use Rattle.aero_program.specs.Inputs.{stage_standing, stage_opened, bytes_left, OpensTo, StepsTo, Leaves};
-    ghost use Rattle.aero_program.specs.Retries.{tried_by};
+    ghost use Rattle.std.specs.Prelude.{◌≡◌, ℕ, List, IfErr};
+    ghost use Rattle.aero_program.specs.Inputs.{stage_standing, stage_opened, bytes_left, MayFailFrom, OpensTo, StepsTo, Leaves};
 
     // One read, and the stage after it.
     fn read(self, buf: &mut [u8]) -> (Stage<S, O>, io::Result<usize>)
         ensures bound { ReadsAtMost result.1 buf.new }
         ensures bytes { ReadConsumes (bytes_left (stage_standing S.remaining O.known O.File.remaining self)) (bytes_left (stage_standing S.remaining O.known O.File.remaining result.0)) result.1 buf.new }
         ensures steps { StepsTo O.can_open (stage_standing S.remaining O.known O.File.remaining self) (stage_standing S.remaining O.known O.File.remaining result.0) buf.new result.1 }
+        ensures failed { IfErr result.1 (λ _. MayFailFrom O.can_fail (stage_standing S.remaining O.known O.File.remaining self)) }
         ensures opened { OpensTo O.holds (stage_standing S.remaining O.known O.File.remaining self) (stage_opened self) (stage_opened result.0) }
     {
         match self {
@@ -215,7 +234,7 @@ impl<S: Read + Drop, O: Opener + Drop> Stage<S, O> {
                 (Stage::Standard(stdin), outcome)
             }
             Stage::Unopened(files, path) => match open(&files, path.as_str()) {
-                Ok(Opened { file, stamp }) => Stage::read_file(Retrying::new(file), stamp, buf),
+                Ok(Opened { file, stamp }) => Stage::read_file(file, stamp, buf),
                 Err(refusal) => (
                     Stage::Refused(refusal.kind(), files, Snapshot::of(&path)),
                     Err(refusal),
@@ -241,16 +260,17 @@ impl<S: Read + Drop, O: Opener + Drop> Stage<S, O> {
 
     // One read of an open file, which is closed where its end is found or the read fails.
     fn read_file(
-        mut file: Retrying<O::File>,
+        mut file: O::File,
         stamp: Option<Stamp>,
         buf: &mut [u8],
     ) -> (Stage<S, O>, io::Result<usize>)
         ensures bound { ReadsAtMost result.1 buf.new }
-        ensures bytes { ReadConsumes (O.File.remaining (tried_by file)) (bytes_left (stage_standing S.remaining O.known O.File.remaining result.0)) result.1 buf.new }
+        ensures bytes { ReadConsumes (O.File.remaining file) (bytes_left (stage_standing S.remaining O.known O.File.remaining result.0)) result.1 buf.new }
         ensures leaves { Leaves (stage_standing S.remaining O.known O.File.remaining result.0) buf.new result.1 }
+        ensures failed { IfErr result.1 (λ _. (path : List ℕ) → O.can_fail path) }
         ensures opened { stage_opened result.0 ≡ stamp }
     {
-        match file.read(buf) {
+        match read_on::<O>(&mut file, buf) {
             Err(error) => (
                 Stage::Failed(error.kind(), stamp, Snapshot::of(&file)),
                 Err(error),
@@ -275,12 +295,30 @@ fn feed(watch: &mut Option<Watch>, piece: &[u8])
 fn open<O: Opener>(files: &O, path: &str) -> io::Result<Opened<O::File>>
     ensures lasting { IfErr result (λ e. error_kind e ≢ Interrupted) }
     ensures worked { IfOk result (λ _. O.can_open path.now) }
+    ensures failed { IfErr result (λ _. O.can_fail path.now) }
     ensures given { IfOk result (λ opened. Keeps (O.known files.now path.now) (O.File.remaining opened.file)) }
     ensures stamped { IfOk result (λ opened. IfSome opened.stamp (λ stamp. O.holds path.now stamp (O.File.remaining opened.file))) }
 {
     for _ in 0..u64::MAX {
         match files.open(path) {
             Ok(opened) => return Ok(opened),
+            Err(error) if error.kind() == ErrorKind::Interrupted => {}
+            Err(error) => return Err(error),
+        }
+    }
+    Err(io::Error::from(ErrorKind::Other))
+}
+
+// Reads an open file once. A read that is interrupted is tried again.
+fn read_on<O: Opener>(file: &mut O::File, buf: &mut [u8]) -> io::Result<usize>
+    ensures bound { ReadsAtMost result buf.new }
+    ensures bytes { ReadConsumes (O.File.remaining file.old) (O.File.remaining file.new) result buf.new }
+    ensures lasting { IfErr result (λ e. error_kind e ≢ Interrupted) }
+    ensures failed { IfErr result (λ _. (path : List ℕ) → O.can_fail path) }
+{
+    for _ in 0..u64::MAX {
+        match O::read_file(file, buf) {
+            Ok(count) => return Ok(count),
             Err(error) if error.kind() == ErrorKind::Interrupted => {}
             Err(error) => return Err(error),
         }

@@ -3,8 +3,8 @@ ghost use Rattle.std.specs.Prelude.{◌≡◌, ◌++◌, ℕ, List, [], if◌the
 ghost use Rattle.std.specs.List.{filter, list_all, list_any};
 ghost use Rattle.std.specs.Prelude.{bytes_eq};
 ghost use Rattle.aero_program.specs.Labels.{HasWatched, watched_in};
-ghost use Rattle.aero_program.specs.Notes.{all_read, is_whole, label_line, label_lines, missing_in_each, named_input};
-ghost use Rattle.aero_program.specs.Traces.{input_of, unused_in};
+ghost use Rattle.aero_program.specs.Notes.{all_read, is_whole, label_line, label_lines, missing_in_each};
+ghost use Rattle.aero_program.specs.Traces.{unused_in};
 ghost use Rattle.aero_watch.specs.Watches.{at_places};
 
 use crate::files::Opener;
@@ -28,23 +28,25 @@ pub(crate) fn watch_for(alloc: Global, except: &SharedExcept) -> Result<Option<W
     Watch::new(alloc, except).map(Some)
 }
 
-/// Those of these labels with which no block of any source begins, in order, and the sources again. `None` in the place of
-/// the labels says that memory is refused now, or was to a watch.
+/// Those of these labels with which no block of any source begins, in order. `None` says that memory is refused now, or was
+/// to a watch.
 pub fn unused_labels<'a, S: Read + Drop, F: Opener + Drop>(
     alloc: Global,
-    sources: Vec<SourceOf<Traced<S, F>>>,
+    sources: &[SourceOf<Traced<S, F>>],
     labels: &'a [Name],
-) -> (Option<Vec<&'a Name>>, Vec<SourceOf<Traced<S, F>>>)
-    ensures unused { IfSome result.0 (λ unused. map (λ label. label.now) unused.items ≡ missing_in_each (map (λ s. unused_in s.reader) sources.items) labels.now) }
-    ensures kept { map (named_input input_of unused_in) result.1.items ≡ map (named_input input_of unused_in) sources.items }
+) -> Option<Vec<&'a Name>>
+    ensures { IfSome result (λ unused. map (λ label. label.now) unused.items ≡ missing_in_each (map (λ s. unused_in s.reader) sources.now) labels.now) }
 {
     let Ok(all) = all_labels(alloc, labels) else {
-        return (None, sources);
+        return None;
     };
     if are_none(labels) {
-        return (Some(all), sources);
+        return Some(all);
     }
-    missing_of_all(alloc, sources, all)
+    match missing_of_all(alloc, sources, all) {
+        Ok(missing) => Some(missing),
+        Err(_) => None,
+    }
 }
 
 fn are_none(labels: &[Name]) -> bool
@@ -53,42 +55,19 @@ fn are_none(labels: &[Name]) -> bool
     labels.is_empty()
 }
 
-// Those of the labels that each source lacks, and the sources again.
+// Those of the labels that each source lacks.
 fn missing_of_all<'a, S: Read + Drop, F: Opener + Drop>(
     alloc: Global,
-    sources: Vec<SourceOf<Traced<S, F>>>,
+    sources: &[SourceOf<Traced<S, F>>],
     labels: Vec<&'a Name>,
-) -> (Option<Vec<&'a Name>>, Vec<SourceOf<Traced<S, F>>>)
-    ensures unused { IfSome result.0 (λ unused. map (λ label. label.now) unused.items ≡ missing_in_each (map (λ s. unused_in s.reader) sources.items) (map (λ label. label.now) labels.entry.items)) }
-    ensures kept { map (named_input input_of unused_in) result.1.items ≡ map (named_input input_of unused_in) sources.items }
+) -> Result<Vec<&'a Name>, AllocError>
+    ensures { IfOk result (λ unused. map (λ label. label.now) unused.items ≡ missing_in_each (map (λ s. unused_in s.reader) sources.now) (map (λ label. label.now) labels.entry.items)) }
 {
-    let Ok(mut kept) = Vec::with_capacity(alloc, sources.len()) else {
-        return (None, sources);
-    };
-    let mut missing = Some(labels);
+    let mut missing = labels;
     for source in sources {
-        missing = still_missing(alloc, missing, &source.reader);
-        kept.push_reserved(source);
+        missing = lacking(alloc, &missing, &source.reader)?;
     }
-    (missing, kept)
-}
-
-// Those of the labels that an input lacks too, where memory wasn't refused before.
-fn still_missing<'a, S: Read + Drop, F: Opener + Drop>(
-    alloc: Global,
-    labels: Option<Vec<&'a Name>>,
-    traced: &Traced<S, F>,
-) -> Option<Vec<&'a Name>>
-    ensures { (names : List (List ℕ)) → IfSome labels.entry (λ was. map (λ label. label.now) was.items ≡ names)
-        → IfSome result (λ left. map (λ label. label.now) left.items ≡ filter (λ label. list_any (bytes_eq label) (unused_in traced.now)) names) }
-{
-    match labels {
-        None => None,
-        Some(labels) => match lacking(alloc, &labels, traced) {
-            Ok(left) => Some(left),
-            Err(_) => None,
-        },
-    }
+    Ok(missing)
 }
 
 fn all_labels<'a>(alloc: Global, labels: &'a [Name]) -> Result<Vec<&'a Name>, AllocError>

@@ -12,7 +12,7 @@
 //! let mut errors = Counting::new(Retrying::new(rt.stderr()));
 //! let host = Host { rt, alloc: rt.alloc() };
 //! let streams = Streams { output: &mut output, errors: &mut errors };
-//! execute(host, asked, &FilesOf::new(rt), rt.stdin(), streams)
+//! let (status, stdin) = execute(host, asked, &FilesOf::new(rt), rt.stdin(), streams);
 //! ```
 //!
 //! # What is proved
@@ -39,6 +39,10 @@
 //!   No read loses or changes one, and what a file has left stays known where a read fails: `Opener::known`, `Input::read`, `bytes`.
 //! - So what a run tells of such a file is told of a front of these bytes, and of all where it tells that the file was read to its
 //!   end: `execute`, `laws`.
+//! - An open or a read of a file fails only where the opener says that it may: `Opener::can_fail`, `Input::read`, `failed`. A file whose
+//!   opener tells its bytes and can't fail is judged by all of them: `execute`, `laws`.
+//! - Standard input is told as broken exactly where a call of its stream failed, interruptions apart: `execute` gives it back as the run
+//!   left it, where it was the source.
 //! - An input notes its first three bytes and its first failure: `Input::read`, `start`, `reason`. It notes with which labels
 //!   of its watch no line of the bytes that came begins a block: `Input::read`, `watched`, `seen`; `lacks`.
 //! - Behind the notes on sources those labels are told, in order, that each source lacks, where each was read to its end:
@@ -66,10 +70,9 @@
 //! No contract says which words there are, or whether a stream is a terminal: `words_of` asks, and `Config::on` is told. Nor does
 //! one say that files hear how much there is to do: `Opener::begin`.
 //! No contract says how often a stream is flushed: tests show that standard output is, once and behind all that it has.
-//! No contract says that a source which `execute` tells as broken couldn't be opened or read: a run's contract says that a read of its
-//! reader failed, and none says when an open or a read of a file, or a read of standard input, may fail.
-//! Which bytes a file has at a path, an `Opener` says by its ghost member `known`, and which a file with a stamp may have by `holds`.
-//! Of the files of `FilesOf` nothing is known, and those of `MeteredFiles` have the bytes of the files within.
+//! Which bytes a file has at a path, an `Opener` says by its ghost member `known`, at which paths an open or a read may fail by
+//! `can_fail`, and which bytes a file with a stamp may have by `holds`. Of the files of `FilesOf` nothing is known, and those of
+//! `MeteredFiles` have the bytes of the files within. Where a file may fail, no contract says after how many bytes it does, or why.
 #![tactic(auto)]
 
 pub mod arguments;

@@ -1,7 +1,7 @@
 //! A list of names of files, each ended by a byte 0, as `find -print0` writes it.
 ghost use Rattle.std.specs.Prelude.{◌≡◌, ◌<◌, ◌≤◌, ◌∷◌, ◌^◌, [], IfErr, IfOk, None, OnOk, length};
 ghost use Rattle.std.specs.List.{count_by};
-ghost use Rattle.aero_program.specs.Inputs.{bytes_left, reason_of, standing_of};
+ghost use Rattle.aero_program.specs.Inputs.{MayFailFrom, bytes_left, reason_of, standing_of};
 ghost use Rattle.aero_program.specs.Listing.{IsFaultOf, IsWhole, is_name_end, names_in};
 
 use crate::command::MOST_FILES;
@@ -48,7 +48,7 @@ pub fn read_list<S: Read + Drop, O: Opener + Drop>(
     input: &mut Input<S, O>,
 ) -> Result<Vec<u8>, Unlisted>
     ensures whole { IfOk result (λ list. IsWhole (bytes_left (standing_of S.remaining O.known O.File.remaining input.old)) list.items) }
-    ensures fault { reason_of input.old ≡ None → IfErr result (IsFaultOf (bytes_left (standing_of S.remaining O.known O.File.remaining input.old)) (reason_of input.new)) }
+    ensures fault { reason_of input.old ≡ None → IfErr result (IsFaultOf (MayFailFrom O.can_fail (standing_of S.remaining O.known O.File.remaining input.old)) (bytes_left (standing_of S.remaining O.known O.File.remaining input.old)) (reason_of input.new)) }
 {
     let mut buffer = vec![in alloc; 0u8; PIECE]?;
     let mut list = Vec::new(alloc);
@@ -66,7 +66,7 @@ fn gather<S: Read + Drop, O: Opener + Drop>(
     requires few { length buffer.old ≤ 2 ^ 20 }
     requires empty { list.old.items ≡ [] }
     ensures whole { OnOk result (IsWhole (bytes_left (standing_of S.remaining O.known O.File.remaining input.old)) list.new.items) }
-    ensures fault { reason_of input.old ≡ None → IfErr result (IsFaultOf (bytes_left (standing_of S.remaining O.known O.File.remaining input.old)) (reason_of input.new)) }
+    ensures fault { reason_of input.old ≡ None → IfErr result (IsFaultOf (MayFailFrom O.can_fail (standing_of S.remaining O.known O.File.remaining input.old)) (bytes_left (standing_of S.remaining O.known O.File.remaining input.old)) (reason_of input.new)) }
 {
     let mut ends = 0usize;
     for _ in 0..u64::MAX {

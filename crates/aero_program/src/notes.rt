@@ -37,23 +37,21 @@ const GZIP_SENTENCE: &str =
 /// its words alone.
 pub fn notes_of<S: Read + Drop, F: Opener + Drop, G: Opener>(
     looker: &Looker<'_, G>,
-    sources: Vec<SourceOf<Traced<S, F>>>,
+    sources: &[SourceOf<Traced<S, F>>],
     endings: &[(u64, Ending)],
     faults: &[Option<FaultyLine>],
     are_words: bool,
 ) -> Result<Vec<Note>, AllocError>
-    ensures { IfOk result (λ notes. AreNotes G.holds (noted_of_all input_of unused_in are_words sources.items endings.now faults.now) (map note_of notes.items)) }
+    ensures { IfOk result (λ notes. AreNotes G.holds (noted_of_all input_of unused_in are_words sources.now endings.now faults.now) (map note_of notes.items)) }
 {
     let mut notes = Vec::new(looker.alloc);
-    let mut place = 0usize;
-    for source in sources {
+    for place in 0..sources.len() {
         let fault = fault_of(faults.get(place));
         let found = Found {
             too_large: is_too_large(endings.get(place)),
             fault,
         };
-        add_notes(&mut notes, looker, source, found, are_words)?;
-        place += 1;
+        add_notes(&mut notes, looker, &sources[place], found, are_words)?;
     }
     Ok(notes)
 }
@@ -85,21 +83,21 @@ fn fault_of(fault: Option<&Option<FaultyLine>>) -> Option<FaultyLine>
 fn add_notes<S: Read + Drop, F: Opener + Drop, G: Opener>(
     notes: &mut Vec<Note>,
     looker: &Looker<'_, G>,
-    source: SourceOf<Traced<S, F>>,
+    source: &SourceOf<Traced<S, F>>,
     found: Found,
     are_words: bool,
 ) -> Result<(), AllocError>
-    ensures { OnOk result (GrowsBy G.holds (map note_of notes.old.items) (map note_of notes.new.items) (noted_of input_of unused_in are_words source found.too_large found.fault)) }
+    ensures { OnOk result (GrowsBy G.holds (map note_of notes.old.items) (map note_of notes.new.items) (noted_of input_of unused_in are_words source.now found.too_large found.fault)) }
 {
-    let SourceOf { name, reader, .. } = source;
-    let input = reader.into_inner();
+    let name = source.name.as_slice();
+    let input = source.reader.input();
     let alloc = looker.alloc;
-    let seen = looker.look(&name, input.opened(), found.fault);
-    add_mark(notes, alloc, &name, input.has_mark())?;
-    add_reason(notes, alloc, &name, input.reason(), are_words)?;
-    add_size(notes, alloc, &name, found.too_large)?;
+    let seen = looker.look(name, input.opened(), found.fault);
+    add_mark(notes, alloc, name, input.has_mark())?;
+    add_reason(notes, alloc, name, input.reason(), are_words)?;
+    add_size(notes, alloc, name, found.too_large)?;
     let sentence = sentence_on(alloc, input.is_gzip(), found.fault, &seen)?;
-    add_fault(notes, alloc, &name, found.fault, sentence)?;
+    add_fault(notes, alloc, name, found.fault, sentence)?;
     Ok(())
 }
 

@@ -4,8 +4,8 @@ ghost use Rattle.std.specs.Str.{is_utf8};
 ghost use Rattle.aero_batch.specs.Founds.{sighted};
 ghost use Rattle.aero_intake.specs.Source.{Nowhere, Stream};
 ghost use Rattle.aero_program.specs.Command.{count_named};
-ghost use Rattle.aero_program.specs.Inputs.{bytes_left, reason_of, standing_of, unopened, unread, Standard, Failed};
-ghost use Rattle.aero_program.specs.Listing.{IsListFault, IsWhole, list_given, names_in};
+ghost use Rattle.aero_program.specs.Inputs.{MayFailFrom, bytes_left, reason_of, standing_of, unopened, unread, Standard, Failed};
+ghost use Rattle.aero_program.specs.Listing.{IsListFault, IsWhole, MayFailListed, list_given, names_in};
 ghost use Rattle.aero_program.specs.Traces.{input_of, sight_of};
 ghost use Rattle.aero_program.specs.declared.reason.Reason.TheVariants.{NotUtf8};
 ghost use Rattle.aero_program.specs.Sightings.{AreNames, AreUnlisted, file_made, listed_made, listed_reason, listed_standing, made_at, sightings, source_reasons, source_sightings, source_standings};
@@ -42,7 +42,7 @@ pub fn sources_of<'a, S: Read + Drop, F: Opener + Drop>(
     ensures readers { IfOk result (λ sources. map (λ s. standing_of S.remaining (λ f. F.known f.now) F.File.remaining (input_of s.reader)) sources.items ≡ source_standings (F.known files.now) asked.now (S.remaining stdin) (map (λ s. s.name.items) sources.items)) }
     ensures reasons { IfOk result (λ sources. map (λ s. reason_of (input_of s.reader)) sources.items ≡ source_reasons asked.now (map (λ s. s.name.items) sources.items)) }
     ensures sighted { IfOk result (λ sources. map (sighted (sight_of S.remaining (λ f. F.known f.now) F.File.remaining)) sources.items ≡ source_sightings (F.known files.now) except.now.labels asked.now (S.remaining stdin) (map (λ s. s.name.items) sources.items)) }
-    ensures unlisted { IfErr result (AreUnlisted (F.known files.now) asked.now (S.remaining stdin)) }
+    ensures unlisted { IfErr result (AreUnlisted (F.known files.now) F.can_fail asked.now (S.remaining stdin)) }
 {
     match asked {
         Sources::Standard(name) => Ok(standard_alone(alloc, stdin, name, except)?),
@@ -179,7 +179,7 @@ fn listed_at<'a, S: Read + Drop, F: Opener + Drop>(
     ensures readers { IfOk result (λ sources. map (λ s. standing_of S.remaining (λ f. F.known f.now) F.File.remaining (input_of s.reader)) sources.items ≡ map (listed_standing (F.known files.now)) (map (λ s. s.name.items) sources.items)) }
     ensures reasons { IfOk result (λ sources. map (λ s. reason_of (input_of s.reader)) sources.items ≡ map listed_reason (map (λ s. s.name.items) sources.items)) }
     ensures sighted { IfOk result (λ sources. map (sighted (sight_of S.remaining (λ f. F.known f.now) F.File.remaining)) sources.items ≡ sightings (listed_made (F.known files.now) except.now.labels) (map (λ s. s.name.items) sources.items)) }
-    ensures unlisted { IfErr result (IsListFault (list_given (F.known files.now) path.now (S.remaining stdin))) }
+    ensures unlisted { IfErr result (IsListFault (MayFailListed F.can_fail path.now) (list_given (F.known files.now) path.now (S.remaining stdin))) }
 {
     let mut input = list_input(alloc, files, stdin, path)?;
     let list = read_list(alloc, &mut input)?;
@@ -199,6 +199,7 @@ fn list_input<'a, S: Read + Drop, F: Opener + Drop>(
 ) -> Result<Input<S, &'a F>, AllocError>
     ensures bytes { IfOk result (λ input. bytes_left (standing_of S.remaining (λ f. F.known f.now) F.File.remaining input) ≡ list_given (F.known files.now) path.now (S.remaining stdin)) }
     ensures reason { IfOk result (λ input. reason_of input ≡ None) }
+    ensures failing { IfOk result (λ input. MayFailFrom F.can_fail (standing_of S.remaining (λ f. F.known f.now) F.File.remaining input) → MayFailListed F.can_fail path.now) }
 {
     if path == "-" {
         return Ok(Input::standard(stdin));

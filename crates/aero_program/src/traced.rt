@@ -6,7 +6,7 @@ ghost use Rattle.aero_model.specs.CallCounts.{moves_nothing};
 ghost use Rattle.aero_intake.specs.Source.{gained};
 ghost use Rattle.aero_program.specs.Inputs.{opened_of, reason_of, standing_of, start_of};
 ghost use Rattle.aero_program.specs.Labels.{HasWatched};
-ghost use Rattle.aero_program.specs.Led.{IsLed, place_of, reason_at, sight_at, unbegun_in};
+ghost use Rattle.aero_program.specs.Led.{IsLed, IsUnread, place_of, reason_at, sight_at, unbegun_in};
 
 use crate::files::Opener;
 use crate::ghost_text::GhostText;
@@ -28,7 +28,7 @@ pub struct Traced<S: Read, O: Opener> {
     given: GhostText,
     faults: GhostCount,
     ends: GhostCount,
-    ghost led: { ∥ IsLed S.remaining O.known O.File.remaining O.holds first.value input given.bytes faults.number ∥₁ },
+    ghost led: { ∥ IsLed S.remaining O.known O.File.remaining O.can_fail O.holds first.value input given.bytes faults.number ends.number ∥₁ },
 }
 
 impl<S: Read + Drop, O: Opener + Drop> Traced<S, O> {
@@ -37,6 +37,7 @@ impl<S: Read + Drop, O: Opener + Drop> Traced<S, O> {
         requires start { start_of input ≡ [] }
         requires reason { reason_of input ≡ reason_at (place_of (standing_of S.remaining O.known O.File.remaining input)) }
         requires opened { opened_of input ≡ None }
+        requires unread { IsUnread (standing_of S.remaining O.known O.File.remaining input) }
         requires seen { HasWatched input.watch [] }
         ensures input { result.input ≡ input }
         ensures first { result.first.value ≡ input }
@@ -63,6 +64,13 @@ impl<S: Read + Drop, O: Opener + Drop> Traced<S, O> {
         ensures { IfOk result (λ lacks. lacks ≡ list_any (bytes_eq label.now) (unbegun_in self.now.first.value self.now.given.bytes)) }
     {
         self.input.lacks(label)
+    }
+
+    /// The input.
+    pub fn input(&self) -> &Input<S, O>
+        ensures { result.now ≡ self.now.input }
+    {
+        &self.input
     }
 
     /// What it was made of.

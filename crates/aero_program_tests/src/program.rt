@@ -1,5 +1,6 @@
 mod again;
 mod arguments;
+mod memory;
 mod named;
 mod pipes;
 pub(crate) mod sources;
@@ -148,7 +149,7 @@ where
         rt,
         alloc: rt.alloc(),
     };
-    let status = execute(host, asked, files, stdin, streams);
+    let (status, _) = execute(host, asked, files, stdin, streams);
     let out = output.into_inner().inner.taken;
     let err = errors.into_inner().into_inner().inner.taken;
     out.as_slice() == wanted.0 && err.as_slice() == wanted.1 && status == wanted.2
@@ -558,7 +559,7 @@ fn flushes_of<R: AllocGlobal + Threads + Wait + Copy + Drop + Send + Sync + 'sta
         rt,
         alloc: rt.alloc(),
     };
-    execute(host, asked, &files, stdin, streams);
+    let _ = execute(host, asked, &files, stdin, streams);
     (output.into_inner(), errors.into_inner().into_inner())
 }
 

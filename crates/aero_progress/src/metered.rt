@@ -9,7 +9,8 @@ use std::io::{Read, Write};
 /// out with the write that takes all that it was handed, where what is left of a text is handed over each time.
 #[derive(Drop)]
 pub struct Metered<'a, T> {
-    inner: T,
+    /// A read or a write of it by other means than this one's is told by `note_read`, or isn't told.
+    pub inner: T,
     meter: Option<&'a Meter>,
 }
 
@@ -21,6 +22,20 @@ impl<'a, T> Metered<'a, T> {
         ensures { result.inner ≡ inner }
     {
         Metered { inner, meter }
+    }
+
+    /// Tells the meter of a read of the one within that asked for so many bytes, and had this outcome.
+    pub fn note_read(&mut self, outcome: &io::Result<usize>, asked: usize)
+        ensures { self.new.inner ≡ self.old.inner }
+    {
+        let Some(meter) = self.meter else {
+            return;
+        };
+        let gain = gain_of(outcome, asked);
+        meter.add(gain);
+        if gain.ends {
+            self.meter = None;
+        }
     }
 }
 
@@ -36,13 +51,7 @@ impl<R: Read> Read for Metered<'_, R> {
     {
         let asked = buf.len();
         let outcome = self.inner.read(buf);
-        if let Some(meter) = self.meter {
-            let gain = gain_of(&outcome, asked);
-            meter.add(gain);
-            if gain.ends {
-                self.meter = None;
-            }
-        }
+        self.note_read(&outcome, asked);
         outcome
     }
 }

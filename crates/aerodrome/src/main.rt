@@ -162,5 +162,6 @@ where
         output: &mut output,
         errors: &mut errors,
     };
-    execute(Host { rt, alloc }, asked, &files, input, streams)
+    let (status, _) = execute(Host { rt, alloc }, asked, &files, input, streams);
+    status
 }

@@ -229,6 +229,10 @@ impl Opener for Drawer {
         })
     }
 
+    fn read_file(file: &mut Text, buf: &mut [u8]) -> io::Result<usize> {
+        file.read(buf)
+    }
+
     fn open_again(&self, path: &str) -> io::Result<Opened<Text>> {
         self.open(path)
     }
@@ -286,6 +290,10 @@ impl Opener for Shelf {
             file: Interrupted::new(text, self.times),
             stamp: self.stamp_at(path),
         })
+    }
+
+    fn read_file(file: &mut Interrupted<Text>, buf: &mut [u8]) -> io::Result<usize> {
+        file.read(buf)
     }
 
     fn open_again(&self, path: &str) -> io::Result<Opened<Interrupted<Text>>> {
@@ -382,6 +390,10 @@ impl Opener for Changing {
         })
     }
 
+    fn read_file(file: &mut Text, buf: &mut [u8]) -> io::Result<usize> {
+        file.read(buf)
+    }
+
     fn open_again(&self, _path: &str) -> io::Result<Opened<Text>> {
         let turn = self.turn.load(Ordering::SeqCst);
         if turn >= u64::from(self.opens) {
@@ -468,6 +480,10 @@ impl<'a> Opener for Endless<'a> {
 
     fn open(&self, _path: &str) -> io::Result<Opened<EndlessFile<'a>>> {
         Ok(self.opened(None))
+    }
+
+    fn read_file(file: &mut EndlessFile<'a>, buf: &mut [u8]) -> io::Result<usize> {
+        file.read(buf)
     }
 
     fn open_again(&self, _path: &str) -> io::Result<Opened<EndlessFile<'a>>> {

@@ -9,7 +9,7 @@ pub returns-in-Ok : goal.returns-in-Ok
 returns-in-Ok g c =
     let words = c.args.are_words in
     let report = c.args.report.now in
-    let sources = c.args.sources.items in
+    let sources = c.args.sources.now in
     let given : List (ℕ × Ending) = if c.args.long then [] else report.endings.items in
     let notes = map note_of c.in-Ok.notes.items in
     subst (λ faults. AreNotes g.G.Opener.holds (noted_of_all input_of unused_in words sources given faults) notes) c.deref-2.ensures.value

@@ -1,10 +1,11 @@
-use Rattle.std.proofs.Common.{Bool, ◌≡◌, ◌≤◌, ◌^◌, ◌∙◌, ◌+◌, ap, sym, subst, inl, inr, map, refl, if◌then◌else◌, [], ◌++◌, List, ℕ, Option, None}
+use Rattle.std.proofs.lemmas.List.{length-map}
+use Rattle.std.proofs.Common.{Bool, arith, ◌≡◌, ◌≤◌, ◌^◌, ◌∙◌, ◌+◌, ap, sym, subst, inl, inr, map, refl, if◌then◌else◌, [], ◌++◌, List, ℕ, Option, None}
 use Rattle.aero_model.specs.CallCounts.{seen_by}
 use Rattle.aero_model.specs.Exempt.{Listed}
 use Rattle.aero_model.specs.declared.verdict.Ending.{Ending}
 use Rattle.std.specs.IoError.{error_kind}
 use Rattle.aero_verdict.specs.Finding.{asking}
-use Rattle.aero_batch.specs.Founds.{sighted}
+use Rattle.aero_batch.specs.Founds.{sighted, whose}
 use Rattle.aero_batch.proofs.Stands.{summed}
 use Rattle.aero_intake.specs.PlanTerms.{options_with, terms_of}
 use Rattle.aero_report.specs.Asked.{note_of}
@@ -16,12 +17,14 @@ use Rattle.aero_program.specs.declared.command.Sources.{Sources}
 use Rattle.aero_program.specs.Executed.{Ends, TellsUnlisted}
 use Rattle.aero_program.specs.Command.{are_words, count_named, list_path, listed_by}
 use Rattle.aero_program.specs.Sightings.{AreNames, AreUnlisted, source_sightings}
-use Rattle.aero_program.specs.Notes.{all_read, label_lines, labels_told, note_texts, noted_of_all, notes_on}
+use Rattle.std.specs.Prelude.{IfSome}
+use Rattle.aero_program.specs.Notes.{AreNotes, all_read, label_lines, labels_told, missing_in_each, note_texts, noted_of_all, notes_on}
 use Rattle.aero_program.proofs.Noting.{told_as}
 use Rattle.aero_program.specs.Faults.{fault_of}
 use Rattle.aero_program.specs.Streams.{shown_by, written_by}
 use Rattle.aero_program.proofs.Faulting.{is_fault}
 use Rattle.aero_program.proofs.Judged.{judged}
+use Rattle.aero_program.proofs.Leaving.{left_by}
 use Rattle.aero_program.proofs.Owning.{are_own, noted_by}
 use Rattle.aero_program.proofs.Sending.{traced_row_send}
 use denote.Exit
@@ -50,7 +53,7 @@ returns g c =
     let report = c.run_all-report.result.0 in
     let left = c.run_all-report.result.1.items in
     let sight = sight_of g.S.Read.remaining (λ f. g.F.Opener.known f.now) g.F.File.Read.remaining in
-    let unused = c.unused_labels-unused.result.0 in
+    let unused = c.unused_labels-unused.result in
     let cause = c.sum_up_with-cause.result in
     let before = shown_by g.O.Write.contents c.args.output.now in
     let mid = seen_by (λ w. g.O.Write.contents (written_by w)) c.run_all-report.new.writer in
@@ -62,9 +65,10 @@ returns g c =
     c.told_of-labels.ensures ∙ ap (λ b. if b then c.labels.result.now else []) (c.all_read.ensures ∙ ap (all_read report.cause) c.deref-3.ensures.value)
     ∙ ap (λ ls. if all_read report.cause report.endings.items then ls else []) labels_are in
     let found = found_labels input_of unused_in unused (λ u. map (λ label. label.now) u.items) report.cause report.endings.items words left noted_endings report.faults.items c.told_of-labels.result.now labels
-    c.unused_labels-unused.ensures.unused listed_are in
-    let told = told_as input_of unused_in g.F.Opener.holds (λ ns. map note_of ns.items) c.are_words.result words c.unused_labels-unused.result.1.items left noted_endings report.faults.items
-    (c.are_words.ensures ∙ ap are_words asked_is) c.unused_labels-unused.ensures.kept c.all_notes-notes.result c.all_notes-notes.ensures in
+    (subst (λ l. IfSome unused (λ u. map (λ label. label.now) u.items ≡ missing_in_each (map (λ s. unused_in s.reader) l) c.told_of-labels.result.now)) c.deref-4.ensures.value c.unused_labels-unused.ensures) listed_are in
+    let told = told_as input_of unused_in g.F.Opener.holds (λ ns. map note_of ns.items) c.are_words.result words left noted_endings report.faults.items
+    (c.are_words.ensures ∙ ap are_words asked_is) c.all_notes-notes.result
+    (subst (λ l. IfSome c.all_notes-notes.result (λ ns. AreNotes g.F.Opener.holds (noted_of_all input_of unused_in c.are_words.result l noted_endings report.faults.items) (map note_of ns.items))) c.deref-5.ensures.value c.all_notes-notes.ensures) in
     let notes : List Note = notes_on told.remarks in
     let text : List (List ℕ) → List Note → List ℕ = λ ls ns. summary_line_in form (options_with terms ls ns) report.counts in
     let sums = summed_beside unused (λ u. map (λ label. label.now) u.items) c.all_notes-notes.result (λ ns. map note_of ns.items) text (labels_told None report.endings.items noted labels) notes
@@ -76,7 +80,7 @@ returns g c =
     let lines_of : List Note → List ℕ = λ ns. note_texts on ns ++ label_lines on (map (λ label. label.now) c.told_after-told.result.now) in
     let lines = lines_told c.all_lines-lines.result (λ text. text.items) c.all_notes-notes.result (λ ns. map note_of ns.items) lines_of notes
     c.all_lines-lines.ensures.known c.all_lines-lines.ensures.lines told.told in
-    inl (judged input_of unused_in sight known g.F.Opener.holds config given
+    inl (judged input_of unused_in sight known g.F.Opener.can_fail g.F.Opener.holds config given _
     c.in-Ok.plan.terms.rules.limits names left (map (sighted sight) c.in-Ok-sources_of.sources.items)
     before
     (record { writer = after; unflushed = c.args.output.now.unflushed.number })
@@ -85,9 +89,11 @@ returns g c =
     (λ i. asking c.in-Ok.plan.terms.rules.limits (c.in-Ok.ensures.except i) (c.in-Ok.ensures.order i) (c.in-Ok.ensures.explain i)) c.in-Ok.ensures.form c.in-Ok.ensures.limits
     named seen
     told.remarks told.are told.shown
-    (are_own input_of unused_in sight g.F.Opener.holds words
-    (λ source too_large fault. noted_by g.S.Read.remaining (λ f. g.F.Opener.known f.now) g.F.File.Read.remaining g.F.Opener.holds input_of unused_in source words too_large fault source.reader.first.value source.reader.given.bytes source.reader.faults.number source.reader.ends.number refl source.reader.led)
+    (are_own input_of unused_in sight g.F.Opener.can_fail g.F.Opener.holds words
+    (λ source too_large fault. noted_by g.S.Read.remaining (λ f. g.F.Opener.known f.now) g.F.File.Read.remaining g.F.Opener.can_fail g.F.Opener.holds input_of unused_in source words too_large fault source.reader.first.value source.reader.given.bytes source.reader.faults.number source.reader.ends.number refl source.reader.led)
     left noted_endings report.faults.items)
+    (left_by known labels config.files given names (map (sighted sight) left) _ (run.names ∙ ap (map whose) seen) named
+    (λ one. c.standard_left.ensures (let whole = c.run_all-report.result.1.ok.0 in let as_many = length-map left (sighted sight) in omega (arith, whole, as_many, one))))
     run refl
     (record {
       bytes = c.flush-flushed.ensures.bytes;
@@ -113,13 +119,13 @@ returns-in-Err g c =
     let given = g.S.Read.remaining c.args.stdin in
     let asked_is = c.in-Ok.ensures.files in
     let why = c.in-Err.why in
-    elim c.tell_unlisted.ensures [
+    elim c.tell_unlisted-status.ensures [
       | inl tells ↦ inr (
         refl,
         inl (record {
           why = why;
-          are = subst (λ (s : Sources). AreUnlisted (g.F.Opener.known c.args.place.files.now) s given why) asked_is c.in-Err.ensures.unlisted;
-          tells = subst (λ (path : List ℕ). TellsUnlisted c.args.config.terminals.errors path why (seen_by g.E.Write.contents c.args.errors.now) (seen_by g.E.Write.contents c.tell_unlisted.new.errors) c.tell_unlisted.result) (c.list_path.ensures ∙ ap list_path asked_is) tells;
+          are = subst (λ (s : Sources). AreUnlisted (g.F.Opener.known c.args.place.files.now) g.F.Opener.can_fail s given why) asked_is c.in-Err.ensures.unlisted;
+          tells = subst (λ (path : List ℕ). TellsUnlisted c.args.config.terminals.errors path why (seen_by g.E.Write.contents c.args.errors.now) (seen_by g.E.Write.contents c.tell_unlisted-status.new.errors) c.tell_unlisted-status.result) (c.list_path.ensures ∙ ap list_path asked_is) tells;
         }),
       )
       | inr fails ↦ inr (refl, inr fails)

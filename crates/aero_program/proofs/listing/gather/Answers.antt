@@ -6,7 +6,7 @@ use Rattle.std.proofs.lemmas.List.Sums.{sum_by-append}
 use Rattle.std.specs.IoError.{raw_os_error}
 use Rattle.aero_program.specs.Inputs.{bytes_left, reason_of, standing_of}
 use Rattle.aero_program.specs.Listing.{is_name_end}
-use Rattle.aero_program.proofs.Gathering.{reason_stays}
+use Rattle.aero_program.proofs.Gathering.{may_before, reason_stays}
 use Rattle.aero_program.proofs.Names.{names_ended}
 use Rattle.aero_program.proofs.listing.gather.Goals as goal
 
@@ -42,6 +42,7 @@ loop-preserved g c =
       came = subst (Consumes (bytes_left (standing_of stdin known file c.args.input.now)) (bytes_left (standing_of stdin known file c.read.new.self))) (sym c.in_ok-extend_from_slice.ensures.items)
           (Consumes-trans (bytes_left (standing_of stdin known file c.args.input.now)) (bytes_left (standing_of stdin known file c.loop.input)) (bytes_left (standing_of stdin known file c.read.new.self)) c.loop.list.items piece
           c.loop.invariant.came c.in-Ok.ensures.bytes.0);
+      may = λ m. c.loop.invariant.may (may_before g.O.Opener.can_open g.O.Opener.can_fail (standing_of stdin known file c.loop.input) (standing_of stdin known file c.read.new.self) c.read.new.buf c.read.result c.in-Ok.count c.in-Ok.is c.read.ensures.steps m);
       reason = c.in-Ok.ensures.reason ∙ reason_stays raw_os_error (reason_of c.loop.input) c.in-Ok.count ∙ c.loop.invariant.reason;
       ends = ap₂ (λ (a b : ℕ). a + b) c.loop.invariant.ends c.count_ends-ends.ensures
           ∙ sym (ap (count_by is_name_end) c.in_ok-extend_from_slice.ensures.items ∙ sum_by-append (λ b. cond (is_name_end b) 1 0) c.loop.list.items piece);

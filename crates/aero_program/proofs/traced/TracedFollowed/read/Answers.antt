@@ -8,8 +8,17 @@ invariant_of-self g c =
     let was = c.args.self.now in
     let read = c.read-result in
     record {
-      led = merely_led_on g.S.Read.remaining g.O.Opener.known g.O.File.Read.remaining g.O.Opener.holds g.O.Opener.can_open raw_os_error was.first.value was.input read.new.self
-          was.given.bytes c.with-self.result.bytes was.faults.number c.count_failure.new.faults.number read.result read.new.buf
-          read.ensures.steps read.ensures.opened read.ensures.start read.ensures.reason read.ensures.watched read.ensures.seen
-          (c.with-self.ensures ∙ ap (λ l. was.given.bytes ++ l) c.came.ensures) c.count_failure.ensures was.led;
+      led = merely_led_on g.S.Read.remaining g.O.Opener.known g.O.File.Read.remaining g.O.Opener.can_open g.O.Opener.can_fail g.O.Opener.holds raw_os_error
+          was.first.value was.input read.new.self read.result read.new.buf
+          (record {
+            steps = read.ensures.steps;
+            fails = read.ensures.failed;
+            opens = read.ensures.opened;
+            starts = read.ensures.start;
+            reasons = read.ensures.reason;
+            watched = read.ensures.watched;
+            sees = read.ensures.seen;
+          })
+          was.given.bytes c.with-self.result.bytes was.faults.number c.count_failure.new.faults.number was.ends.number c.count_end.new.ends.number
+          (c.with-self.ensures ∙ ap (λ l. was.given.bytes ++ l) c.came.ensures) c.count_failure.ensures c.count_end.ensures was.led;
     }

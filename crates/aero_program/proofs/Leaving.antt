@@ -1,0 +1,70 @@
+-- Standard input, as a run leaves it.
+use Rattle.std.proofs.Common.{◌≡◌, ◌∙◌, ℕ, List, [], ◌∷◌, ◌++◌, length, length-append, map, Option, Some, ap, sym, refl, arith}
+use Rattle.std.specs.Prelude.{slice_get}
+use Rattle.std.proofs.Math.Logic.{∥∥₁_elim}
+use Rattle.std.proofs.lemmas.Grind.{merely}
+use Rattle.std.proofs.lemmas.List.{length-map}
+use Rattle.aero_batch.specs.Founds.{Sighted, whose}
+use Rattle.aero_intake.specs.Source.{Origin, Stream, origin_in}
+use Rattle.aero_model.specs.CallCounts.{Seen}
+use Rattle.aero_program.specs.declared.command.Sources.{Sources}
+use Rattle.aero_program.specs.declared.command.Sources.TheVariants as sources
+use Rattle.aero_program.specs.declared.input.Input.{Input}
+use Rattle.aero_program.specs.declared.stamp.Stamp.{Stamp}
+use Rattle.aero_program.specs.Executed.{IsLeftBy, IsLeftOf, seen_in}
+use Rattle.aero_program.specs.Inputs.{Standing, Standard, Unopened, Reading, Ended, Failed, IsStandardOf, bytes_left, standing_of}
+use Rattle.aero_program.specs.Led.{IsLed, StaysStream, place_of, sight_at}
+use Rattle.aero_program.specs.Sightings.{AreNames, source_sightings}
+
+pub the_some : {A : Type 0} (x y : A) → Some x ≡ Some y → x ≡ y
+the_some x y p = cc p
+
+the_head : {A : Type 0} (x y : A) (xs ys : List A) → x ∷ xs ≡ y ∷ ys → x ≡ y
+the_head x y xs ys p = cc p
+
+-- where standard input is the source, it is the one, and its reader was made for it
+pub left_by : (paths : List ℕ → Option (List ℕ)) (labels : List (List ℕ)) (files : Sources) (given : Option (List ℕ)) (names : List (List ℕ)) (new : List Sighted) (left : Option Seen)
+    → map whose new ≡ map whose (source_sightings paths labels files given names) → AreNames paths files given names
+    → (length new ≡ 1 → (s : Sighted) → slice_get new 0 ≡ Some s → IsLeftOf s left) → IsLeftBy files new left
+left_by paths labels (sources.Files words) given names new left kept named of_one = tt
+left_by paths labels (sources.Listed path) given names new left kept named of_one = tt
+left_by paths labels (sources.Standard name) given names [] left kept named of_one = λ s at. absurd (cc)
+left_by paths labels (sources.Standard name) given names (x ∷ more) left kept named of_one = λ s at.
+    let made : Origin = record { place = Stream; labels = labels } in
+    let one = kept ∙ ap (λ ns. map whose (source_sightings paths labels (sources.Standard name) given ns)) named in
+    let count : length (x ∷ more) ≡ 1 = sym (length-map (x ∷ more) whose) ∙ ap length one in
+    let first : origin_in x.reader ≡ Some made = ap (λ (w : List ℕ × Option Origin). w.1) (the_head (whose x) _ (map whose more) [] one) in
+    let same : x ≡ s = the_some x s at in
+    of_one count s at made (ap (λ (y : Sighted). origin_in y.reader) (sym same) ∙ first) refl
+
+-- a stream that has failed and found the end so often is seen so
+seen_as : (bytes : Option (List ℕ)) (reader : Seen) (faults ends : ℕ) → bytes ≡ reader.bytes → reader.faults ≡ faults → reader.ends ≡ ends
+    → Some reader ≡ Some (record { bytes = bytes; faults = faults; ends = ends })
+seen_as bytes reader faults ends same_bytes same_faults same_ends = λ i. Some (record { bytes = (sym same_bytes) i; faults = same_faults i; ends = same_ends i })
+
+-- an input that was standard input at first is that, and its stream is seen as the input is
+stream_left : (first now : Standing) (faults ends : ℕ) (given : Option Seen) → place_of first ≡ Stream → StaysStream first now faults ends → IsStandardOf now given
+    → (reader : Seen) × (now ≡ Standard reader) × (given ≡ Some reader) × (reader.faults ≡ faults) × (reader.ends ≡ ends)
+stream_left (Standard at_first) (Standard reader) faults ends given is stays left = (reader, refl, left, stays.0, stays.1)
+stream_left (Standard at_first) (Unopened path had) faults ends given is stays left = absurd stays
+stream_left (Standard at_first) (Reading had) faults ends given is stays left = absurd stays
+stream_left (Standard at_first) Ended faults ends given is stays left = absurd stays
+stream_left (Standard at_first) (Failed had) faults ends given is stays left = absurd stays
+stream_left (Unopened path had) now faults ends given is stays left = absurd (cc)
+stream_left (Reading had) now faults ends given is stays left = absurd (cc)
+stream_left Ended now faults ends given is stays left = absurd (cc)
+stream_left (Failed had) now faults ends given is stays left = absurd (cc)
+
+-- what is left of an input that was led so, and was standard input at first
+pub left_of : {S O F : Type 0} (stdin : S → Option (List ℕ)) (known : O → List ℕ → Option (List ℕ)) (file : F → Option (List ℕ)) (can_fail : List ℕ → Type 0) (holds : List ℕ → Stamp → Option (List ℕ) → Type 0)
+    (first now : Input S O F) (given : List ℕ) (faults ends : ℕ) (left : Option Seen)
+    → IsStandardOf (standing_of stdin known file now) left → ∥ IsLed stdin known file can_fail holds first now given faults ends ∥₁
+    → place_of (standing_of stdin known file first) ≡ Stream → ∥ left ≡ Some (seen_in (sight_at stdin known file first now given faults ends)) ∥₁
+left_of stdin known file can_fail holds first now given faults ends left is led at = ∥∥₁_elim led squash₁ (λ l. merely (
+    let found = stream_left (standing_of stdin known file first) (standing_of stdin known file now) faults ends left at l.stream is in
+    found.2 ∙ seen_as (bytes_left (standing_of stdin known file now)) found.0 faults ends (ap bytes_left found.1) found.3 found.4))
+
+-- the one source is the last
+pub one_source : {A : Type 0} (f : A → Sighted) (all front : List A) (last : A) (s : Sighted) → all ≡ front ++ last ∷ [] → length all ≡ 1 → slice_get (map f all) 0 ≡ Some s → f last ≡ s
+one_source f all [] last s is one at = the_some (f last) s (sym (ap (λ l. slice_get (map f l) 0) is) ∙ at)
+one_source f all (x ∷ front) last s is one at = absurd (let long = ap length is in let more = length-append front (last ∷ []) in omega (arith, long, more, one))

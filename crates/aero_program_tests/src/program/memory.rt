@@ -1,0 +1,147 @@
+//! Files in memory, which tell their bytes and never fail.
+ghost use Rattle.std.specs.Prelude.{◌≡◌, ⊤, Some};
+ghost use Rattle.aero_program.specs.Laws.{KnownFilesAreJudged};
+
+use crate::program::streams::Text;
+use crate::program::{SOUND, Wanted, config_of, is_answered};
+use aero_model::Counting;
+use aero_program::command::{Config, Stop};
+use aero_program::execute::{Host, Streams, execute};
+use aero_program::files::{Opened, Opener};
+use aero_program::laws::known_files_are_judged;
+use aero_program::output::Output;
+use aero_program::retrying::Retrying;
+use aero_program::sizes::Sizes;
+use aero_program::stamp::Stamp;
+use std::io;
+use std::io::Read;
+use std::sync::Wait;
+use std::test::Fail;
+use std::thread::Threads;
+
+// Files of one text, at each path. They are no plain files.
+#[derive(Drop)]
+struct Memory {
+    text: &'static [u8],
+}
+
+impl Opener for Memory {
+    ghost can_open = { λ _. ⊤ };
+
+    ghost can_fail = { λ _. ⊥ };
+
+    ghost known = { λ memory _. Some memory.text.now };
+
+    ghost holds = { λ _ _ _. ⊤ };
+
+    type File = &'static [u8];
+
+    fn open(&self, _path: &str) -> io::Result<Opened<&'static [u8]>> {
+        Ok(Opened {
+            file: self.text,
+            stamp: None,
+        })
+    }
+
+    fn read_file(file: &mut &'static [u8], buf: &mut [u8]) -> io::Result<usize> {
+        file.read(buf)
+    }
+
+    fn open_again(&self, path: &str) -> io::Result<Opened<&'static [u8]>> {
+        self.open(path)
+    }
+
+    fn is_plain(&self, _path: &str) -> bool {
+        false
+    }
+
+    fn stamp_at(&self, _path: &str) -> Option<Stamp> {
+        None
+    }
+}
+
+// How many bytes they have isn't said.
+impl Sizes for Memory {
+    ghost has_size = { λ _ _. ⊤ };
+
+    fn size(&self, _path: &str) -> Option<u64> {
+        None
+    }
+}
+
+// The headline, for files in memory: whatever the program is asked about files that words name, and whatever the system does to
+// its threads, its memory and its output, what it tells of a file is what the definitions say of its whole text. `can_fail` is
+// false of each path, and `known` has the text.
+#[allow(dead_code)]
+fn files_in_memory_are_judged()
+    ensures { KnownFilesAreJudged (λ _. ⊥) (λ _ _ _. ⊤) }
+{
+    known_files_are_judged::<Memory>();
+}
+
+// A file in memory is read to its end, and judged by all its lines. Standard input isn't touched.
+#[test]
+fn files_in_memory_are_read_to_their_ends(rt: HostRuntime) -> Result<(), Fail> {
+    for (text, wanted) in [(VIOLATION, VIOLATED), (OPEN, PENDING)] {
+        let asked = config_of(rt.alloc(), Some("a"), false)?;
+        assert!(rt; is_answered(rt, &Memory { text }, Ok(asked), b"T1|odd\n", &SOUND, wanted));
+    }
+    Ok(())
+}
+
+const VIOLATION: &[u8] = b"T1|begin\nT1|w(x)\nT2|w(x)\nT1|w(x)\nT1|end\n";
+
+const VIOLATED: Wanted = (
+    b"a: violation at line 4: block of T1 from line 1\n\
+        traces 1: serializable 0, open 0, violations 1, faults 0\n",
+    b"",
+    1,
+);
+
+const OPEN: &[u8] = b"T1|begin\nT1|w(x)";
+
+const PENDING: Wanted = (
+    b"a: no violation, 1 blocks open (2 events, 1 blocks)\n\
+        traces 1: serializable 0, open 1, violations 0, faults 0\n",
+    b"",
+    0,
+);
+
+// Standard input as a run leaves it: what is left of its text, and how many of its reads will fail. A run that stops reading leaves
+// the rest.
+#[test]
+fn standard_input_is_given_back(rt: HostRuntime) -> Result<(), Fail> {
+    for (file, text, wanted) in [
+        (None, VIOLATION, Some(0)),
+        (None, OPEN, Some(0)),
+        (Some("a"), VIOLATION, None),
+    ] {
+        let asked = config_of(rt.alloc(), file, false)?;
+        assert!(rt; left_of(rt, Ok(asked), text) == wanted);
+    }
+    Ok(())
+}
+
+// How many bytes standard input has left after a run, where it is given back.
+fn left_of<R: AllocGlobal + Threads + Wait + Copy + Drop + Send + Sync + 'static>(
+    rt: R,
+    asked: Result<Config, Stop>,
+    text: &'static [u8],
+) -> Option<usize> {
+    let stdin = Text {
+        left: text,
+        failures: 0,
+    };
+    let mut output = Output::new(Vec::new(rt.alloc()));
+    let mut errors = Counting::new(Retrying::new(Vec::new(rt.alloc())));
+    let streams = Streams {
+        output: &mut output,
+        errors: &mut errors,
+    };
+    let host = Host {
+        rt,
+        alloc: rt.alloc(),
+    };
+    let (_, left) = execute(host, asked, &Memory { text: OPEN }, stdin, streams);
+    left.map(|left| left.into_inner().left.len())
+}
