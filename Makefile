@@ -96,7 +96,7 @@ files:
 	@if command -v $${CC:-gcc} > /dev/null; then logger/build "$(TO)"; \
 	else echo "no $${CC:-gcc} here: the logger isn't installed"; fi
 
-# What a release has for machines without the kit. WITHOUT may have java and library, which are left out then.
+# What a release has for machines without the kit. WITHOUT may have java, library and older, which are left out then (tools/dist).
 .PHONY: dist deb
 dist deb: bin/aerodrome $(filter-out $(WITHOUT),java library)
 	@WITHOUT="$(WITHOUT)" tools/$@

@@ -2,16 +2,19 @@
 import hashlib
 import os
 import re
+import shutil
 import subprocess
+import tempfile
 import time
 import zipfile
 
 TOP = os.path.dirname(os.path.dirname(os.path.abspath(__file__)))
-# What may be left out, and the file that shows that it was built.
+# What may be left out, and the file that shows that it was built. Without `older`, the program is taken as it is, for later C libraries only.
 PARTS = {"java": "share/java/aerodrome-agent.jar", "library": "lib/aerodrome/libaerodrome.a"}
+WORDS = [*PARTS, "older"]
 # The greatest version of the GNU C library whose functions the program may need, and the libraries that each Debian has.
 NEWEST = (2, 34)
-SHARED = re.compile(r"(libc|libm|libgcc_s|ld-linux-x86-64)\.so\.\d+")
+SHARED = re.compile(r"(libc|libm|libpthread|libgcc_s|ld-linux-x86-64)\.so\.\d+")
 YEAR_1980 = 315532800
 
 
@@ -34,8 +37,8 @@ def version():
 def without():
     """The parts that the environment leaves out."""
     found = os.environ.get("WITHOUT", "").split()
-    if set(found) - set(PARTS):
-        raise Refused(f"WITHOUT may have {' and '.join(PARTS)}, and not {' '.join(found)}")
+    if set(found) - set(WORDS):
+        raise Refused(f"WITHOUT may have {', '.join(WORDS)}, and not {' '.join(found)}")
     return found
 
 
@@ -51,7 +54,7 @@ def time_of_files():
         return YEAR_1980
 
 
-def needed(program):
+def needed(program, most=NEWEST):
     """The libraries that the program needs, and the greatest version of the C library that it needs, or the reason why that is too
     much."""
     shared = re.findall(r"NEEDED\s+(\S+)", output_of("objdump", "-p", program))
@@ -65,7 +68,7 @@ def needed(program):
             found.setdefault(tuple(int(it) for it in symbol[1].split(".")), []).append(symbol[2])
     if not found:
         raise Refused(f"{program} names no version of the C library")
-    if max(found) > NEWEST:
+    if max(found) > most:
         raise Refused(f"{program} needs version {dotted(max(found))} of the C library, for {', '.join(sorted(found[max(found)]))}")
     return shared, dotted(max(found))
 
@@ -88,8 +91,10 @@ def same_jar(path, when):
 
 
 def install_into(folder, when, compiler):
-    """Puts the files of `make install` into a folder, with the logger if a compiler is given."""
+    """Puts the files of `make install` into a folder, with the logger if a compiler is given. Gives what the program there needs, as
+    `needed` does."""
     lacks = without()
+    needs = needed("bin/aerodrome")
     alone = {name: it for name, it in os.environ.items() if not name.startswith(("MAKE", "MFLAGS"))}
     words = ["make", "-s", "files", f"CC={compiler or 'none'}", f"DESTDIR={os.path.dirname(folder)}/", f"PREFIX={os.path.basename(folder)}"]
     ran = subprocess.run(words, cwd=TOP, env=alone, stdout=subprocess.PIPE, stderr=subprocess.STDOUT, check=False)
@@ -106,6 +111,14 @@ def install_into(folder, when, compiler):
         same_jar(f"{folder}/{PARTS['java']}", when)
     if "library" not in lacks:
         output_of("objcopy", "--enable-deterministic-archives", f"{folder}/{PARTS['library']}")
+    if "older" not in lacks:
+        # (a module that needs this one)
+        import older
+
+        with tempfile.TemporaryDirectory(prefix="older-") as room:
+            shutil.copy(older.linked_for_older("bin/aerodrome", room), f"{folder}/bin/aerodrome")
+        needs = needed(f"{folder}/bin/aerodrome", older.OLDER)
+    return needs
 
 
 def sum_of(path, kind="sha256"):
