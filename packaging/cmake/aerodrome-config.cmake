@@ -30,7 +30,7 @@ function(aerodrome_test target)
             list(APPEND launcher "--set=AERODROME_${setting}=${value}")
         endif()
     endforeach()
-    # The words that CTest writes before the program.
+    # The words that CTest writes before the program. (Tried with CMake 3.25, and not with later versions, in which the property has another name.)
     if(CMAKE_VERSION VERSION_LESS 3.29)
         set_property(TARGET "${target}" PROPERTY CROSSCOMPILING_EMULATOR "${launcher}")
     else()
