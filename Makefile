@@ -86,13 +86,13 @@ files:
 	install -D -m 644 completions/aerodrome.bash "$(TO)/share/bash-completion/completions/$$command"; done
 	install -D -m 644 completions/_aerodrome "$(TO)/share/zsh/site-functions/_aerodrome"
 	tools/user-pages "$(TO)/share/doc/aerodrome"
+	install -D -m 644 -t "$(TO)/lib/cmake/aerodrome" packaging/cmake/*.cmake
+	install -m 755 packaging/cmake/run-test "$(TO)/lib/cmake/aerodrome"
 	@if [ -f lib/aerodrome/libaerodrome.a ]; then \
 	install -D -m 644 lib/aerodrome/libaerodrome.a "$(TO)/lib/aerodrome/libaerodrome.a"; \
 	install -D -m 644 include/aerodrome.h "$(TO)/include/aerodrome.h"; fi
 	@if [ -f lib/aerodrome/aerodrome-agent.jar ]; then \
 	install -D -m 644 lib/aerodrome/aerodrome-agent.jar "$(TO)/share/java/aerodrome-agent.jar"; fi
-	install -D -m 644 -t "$(TO)/lib/cmake/aerodrome" packaging/cmake/*.cmake
-	install -m 755 packaging/cmake/run-test "$(TO)/lib/cmake/aerodrome"
 	@if command -v $${CC:-gcc} > /dev/null; then logger/build "$(TO)"; \
 	else echo "no $${CC:-gcc} here: the logger isn't installed"; fi
 
