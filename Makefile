@@ -5,6 +5,8 @@
 #: make library               proves and builds the library for C; needs rt and ar
 #: make install PREFIX=DIR    installs the program, scripts, logger, manual pages, pages for users and examples into DIR (default: /usr/local)
 #: make uninstall PREFIX=DIR  removes the files that make install put there, and nothing else
+#: make dist                  makes an archive for machines without the kit, out/dist/aerodrome-VERSION-linux-x86_64.tar.gz
+#: make deb                   makes packages for Debian in out/dist; both need rt, and a JDK (WITHOUT=java leaves the agent out)
 #: make test                  runs the gate: every proof, test and case, and the examples of the pages
 #: make clean                 removes everything that was built, and everything that is kept of proofs
 PREFIX ?= /usr/local
@@ -84,6 +86,8 @@ files:
 	install -D -m 644 completions/aerodrome.bash "$(TO)/share/bash-completion/completions/$$command"; done
 	install -D -m 644 completions/_aerodrome "$(TO)/share/zsh/site-functions/_aerodrome"
 	tools/user-pages "$(TO)/share/doc/aerodrome"
+	install -D -m 644 -t "$(TO)/lib/cmake/aerodrome" packaging/cmake/*.cmake
+	install -m 755 packaging/cmake/run-test "$(TO)/lib/cmake/aerodrome"
 	@if [ -f lib/aerodrome/libaerodrome.a ]; then \
 	install -D -m 644 lib/aerodrome/libaerodrome.a "$(TO)/lib/aerodrome/libaerodrome.a"; \
 	install -D -m 644 include/aerodrome.h "$(TO)/include/aerodrome.h"; fi
@@ -91,6 +95,11 @@ files:
 	install -D -m 644 lib/aerodrome/aerodrome-agent.jar "$(TO)/share/java/aerodrome-agent.jar"; fi
 	@if command -v $${CC:-gcc} > /dev/null; then logger/build "$(TO)"; \
 	else echo "no $${CC:-gcc} here: the logger isn't installed"; fi
+
+# What a release has for machines without the kit. WITHOUT may have java, library and older, which are left out then (tools/dist).
+.PHONY: dist deb
+dist deb: bin/aerodrome $(filter-out $(WITHOUT),java library)
+	@WITHOUT="$(WITHOUT)" tools/$@
 
 clean:
 	rm -rf bin lib out crates/*/out

@@ -20,6 +20,7 @@ from .words import Arrow, arrows_of, counted, roles_of
 MOST_COLUMNS = 6  # threads that are columns of a picture
 MOST_BESIDE = 740  # the width of a picture that leaves room beside it
 MOST_STILL = 400  # the width of a picture that needn't be scrolled on a phone
+MOST_ROWS = 60  # of a picture that needn't be scrolled
 MOST_LINES = 400  # lines of a trace that are shown round one cycle, or so
 MOST_OPEN = 40  # events of a cycle whose tables stand open
 MOST_EXCERPTS = 10  # violations whose excerpts stand open
@@ -47,10 +48,11 @@ def article(finding: Finding, number: int, options: Options, asked: Asked, sourc
     sheet = Sheet(finding, seen)
     picture: Picture = lanes if len(sheet.threads) > MOST_COLUMNS else columns
     drawn, width = picture(sheet)
-    is_wide = width > MOST_BESIDE
-    scrolls = f' tabindex="0" role="region" aria-label="Picture {number}"' if width > MOST_STILL else ""
-    figure = f'<figure><div class="scroll"{scrolls}>{drawn}</div><figcaption>{legend(sheet.arrows)}</figcaption></figure>\n'
-    told, do = why(finding, sheet.arrows, is_wide), advice(finding, sheet.arrows, options)
+    is_wide, is_tall = width > MOST_BESIDE, len(sheet.rows) > MOST_ROWS
+    scrolls = f' tabindex="0" role="region" aria-label="Picture {number}"' if width > MOST_STILL or is_tall else ""
+    kind = "scroll tall" if is_tall else "scroll"
+    figure = f'<figure><div class="{kind}"{scrolls}>{drawn}</div><figcaption>{legend(sheet.arrows)}</figcaption></figure>\n'
+    told, do = why(finding, sheet.arrows, is_wide or is_tall), advice(finding, sheet.arrows, options)
     parts = f"{figure}{told}{do}" if is_wide else f'{figure}<div class="why">{told}{do}</div>\n'
     body = f'<div class="{"wide" if is_wide else "beside"}">\n{parts}{events(finding, seen, sources)}</div>\n'
     return head + body + excerpt(finding, seen, number) + "</article>\n"
@@ -62,11 +64,11 @@ def legend(arrows: list[Arrow]) -> str:
     return f'<ul class="legend"><li class="block">the block that isn\'t atomic</li>{kinds}</ul>'
 
 
-def why(finding: Finding, arrows: list[Arrow], is_wide: bool) -> str:
-    """The conflicts in sentences, whose numbers are those of the picture."""
+def why(finding: Finding, arrows: list[Arrow], is_boxed: bool) -> str:
+    """The conflicts in sentences, whose numbers are those of the picture. A box has room for a part of many sentences, and scrolls."""
     told = zip(arrows, words.reasons(finding, code))
     steps = "".join(f'<li class="{arrow.kind}">{reason}</li>\n' for arrow, reason in told)
-    box = '<div class="box" tabindex="0" role="region" aria-label="Reasons">' if is_wide else "<div>"
+    box = '<div class="box" tabindex="0" role="region" aria-label="Reasons">' if is_boxed else "<div>"
     detours = "".join(f"<p>{detour}</p>\n" for detour in words.detours(finding, code))
     return (
         f'<h3>Why no serial order is possible</h3>\n{box}<ol class="steps">\n{steps}</ol></div>\n'

@@ -2,6 +2,7 @@
 from __future__ import annotations
 
 import json
+import re
 from dataclasses import dataclass, field, replace
 from typing import IO, Iterable, Iterator, Optional
 
@@ -23,6 +24,8 @@ SUMMARY = ("traces", "serializable", "open", "violations", "faults")
 MEMBER_OF = {"serializable": "serializable", "open": "open", "violation": "violations", **dict.fromkeys(FAULTS, "faults")}
 MOST_BYTES = 2**30  # of a source, where its run wasn't given --long
 MOST_LABELS = 64  # of --except or --only
+ORDER = b',"order":['  # in a string of JSON the quotes would have a backslash before them
+STEP = re.compile(rb'\{"line":\d{1,19},"thread":(?:"(?:[^"\\]|\\.)*"|\{"bytes":"[^"]*"\})\}(?:,(?=\{)|(?=\]))')
 
 
 class NoReport(Exception):
@@ -100,7 +103,8 @@ class Report:
         self.kept, self.tally = kept, Tally()
         self.options: list[Options] = []  # of each report
         since, at = Tally(), 0
-        for at, text in enumerate(lines, 1):
+        for at, whole in enumerate(lines, 1):
+            text = _without_order(whole)
             told = _told(text, at)
             if isinstance(told, Finding):
                 since.add(told.verdict)
@@ -136,6 +140,18 @@ class Report:
 class Summary:
     counts: dict[str, int]
     options: Options
+
+
+def _without_order(text: bytes) -> bytes:
+    """The line without the steps of a serial order, which nothing here shows, and which may be many more than fit into memory as
+    objects."""
+    start = text.find(ORDER)
+    if start < 0:
+        return text
+    at = first = start + len(ORDER)
+    while step := STEP.match(text, at):
+        at = step.end()
+    return text[:first] + text[at:] if text[at : at + 1] == b"]" else text
 
 
 def _told(text: bytes, at: int) -> Finding | Summary:

@@ -1,0 +1,39 @@
+# find_package(aerodrome) reads this file. It defines one function:
+#
+#   aerodrome_test(TARGET [BLOCKS PATTERN..] [SPLIT WHERE..] [STIR NUMBER])
+#
+# Each CTest test that runs the program TARGET is then logged and judged, also the tests that gtest_discover_tests finds. If a block in
+# the log isn't atomic, the test fails, and prints the label of the block and its two places in the code. TARGET has to be compiled by
+# aerodrome-cc or aerodrome-c++. BLOCKS, SPLIT and STIR are the logger's settings AERODROME_BLOCKS, AERODROME_SPLIT and AERODROME_STIR.
+get_filename_component(_aerodrome_prefix "${CMAKE_CURRENT_LIST_DIR}/../../.." ABSOLUTE)
+set(aerodrome_RUN_TEST "${CMAKE_CURRENT_LIST_DIR}/run-test")
+find_program(aerodrome_EXECUTABLE aerodrome HINTS "${_aerodrome_prefix}/bin" NO_DEFAULT_PATH)
+find_program(aerodrome_EXECUTABLE aerodrome)
+if(NOT aerodrome_EXECUTABLE OR NOT EXISTS "${aerodrome_RUN_TEST}")
+    set(aerodrome_FOUND FALSE)
+    set(aerodrome_NOT_FOUND_MESSAGE "no program aerodrome, or no ${aerodrome_RUN_TEST}")
+endif()
+
+function(aerodrome_test target)
+    cmake_parse_arguments(PARSE_ARGV 1 asked "" "STIR" "BLOCKS;SPLIT")
+    if(NOT TARGET "${target}")
+        message(FATAL_ERROR "aerodrome_test: no target ${target}")
+    endif()
+    if(asked_UNPARSED_ARGUMENTS OR asked_KEYWORDS_MISSING_VALUES)
+        message(FATAL_ERROR "aerodrome_test: not understood: ${asked_UNPARSED_ARGUMENTS} ${asked_KEYWORDS_MISSING_VALUES}")
+    endif()
+    set(launcher "${aerodrome_RUN_TEST}" "--checker=${aerodrome_EXECUTABLE}")
+    foreach(setting BLOCKS SPLIT STIR)
+        if(DEFINED asked_${setting})
+            # (a list of CMake has semicolons, and the logger's has commas)
+            string(REPLACE ";" "," value "${asked_${setting}}")
+            list(APPEND launcher "--set=AERODROME_${setting}=${value}")
+        endif()
+    endforeach()
+    # The words that CTest writes before the program. (Tried with CMake 3.25, and not with later versions, in which the property has another name.)
+    if(CMAKE_VERSION VERSION_LESS 3.29)
+        set_property(TARGET "${target}" PROPERTY CROSSCOMPILING_EMULATOR "${launcher}")
+    else()
+        set_property(TARGET "${target}" PROPERTY TEST_LAUNCHER "${launcher}")
+    endif()
+endfunction()
