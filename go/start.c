@@ -1,0 +1,47 @@
+/* The start, which the runtime calls before main and before any other hook, and the end of main and of os.Exit(0). */
+#include "log.h"
+
+#include <stdio.h>
+#include <stdlib.h>
+
+static void start(void (*callback)(word, void *), const struct here *here) {
+    const char *said = secure_getenv("AERODROME_LOG");
+    if (!said || !*said || !aero_read_settings(said)) return;
+    aero_symbols_start();
+    if (!aero_read_blocks(aero_settings.blocks) || !aero_knows_blocks()) return;
+    if (!aero_objects_start()) {
+        aero_say(said, "there is no room of addresses for its tables (ulimit -v): nothing is logged");
+        return;
+    }
+    if (!aero_open(said)) return;
+    aero_code_start(callback, here->g);
+    aero_is_on = 1;
+}
+
+__asm__(".text\n.globl __tsan_init\n.type __tsan_init, @function\n__tsan_init:\npush %rbp\npush %r14\npush %r12\nmov %rsp, %r8\n"
+        "call aero_init\nadd $24, %rsp\nret\n.size __tsan_init, .-__tsan_init\n");
+void aero_init(struct goroutine **made, void **processor, void (*callback)(word, void *), word unused, const struct here *here) {
+    (void)unused;
+    *made = aero_goroutine();
+    *processor = NULL;
+    start(callback, here);
+}
+
+/* A log without a line would be taken for one without a violation. */
+static void finish(void) {
+    if (!aero_is_on) return;
+    aero_is_on = 0;
+    const char *why = aero_end();
+    if (!aero_has_lines()) {
+        aero_remove();
+        aero_say("nothing is logged", "the program did nothing that is logged");
+    }
+    if (!why) why = aero_close();
+    if (why) aero_say(aero_settings.target, why);
+}
+
+EXPORT void __tsan_fini(void) {
+    aero_lock();
+    finish();
+    exit(0);
+}
