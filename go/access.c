@@ -104,8 +104,8 @@ static const struct code *outside(const struct goroutine *t, const struct code *
 void aero_access(const struct here *here, struct goroutine *t, const struct access *it) {
     const struct code *code = aero_code(it->code);
     aero_drop_dead(t, here, here->stack);
-    if ((code->is & IS_SYNC) || ((code->is & IS_RACE) && !it->bytes) || is_local(t, it->at)) return;
     const struct code *place = outside(t, code);
+    if (((code->is | place->is) & IS_SYNC) || ((code->is & IS_RACE) && !it->bytes) || is_local(t, it->at)) return;
     if (aero_settings.grain) grains(t, it->operation, it->at, it->bytes ? it->bytes : 1, place);
     else if (it->bytes) range(t, it->operation, it->at, it->bytes, place);
     else single(t, it->operation, it->at, place);

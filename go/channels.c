@@ -51,6 +51,7 @@ static void token(struct goroutine *t, const struct ordered *it, int is_sent) {
     }
     while (one < s->count && s->releases[one].by != t->id) one++;
     if (one == s->count) {
+        aero_waits(t);
         if (!s->count) return;
         one = 0;
         aero_suffixed(t, "r", s->at, &(struct suffix){"~", s->releases[one].slot, it->place});
@@ -58,8 +59,14 @@ static void token(struct goroutine *t, const struct ordered *it, int is_sent) {
     memmove(&s->releases[one], &s->releases[one + 1], (--s->count - one) * sizeof *s->releases);
 }
 
-/* A slot is as a lock: send k, receive k and send k + slots come in this order. */
-static void slot(struct goroutine *t, const struct ordered *it, int64_t number) {
+/* A slot is as a lock: send k, receive k and send k + slots come in this order. Who takes back what it has sent itself, as who gives
+ * back a semaphore, waits for nobody. */
+static void slot(struct goroutine *t, const struct ordered *it, const struct channel *channel) {
+    int is_sent = sends(it, channel);
+    int64_t number = !channel ? -1 : (int64_t)(is_sent ? channel->send_at : channel->receive_at);
+    struct sync *s = aero_sync(it->at);
+    if (!is_sent && s->sender != t->id) aero_waits(t);
+    s->sender = is_sent ? t->id : 0;
     aero_suffixed(t, "w", it->at, &(struct suffix){"~", number, it->place});
 }
 
@@ -82,17 +89,13 @@ static void by_channel(struct goroutine *t, const struct ordered *it) {
         found_closed(t, it);
         return;
     }
-    int is_sent = sends(it, channel);
-    if (!is_sent) aero_waits(t);
-    if (channel->slots > 1) token(t, it, is_sent);
-    else slot(t, it, (int64_t)(is_sent ? channel->send_at : channel->receive_at));
+    if (channel->slots > 1) token(t, it, sends(it, channel));
+    else slot(t, it, channel);
 }
 
 void aero_channel(struct goroutine *t, const struct ordered *it) {
     if (it->asker->asker == CHANNEL_CLOSE) {
         if (it->how == ACQUIRE) found_closed(t, it);
-    } else if (it->how == RELEASE_ACQUIRE) {
-        if (!sends(it, NULL)) aero_waits(t);
-        slot(t, it, -1);
-    } else by_channel(t, it);
+    } else if (it->how == RELEASE_ACQUIRE) slot(t, it, NULL);
+    else by_channel(t, it);
 }

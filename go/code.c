@@ -254,7 +254,8 @@ int aero_is_within_wait(const struct here *here) {
     return 0;
 }
 
-struct code *aero_allocator(const struct here *here) {
+/* The runtime allocates for itself at the start. */
+struct label *aero_allocator(const struct here *here) {
     struct code *by = NULL;
     const word *frame = here->frame;
     word low = here->stack;
@@ -264,5 +265,5 @@ struct code *aero_allocator(const struct here *here) {
         low = (word)frame;
         frame = (const word *)frame[0];
     }
-    return by;
+    return by && !(by->is & IS_LOW) ? by->label : aero_label("runtime");
 }

@@ -106,6 +106,7 @@ struct sync {
     struct sync *sibling;    /* of the same object */
     uint64_t owner;          /* of a mutex: the id of the goroutine that has it, 0: nobody */
     uint32_t owner_number;
+    uint64_t sender;         /* of what is in the slot of a channel */
     int is_handed;           /* a mutex that another goroutine has unlocked */
     unsigned step;           /* of the steps that the runtime calls for one message */
     int is_merged;           /* a WaitGroup in a round of Done */
@@ -117,7 +118,7 @@ struct sync {
 struct object {
     word at;
     uint32_t units, number;  /* units of 8 bytes. number: in its name, 0: none yet */
-    struct label *by;        /* NULL: unknown */
+    struct label *by;
     struct sync *syncs;
     uint64_t owner;          /* AERODROME_LOCAL: the id of the only goroutine that has touched it */
     int is_shared;
@@ -184,7 +185,7 @@ int aero_is_of_library(const char *label);
 /* Who asked, from the address on along the frames; *place is the first code that isn't of the runtime or of sync. */
 struct code *aero_asked(const struct here *here, word at, struct code **place);
 int aero_is_within_wait(const struct here *here);    /* Cond.Wait */
-struct code *aero_allocator(const struct here *here);
+struct label *aero_allocator(const struct here *here);
 
 /* symbols.c */
 void aero_symbols_start(void);

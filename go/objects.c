@@ -69,8 +69,7 @@ void aero_allocated(const struct here *here, word at, word bytes) {
     uint32_t place = first_free ? first_free : object_count + 1 < MOST_OBJECTS ? ++object_count : 0;
     if (!place) return;
     if (first_free) first_free = objects[place].number;
-    struct code *by = aero_allocator(here);
-    objects[place] = (struct object){.at = at, .units = (uint32_t)(end - first), .by = by ? by->label : aero_label("heap")};
+    objects[place] = (struct object){.at = at, .units = (uint32_t)(end - first), .by = aero_allocator(here)};
     for (word one = first; one < end; one++) units[one] = place;
     memset(heap_parts + first, 0, (end - first) * sizeof *heap_parts);
 }
