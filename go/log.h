@@ -126,6 +126,7 @@ struct object {
 
 /* own_lock.c */
 void aero_lock(void);
+int aero_lock_soon(void);
 void aero_unlock(void);
 
 /* log.c */

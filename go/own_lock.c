@@ -4,6 +4,7 @@
 
 #include <linux/futex.h>
 #include <sys/syscall.h>
+#include <time.h>
 #include <unistd.h>
 
 enum { FREE, HELD, SOMEBODY_SLEEPS, TURNS = 200 };
@@ -22,6 +23,16 @@ void aero_lock(void) {
     }
     while (atomic_exchange_explicit(&state, SOMEBODY_SLEEPS, memory_order_acquire) != FREE)
         syscall(SYS_futex, &state, FUTEX_WAIT_PRIVATE, SOMEBODY_SLEEPS, NULL, NULL, 0);
+}
+
+/* Whether the lock could be had within a second. */
+int aero_lock_soon(void) {
+    const struct timespec a_while = {0, 1000000};
+    for (int turn = 0; turn < 1000; turn++) {
+        if (takes_it()) return 1;
+        nanosleep(&a_while, NULL);
+    }
+    return 0;
 }
 
 void aero_unlock(void) {

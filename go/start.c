@@ -1,4 +1,5 @@
-/* The start, which the runtime calls before main and before any other hook, and the end of main and of os.Exit(0). */
+/* The start, which the runtime calls before main and before any other hook, and the end: of main and of os.Exit(0) by the race
+ * detector's own hook, else by the runtime's exit, which aerodrome-go has call it too. */
 #include "log.h"
 
 #include <stdio.h>
@@ -37,11 +38,16 @@ static void finish(void) {
         aero_say("nothing is logged", "the program did nothing that is logged");
     }
     if (!why) why = aero_close();
-    if (why) aero_say(aero_settings.target, why);
+    char text[256];
+    snprintf(text, sizeof text, "%.200s: the rest isn't logged", why ? why : "");
+    if (why) aero_say(aero_settings.target, text);
 }
 
-EXPORT void __tsan_fini(void) {
-    aero_lock();
+/* A signal may have come into a hook, and end the program by exit: then its thread has the lock. The file has all lines already. */
+EXPORT void __tsan_fini(word status, word is_exit) {
+    (void)status;
+    if (!is_exit) aero_lock();
+    else if (!aero_lock_soon()) return;
     finish();
-    exit(0);
+    if (!is_exit) exit(0);
 }

@@ -41,7 +41,7 @@ static int is_variable(const Elf64_Sym *symbol, const char *name) {
 }
 
 void aero_symbols_start(void) {
-    extern EXPORT void __tsan_fini(void);
+    extern EXPORT void __tsan_fini(word status, word is_exit);
     const char *bytes = image();
     if (!bytes) return;
     const Elf64_Ehdr *head = (const void *)bytes;
