@@ -143,7 +143,7 @@ int aero_knows_blocks(void) {
 static char *bytes_of(const char *path) {
     struct stat is;
     int file = open(path, O_RDONLY | O_CLOEXEC);
-    if (file < 0 || fstat(file, &is) || !S_ISREG(is.st_mode)) return NULL;
+    if (file < 0 || fstat(file, &is) || !S_ISREG(is.st_mode) || !is.st_size) return NULL;
     char *text = aero_new((size_t)is.st_size + 1);
     ssize_t came = read(file, text, (size_t)is.st_size);
     close(file);

@@ -58,6 +58,7 @@ void aero_stop(const char *why) {
     if (!aero_is_on) return;
     aero_is_on = 0;
     aero_end();
+    if (!aero_has_lines()) aero_remove();
     snprintf(text, sizeof text, "%.200s: the rest isn't logged", why);
     aero_say(aero_settings.target, text);
 }

@@ -50,6 +50,7 @@ static int out_of_the_way(int number) {
 
 static char *window, *line_ends;
 static off_t window_at;
+static uint64_t window_end;        /* of the bytes that lines may have */
 
 /* Until lines are written the file has a text that is no trace, so that nobody takes the log of a program that was killed for one
  * without a violation. Where files may have no byte, writing would end the program. */
@@ -61,33 +62,38 @@ static void mark(void) {
 }
 
 /* A write that fails because files may not be longer sends a signal, which would end a Go program. So it waits meanwhile, and is
- * taken back. Line ends are written, not only the file's length: a full disk is an error then, and no SIGBUS in the mapped file. */
-static int write_line_ends(size_t bytes) {
+ * taken back. Line ends are written, not only the file's length: a full disk is an error then, and no SIGBUS in the mapped file.
+ * Returns how many could be written; *why is 0 if all could be. */
+static size_t write_line_ends(size_t bytes, int *why) {
     const struct timespec none = {0, 0};
+    size_t had = 0;
     sigset_t too_long, before;
     sigemptyset(&too_long);
     sigaddset(&too_long, SIGXFSZ);
     pthread_sigmask(SIG_BLOCK, &too_long, &before);
-    ssize_t came = pwrite(file.number, line_ends, bytes, (off_t)written);
-    int why = came < 0 ? errno : ENOSPC;
-    if (why == EFBIG || (came >= 0 && (size_t)came < bytes)) sigtimedwait(&too_long, NULL, &none);
+    *why = 0;
+    while (had < bytes && !*why) {
+        ssize_t some = pwrite(file.number, line_ends, bytes - had, (off_t)(written + had));
+        if (some > 0) had += (size_t)some;
+        else if (some == 0 || errno != EINTR) *why = some ? errno : ENOSPC;
+    }
+    if (*why == EFBIG) sigtimedwait(&too_long, NULL, &none);
     pthread_sigmask(SIG_SETMASK, &before, NULL);
-    if (came >= 0 && (size_t)came == bytes) return 0;
-    return why;
+    return had;
 }
 
-/* Maps the window in which the next line begins, with the end of the last line. */
-static const char *next_window(void) {
+/* Maps the window in which the next line begins, with the end of the last line. Where less can be written, it ends earlier. */
+static const char *next_window(size_t length) {
+    int why;
     off_t from = written ? ((off_t)written - 1) & ~(off_t)(PAGE - 1) : 0;
     if (!is_kept()) return "the program has closed it";
-    int why = write_line_ends((size_t)(from + WINDOW - (off_t)written));
-    if (!why) {
-        if (window) munmap(window, WINDOW);
-        window = mmap(NULL, WINDOW, PROT_READ | PROT_WRITE, MAP_SHARED, file.number, from);
-        if (window == MAP_FAILED) why = errno;
-    }
-    if (why) return strerror(why);
+    size_t had = write_line_ends((size_t)(from + WINDOW - (off_t)written), &why);
+    if (had < length) return strerror(why);
+    if (window) munmap(window, WINDOW);
+    window = mmap(NULL, WINDOW, PROT_READ | PROT_WRITE, MAP_SHARED, file.number, from);
+    if (window == MAP_FAILED) return strerror(errno);
     window_at = from;
+    window_end = written + had;
     end_of_last = written ? window + ((off_t)written - 1 - from) : NULL;
     return NULL;
 }
@@ -96,7 +102,7 @@ static const char *next_window(void) {
  * before, which the checker doesn't look at. So each line is there as a whole or not at all, wherever the process is killed. */
 static const char *write_into_file(const char *line, size_t length) {
     const char *why = NULL;
-    if (!window || (off_t)(written + length) > window_at + WINDOW) why = next_window();
+    if (written + length > window_end) why = next_window(length);
     if (why) return why;
     char *to = window + ((off_t)written - window_at);
     volatile char *last = end_of_last;
