@@ -81,6 +81,7 @@ func lowTwice() {
 func highTwice()        { after(0); halves.high++; mark(1); after(2); halves.high++ }
 func copyBack()         { was := shared; mark(0); after(1); shared = was }
 func addToB()           { after(0); shared.b++; mark(1) }
+func copiedKnown()      { shared.b++; both(copyBack, addToB) }
 func lowHalf()          { copy(bytes[:4], "abcd") }
 func highHalf()         { copy(bytes[4:8], "abcd") }
 func lowOne()           { lowHalf(); mark(0); after(1); lowHalf(); mark(2) }
@@ -181,16 +182,10 @@ func changeSlot(n int64) {
 	shared.a = n
 	<-slot
 }
-func holdTwice() {
-	several <- struct{}{}
-	mark(0)
-	after(1)
-	<-several
-	several <- struct{}{}
-	mark(2)
-	<-several
-}
-func holdMeanwhile() { after(0); several <- struct{}{}; mark(1); after(2); <-several }
+
+// The second one gives back first: what it takes isn't what the first one has put there.
+func holdTwice()     { several <- struct{}{}; mark(0); after(1); <-several }
+func holdMeanwhile() { after(0); several <- struct{}{}; <-several; mark(1) }
 func selectSend(c chan struct{}) {
 	select {
 	case c <- struct{}{}:
@@ -236,10 +231,18 @@ func selects() {
 // --- goroutines and timers
 func starts(f func()) { go f(); after(1); flag.Load() }
 func started()        { flag.Store(1); mark(1) }
+
+// Waits until no other goroutine is there.
+func alone() {
+	for runtime.NumGoroutine() > 1 {
+		runtime.Gosched()
+	}
+}
 func startsAfterOthers() {
 	for i := 0; i < 3; i++ {
 		both(incr, incr)
 	}
+	alone()
 	starts(started)
 }
 func fires() { mu.Lock(); shared.a++; mu.Unlock(); back <- 1 }
@@ -305,12 +308,7 @@ func panics() {
 		incr()
 	}
 }
-func quitting() {
-	go quits()
-	for runtime.NumGoroutine() > 1 {
-		runtime.Gosched()
-	}
-}
+func quitting() { go quits(); alone() }
 
 // What is locked in a block that a panic leaves, and unlocked behind that.
 func lookAndPanic() {
@@ -357,7 +355,7 @@ func collected() {
 		for k := 0; k < 100; k++ {
 			open()
 		}
-		stale()
+		both(stale, func() {})
 		runtime.GC()
 	}
 }
@@ -365,6 +363,7 @@ func collected() {
 var words = map[string]func(){
 	"neighbours":     func() { both(lowTwice, highTwice) },
 	"copied":         func() { both(copyBack, addToB) },
+	"copied-known":   copiedKnown,
 	"copied-halves":  func() { both(lowOne, highOne) },
 	"map-access":     splits(lookAtMap, changeMap),
 	"stacks":         stacks,
