@@ -7,6 +7,7 @@ import (
 	"fmt"
 	"os"
 	"runtime"
+	"strings"
 	"sync"
 	"sync/atomic"
 	"time"
@@ -90,12 +91,12 @@ func lookAtMap() int64  { return int64(table[1]) }
 func changeMap(n int64) { table[1] = int(n) }
 
 // What lies on a goroutine's own stack is nobody else's, whatever lay there before: no event, and so no block.
+func bumpOwn(at *int64) { *at++ }
 func ownStack(i int) int64 {
 	var own [4]int64
 	for n := range own {
-		atomic.AddInt64(&own[n], 1)
+		bumpOwn(&own[n])
 		runtime.Gosched()
-		own[n]++
 	}
 	return own[i%4]
 }
@@ -155,7 +156,20 @@ func waiter() {
 	mu.Unlock()
 }
 func signaller() { after(0); mu.Lock(); ready = true; mu.Unlock(); cond.Broadcast() }
-func onceUser()  { once.Do(func() { mark(0); shared.a = 5 }); _ = shared.a }
+
+// The second one has found it undone, and waits, before the first one has done it.
+func onceUser() { once.Do(func() { mark(0); blocked(2); shared.a = 5 }); _ = shared.a }
+
+// Waits until so many goroutines wait for a lock or a WaitGroup.
+func blocked(wanted int) {
+	stacks := make([]byte, 1<<16)
+	for {
+		n := runtime.Stack(stacks, true)
+		if strings.Count(string(stacks[:n]), "[semacquire") >= wanted {
+			return
+		}
+	}
+}
 
 // --- channels
 var (
@@ -186,6 +200,33 @@ func changeSlot(n int64) {
 // The second one gives back first: what it takes isn't what the first one has put there.
 func holdTwice()     { several <- struct{}{}; mark(0); after(1); <-several }
 func holdMeanwhile() { after(0); several <- struct{}{}; <-several; mark(1) }
+
+// Who takes back its own token doesn't wait, so its block goes on.
+func keepsOne() {
+	flag.Add(1)
+	one <- struct{}{}
+	<-one
+	mark(0)
+	after(1)
+	flag.Add(1)
+}
+func keepsSeveral() {
+	flag.Add(1)
+	several <- struct{}{}
+	<-several
+	mark(0)
+	after(1)
+	flag.Add(1)
+}
+func keepsSlot() {
+	flag.Add(1)
+	slot <- 1
+	<-slot
+	mark(0)
+	after(1)
+	flag.Add(1)
+}
+func addsMeanwhile() { after(0); flag.Add(1); mark(1) }
 func selectSend(c chan struct{}) {
 	select {
 	case c <- struct{}{}:
@@ -308,7 +349,15 @@ func panics() {
 		incr()
 	}
 }
-func quitting() { go quits(); alone() }
+func quitting() {
+	go func() {
+		quits()
+	}()
+	alone()
+}
+
+// The stack moves within a block.
+func growsBetween() { n := flag.Load(); mark(0); after(1); grows(3000); flag.Store(n + 1) }
 
 // What is locked in a block that a panic leaves, and unlocked behind that.
 func lookAndPanic() {
@@ -399,6 +448,9 @@ var words = map[string]func(){
 	"semaphore":        func() { both(holdOne, holdOne) },
 	"semaphore-splits": splits(lookOne, changeOne),
 	"slot-splits":      splits(lookSlot, changeSlot),
+	"semaphore-kept":   func() { both(keepsOne, addsMeanwhile) },
+	"several-kept":     func() { both(keepsSeveral, addsMeanwhile) },
+	"slot-kept":        func() { both(keepsSlot, addsMeanwhile) },
 	"semaphore-cross":  func() { both(holdTwice, holdMeanwhile) },
 	"select-one":       follows(func() { selectSend(one) }, func() { selectReceive(one) }),
 	"select-several":   follows(func() { selectSend(several) }, func() { selectReceive(several) }),
@@ -414,6 +466,7 @@ var words = map[string]func(){
 	"panic-leaves":     func() { both(outside, between) },
 	"quits":            quitting,
 	"grows":            func() { both(func() { grows(3000) }, func() {}) },
+	"grows-splits":     func() { both(growsBetween, func() { changeBetween(flag.Store) }) },
 	"pools":            pools,
 	"pooled-cross":     crosses(usePooled),
 	"collected":        collected,
