@@ -26,6 +26,7 @@ static struct name {
 static size_t name_count;
 
 int aero_starts_are_blocks(void) { return base != USUAL; }
+int aero_wants_blocks(void) { return base != ONLY_LISTED || name_count; }
 
 /* ---- names that match */
 

@@ -5,6 +5,7 @@
 #include <stdio.h>
 #include <stdlib.h>
 
+int aero_has_blocks;
 static struct numbers threads;
 static uint64_t last_id;
 enum { MOST_THREADS = 65536 };       /* that the checker takes */
@@ -33,6 +34,7 @@ static void give_back(struct goroutine *t) {
 
 static void open_block(struct goroutine *t, struct frame *it) {
     it->block = OPEN;
+    aero_has_blocks = 1;
     if (!t->open++) aero_open_blocks++;
     aero_line(t, "begin", it->function->label->text, it->function);
 }
@@ -97,10 +99,11 @@ static int only_ends(word at) {
     return (aero_code((word)code + 6 + (word)(intptr_t)distance)->is & IS_HOOK) != 0;
 }
 
-/* What a goroutine starts with is no block. For `go f(x)` the compiler makes a function that calls f, and does nothing behind it. */
-static int is_start(const struct goroutine *t, const struct code *call, word call_ends) {
+/* What a goroutine starts with is no block. For `go f(x)` the compiler makes a function, in the line of the go statement, that calls f
+ * and does nothing behind it. (So does `go func() { f(x) }()` in one line.) */
+static int is_start(const struct goroutine *t, word call_ends) {
     if (!t->depth) return 1;
-    return t->depth == 1 && t->go && t->go->line == call->line && only_ends(call_ends);
+    return t->depth == 1 && t->go && t->go->line == t->frames[0].function->line && only_ends(call_ends);
 }
 
 void aero_enter(const struct here *here, struct goroutine *t, word call_ends) {
@@ -109,7 +112,7 @@ void aero_enter(const struct here *here, struct goroutine *t, word call_ends) {
     aero_drop_dead(t, here, stack + 1);
     if (t->depth == t->room) t->frames = aero_more(t->frames, sizeof *t->frames, &t->room);
     struct code *function = aero_code(goes_on), *call = aero_code(call_ends);
-    int is_block = (function->is & IS_BLOCK) && (aero_starts_are_blocks() || !is_start(t, call, call_ends));
+    int is_block = (function->is & IS_BLOCK) && (aero_starts_are_blocks() || !is_start(t, call_ends));
     t->frames[t->depth++] = (struct frame){here->g[1] - stack, function, call, is_block ? WAITING : NO_BLOCK};
 }
 

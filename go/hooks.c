@@ -114,7 +114,8 @@ static void ends_atomic(struct goroutine *t, int is_logged, const struct atomic 
         ends_atomic(t, is_logged, &it); \
     }
 #define IN_ORDER __ATOMIC_SEQ_CST
-#define FETCH(bits, type, what) ATOMIC(bits##_fetch_##what, AT(type, 16) = __atomic_fetch_##what((type *)it.at, AT(type, 8), IN_ORDER), 1, 1)
+#define FETCH(bits, type, what) \
+    ATOMIC(bits##_fetch_##what, AT(type, 16) = __atomic_fetch_##what((type *)it.at, AT(type, 8), IN_ORDER), 1, 1)
 /* new, done: where a compare-and-swap has the new value, and puts whether it has swapped. */
 #define ATOMICS(bits, type, new, done) \
     ATOMIC(bits##_load, AT(type, 8) = __atomic_load_n((type *)it.at, IN_ORDER), 0, AT(type, 8)) \
@@ -122,7 +123,8 @@ static void ends_atomic(struct goroutine *t, int is_logged, const struct atomic 
     ATOMIC(bits##_exchange, AT(type, 16) = __atomic_exchange_n((type *)it.at, AT(type, 8), IN_ORDER), 1, 1) \
     FETCH(bits, type, add) FETCH(bits, type, and) FETCH(bits, type, or) \
     ATOMIC(bits##_compare_exchange, \
-           type old = AT(type, 8); AT(uint8_t, done) = __atomic_compare_exchange_n((type *)it.at, &old, AT(type, new), 0, IN_ORDER, IN_ORDER), \
+           type old = AT(type, 8); \
+           AT(uint8_t, done) = __atomic_compare_exchange_n((type *)it.at, &old, AT(type, new), 0, IN_ORDER, IN_ORDER), \
            AT(uint8_t, done), 1)
 ATOMICS(32, uint32_t, 12, 16)
 ATOMICS(64, uint64_t, 16, 24)

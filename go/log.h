@@ -55,8 +55,8 @@ enum asker {
 };
 /* What else a name says. */
 enum {
-    IS_BLOCK = 1, IS_RUNTIME = 2, IS_LOW = 4, IS_HOOK = 8, IS_SYNC = 16, IS_RACE = 32, IS_MAP = 64, IS_ENTRY = 128, IS_ENTRY_LOAD = 256,
-    IS_COND_WAIT = 512, SENDS = 1024, RUNS_TIMERS = 2048
+    IS_BLOCK = 1, IS_RUNTIME = 2, IS_LOW = 4, IS_HOOK = 8, IS_SYNC = 16, IS_RACE = 32, IS_MAP = 64, IS_ENTRY = 128,
+    IS_ENTRY_LOAD = 256, IS_COND_WAIT = 512, SENDS = 1024, RUNS_TIMERS = 2048
 };
 /* A return address: the function that it is in, and the function whose source it is of, which may be inlined there. */
 struct code {
@@ -173,6 +173,7 @@ int aero_read_blocks(const char *blocks);      /* whether the list can be read *
 int aero_knows_blocks(void);                   /* whether each name is that of a function; else it says which isn't */
 int aero_is_block(const char *label, const char *file);
 int aero_starts_are_blocks(void);
+int aero_wants_blocks(void);                   /* there may be some */
 
 /* What aerodrome-go has compiled for the version of Go. */
 extern const char aero_packages[];             /* those of the standard library, each between two newlines */
@@ -204,6 +205,7 @@ char *aero_put_variable(char *to, word at);
 void aero_globals(word from, word bytes);
 
 /* goroutines.c */
+extern int aero_has_blocks;                    /* one has begun in the log */
 struct goroutine *aero_goroutine(void);
 void aero_started(struct goroutine *parent, struct goroutine *t, word at);
 void aero_ended(struct goroutine *t);

@@ -28,15 +28,19 @@ void aero_init(struct goroutine **made, void **processor, void (*callback)(word,
     start(callback, here);
 }
 
-/* A log without a line would be taken for one without a violation. */
+/* A log without a line, or without blocks, would be taken for one without a violation. */
+static void tell_of_little(void) {
+    if (!aero_has_lines()) {
+        aero_remove();
+        aero_say("nothing is logged", "the program did nothing that is logged");
+    } else if (!aero_has_blocks && aero_wants_blocks()) aero_say("no block is logged", "no function that is a block did anything");
+}
+
 static void finish(void) {
     if (!aero_is_on) return;
     aero_is_on = 0;
     const char *why = aero_end();
-    if (!aero_has_lines()) {
-        aero_remove();
-        aero_say("nothing is logged", "the program did nothing that is logged");
-    }
+    tell_of_little();
     if (!why) why = aero_close();
     char text[256];
     snprintf(text, sizeof text, "%.200s: the rest isn't logged", why ? why : "");

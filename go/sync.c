@@ -39,8 +39,8 @@ struct sync *aero_sync(word at) {
 
 static void put_lock(char *name, word at) { *aero_put_variable(name, at) = 0; }
 
-/* The rel of who has the mutex, where it can't write that itself. Nobody acquires the lock afterwards, or a later one of its name at a
- * quiet moment; so this orders nothing. */
+/* The rel of who has the mutex, where it can't write that itself. Nobody acquires the lock afterwards, or a later one of its name
+ * at a quiet moment; so this orders nothing. */
 static void release_for_owner(struct sync *it) {
     char name[512];
     if (!it->owner || it->is_handed) return;

@@ -309,7 +309,8 @@ int aero_open(const char *target) {
         return 1;
     }
     char why[256];
-    snprintf(why, sizeof why, "%.200s: nothing is logged", errno == EWOULDBLOCK ? "another process writes its log there" : strerror(errno));
+    const char *reason = errno == EWOULDBLOCK ? "another process writes its log there" : strerror(errno);
+    snprintf(why, sizeof why, "%.200s: nothing is logged", reason);
     aero_say(target, why);
     return 0;
 }
