@@ -1,6 +1,7 @@
 #: make                       proves and builds the program, bin/aerodrome; needs the kit's command rt on the path, and 10 GB of disk
 #: make try TRACE=FILE        judges a log in two or three minutes, without a proof; without TRACE a lost update; needs rt too
 #: make logger                builds the logger for C, C++ and Rust programs; needs only gcc or clang, and binutils
+#: make go                    builds the logger for Go programs, for Go 1.19 on linux/amd64; needs only gcc or clang, and binutils
 #: make java                  builds the agent that logs Java programs; needs a JDK, ASM and jarjar (README.md names Debian's packages)
 #: make library               proves and builds the library for C; needs rt and ar
 #: make install PREFIX=DIR    installs the program, scripts, logger, manual pages, pages for users and examples into DIR (default: /usr/local)
@@ -20,9 +21,10 @@ LIBRARY := $(shell find $(wildcard crates/aero_c/src crates/aero_c/specs crates/
 COMMANDS := bin/aerodrome-merge bin/aerodrome-refine bin/aerodrome-page bin/aerodrome-sarif
 LOGGER := $(wildcard logger/*)
 WRAPPERS := bin/aerodrome-cc bin/aerodrome-c++ bin/aerodrome-rustc bin/aerodrome-places
+GO := $(wildcard go/*)
 JAVA := java/build $(wildcard java/src/aerodrome/table java/src/aerodrome/*.java java/src/aerodrome/*/*.java)
 
-.PHONY: all help try library logger java test install files uninstall clean
+.PHONY: all help try library logger go java test install files uninstall clean
 
 all: bin/aerodrome $(COMMANDS)
 
@@ -49,6 +51,12 @@ logger: $(WRAPPERS) lib/aerodrome/aerodrome-log.o
 
 $(WRAPPERS) lib/aerodrome/aerodrome-log.o &: $(LOGGER)
 	@logger/build .
+
+# The wrapper into bin/, and the object that it gives to go into lib/aerodrome.
+go: bin/aerodrome-go lib/aerodrome/aerodrome-go.o
+
+bin/aerodrome-go lib/aerodrome/aerodrome-go.o &: $(GO)
+	@go/build .
 
 # The agent for Java, into lib/aerodrome.
 java: lib/aerodrome/aerodrome-agent.jar
@@ -82,7 +90,7 @@ files:
 	install -D -m 755 -t "$(TO)/bin" view/aerodrome-page view/aerodrome-sarif
 	install -D -m 644 -t "$(TO)/lib/aerodrome/aerodrome_view" view/aerodrome_view/*.py view/aerodrome_view/page.css
 	install -D -m 644 -t "$(TO)/share/man/man1" docs/*.1
-	@for command in aerodrome aerodrome-merge aerodrome-refine aerodrome-page aerodrome-sarif; do \
+	@for command in aerodrome aerodrome-merge aerodrome-refine aerodrome-page aerodrome-sarif aerodrome-go; do \
 	install -D -m 644 completions/aerodrome.bash "$(TO)/share/bash-completion/completions/$$command"; done
 	install -D -m 644 completions/_aerodrome "$(TO)/share/zsh/site-functions/_aerodrome"
 	tools/user-pages "$(TO)/share/doc/aerodrome"
@@ -93,7 +101,7 @@ files:
 	install -D -m 644 include/aerodrome.h "$(TO)/include/aerodrome.h"; fi
 	@if [ -f lib/aerodrome/aerodrome-agent.jar ]; then \
 	install -D -m 644 lib/aerodrome/aerodrome-agent.jar "$(TO)/share/java/aerodrome-agent.jar"; fi
-	@if command -v $${CC:-gcc} > /dev/null; then logger/build "$(TO)"; \
+	@if command -v $${CC:-gcc} > /dev/null; then logger/build "$(TO)" && go/build "$(TO)"; \
 	else echo "no $${CC:-gcc} here: the logger isn't installed"; fi
 
 # What a release has for machines without the kit. WITHOUT may have java, library and older, which are left out then (tools/dist).

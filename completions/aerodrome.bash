@@ -1,5 +1,5 @@
-# Completes the options of aerodrome, aerodrome-merge, aerodrome-refine, aerodrome-page and aerodrome-sarif for bash. `make install`
-# puts it where bash-completion finds it; `. completions/aerodrome.bash` has it in one shell.
+# Completes the options of aerodrome, aerodrome-merge, aerodrome-refine, aerodrome-page and aerodrome-sarif for bash, and the commands of
+# aerodrome-go. `make install` puts it where bash-completion finds it; `. completions/aerodrome.bash` has it in one shell.
 _aerodrome() {
     local word=${COMP_WORDS[COMP_CWORD]} before=${COMP_WORDS[COMP_CWORD - 1]} earlier options
     COMPREPLY=()
@@ -14,6 +14,10 @@ _aerodrome() {
         [ "$earlier" != -- ] || return 0
     done
     case ${COMP_WORDS[0]##*/} in
+        aerodrome-go)
+            [ "$COMP_CWORD" != 1 ] || COMPREPLY=($(compgen -W 'build run test install' -- "$word"))
+            return 0
+            ;;
         aerodrome-merge) options='--fail-open --help' ;;
         aerodrome-refine) options='--except --only --long --fail-open --help' ;;
         aerodrome-page) options='--output --folder --root --no-traces --context --pictures --rows --help' ;;
@@ -37,4 +41,4 @@ _aerodrome() {
             ;;
     esac
 }
-complete -o default -F _aerodrome aerodrome aerodrome-merge aerodrome-refine aerodrome-page aerodrome-sarif
+complete -o default -F _aerodrome aerodrome aerodrome-merge aerodrome-refine aerodrome-page aerodrome-sarif aerodrome-go

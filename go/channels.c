@@ -1,0 +1,101 @@
+/* Channels. The runtime calls these hooks (runtime/chan.go):
+ *
+ *   racesync    without a buffer: who runs releases, who waited acquires and releases, who runs acquires; all by the channel
+ *   racenotify  with a buffer: release and acquire, in one, by the slot; where an element has no bytes, by the channel, in two
+ *   close       releases the channel; who finds it closed acquires that
+ *
+ * By its address a channel is known from the 16th byte on (hchan.raceaddr). */
+#include "log.h"
+
+/* The head of runtime.hchan. */
+struct channel {
+    word count, slots;
+    void *buffer;
+    uint16_t element_bytes;
+    uint32_t is_closed;
+    void *element_type;
+    word send_at, receive_at;
+};
+_Static_assert(offsetof(struct channel, is_closed) == 28 && offsetof(struct channel, send_at) == 40, "as runtime.hchan");
+
+/* Whether the goroutine sends. runtime.send and runtime.recv meet one that waits, and call the hook for both: first for who runs. In
+ * select the line tells; where that isn't known, a full buffer is received from. */
+static int sends(const struct ordered *it, const struct channel *channel) {
+    const struct code *asker = it->asker;
+    if (asker->asker == CHANNEL_SEND || asker->asker == CHANNEL_RECEIVE)
+        return (asker->asker == CHANNEL_SEND) ^ (int)(aero_sync(it->at)->step++ & 1);
+    if (asker->asker != CHANNEL_SELECT) return (asker->is & SENDS) != 0;
+    return aero_select_send ? asker->line == aero_select_send : channel && channel->count < channel->slots;
+}
+
+/* Without a buffer a message is a variable that the sender writes and the receiver reads. The way back, by which the sender goes on
+ * once there is a receiver, is left out unless AERODROME_CHANNELS asks for it: with it each two blocks that meet are a cycle. */
+static void meeting(struct goroutine *t, const struct ordered *it) {
+    struct sync *s = aero_sync(it->at);
+    unsigned step = s->step++ & 3;
+    int from_sender = it->asker->asker == CHANNEL_SEND ? step < 2 : step >= 2;
+    if (step < 2) aero_waits(t);
+    if (!from_sender && !aero_settings.both_ways) return;
+    if (it->how == ACQUIRE) aero_acquire(t, s, it->place);
+    else aero_release(t, s, 0, it->place);
+}
+
+/* What has no bytes is all alike, and a buffer of several is often a semaphore. So who has sent takes back its own; else what is
+ * received was sent first. */
+static void token(struct goroutine *t, const struct ordered *it, int is_sent) {
+    struct sync *s = aero_sync(it->at);
+    size_t one = 0;
+    if (is_sent) {
+        aero_release(t, s, 1, it->place);
+        return;
+    }
+    while (one < s->count && s->releases[one].by != t->id) one++;
+    if (one == s->count) {
+        aero_waits(t);
+        if (!s->count) return;
+        one = 0;
+        aero_suffixed(t, "r", s->at, &(struct suffix){"~", s->releases[one].slot, it->place});
+    }
+    memmove(&s->releases[one], &s->releases[one + 1], (--s->count - one) * sizeof *s->releases);
+}
+
+/* A slot is as a lock: send k, receive k and send k + slots come in this order. Who takes back what it has sent itself, as who gives
+ * back a semaphore, waits for nobody. */
+static void slot(struct goroutine *t, const struct ordered *it, const struct channel *channel) {
+    int is_sent = sends(it, channel);
+    int64_t number = !channel ? -1 : (int64_t)(is_sent ? channel->send_at : channel->receive_at);
+    struct sync *s = aero_sync(it->at);
+    if (!is_sent && s->sender != t->id) aero_waits(t);
+    s->sender = is_sent ? t->id : 0;
+    aero_suffixed(t, "w", it->at, &(struct suffix){"~", number, it->place});
+}
+
+/* A close has written the channel. */
+static void found_closed(struct goroutine *t, const struct ordered *it) {
+    aero_waits(t);
+    aero_event(t, "r", it->at, it->place);
+}
+
+/* By the channel's own address. */
+static void by_channel(struct goroutine *t, const struct ordered *it) {
+    const struct channel *channel = (const struct channel *)(it->at - offsetof(struct channel, buffer));
+    int is_met = it->asker->asker == CHANNEL_SEND || it->asker->asker == CHANNEL_RECEIVE;
+    if (!channel->slots && is_met) {
+        meeting(t, it);
+        return;
+    }
+    if (it->how == RELEASE) return;
+    if (!channel->slots || (channel->is_closed && !channel->count)) {
+        found_closed(t, it);
+        return;
+    }
+    if (channel->slots > 1) token(t, it, sends(it, channel));
+    else slot(t, it, channel);
+}
+
+void aero_channel(struct goroutine *t, const struct ordered *it) {
+    if (it->asker->asker == CHANNEL_CLOSE) {
+        if (it->how == ACQUIRE) found_closed(t, it);
+    } else if (it->how == RELEASE_ACQUIRE) slot(t, it, NULL);
+    else by_channel(t, it);
+}

@@ -1,0 +1,186 @@
+/* Which functions are atomic blocks, by AERODROME_BLOCKS:
+ *
+ *   f,g        these, with a comma or a newline between two. A name is that in the log: main.(*Bank).withdraw. In one, * stands
+ *              for any text: main.(*Bank).*,-main.(*Bank).audit
+ *   -f,g       all that are blocks without the variable, but these
+ *   all        each function; all,-f but for f
+ *   none       none
+ *   @FILE      what the file says, with one name a line, and # before lines that say nothing; -@FILE: all but these
+ *
+ * Without it all are but main.main, inits, those that goroutines start with (goroutines.c), those of the standard library, and those
+ * in files named _test.go. */
+#include "log.h"
+
+#include <fcntl.h>
+#include <stdio.h>
+#include <stdlib.h>
+#include <sys/stat.h>
+#include <unistd.h>
+
+static enum { USUAL, ALL, ONLY_LISTED } base;
+static struct name {
+    const char *text;
+    size_t length;
+    int leaves_out, is_found;
+} *names;
+static size_t name_count;
+
+int aero_starts_are_blocks(void) { return base != USUAL; }
+int aero_wants_blocks(void) { return base != ONLY_LISTED || name_count; }
+
+/* ---- names that match */
+
+/* Whether the text is what the name of that length says, whose stars stand for any text. */
+static int matches(const char *name, size_t length, const char *text) {
+    size_t place = 0, star = length;
+    const char *behind = NULL;
+    while (*text || place < length) {
+        if (place < length && name[place] == '*') {
+            star = place++;
+            behind = text;
+        } else if (place < length && *text && name[place] == *text) {
+            place++, text++;
+        } else {
+            if (star == length || !*behind) return 0;
+            place = star + 1;
+            text = ++behind;
+        }
+    }
+    return 1;
+}
+
+static int ends_with(const char *text, const char *end) {
+    size_t length = strlen(text), most = strlen(end);
+    return length >= most && !strcmp(text + length - most, end);
+}
+
+/* An init function is pkg.init or pkg.init.0, and what it declares pkg.init.func1. */
+static int is_usual(const char *label, const char *file) {
+    if (!strcmp(label, "main.main") || strstr(label, ".init.") || ends_with(label, ".init")) return 0;
+    return !ends_with(file, "_test.go") && !strstr(file, "_testmain.go") && !aero_is_of_library(label);
+}
+
+int aero_is_block(const char *label, const char *file) {
+    if (begins(label, "runtime.") || begins(label, "internal/race.")) return 0;
+    int block = base == ALL || (base == USUAL && is_usual(label, file));
+    for (size_t one = 0; one < name_count; one++)
+        if (matches(names[one].text, names[one].length, label)) {
+            block = !names[one].leaves_out;
+            if (!block) break;
+        }
+    return block;
+}
+
+/* ---- names of a list */
+
+/* How long the name is with which the list begins. A comma within brackets, as in Map[int,string], belongs to it. */
+static size_t name_length(const char *list) {
+    int depth = 0;
+    size_t length = 0;
+    for (; list[length] && list[length] != '\n'; length++) {
+        char byte = list[length];
+        if (byte == ',' && depth <= 0) break;
+        depth += (byte == '[' || byte == '(') - (byte == ']' || byte == ')');
+    }
+    return length;
+}
+
+static int is_word(const char *list, const char *word) {
+    return name_length(list) == strlen(word) && begins(list, word);
+}
+
+static void take_names(const char *list, int all_leave_out) {
+    names = aero_new((strlen(list) / 2 + 1) * sizeof *names);
+    while (*list) {
+        int minus = *list == '-';
+        size_t length = name_length(list += minus);
+        if (length) names[name_count++] = (struct name){list, length, minus || all_leave_out, 0};
+        list += length + (list[length] != 0);
+    }
+}
+
+static int find_names(const char *label) {
+    size_t found = 0;
+    for (size_t one = 0; one < name_count; one++) {
+        if (!names[one].is_found) names[one].is_found = matches(names[one].text, names[one].length, label);
+        found += names[one].is_found != 0;
+    }
+    return found < name_count;
+}
+
+/* Whether it has a star for any text. One behind a parenthesis, as in (*Bank), is Go's own. */
+static int is_pattern(const struct name *name) {
+    for (size_t place = 0; place < name->length; place++)
+        if (name->text[place] == '*' && (!place || name->text[place - 1] != '(')) return 1;
+    return 0;
+}
+
+/* The first name that no function has. What a pattern would leave out needn't be there. */
+static const struct name *unknown_name(void) {
+    for (size_t one = 0; one < name_count; one++) {
+        const struct name *name = &names[one];
+        if (!name->is_found && (!name->leaves_out || !is_pattern(name))) return name;
+    }
+    return NULL;
+}
+
+/* Go leaves functions that nothing calls out of a program. */
+int aero_knows_blocks(void) {
+    char what[256], why[256];
+    if (!name_count || !aero_has_symbols()) return 1;
+    aero_each_function(find_names);
+    const struct name *unknown = unknown_name();
+    if (!unknown) return 1;
+    snprintf(what, sizeof what, "AERODROME_BLOCKS=%.180s", aero_settings.blocks);
+    snprintf(why, sizeof why, "no function is called %.*s: nothing is logged", unknown->length < 150 ? (int)unknown->length : 150,
+             unknown->text);
+    aero_say(what, why);
+    return 0;
+}
+
+/* ---- the variable */
+
+/* The bytes of the file, with a byte 0 behind them; NULL: it can't be read. */
+static char *bytes_of(const char *path) {
+    struct stat is;
+    int file = open(path, O_RDONLY | O_CLOEXEC);
+    if (file < 0 || fstat(file, &is) || !S_ISREG(is.st_mode) || !is.st_size) return NULL;
+    char *text = aero_new((size_t)is.st_size + 1);
+    ssize_t came = read(file, text, (size_t)is.st_size);
+    close(file);
+    if (came == is.st_size) return text;
+    free(text);
+    return NULL;
+}
+
+/* The lines of the file, but for those that begin with #, behind `head`; NULL: it can't be read. */
+static char *lines_of(const char *path, const char *head) {
+    char *bytes = bytes_of(path), *text = bytes ? aero_new(strlen(bytes) + 2) : NULL;
+    if (!bytes) return NULL;
+    char *to = aero_put(text, head);
+    int is_new = 1, is_comment = 0;
+    for (const char *from = bytes; *from; from++) {
+        if (is_new) is_comment = *from == '#';
+        is_new = *from == '\n';
+        if (!is_comment && *from != '\r' && !(is_new && to > text && to[-1] == '\n')) *to++ = *from;
+    }
+    free(bytes);
+    return text;
+}
+
+int aero_read_blocks(const char *blocks) {
+    if (!blocks) return 1;
+    int minus = *blocks == '-', is_file = blocks[minus] == '@';
+    const char *said = is_file ? lines_of(blocks + minus + 1, minus ? "-" : "") : strdup(blocks);
+    if (!said || !said[strspn(said, "-\n")]) {
+        char what[256];
+        snprintf(what, sizeof what, "AERODROME_BLOCKS=%.180s", blocks);
+        aero_say(what, said ? "it has no name: nothing is logged" : "the file is empty or can't be read: nothing is logged");
+        return 0;
+    }
+    int all = is_word(said, "all");
+    base = all ? ALL : *said == '-' ? USUAL : ONLY_LISTED;
+    if (is_word(said, "none") && !said[4 + (said[4] == '\n')]) return 1;
+    take_names(all ? said + 3 + (said[3] != 0) : said, *said == '-');
+    return 1;
+}

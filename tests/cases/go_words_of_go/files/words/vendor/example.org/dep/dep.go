@@ -1,0 +1,5 @@
+package dep
+
+var asked int
+
+func Name() string { asked++; return "vendored" }

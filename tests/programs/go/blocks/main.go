@@ -1,0 +1,59 @@
+// Functions of each kind, of which some are blocks.
+package main
+
+import (
+	"fmt"
+	"sort"
+	"sync"
+)
+
+type adder interface{ add(int) }
+type one struct{ n int }
+
+var (
+	mu    sync.Mutex
+	count int
+	done  = make(chan int)
+)
+
+func init() { count = 1 }
+
+func plain()             { count++ }
+func (o *one) add(k int) { mu.Lock(); o.n += k; mu.Unlock() }
+func generic[T any](list []T) int {
+	count += len(list)
+	return count
+}
+func worker(n int)       { count += n; inner(); done <- 1 }
+func inner()             { count++ }
+func (o *one) run(n int) { o.n += n; inner(); done <- 1 }
+func noEvents(n int) int { return n + 1 }
+func sorts()             { sort.Slice([]int{count, 2, 1}, func(i, j int) bool { count++; return i < j }) }
+func repeats() (err error) {
+	defer func() { err = fmt.Errorf("%v", recover()) }()
+	defer func() { panic(fmt.Sprint(recover(), "again")) }()
+	count++
+	panic("first")
+}
+
+func main() {
+	plain()
+	var a adder = &one{}
+	a.add(2)
+	generic([]string{"x"})
+	go worker(3)
+	<-done
+	o := &one{}
+	go o.run(4)
+	<-done
+	go func() { count++; inner(); done <- 1 }()
+	<-done
+	noEvents(1)
+	sorts()
+	if repeats() == nil {
+		panic("not caught")
+	}
+	for i := 0; i < 2; i++ {
+		defer plain()
+	}
+}

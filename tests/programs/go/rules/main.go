@@ -1,0 +1,485 @@
+// Each word is a program of its own, which runs two functions side by side, most of them in steps: after(1) waits for mark(1). The
+// file verdicts has what the checker is to say of its log.
+package main
+
+import (
+	"context"
+	"fmt"
+	"os"
+	"runtime"
+	"strings"
+	"sync"
+	"sync/atomic"
+	"time"
+
+	"programs/meet"
+)
+
+type box struct{ a, b int64 }
+
+var (
+	points [8]meet.Point
+	shared box
+	mu     sync.Mutex
+	flag   atomic.Int64
+)
+
+func mark(n int)  { points[n].Tell() }
+func after(n int) { points[n].Await() }
+
+func both(f, g func()) {
+	var wg sync.WaitGroup
+	wg.Add(2)
+	go func() { f(); wg.Done() }()
+	go func() { g(); wg.Done() }()
+	wg.Wait()
+}
+
+// A cycle, if what f does in the first step comes before what the other block does: first f, then the other block, which then comes
+// before the load.
+func first(f func())  { f(); mark(0); after(1); flag.Load() }
+func second(f func()) { after(0); f(); flag.Store(1); mark(1) }
+func follows(f, g func()) func() {
+	return func() { both(func() { first(f) }, func() { second(g) }) }
+}
+
+// f, g, f, g: a cycle, if two calls conflict.
+func crossOne(f func()) { f(); mark(0); after(1); f(); mark(2) }
+func crossTwo(f func()) { after(0); f(); mark(1); after(2); f() }
+func crosses(f func()) func() {
+	return func() { both(func() { crossOne(f) }, func() { crossTwo(f) }) }
+}
+
+// A look and a change with somebody else's change between them.
+func lookAndChange(look func() int64, change func(int64)) {
+	seen := look()
+	mark(0)
+	after(1)
+	change(seen + 1)
+}
+func changeBetween(change func(int64)) { after(0); change(7); mark(1) }
+func splits(look func() int64, change func(int64)) func() {
+	return func() { both(func() { lookAndChange(look, change) }, func() { changeBetween(change) }) }
+}
+
+// --- accesses
+type pair struct{ low, high int32 }
+
+var (
+	halves pair
+	table  = map[int]int{}
+	bytes  [16]byte
+)
+
+func lowTwice() {
+	halves.low++
+	mark(0)
+	after(1)
+	halves.low++
+	mark(2)
+	halves.low++
+}
+func highTwice()        { after(0); halves.high++; mark(1); after(2); halves.high++ }
+func copyBack()         { was := shared; mark(0); after(1); shared = was }
+func addToB()           { after(0); shared.b++; mark(1) }
+func copiedKnown()      { shared.b++; both(copyBack, addToB) }
+func lowHalf()          { copy(bytes[:4], "abcd") }
+func highHalf()         { copy(bytes[4:8], "abcd") }
+func lowOne()           { lowHalf(); mark(0); after(1); lowHalf(); mark(2) }
+func highOne()          { after(0); highHalf(); mark(1); after(2); highHalf() }
+func lookAtMap() int64  { return int64(table[1]) }
+func changeMap(n int64) { table[1] = int(n) }
+
+// What lies on a goroutine's own stack is nobody else's, whatever lay there before: no event, and so no block.
+func bumpOwn(at *int64) { *at++ }
+func ownStack(i int) int64 {
+	var own [4]int64
+	for n := range own {
+		bumpOwn(&own[n])
+		runtime.Gosched()
+	}
+	return own[i%4]
+}
+func stacks() {
+	var wg sync.WaitGroup
+	for i := 0; i < 8; i++ {
+		wg.Add(1)
+		go func(i int) {
+			ownStack(i)
+			wg.Done()
+		}(i)
+	}
+	wg.Wait()
+}
+
+// --- locks
+var rw sync.RWMutex
+
+func locked(f func())   { mu.Lock(); f(); mu.Unlock() }
+func readLocked()       { rw.RLock(); _ = shared.a; rw.RUnlock() }
+func writeLocked()      { rw.Lock(); shared.a++; rw.Unlock() }
+func readHeld()         { rw.RLock(); mark(0); after(1); _ = shared.b; rw.RUnlock() }
+func readMeanwhile()    { after(0); rw.RLock(); _ = shared.a; rw.RUnlock(); mark(1) }
+func lookRW() (n int64) { rw.RLock(); n = shared.a; rw.RUnlock(); return }
+func changeRW(n int64)  { rw.Lock(); shared.a = n; rw.Unlock() }
+func locksIt()          { mu.Lock(); shared.a++; mark(0) }
+func unlocksIt()        { after(0); shared.b++; mu.Unlock() }
+func incr()             { mu.Lock(); shared.a++; mu.Unlock() }
+func tries() {
+	if mu.TryLock() {
+		mu.Unlock()
+	}
+	if rw.TryRLock() {
+		rw.RUnlock()
+	}
+	if rw.TryLock() {
+		rw.Unlock()
+	}
+}
+
+// --- WaitGroup, Once, Cond, Map, Value
+var (
+	group sync.WaitGroup
+	once  sync.Once
+	cond  = sync.NewCond(&mu)
+	ready bool
+	keys  sync.Map
+	value atomic.Value
+)
+
+func waiter() {
+	mu.Lock()
+	mark(0)
+	for !ready {
+		cond.Wait()
+	}
+	mu.Unlock()
+}
+func signaller() { after(0); mu.Lock(); ready = true; mu.Unlock(); cond.Broadcast() }
+
+// The second one has found it undone, and waits, before the first one has done it.
+func onceUser() { once.Do(func() { mark(0); blocked(2); shared.a = 5 }); _ = shared.a }
+
+// Waits until so many goroutines wait for a lock or a WaitGroup.
+func blocked(wanted int) {
+	stacks := make([]byte, 1<<16)
+	for {
+		n := runtime.Stack(stacks, true)
+		if strings.Count(string(stacks[:n]), "[semacquire") >= wanted {
+			return
+		}
+	}
+}
+
+// --- channels
+var (
+	plain   = make(chan int)
+	back    = make(chan int)
+	one     = make(chan struct{}, 1)
+	several = make(chan struct{}, 3)
+	slot    = make(chan int, 1)
+	queue   = make(chan int, 2)
+	closing = make(chan int)
+	full    = make(chan int, 1)
+)
+
+func sendTwo()          { plain <- 1; plain <- 2 }
+func receiveTwo()       { <-plain; <-plain }
+func ask() int          { plain <- 1; return <-back }
+func answer()           { n := <-plain; back <- n + 1 }
+func holdOne()          { one <- struct{}{}; shared.a++; shared.a++; <-one }
+func lookOne() int64    { one <- struct{}{}; n := shared.a; <-one; return n }
+func changeOne(n int64) { one <- struct{}{}; shared.a = n; <-one }
+func lookSlot() int64   { slot <- 1; n := shared.a; <-slot; return n }
+func changeSlot(n int64) {
+	slot <- 1
+	shared.a = n
+	<-slot
+}
+
+// The second one gives back first: what it takes isn't what the first one has put there.
+func holdTwice()     { several <- struct{}{}; mark(0); after(1); <-several }
+func holdMeanwhile() { after(0); several <- struct{}{}; <-several; mark(1) }
+
+// Who takes back its own token doesn't wait, so its block goes on.
+func keepsOne() {
+	flag.Add(1)
+	one <- struct{}{}
+	<-one
+	mark(0)
+	after(1)
+	flag.Add(1)
+}
+func keepsSeveral() {
+	flag.Add(1)
+	several <- struct{}{}
+	<-several
+	mark(0)
+	after(1)
+	flag.Add(1)
+}
+func keepsSlot() {
+	flag.Add(1)
+	slot <- 1
+	<-slot
+	mark(0)
+	after(1)
+	flag.Add(1)
+}
+func addsMeanwhile() { after(0); flag.Add(1); mark(1) }
+func selectSend(c chan struct{}) {
+	select {
+	case c <- struct{}{}:
+	case <-closing:
+	}
+}
+func selectReceive(c chan struct{}) {
+	select {
+	case <-c:
+	case <-closing:
+	}
+}
+func selects() {
+	stop := make(chan bool)
+	go func() {
+		for i := 0; i < 20; i++ {
+			select {
+			case several <- struct{}{}:
+			case <-several:
+			case slot <- i:
+			case <-slot:
+			default:
+			}
+		}
+		close(stop)
+	}()
+	for i := 0; i < 20; i++ {
+		select {
+		case plain <- 1:
+		case <-slot:
+		case <-several:
+		case slot <- 2:
+		case <-time.After(time.Millisecond):
+		}
+	}
+	<-stop
+	_, open := <-stop
+	if open {
+		panic("open")
+	}
+}
+
+// --- goroutines and timers
+func starts(f func()) { go f(); after(1); flag.Load() }
+func started()        { flag.Store(1); mark(1) }
+
+// Waits until no other goroutine is there.
+func alone() {
+	for runtime.NumGoroutine() > 1 {
+		runtime.Gosched()
+	}
+}
+func startsAfterOthers() {
+	for i := 0; i < 3; i++ {
+		both(incr, incr)
+	}
+	alone()
+	starts(started)
+}
+func fires() { mu.Lock(); shared.a++; mu.Unlock(); back <- 1 }
+func timers() {
+	for i := 0; i < 5; i++ {
+		time.AfterFunc(time.Duration(i)*time.Millisecond, fires)
+	}
+	for i := 0; i < 5; i++ {
+		<-back
+	}
+	tick := time.NewTicker(time.Millisecond)
+	for i := 0; i < 5; i++ {
+		<-tick.C
+	}
+	tick.Stop()
+	c, stop := context.WithTimeout(context.Background(), 5*time.Millisecond)
+	defer stop()
+	<-c.Done()
+}
+func many(rounds int) {
+	for k := 0; k < rounds; k++ {
+		var wg sync.WaitGroup
+		for i := 0; i < 1000; i++ {
+			wg.Add(1)
+			go func() { incr(); wg.Done() }()
+		}
+		wg.Wait()
+	}
+}
+
+// --- ways out of functions
+func deeper(n int) int {
+	shared.a++
+	if n == 0 {
+		panic("x")
+	}
+	return deeper(n-1) + 1
+}
+func catches() (err error) {
+	defer func() {
+		if r := recover(); r != nil {
+			err = fmt.Errorf("caught")
+			shared.b++
+		}
+	}()
+	deeper(50)
+	return nil
+}
+func quits() { shared.a++; runtime.Goexit() }
+func grows(n int) byte {
+	var room [1024]byte
+	shared.a++
+	if n > 0 {
+		room[n%1024] = grows(n - 1)
+	}
+	return room[0]
+}
+func panics() {
+	for i := 0; i < 3; i++ {
+		if catches() == nil {
+			panic("not caught")
+		}
+		incr()
+	}
+}
+func quitting() {
+	go func() {
+		quits()
+	}()
+	alone()
+}
+
+// The stack moves within a block.
+func growsBetween() { n := flag.Load(); mark(0); after(1); grows(3000); flag.Store(n + 1) }
+
+// What is locked in a block that a panic leaves, and unlocked behind that.
+func lookAndPanic() {
+	defer func() { recover() }()
+	incr()
+	panic("x")
+}
+func outside() { lookAndPanic(); mark(0); after(1); incr() }
+func between() { after(0); incr(); mark(1) }
+
+// --- memory
+func pools() {
+	p := sync.Pool{New: func() any { return new(box) }}
+	var wg sync.WaitGroup
+	for i := 0; i < 20; i++ {
+		wg.Add(1)
+		go func() {
+			for k := 0; k < 20; k++ {
+				b := p.Get().(*box)
+				b.a++
+				p.Put(b)
+			}
+			wg.Done()
+		}()
+	}
+	wg.Wait()
+}
+
+var pooled = sync.Pool{New: func() any { return new(box) }}
+
+func usePooled() { b := pooled.Get().(*box); b.a++; pooled.Put(b) }
+
+type account struct {
+	mu sync.Mutex
+	n  [6]int64
+}
+
+var kept *account
+
+func open()  { kept = &account{}; kept.mu.Lock(); kept.n[1]++; kept.mu.Unlock() }
+func stale() { kept = &account{}; kept.mu.Lock() }
+func collected() {
+	for i := 0; i < 200; i++ {
+		for k := 0; k < 100; k++ {
+			open()
+		}
+		both(stale, func() {})
+		runtime.GC()
+	}
+}
+
+var words = map[string]func(){
+	"neighbours":     func() { both(lowTwice, highTwice) },
+	"copied":         func() { both(copyBack, addToB) },
+	"copied-known":   copiedKnown,
+	"copied-halves":  func() { both(lowOne, highOne) },
+	"map-access":     splits(lookAtMap, changeMap),
+	"stacks":         stacks,
+	"locks":          crosses(func() { locked(func() { shared.a++ }) }),
+	"lock-follows":   follows(func() { locked(func() {}) }, func() { locked(func() {}) }),
+	"handed":         func() { both(locksIt, unlocksIt); both(incr, incr) },
+	"tries":          func() { both(tries, func() {}) },
+	"readers":        func() { both(readHeld, readMeanwhile) },
+	"readers-cross":  crosses(readLocked),
+	"writer-splits":  splits(lookRW, changeRW),
+	"reader-follows": follows(func() { rw.Lock(); rw.Unlock() }, func() { rw.RLock(); rw.RUnlock() }),
+	"writer-follows": follows(func() { rw.RLock(); rw.RUnlock() }, func() { rw.Lock(); rw.Unlock() }),
+	"done-cross":     func() { group.Add(4); crosses(func() { group.Done() })() },
+	"wait-follows":   func() { group.Add(1); follows(func() { group.Done() }, func() { group.Wait() })() },
+	"wait-cross":     crosses(func() { group.Wait() }),
+	"once":           func() { both(onceUser, func() { after(0); onceUser() }) },
+	"once-follows":   follows(func() { once.Do(func() {}) }, func() { once.Do(func() {}) }),
+	"cond":           func() { both(waiter, signaller) },
+	"keys":           crosses(func() { keys.Load(1) }),
+	"key-follows":    func() { keys.Store(1, 0); follows(func() { keys.Store(1, 1) }, func() { keys.Load(1) })() },
+	"add-cross":      crosses(func() { flag.Add(1) }),
+	"load-cross":     crosses(func() { flag.Load() }),
+	"failed-cross":   crosses(func() { flag.CompareAndSwap(5, 6) }),
+	"atomic-splits":  splits(flag.Load, flag.Store),
+	"value-cross":    func() { value.Store(0); crosses(func() { value.Load() })() },
+	"value-splits": func() {
+		value.Store(int64(0))
+		splits(func() int64 { n, _ := value.Load().(int64); return n }, func(n int64) { value.Store(n) })()
+	},
+	"messages":         func() { both(sendTwo, receiveTwo) },
+	"asks":             func() { both(func() { ask() }, answer) },
+	"message-follows":  follows(func() { queue <- 1 }, func() { <-queue }),
+	"semaphore":        func() { both(holdOne, holdOne) },
+	"semaphore-splits": splits(lookOne, changeOne),
+	"slot-splits":      splits(lookSlot, changeSlot),
+	"semaphore-kept":   func() { both(keepsOne, addsMeanwhile) },
+	"several-kept":     func() { both(keepsSeveral, addsMeanwhile) },
+	"slot-kept":        func() { both(keepsSlot, addsMeanwhile) },
+	"semaphore-cross":  func() { both(holdTwice, holdMeanwhile) },
+	"select-one":       follows(func() { selectSend(one) }, func() { selectReceive(one) }),
+	"select-several":   follows(func() { selectSend(several) }, func() { selectReceive(several) }),
+	"selects":          selects,
+	"close-follows":    follows(func() { close(closing) }, func() { <-closing }),
+	"full-follows":     follows(func() { full <- 1; close(full) }, func() { <-full; <-full }),
+	"starts":           func() { starts(started) },
+	"starts-again":     startsAfterOthers,
+	"timer-follows":    func() { first(func() { time.AfterFunc(0, func() { second(func() {}) }) }) },
+	"timers":           timers,
+	"many":             func() { many(70) },
+	"panics":           panics,
+	"panic-leaves":     func() { both(outside, between) },
+	"quits":            quitting,
+	"grows":            func() { both(func() { grows(3000) }, func() {}) },
+	"grows-splits":     func() { both(growsBetween, func() { changeBetween(flag.Store) }) },
+	"pools":            pools,
+	"pooled-cross":     crosses(usePooled),
+	"collected":        collected,
+}
+
+func main() {
+	for n := range points {
+		points[n] = meet.New()
+	}
+	run := words[os.Args[1]]
+	if run == nil {
+		fmt.Println("no such word")
+		os.Exit(2)
+	}
+	run()
+}
