@@ -15,7 +15,7 @@ import (
 )
 
 func main() {
-	reads := 300
+	reads := 20000
 	if len(os.Args) > 1 {
 		reads, _ = strconv.Atoi(os.Args[1])
 	}
