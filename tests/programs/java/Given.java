@@ -74,31 +74,33 @@ public class Given {
         // In the worker: it forks a task, and takes it back.
         step = 10; //: gBGBESEs
         pool.submit(() -> new Sum().fork().join()).get();
+        step = 11; //: gBGBESEs
+        pool.submit(() -> pool.submit(new Sum()).join()).get();
         pool.shutdown();
     }
 
     static void futures() throws Exception {
         CompletableFuture<Object> first = new CompletableFuture<>();
-        step = 11; //: es
+        step = 12; //: es
         first.complete("a");
         first.get();
         CompletableFuture<Object> second = new CompletableFuture<>();
-        step = 12; //: es
+        step = 13; //: es
         second.completeExceptionally(new IllegalStateException());
         sees(second::join);
         Executor pool = Executors.newSingleThreadExecutor();
-        step = 13; //: gBEs
-        CompletableFuture.supplyAsync(() -> 1, pool).join();
         step = 14; //: gBEs
-        CompletableFuture.runAsync(() -> { }, pool).get();
+        CompletableFuture.supplyAsync(() -> 1, pool).join();
         step = 15; //: gBEs
+        CompletableFuture.runAsync(() -> { }, pool).get();
+        step = 16; //: gBEs
         sees(() -> CompletableFuture.supplyAsync(() -> new Failing().call(), pool).join());
-        step = 16; //: es
+        step = 17; //: es
         CompletableFuture<Object> third = new CompletableFuture<>();
         third.complete("b");
         third.getNow(null);
         ((ExecutorService) pool).shutdown();
-        step = 17; //:
+        step = 18; //:
     }
 
     public static void main(String[] words) throws Exception {

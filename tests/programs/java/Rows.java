@@ -393,6 +393,25 @@ public class Rows {
         LockSupport.parkUntil(1); //: r(Thread@.all#)
     }
 
+    static class Guarded extends Thread {
+        int count;
+
+        @Override public void run() {
+            synchronized (this) { //: acq(Rows$Guarded@)
+                count++; //: r(Rows$Guarded.count@) w(Rows$Guarded.count@)
+            } //: rel(Rows$Guarded@)
+        }
+    }
+
+    /** A join gives the thread's monitor back, by lines without a place: else the thread couldn't have it. */
+    static void joinWithinMonitor() throws InterruptedException {
+        Guarded thread = new Guarded();
+        synchronized (thread) { //: acq(Rows$Guarded@)
+            thread.start();
+            thread.join();
+        } //: rel(Rows$Guarded@)
+    }
+
     // ---- queues for several threads, by their own classes
 
     static LinkedBlockingDeque<Object> none() { return new LinkedBlockingDeque<>(); }
@@ -896,6 +915,7 @@ public class Rows {
         locks();
         stamps();
         synchronizers();
+        joinWithinMonitor();
         queues();
         queuesOfEachClass();
         queuesByTheirInterfaces();
