@@ -217,6 +217,18 @@ public class Rows {
         new DoubleAdder().add(1); //: w(DoubleAdder@.all#)
     }
 
+    /** A class of the program may have methods of its own in their places. */
+    static class Adder extends LongAdder {
+        private static final long serialVersionUID = 1;
+    }
+
+    static void addersOfTheProgram() {
+        LongAdder it = new Adder();
+        it.add(1); //: w(Rows$Adder@.all#)
+        it.sum(); //: r(Rows$Adder@.all#) w(Rows$Adder@.look#)
+        it.reset(); //: r(Rows$Adder@.look#) r(Rows$Adder@.all#) w(Rows$Adder@.look#) w(Rows$Adder@.all#)
+    }
+
     static LongAccumulator lookedAt() {
         LongAccumulator it = new LongAccumulator(Long::max, 0);
         it.get(); //: w(LongAccumulator@.look#)
@@ -910,6 +922,7 @@ public class Rows {
         atomics();
         updaters();
         adders();
+        addersOfTheProgram();
         accumulators();
         locksOfTheProgram();
         locks();
