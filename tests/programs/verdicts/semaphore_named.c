@@ -1,21 +1,26 @@
-// Verdict: serializable
-// Blocks: add
-// A semaphore by a name, as a mutex.
+// Verdict: violation twice
+// Blocks: twice,once
+// A semaphore by a name, of one permit, is all that orders the two: a block takes it twice.
+#include "steps.h"
 #include <fcntl.h>
 #include <pthread.h>
 #include <semaphore.h>
 #include <stdio.h>
-#include <unistd.h>
 static sem_t *s;
-static int x;
-static void add(void) {
+static void once(void) {
     sem_wait(s);
-    x++;
-    x++;
     sem_post(s);
 }
+static void twice(void) {
+    once();
+    make(0);
+    await(1);
+    once();
+}
 static void *other(void *u) {
-    for (int one = 0; one < 100; one++) add();
+    await(0);
+    once();
+    make(1);
     return u;
 }
 int main(void) {
@@ -23,10 +28,10 @@ int main(void) {
     char name[64];
     snprintf(name, sizeof name, "/aerodrome-%d", (int)getpid());
     s = sem_open(name, O_CREAT | O_EXCL, 0600, 1);
-    if (s == SEM_FAILED) return 77;
+    if (s == SEM_FAILED) return 1;
     sem_unlink(name);
     pthread_create(&t, 0, other, 0);
-    for (int one = 0; one < 100; one++) add();
+    twice();
     pthread_join(t, 0);
-    return x != 400;
+    return 0;
 }
