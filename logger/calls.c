@@ -25,10 +25,13 @@ static void write_out(int ends_thread) {
 /* What a child of vfork() has entered its parent has left. */
 static void note_end(void) { aero_me.jumped |= aero_log.number >= 0 && getpid() != aero_owner; }
 
-/* Of SYS_clone: a child with memory of its own. */
+/* A child with memory of its own. */
 static int is_fork(long number, const long *with) {
 #ifdef SYS_fork
     if (number == SYS_fork) return 1;
+#endif
+#ifdef SYS_clone3
+    if (number == SYS_clone3) return !(*(const uint64_t *)with[0] & CLONE_VM);
 #endif
     return number == SYS_clone && !(with[0] & CLONE_VM);
 }
@@ -70,6 +73,51 @@ EXPORT int prctl(int option, ...) {
     if (option == PR_SET_SECCOMP && with[0] == SECCOMP_MODE_STRICT) before_strict_mode();
     if (option == PR_SET_SECCOMP) write_out(0);
     return real(option, with[0], with[1], with[2], with[3]);
+}
+
+/* ---- threads and processes by clone */
+
+/* A thread of this kind mostly has the memory of the thread that makes it, also what the logger keeps of that: what the two do can't
+ * be told apart. */
+static void before_thread(void) {
+    if (!has_log()) return;
+    aero_lock();
+    aero_flush();
+    aero_stop("the program makes a thread by clone");
+    aero_unlock();
+    aero_leave();
+}
+
+struct cloned {
+    int (*start)(void *);
+    void *with;
+};
+/* In a child with memory of its own. */
+static int run_apart(void *given) {
+    struct cloned cloned = *(struct cloned *)given;
+    aero_forked_apart();
+    return cloned.start(cloned.with);
+}
+
+/* The maker waits for a child that borrows its memory, as one of vfork() does: what that does isn't logged. */
+EXPORT int clone(int (*start)(void *), void *stack, int flags, void *with, ...) {
+    REAL(int, clone, int (*)(void *), void *, int, void *, ...)
+    void *more[3];
+    va_list list;
+    va_start(list, with);
+    for (size_t place = 0; place < 3; place++) more[place] = va_arg(list, void *);
+    va_end(list);
+    struct cloned cloned = {start, with};
+    if (!(flags & CLONE_VM)) return real(run_apart, stack, flags, &cloned, more[0], more[1], more[2]);
+    int is_borrowed = (flags & CLONE_VFORK) && !(flags & CLONE_SETTLS);
+    if (!is_borrowed) before_thread();
+    int logs = is_borrowed && aero_enter();
+    int result = real(start, stack, flags, with, more[0], more[1], more[2]);
+    if (logs) {
+        aero_me.error = errno;
+        aero_leave();
+    }
+    return result;
 }
 
 /* They are looked up here, and not where a signal handler or a child of vfork() is the first to call them. */

@@ -2,7 +2,6 @@
 #include "log.h"
 
 #include <errno.h>
-#include <semaphore.h>
 #include <threads.h>
 #include <time.h>
 
@@ -175,24 +174,7 @@ WAIT(pthread_cond_clockwait, NULL, (condition, lock, clock, until),
 WAIT(cnd_wait, NULL, (condition, lock), cnd_t *condition, mtx_t *lock)
 WAIT(cnd_timedwait, NULL, (condition, lock, until), cnd_t *condition, mtx_t *lock, until_type until)
 
-/* ---- semaphores, barriers, what runs once */
-
-EXPORT int sem_post(sem_t *semaphore) {
-    REAL(int, sem_post, sem_t *)
-    aero_event("w", "sem.", (uintptr_t)semaphore, HERE);
-    return real(semaphore);
-}
-#define SEMAPHORE(name, arguments, ...) \
-    EXPORT int name(__VA_ARGS__) { \
-        REAL(int, name, __VA_ARGS__) \
-        int result = real arguments; \
-        if (!result) aero_event("w", "sem.", (uintptr_t)semaphore, HERE); \
-        return result; \
-    }
-SEMAPHORE(sem_wait, (semaphore), sem_t *semaphore)
-SEMAPHORE(sem_trywait, (semaphore), sem_t *semaphore)
-SEMAPHORE(sem_timedwait, (semaphore, until), sem_t *semaphore, until_type until)
-SEMAPHORE(sem_clockwait, (semaphore, clock, until), sem_t *semaphore, clockid_t clock, until_type until)
+/* ---- barriers, what runs once */
 
 EXPORT int pthread_barrier_wait(pthread_barrier_t *barrier) {
     REAL(int, pthread_barrier_wait, pthread_barrier_t *)

@@ -14,7 +14,7 @@
  *   mutex, spin lock; waiting on a condition           acq(X), rel(X); rel(X), then acq(X)
  *   read-write lock: to read, and to give that back    r(rw.X)        readers may overlap, which acq and rel can't say
  *                    to write, and to give that back   w(rw.X)
- *   sem_post, sem_wait                                 w(sem.X) before it, after it
+ *   sem_post, sem_wait                                 w(sem.X.K) before it, r(sem.X.K) after it; semaphores.c says which K
  *   pthread_barrier_wait                               w(bar.X) before it, r(bar.X) after it
  *   pthread_once                                       w(once.X) by who ran it, r(once.X) by others
  *   pthread_create, pthread_join                       fork(T), join(T)

@@ -2,6 +2,7 @@ package aerodrome;
 
 import aerodrome.hooks.Iterators;
 import aerodrome.hooks.Locks;
+import aerodrome.hooks.Monitors;
 import aerodrome.log.Log;
 import aerodrome.log.LoggedThread;
 import aerodrome.log.Sink;
@@ -65,6 +66,7 @@ public final class Agent {
         with.redefineModule(Object.class.getModule(), Set.of(), Map.of(), opened, Set.of(), Map.of());
         Locks.start();
         Iterators.start();
+        Monitors.start();
         Table table = Table.read();
         JdkWeaver jdk = new JdkWeaver(table);
         with.addTransformer(jdk, true);

@@ -47,9 +47,11 @@ public final class Call {
             case OPEN_LOOK: Parts.hold(me, receiver, Parts.Way.LOOKS, site); return;
             case OPEN_RESET: Parts.hold(me, receiver, Parts.Way.RESETS, site); return;
             case SIGNAL: case MEET: Parts.write(me, receiver, Parts.Way.ADDS, site); return;
+            case RESETTING: Parts.write(me, receiver, Parts.Way.RESETS, site); return;
             case READ_BEFORE: write(Events.READ); return;
             case STAMPED: beforeStamped(); return;
-            case WRITE_BEFORE: case COLLECTION_WRITE: write(Events.WRITE); return;
+            case WRITE_BEFORE: Log.write(variable(Events.WRITE)); return;
+            case COLLECTION_WRITE: write(Events.WRITE); return;
             case UNLOCK: Locks.unlocking(me, receiver, site); return;
             case WAIT: times = Thread.holdsLock(receiver) ? Events.release(me, receiver, Integer.MAX_VALUE, site) : 0; return;
             case AWAIT: times = Locks.giveBack(me, receiver, site); return;
@@ -106,6 +108,7 @@ public final class Call {
             case READ: case WRITE: case STATE_READ: case STATE_WRITE: Log.unlock(); return;
             case OPEN_ADD: case OPEN_LOOK: case OPEN_RESET: Log.unlock(); return;
             case SIGNALLED: case MEET: Parts.write(me, receiver, Parts.Way.WAITS, site); return;
+            case LOOKED: Parts.write(me, receiver, Parts.Way.LOOKS, site); return;
             case SWAP: case STATE_SWAP: swapped(isTrue); return;
             case OPEN_TRY: tried(isTrue); return;
             case READ_IF_TRUE:
@@ -118,7 +121,7 @@ public final class Call {
                 if (result instanceof Iterator) Iterators.made(receiver);
                 write(Events.READ);
                 return;
-            case READ_AFTER: write(Events.READ); return;
+            case READ_AFTER: Log.write(variable(Events.READ)); return;
             case WRITE_AFTER: write(Events.WRITE); return;
             case LOCK: Locks.locked(me, receiver, site); return;
             case TRY_LOCK:

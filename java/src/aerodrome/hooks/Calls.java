@@ -1,5 +1,6 @@
 package aerodrome.hooks;
 
+import aerodrome.log.Log;
 import aerodrome.log.LoggedThread;
 import aerodrome.names.Numbered;
 import java.util.concurrent.BlockingQueue;
@@ -20,6 +21,11 @@ public final class Calls {
             return false;
         }
     };
+
+    /** The monitor that the call of a collection takes, so that it is logged by who has it; null where there is none. */
+    public static Object monitor(int code, Object receiver) {
+        return Log.on && receiver != null ? Monitors.of(receiver, code) : null;
+    }
 
     /** Before a call. What it gives goes to `after` or `failed`, and is null where nothing is logged. */
     public static Call before(int code, Object receiver, Object argument, long index, int site) {

@@ -29,6 +29,8 @@ public enum Kind {
     SIGNAL, SIGNALLED,
     /** Both. */
     MEET,
+    /** A look at all additions, behind the call, and what adds and looks, before it: of what calls a function of the program. */
+    LOOKED, RESETTING,
     LOCK, TRY_LOCK, UNLOCK,
     /** A monitor or a condition's lock is given back, and is had again behind the call. */
     WAIT, AWAIT,
@@ -71,6 +73,7 @@ public enum Kind {
         for (int one = 1; one < kinds.length; one++) code |= kinds[one].ordinal() << (kinds[one].ofKeys() ? 16 : 8);
         return code;
     }
+    public static boolean isOfCollection(int code) { return kind(code).isCollection(); }
     static Kind kind(int code) { return ALL[code & 255]; }
     static Kind ofQueue(int code) { return ALL[code >>> 8 & 255]; }
     static Kind ofMap(int code) { return ALL[code >>> 16]; }
@@ -91,7 +94,9 @@ public enum Kind {
     boolean isOpen() { return compareTo(OPEN_READ) >= 0 && compareTo(OPEN_RESET) <= 0; }
     /** How a call is logged that isn't made under the lock. */
     Kind apart() {
-        if (compareTo(OPEN_ADD) >= 0 && compareTo(OPEN_RESET) <= 0) return this == OPEN_LOOK ? SIGNALLED : SIGNAL;
+        if (this == OPEN_ADD) return SIGNAL;
+        if (this == OPEN_LOOK) return LOOKED;
+        if (this == OPEN_RESET) return RESETTING;
         return this == READ || this == OPEN_READ ? READ_AFTER : WRITE_BEFORE;
     }
     Kind closed() { return this == OPEN_READ ? READ : this == OPEN_WRITE ? WRITE : this == OPEN_SWAP ? SWAP : this; }

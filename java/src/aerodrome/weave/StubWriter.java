@@ -21,7 +21,9 @@ import org.objectweb.asm.Type;
  *         return result;
  *     }
  *
- * That of a VarHandle's method begins with what links the call (Handles), and calls Handles.before.
+ * That of a VarHandle's method begins with what links the call (Handles), and calls Handles.before. A call of a collection that
+ * takes a monitor (Calls.monitor) is made, and logged, by a thread that has the monitor already: the same code within
+ * `synchronized (monitor)`.
  */
 final class StubWriter {
     private static final String CALLS = "aerodrome/hooks/Calls", HANDLES = "aerodrome/hooks/Handles", CALL = "aerodrome/hooks/Call";
@@ -33,12 +35,17 @@ final class StubWriter {
             "compute(" + OBJECT + "Ljava/util/function/BiFunction;)" + OBJECT,
             "merge(" + OBJECT + OBJECT + "Ljava/util/function/BiFunction;)" + OBJECT);
 
+    /** Methods of collections that don't take the monitor of those that have one. */
+    private static final Set<String> WITHOUT_MONITOR = Set.of("iterator", "descendingIterator", "listIterator", "stream", "elements",
+            "keys", "keySet", "entrySet", "values");
+
     private final MethodVisitor code;
     private final Stub stub;
     private final boolean hasFrames;
     private final Type[] arguments;
     private final Type gives;
-    private final int call, result;
+    private final boolean mayLock;
+    private final int monitor, call, result;
 
     StubWriter(MethodVisitor code, Stub stub, boolean hasFrames) {
         this.code = code;
@@ -46,30 +53,84 @@ final class StubWriter {
         this.hasFrames = hasFrames;
         arguments = stub.call.arguments();
         gives = stub.call.result();
-        call = stub.site() + 1;
+        mayLock = stub.form < 0 && Kind.isOfCollection(stub.code) && !WITHOUT_MONITOR.contains(stub.call.name);
+        monitor = stub.site() + 1;
+        call = mayLock ? monitor + 1 : monitor;
         result = call + 1;
     }
 
     void write() {
-        Label start = new Label(), end = new Label(), handler = new Label();
-        code.visitTryCatchBlock(start, end, handler, null);
         if (stub.form >= 0) link();
-        before();
+        if (mayLock) locked();
+        Body body = new Body();
+        body.write();
+        give();
+        body.writeHandler();
+    }
+
+    /** The call where there is a monitor. */
+    private void locked() {
+        Label none = new Label(), start = new Label(), end = new Label(), handler = new Label();
+        Label startOfThrown = new Label(), endOfThrown = new Label();
+        code.visitLdcInsn(stub.code);
+        code.visitVarInsn(ALOAD, 0);
+        code.visitMethodInsn(INVOKESTATIC, CALLS, "monitor", "(I" + OBJECT + ")" + OBJECT, false);
+        code.visitVarInsn(ASTORE, monitor);
+        code.visitVarInsn(ALOAD, monitor);
+        code.visitJumpInsn(IFNULL, none);
+        code.visitVarInsn(ALOAD, monitor);
+        code.visitInsn(MONITORENTER);
+        Body body = new Body();
+        code.visitTryCatchBlock(start, end, handler, null);
+        code.visitTryCatchBlock(startOfThrown, endOfThrown, handler, null);
         code.visitLabel(start);
-        invoke();
-        if (gives != Type.VOID_TYPE) code.visitVarInsn(gives.getOpcode(ISTORE), result);
+        body.write();
+        code.visitVarInsn(ALOAD, monitor);
+        code.visitInsn(MONITOREXIT);
         code.visitLabel(end);
-        after();
+        give();
+        code.visitLabel(startOfThrown);
+        body.writeHandler();
+        code.visitLabel(endOfThrown);
+        code.visitLabel(handler);
+        frame(false, true);
+        code.visitVarInsn(ALOAD, monitor);
+        code.visitInsn(MONITOREXIT);
+        code.visitInsn(ATHROW);
+        code.visitLabel(none);
+        frame(false, false);
+    }
+
+    /** Gives back what the call gave. */
+    private void give() {
         if (gives != Type.VOID_TYPE) code.visitVarInsn(gives.getOpcode(ILOAD), result);
         code.visitInsn(gives.getOpcode(IRETURN));
-        code.visitLabel(handler);
-        frame(true, true);
-        code.visitVarInsn(ASTORE, result);
-        code.visitVarInsn(ALOAD, call);
-        code.visitVarInsn(ALOAD, result);
-        code.visitMethodInsn(INVOKESTATIC, CALLS, "failed", "(L" + CALL + ";Ljava/lang/Throwable;)V", false);
-        code.visitVarInsn(ALOAD, result);
-        code.visitInsn(ATHROW);
+    }
+
+    /** The call with what logs it, and the handler of what it throws. */
+    private final class Body {
+        private final Label start = new Label(), end = new Label(), handler = new Label();
+
+        Body() { code.visitTryCatchBlock(start, end, handler, null); }
+
+        void write() {
+            before();
+            code.visitLabel(start);
+            invoke();
+            if (gives != Type.VOID_TYPE) code.visitVarInsn(gives.getOpcode(ISTORE), result);
+            code.visitLabel(end);
+            after();
+        }
+        void writeHandler() {
+            code.visitLabel(handler);
+            frame(true, true);
+            code.visitVarInsn(ASTORE, result);
+            code.visitVarInsn(ALOAD, call);
+            code.visitVarInsn(ALOAD, result);
+            code.visitMethodInsn(INVOKESTATIC, CALLS, "failed", "(L" + CALL + ";Ljava/lang/Throwable;)V", false);
+            code.visitVarInsn(ALOAD, result);
+            code.visitInsn(ATHROW);
+        }
     }
 
     /** Makes the call of no handle, once. */
@@ -168,6 +229,7 @@ final class StubWriter {
         if (!hasFrames) return;
         List<Object> locals = new ArrayList<>();
         for (Type one : Type.getArgumentTypes(stub.descriptor)) locals.add(inFrame(one));
+        if (mayLock) locals.add("java/lang/Object");
         if (hasCall) locals.add(CALL);
         Object[] stack = hasThrown ? new Object[] {"java/lang/Throwable"} : new Object[0];
         code.visitFrame(F_NEW, locals.size(), locals.toArray(), stack.length, stack);
