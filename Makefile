@@ -18,21 +18,17 @@ CRATES := $(filter-out %_tests crates/aero_c,$(wildcard crates/*))
 SOURCES := HANDLES crates.txt $(shell find $(wildcard $(CRATES:=/src) $(CRATES:=/specs) $(CRATES:=/proofs)) -type f)
 LIBRARY := $(shell find $(wildcard crates/aero_c/src crates/aero_c/specs crates/aero_c/proofs) -type f)
 
-COMMANDS := bin/aerodrome-merge bin/aerodrome-refine bin/aerodrome-page bin/aerodrome-sarif
+COMMANDS := $(patsubst commands/%,bin/%,$(wildcard commands/aerodrome-*))
 LOGGER := $(wildcard logger/*)
 WRAPPERS := bin/aerodrome-cc bin/aerodrome-c++ bin/aerodrome-rustc bin/aerodrome-places
-GO := $(wildcard go/*)
+GO := $(wildcard go/*) logger/words.h
 JAVA := java/build $(wildcard java/src/aerodrome/table java/src/aerodrome/*.java java/src/aerodrome/*/*.java)
 
 .PHONY: all help try library logger go java test install files uninstall clean
 
 all: bin/aerodrome $(COMMANDS)
 
-# The scripts in bin/ have the names that they have when they are installed.
-bin/aerodrome-merge bin/aerodrome-refine: bin/aerodrome-%: tools/%
-	@mkdir -p bin && ln -sf ../$< $@
-
-bin/aerodrome-page bin/aerodrome-sarif: bin/%: view/%
+$(COMMANDS): bin/%: commands/%
 	@mkdir -p bin && ln -sf ../$< $@
 
 help:
@@ -74,7 +70,7 @@ test:
 	@tests/all
 
 install: bin/aerodrome
-	@room=$$(mktemp -d) && trap 'rm -rf "$$room"' EXIT && $(MAKE) -s -o bin/aerodrome files DESTDIR="$$room/" && \
+	@umask 022 && room=$$(mktemp -d) && trap 'rm -rf "$$room"' EXIT && $(MAKE) -s -o bin/aerodrome files DESTDIR="$$room/" && \
 	tools/install "$$room/$(PREFIX)" "$(DESTDIR)$(PREFIX)"
 
 uninstall:
@@ -85,10 +81,8 @@ uninstall:
 files: TO := $(DESTDIR)$(PREFIX)
 files:
 	install -D -m 755 bin/aerodrome "$(TO)/bin/aerodrome"
-	install -D -m 755 tools/merge "$(TO)/bin/aerodrome-merge"
-	install -D -m 755 tools/refine "$(TO)/bin/aerodrome-refine"
-	install -D -m 755 -t "$(TO)/bin" view/aerodrome-page view/aerodrome-sarif
-	install -D -m 644 -t "$(TO)/lib/aerodrome/aerodrome_view" view/aerodrome_view/*.py view/aerodrome_view/page.css
+	install -D -m 755 -t "$(TO)/bin" commands/aerodrome-*
+	install -D -m 644 -t "$(TO)/lib/aerodrome/aerodrome_view" commands/aerodrome_view/*.py commands/aerodrome_view/page.css
 	install -D -m 644 -t "$(TO)/share/man/man1" docs/*.1
 	@for command in aerodrome aerodrome-merge aerodrome-refine aerodrome-page aerodrome-sarif aerodrome-go; do \
 	install -D -m 644 completions/aerodrome.bash "$(TO)/share/bash-completion/completions/$$command"; done

@@ -19,10 +19,11 @@ _aerodrome() {
             return 0
             ;;
         aerodrome-merge) options='--fail-open --help' ;;
-        aerodrome-refine) options='--except --only --long --fail-open --help' ;;
+        aerodrome-refine) options='--except --except-from --only --only-from --most --passes --format --output --continue --check
+            --progress --quiet --long --fail-open --help' ;;
         aerodrome-page) options='--output --folder --root --no-traces --context --pictures --rows --help' ;;
         aerodrome-sarif) options='--output --folder --root --no-traces --help' ;;
-        *) options='--workers --piece --except --only --order --explain --long --format --progress --quiet
+        *) options='--workers --piece --except --only --except-from --only-from --order --explain --long --stop --format --progress --quiet
             --files0-from --label --fail-open --help --version' ;;
     esac
     case $before in
@@ -33,7 +34,8 @@ _aerodrome() {
             compopt -o filenames 2> /dev/null
             mapfile -t COMPREPLY < <(compgen -A directory -- "$word")
             ;;
-        --piece | --except | --only | --files0-from | --label | --output | --context | --pictures | --rows) ;;
+        --piece | --except | --only | --files0-from | --label | --output | --context | --pictures | --rows | --most | --passes) ;;
+        --except-from | --only-from | --continue | --check) ;;
         *)
             case $word in
                 -*) COMPREPLY=($(compgen -W "$options" -- "$word")) ;;

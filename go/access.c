@@ -37,7 +37,7 @@ static void whole(struct goroutine *t, const char *operation, word at, const str
 
 static void single(struct goroutine *t, const char *operation, word at, const struct code *place) {
     uint16_t *parts = aero_parts(at), part = (uint16_t)(1 << (at & 7));
-    int is_known = !parts || (*parts & part);
+    bool is_known = !parts || (*parts & part);
     if (!is_known && (*parts & WHOLE)) {
         whole(t, operation, at, place);
         if (*operation == 'r') return;
@@ -86,9 +86,9 @@ static void grains(struct goroutine *t, const char *operation, word at, word byt
 /* ---- the hooks */
 
 /* AERODROME_LOCAL=skip: whether only this goroutine has touched the object so far. */
-static int is_local(const struct goroutine *t, word at) {
+static bool is_local(const struct goroutine *t, word at) {
     struct object *it = aero_settings.skips_local ? aero_object(at) : NULL;
-    if (!it || it->is_shared) return 0;
+    if (!it || it->is_shared) return false;
     if (!it->owner) it->owner = t->id;
     it->is_shared = it->owner != t->id;
     return !it->is_shared;

@@ -3,9 +3,9 @@
 
 /* A load of Once.done that finds 0 is no event: else two goroutines that come at once, of which one is let in, are a cycle. A failed
  * compare-and-swap of sync.Map's is tried again. */
-static int is_nothing(const struct atomic *it) {
+static bool is_nothing(const struct atomic *it) {
     const struct code *asker = it->asker;
-    if (asker->asker == NOBODY || asker->asker == MUTEX) return 1;
+    if (asker->asker == NOBODY || asker->asker == MUTEX) return true;
     if (asker->asker == ONCE) return !it->writes && !it->is_done;
     return (asker->is & IS_ENTRY) && !(asker->is & IS_ENTRY_LOAD) && !it->writes;
 }

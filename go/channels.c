@@ -20,7 +20,7 @@ _Static_assert(offsetof(struct channel, is_closed) == 28 && offsetof(struct chan
 
 /* Whether the goroutine sends. runtime.send and runtime.recv meet one that waits, and call the hook for both: first for who runs. In
  * select the line tells; where that isn't known, a full buffer is received from. */
-static int sends(const struct ordered *it, const struct channel *channel) {
+static bool sends(const struct ordered *it, const struct channel *channel) {
     const struct code *asker = it->asker;
     if (asker->asker == CHANNEL_SEND || asker->asker == CHANNEL_RECEIVE)
         return (asker->asker == CHANNEL_SEND) ^ (int)(aero_sync(it->at)->step++ & 1);
@@ -33,7 +33,7 @@ static int sends(const struct ordered *it, const struct channel *channel) {
 static void meeting(struct goroutine *t, const struct ordered *it) {
     struct sync *s = aero_sync(it->at);
     unsigned step = s->step++ & 3;
-    int from_sender = it->asker->asker == CHANNEL_SEND ? step < 2 : step >= 2;
+    bool from_sender = it->asker->asker == CHANNEL_SEND ? step < 2 : step >= 2;
     if (step < 2) aero_waits(t);
     if (!from_sender && !aero_settings.both_ways) return;
     if (it->how == ACQUIRE) aero_acquire(t, s, it->place);
@@ -42,7 +42,7 @@ static void meeting(struct goroutine *t, const struct ordered *it) {
 
 /* What has no bytes is all alike, and a buffer of several is often a semaphore. So who has sent takes back its own; else what is
  * received was sent first. */
-static void token(struct goroutine *t, const struct ordered *it, int is_sent) {
+static void token(struct goroutine *t, const struct ordered *it, bool is_sent) {
     struct sync *s = aero_sync(it->at);
     size_t one = 0;
     if (is_sent) {
@@ -62,7 +62,7 @@ static void token(struct goroutine *t, const struct ordered *it, int is_sent) {
 /* A slot is as a lock: send k, receive k and send k + slots come in this order. Who takes back what it has sent itself, as who gives
  * back a semaphore, waits for nobody. */
 static void slot(struct goroutine *t, const struct ordered *it, const struct channel *channel) {
-    int is_sent = sends(it, channel);
+    bool is_sent = sends(it, channel);
     int64_t number = !channel ? -1 : (int64_t)(is_sent ? channel->send_at : channel->receive_at);
     struct sync *s = aero_sync(it->at);
     if (!is_sent && s->sender != t->id) aero_waits(t);
@@ -79,7 +79,7 @@ static void found_closed(struct goroutine *t, const struct ordered *it) {
 /* By the channel's own address. */
 static void by_channel(struct goroutine *t, const struct ordered *it) {
     const struct channel *channel = (const struct channel *)(it->at - offsetof(struct channel, buffer));
-    int is_met = it->asker->asker == CHANNEL_SEND || it->asker->asker == CHANNEL_RECEIVE;
+    bool is_met = it->asker->asker == CHANNEL_SEND || it->asker->asker == CHANNEL_RECEIVE;
     if (!channel->slots && is_met) {
         meeting(t, it);
         return;

@@ -7,9 +7,10 @@
  *   none       none
  *   @FILE      what the file says, with one name a line, and # before lines that say nothing; -@FILE: all but these
  *
- * Without it all are but main.main, inits, those that goroutines start with (goroutines.c), those of the standard library, and those
- * in files named _test.go. */
+ * Without it all are but main.main, inits, those that goroutines start with and those that only call Done, Lock or Unlock
+ * (goroutines.c), those of the standard library, and those in files named _test.go. */
 #include "log.h"
+#include "../logger/words.h"
 
 #include <fcntl.h>
 #include <stdio.h>
@@ -21,48 +22,29 @@ static enum { USUAL, ALL, ONLY_LISTED } base;
 static struct name {
     const char *text;
     size_t length;
-    int leaves_out, is_found;
+    bool leaves_out, is_found;
 } *names;
 static size_t name_count;
 
-int aero_starts_are_blocks(void) { return base != USUAL; }
-int aero_wants_blocks(void) { return base != ONLY_LISTED || name_count; }
+bool aero_starts_are_blocks(void) { return base != USUAL; }
+bool aero_wants_blocks(void) { return base != ONLY_LISTED || name_count; }
 
 /* ---- names that match */
 
-/* Whether the text is what the name of that length says, whose stars stand for any text. */
-static int matches(const char *name, size_t length, const char *text) {
-    size_t place = 0, star = length;
-    const char *behind = NULL;
-    while (*text || place < length) {
-        if (place < length && name[place] == '*') {
-            star = place++;
-            behind = text;
-        } else if (place < length && *text && name[place] == *text) {
-            place++, text++;
-        } else {
-            if (star == length || !*behind) return 0;
-            place = star + 1;
-            text = ++behind;
-        }
-    }
-    return 1;
-}
-
-static int ends_with(const char *text, const char *end) {
+static bool ends_with(const char *text, const char *end) {
     size_t length = strlen(text), most = strlen(end);
     return length >= most && !strcmp(text + length - most, end);
 }
 
 /* An init function is pkg.init or pkg.init.0, and what it declares pkg.init.func1. */
-static int is_usual(const char *label, const char *file) {
-    if (!strcmp(label, "main.main") || strstr(label, ".init.") || ends_with(label, ".init")) return 0;
+static bool is_usual(const char *label, const char *file) {
+    if (!strcmp(label, "main.main") || strstr(label, ".init.") || ends_with(label, ".init")) return false;
     return !ends_with(file, "_test.go") && !strstr(file, "_testmain.go") && !aero_is_of_library(label);
 }
 
-int aero_is_block(const char *label, const char *file) {
-    if (begins(label, "runtime.") || begins(label, "internal/race.")) return 0;
-    int block = base == ALL || (base == USUAL && is_usual(label, file));
+bool aero_is_block(const char *label, const char *file) {
+    if (begins(label, "runtime.") || begins(label, "internal/race.")) return false;
+    bool block = base == ALL || (base == USUAL && is_usual(label, file));
     for (size_t one = 0; one < name_count; one++)
         if (matches(names[one].text, names[one].length, label)) {
             block = !names[one].leaves_out;
@@ -73,33 +55,17 @@ int aero_is_block(const char *label, const char *file) {
 
 /* ---- names of a list */
 
-/* How long the name is with which the list begins. A comma within brackets, as in Map[int,string], belongs to it. */
-static size_t name_length(const char *list) {
-    int depth = 0;
-    size_t length = 0;
-    for (; list[length] && list[length] != '\n'; length++) {
-        char byte = list[length];
-        if (byte == ',' && depth <= 0) break;
-        depth += (byte == '[' || byte == '(') - (byte == ']' || byte == ')');
-    }
-    return length;
-}
-
-static int is_word(const char *list, const char *word) {
-    return name_length(list) == strlen(word) && begins(list, word);
-}
-
-static void take_names(const char *list, int all_leave_out) {
+static void take_names(const char *list, bool all_leave_out) {
     names = aero_new((strlen(list) / 2 + 1) * sizeof *names);
     while (*list) {
-        int minus = *list == '-';
-        size_t length = name_length(list += minus);
+        bool minus = *list == '-';
+        size_t length = name_length(list += minus, "[(", "])");
         if (length) names[name_count++] = (struct name){list, length, minus || all_leave_out, 0};
         list += length + (list[length] != 0);
     }
 }
 
-static int find_names(const char *label) {
+static bool find_names(const char *label) {
     size_t found = 0;
     for (size_t one = 0; one < name_count; one++) {
         if (!names[one].is_found) names[one].is_found = matches(names[one].text, names[one].length, label);
@@ -109,10 +75,10 @@ static int find_names(const char *label) {
 }
 
 /* Whether it has a star for any text. One behind a parenthesis, as in (*Bank), is Go's own. */
-static int is_pattern(const struct name *name) {
+static bool is_pattern(const struct name *name) {
     for (size_t place = 0; place < name->length; place++)
-        if (name->text[place] == '*' && (!place || name->text[place - 1] != '(')) return 1;
-    return 0;
+        if (name->text[place] == '*' && (!place || name->text[place - 1] != '(')) return true;
+    return false;
 }
 
 /* The first name that no function has. What a pattern would leave out needn't be there. */
@@ -125,17 +91,17 @@ static const struct name *unknown_name(void) {
 }
 
 /* Go leaves functions that nothing calls out of a program. */
-int aero_knows_blocks(void) {
+bool aero_knows_blocks(void) {
     char what[256], why[256];
-    if (!name_count || !aero_has_symbols()) return 1;
+    if (!name_count || !aero_has_symbols()) return true;
     aero_each_function(find_names);
     const struct name *unknown = unknown_name();
-    if (!unknown) return 1;
+    if (!unknown) return true;
     snprintf(what, sizeof what, "AERODROME_BLOCKS=%.180s", aero_settings.blocks);
     snprintf(why, sizeof why, "no function is called %.*s: nothing is logged", unknown->length < 150 ? (int)unknown->length : 150,
              unknown->text);
     aero_say(what, why);
-    return 0;
+    return false;
 }
 
 /* ---- the variable */
@@ -157,30 +123,24 @@ static char *bytes_of(const char *path) {
 static char *lines_of(const char *path, const char *head) {
     char *bytes = bytes_of(path), *text = bytes ? aero_new(strlen(bytes) + 2) : NULL;
     if (!bytes) return NULL;
-    char *to = aero_put(text, head);
-    int is_new = 1, is_comment = 0;
-    for (const char *from = bytes; *from; from++) {
-        if (is_new) is_comment = *from == '#';
-        is_new = *from == '\n';
-        if (!is_comment && *from != '\r' && !(is_new && to > text && to[-1] == '\n')) *to++ = *from;
-    }
+    take_lines(aero_put(text, head), bytes, strlen(bytes));
     free(bytes);
     return text;
 }
 
-int aero_read_blocks(const char *blocks) {
-    if (!blocks) return 1;
-    int minus = *blocks == '-', is_file = blocks[minus] == '@';
+bool aero_read_blocks(const char *blocks) {
+    if (!blocks) return true;
+    bool minus = *blocks == '-', is_file = blocks[minus] == '@';
     const char *said = is_file ? lines_of(blocks + minus + 1, minus ? "-" : "") : strdup(blocks);
     if (!said || !said[strspn(said, "-\n")]) {
         char what[256];
         snprintf(what, sizeof what, "AERODROME_BLOCKS=%.180s", blocks);
         aero_say(what, said ? "it has no name: nothing is logged" : "the file is empty or can't be read: nothing is logged");
-        return 0;
+        return false;
     }
-    int all = is_word(said, "all");
+    bool all = is_first(said, "all");
     base = all ? ALL : *said == '-' ? USUAL : ONLY_LISTED;
-    if (is_word(said, "none") && !said[4 + (said[4] == '\n')]) return 1;
+    if (is_first(said, "none") && !said[4 + (said[4] == '\n')]) return true;
     take_names(all ? said + 3 + (said[3] != 0) : said, *said == '-');
-    return 1;
+    return true;
 }

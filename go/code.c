@@ -1,6 +1,7 @@
 /* What an address in the code is: the function, its file and line, by the tables that the program has for its own traces of the
  * stack; and from which function of sync or of the runtime a call of a hook came. */
 #include "log.h"
+#include "../logger/words.h"
 
 #include <stdio.h>
 #include <stdlib.h>
@@ -50,10 +51,10 @@ static size_t package_length(const char *label) {
     return dot ? (size_t)(dot - label) : 0;
 }
 
-int aero_is_of_library(const char *label) {
+bool aero_is_of_library(const char *label) {
     char wanted[256];
     size_t length = package_length(label);
-    if (!length || length > sizeof wanted - 3) return 0;
+    if (!length || length > sizeof wanted - 3) return false;
     snprintf(wanted, sizeof wanted, "\n%.*s\n", (int)length, label);
     return strstr(aero_packages, wanted) != NULL;
 }
@@ -115,7 +116,7 @@ static const struct known *known_by(const char *name) {
     return it;
 }
 
-static int is_low(const char *name) {
+static bool is_low(const char *name) {
     return begins(name, "runtime.") || begins(name, "sync.") || begins(name, "sync/atomic.") || begins(name, "internal/race.")
         || begins(name, "internal/sync.");
 }
@@ -144,7 +145,7 @@ struct context {
 /* Up to Go 1.19 runtime.racecallbackthunk compares m with m.g0, and then sets the thread's g to m.curg, also where it was g0. */
 static void look_up(struct context *it) {
     word g = *g_of_thread();
-    it->is_found = 0;
+    it->is_found = false;
     call_back(1, it);
     *g_of_thread() = g;
     if (!it->name) it->name = "?";
@@ -169,13 +170,13 @@ static void set_place(struct code *it, const struct context *found) {
 static struct code *make(word at) {
     struct context found = {.pc = at - 1};
     struct code *it = aero_new(sizeof *it);
-    int has_asker = 0;
+    bool has_asker = false;
     it->at = at;
     for (int level = 0; level < LEVELS && !it->label; level++) {
         word pc = found.pc;
         look_up(&found);
         const struct known *name = known_by(found.name);
-        int low = is_low(found.name), leaves = level && (it->is & IS_LOW) && !low;
+        bool low = is_low(found.name), leaves = level && (it->is & IS_LOW) && !low;
         if (!level || leaves) set_place(it, &found);
         if (!level) it->is = name->is | (low ? IS_LOW : 0);
         if (leaves) it->is &= ~(unsigned)IS_LOW;
@@ -223,7 +224,7 @@ void aero_code_start(void (*callback)(word, void *), const word *g) {
 
 /* ---- the frames of a goroutine */
 
-static int is_frame(const struct here *here, const word *frame, word low) {
+static bool is_frame(const struct here *here, const word *frame, word low) {
     return (word)frame >= low && (word)frame + 16 <= here->g[1] && !((word)frame & 7);
 }
 
@@ -243,15 +244,15 @@ struct code *aero_asked(const struct here *here, word at, struct code **place) {
     return who ? who : code;
 }
 
-int aero_is_within_wait(const struct here *here) {
+bool aero_is_within_wait(const struct here *here) {
     const word *frame = here->frame;
     word low = here->stack;
     for (int level = 0; level < 6 && is_frame(here, frame, low); level++) {
-        if (aero_code(frame[1])->is & IS_COND_WAIT) return 1;
+        if (aero_code(frame[1])->is & IS_COND_WAIT) return true;
         low = (word)frame;
         frame = (const word *)frame[0];
     }
-    return 0;
+    return false;
 }
 
 /* The runtime allocates for itself at the start. */

@@ -21,12 +21,12 @@ typedef const struct here *place_t;
 
 /* ---- functions */
 
-static int has_begun;        /* before that the program's tables can't be read */
+static bool has_begun;       /* before that the program's tables can't be read */
 
 ENTRY(__tsan_func_enter, aero_hook_enter)
 void aero_hook_enter(struct goroutine *t, word call_ends, word u, word v, place_t here) {
     (void)u, (void)v;
-    UNDER_LOCK(t, has_begun = 1; aero_enter(here, t, call_ends));
+    UNDER_LOCK(t, has_begun = true; aero_enter(here, t, call_ends));
 }
 ENTRY(__tsan_func_exit, aero_hook_exit)
 void aero_hook_exit(struct goroutine *t, word u, word v, word w, place_t here) {
@@ -88,17 +88,17 @@ EXPORT void __tsan_go_ignore_sync_end(struct goroutine *t) { t->ignores--; }
 /* ---- atomic operations; their operands and results lie one behind the other from `a` on, the address first */
 
 /* Whether the operation is to be logged; then the lock is taken, and `it` has who asked. */
-static int begins_atomic(place_t here, struct goroutine *t, word call, struct atomic *it) {
+static bool begins_atomic(place_t here, struct goroutine *t, word call, struct atomic *it) {
     struct code *place;
-    if (!aero_is_on || !t || t->ignores || aero_is_own_stack(here, it->at)) return 0;
+    if (!aero_is_on || !t || t->ignores || aero_is_own_stack(here, it->at)) return false;
     aero_lock();
-    if (!aero_is_on) return 1;
+    if (!aero_is_on) return true;
     aero_drop_dead(t, here, here->stack);
     it->asker = aero_asked(here, call, &place);
     it->place = place;
-    return 1;
+    return true;
 }
-static void ends_atomic(struct goroutine *t, int is_logged, const struct atomic *it) {
+static void ends_atomic(struct goroutine *t, bool is_logged, const struct atomic *it) {
     if (is_logged && aero_is_on && it->asker) aero_atomic(t, it);
     if (is_logged) aero_unlock();
 }
@@ -107,7 +107,7 @@ static void ends_atomic(struct goroutine *t, int is_logged, const struct atomic 
     ENTRY(__tsan_go_atomic##name, aero_atomic##name) \
     void aero_atomic##name(struct goroutine *t, word call, word code, char *a, place_t here) { \
         struct atomic it = {.at = AT(word, 0)}; \
-        int is_logged = begins_atomic(here, t, call, &it); \
+        bool is_logged = begins_atomic(here, t, call, &it); \
         (void)code; \
         work; \
         it.writes = (does_write), it.is_done = (does_find) != 0; \

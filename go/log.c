@@ -107,7 +107,7 @@ void aero_numbered_line(uint32_t thread, const char *operation, const char *targ
     if (aero_is_on) finish_line(line, to, operation, target, NULL);
 }
 
-int aero_has_lines(void) { return aero_now != 0; }
+bool aero_has_lines(void) { return aero_now != 0; }
 
 /* ---- memory */
 
@@ -129,7 +129,7 @@ void *aero_pages(size_t bytes) {
 
 /* ---- numbers */
 
-uint32_t aero_take_number(struct numbers *from, int *is_used_again) {
+uint32_t aero_take_number(struct numbers *from, bool *is_used_again) {
     *is_used_again = from->first < from->count && aero_is_past(from->back[from->first].when);
     return *is_used_again ? from->back[from->first++].number : ++from->last;
 }

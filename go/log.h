@@ -7,6 +7,7 @@
 #endif
 #include <errno.h>
 #include <stdatomic.h>
+#include <stdbool.h>
 #include <stddef.h>
 #include <stdint.h>
 #include <string.h>
@@ -18,7 +19,6 @@ _Static_assert(sizeof(word) == 8, "addresses have 64 bits");
 #define EXPORT __attribute__((visibility("default")))
 #define LIKELY(condition) __builtin_expect(!!(condition), 1)
 #define UNLIKELY(condition) __builtin_expect(!!(condition), 0)
-static inline int begins(const char *text, const char *with) { return !strncmp(text, with, strlen(with)); }
 
 /* Where the goroutine is that calls a hook, from the registers that runtime/race_amd64.s leaves; hooks.c puts it down. */
 struct here {
@@ -107,9 +107,9 @@ struct sync {
     uint64_t owner;          /* of a mutex: the id of the goroutine that has it, 0: nobody */
     uint32_t owner_number;
     uint64_t sender;         /* of what is in the slot of a channel */
-    int is_handed;           /* a mutex that another goroutine has unlocked */
+    bool is_handed;          /* a mutex that another goroutine has unlocked */
     unsigned step;           /* of the steps that the runtime calls for one message */
-    int is_merged;           /* a WaitGroup in a round of Done */
+    bool is_merged;          /* a WaitGroup in a round of Done */
     uint32_t slots;
     size_t count, room;
     struct release *releases;
@@ -121,12 +121,12 @@ struct object {
     struct label *by;
     struct sync *syncs;
     uint64_t owner;          /* AERODROME_LOCAL: the id of the only goroutine that has touched it */
-    int is_shared;
+    bool is_shared;
 };
 
 /* own_lock.c */
 void aero_lock(void);
-int aero_lock_soon(void);
+bool aero_lock_soon(void);
 void aero_unlock(void);
 
 /* log.c */
@@ -135,45 +135,46 @@ extern uint64_t aero_now;                      /* the number of lines so far */
 extern uint64_t aero_last_calm;                /* what it was when the last open block ended */
 extern int aero_open_blocks;
 /* No block was open at some moment since the log had so many lines. */
-static inline int aero_is_past(uint64_t when) { return !aero_open_blocks || when < aero_last_calm; }
+static inline bool aero_is_past(uint64_t when) { return !aero_open_blocks || when < aero_last_calm; }
 void aero_say(const char *what, const char *why);
 void aero_stop(const char *why);               /* says why; the log ends with its last whole line */
 void aero_line(struct goroutine *by, const char *operation, const char *target, const struct code *place);
 void aero_numbered_line(uint32_t thread, const char *operation, const char *target);    /* for a goroutine that may have ended */
-int aero_has_lines(void);
+bool aero_has_lines(void);
 char *aero_put(char *to, const char *text);
 char *aero_put_number(char *to, uint64_t number, unsigned base);
 void *aero_more(void *items, size_t size, size_t *room);    /* twice the room; never NULL: without memory the program ends */
 void *aero_new(size_t size);
 void *aero_pages(size_t bytes);                /* zeroed address space, or NULL */
-uint32_t aero_take_number(struct numbers *from, int *is_used_again);
+uint32_t aero_take_number(struct numbers *from, bool *is_used_again);
 void aero_give_back(struct numbers *to, uint32_t number);
 
 /* target.c */
-int aero_open(const char *target);             /* whether the log could be opened, else it says why not */
+bool aero_open(const char *target);            /* whether the log could be opened, else it says why not */
 /* Writes a line, so that the log has all of it or nothing of it, and says whether it has. `why` says why not. */
-int aero_write(const char *line, size_t length, const char **why);
+bool aero_write(const char *line, size_t length, const char **why);
 uint64_t aero_written(void);                   /* bytes */
-int aero_is_file(void);
-int aero_remove(void);                         /* removes the file, which has no line, and says whether it did */
+bool aero_is_file(void);
+bool aero_remove(void);                        /* removes the file, which has no line, and says whether it did */
 const char *aero_end(void);                    /* no line comes any more; why something has failed, or NULL */
 const char *aero_close(void);                  /* waits for the command; why it has failed, or NULL */
 
 /* settings.c */
 struct settings {
     const char *target, *blocks;
-    int grain, places, skips_local, splits_waits, splits_threads, both_ways;
+    int grain, places;
+    bool skips_local, splits_waits, splits_threads, both_ways;
     int64_t limit;                             /* -1: not said */
 };
 extern struct settings aero_settings;
-int aero_read_settings(const char *target);    /* whether they can be used, else it says why not */
+bool aero_read_settings(const char *target);   /* whether they can be used, else it says why not */
 
 /* choice.c */
-int aero_read_blocks(const char *blocks);      /* whether the list can be read */
-int aero_knows_blocks(void);                   /* whether each name is that of a function; else it says which isn't */
-int aero_is_block(const char *label, const char *file);
-int aero_starts_are_blocks(void);
-int aero_wants_blocks(void);                   /* there may be some */
+bool aero_read_blocks(const char *blocks);     /* whether the list can be read */
+bool aero_knows_blocks(void);                  /* whether each name is that of a function; else it says which isn't */
+bool aero_is_block(const char *label, const char *file);
+bool aero_starts_are_blocks(void);
+bool aero_wants_blocks(void);                  /* there may be some */
 
 /* What aerodrome-go has compiled for the version of Go. */
 extern const char aero_packages[];             /* those of the standard library, each between two newlines */
@@ -183,20 +184,20 @@ extern const int aero_select_send;             /* the line of select.go that sen
 void aero_code_start(void (*callback)(word, void *), const word *g);
 struct code *aero_code(word at);
 struct label *aero_label(const char *text);
-int aero_is_of_library(const char *label);
+bool aero_is_of_library(const char *label);
 /* Who asked, from the address on along the frames; *place is the first code that isn't of the runtime or of sync. */
 struct code *aero_asked(const struct here *here, word at, struct code **place);
-int aero_is_within_wait(const struct here *here);    /* Cond.Wait */
+bool aero_is_within_wait(const struct here *here);   /* Cond.Wait */
 struct label *aero_allocator(const struct here *here);
 
 /* symbols.c */
 void aero_symbols_start(void);
-int aero_has_symbols(void);
+bool aero_has_symbols(void);
 const char *aero_global(word at, word *start, word *end);    /* the global variable that has the byte, or NULL */
-int aero_each_function(int (*each)(const char *label));      /* until it returns 0 */
+int aero_each_function(bool (*each)(const char *label));     /* until it returns 0 */
 
 /* objects.c */
-int aero_objects_start(void);                  /* whether there is room for them */
+bool aero_objects_start(void);                 /* whether there is room for them */
 void aero_allocated(const struct here *here, word at, word bytes);
 void aero_freed(word at, word bytes);
 struct object *aero_object(word at);
@@ -205,7 +206,7 @@ char *aero_put_variable(char *to, word at);
 void aero_globals(word from, word bytes);
 
 /* goroutines.c */
-extern int aero_has_blocks;                    /* one has begun in the log */
+extern bool aero_has_blocks;                   /* one has begun in the log */
 struct goroutine *aero_goroutine(void);
 void aero_started(struct goroutine *parent, struct goroutine *t, word at);
 void aero_ended(struct goroutine *t);
@@ -213,15 +214,15 @@ void aero_enter(const struct here *here, struct goroutine *t, word call_ends);
 void aero_exit(const struct here *here, struct goroutine *t);
 void aero_begin_blocks(struct goroutine *t);
 void aero_leave(struct goroutine *t, size_t depth);
-void aero_split(struct goroutine *t, int begins_again);
+void aero_split(struct goroutine *t, bool begins_again);
 static inline void aero_waits(struct goroutine *t) {
-    if (aero_settings.splits_waits) aero_split(t, 1);
+    if (aero_settings.splits_waits) aero_split(t, true);
 }
 /* Frames deeper than the stack goes were left. */
 void aero_drop_dead(struct goroutine *t, const struct here *here, word stack);
 void aero_end_of_timer(struct goroutine *t);
 /* Nobody else has what lies on the goroutine's own stack. */
-static inline int aero_is_own_stack(const struct here *here, word at) { return at - here->g[0] < here->g[1] - here->g[0]; }
+static inline bool aero_is_own_stack(const struct here *here, word at) { return at - here->g[0] < here->g[1] - here->g[0]; }
 
 /* access.c */
 struct access {
@@ -243,7 +244,7 @@ void aero_suffixed(struct goroutine *t, const char *operation, word at, const st
 struct atomic {
     word at;
     const struct code *place, *asker;
-    int writes, is_done;     /* is_done: a compare-and-swap has swapped, a load has found something else than 0 */
+    bool writes, is_done;    /* is_done: a compare-and-swap has swapped, a load has found something else than 0 */
 };
 void aero_atomic(struct goroutine *t, const struct atomic *it);
 

@@ -15,7 +15,7 @@ static uint32_t object_count, first_free;        /* freed ones are linked by `nu
 static uint16_t *heap_parts, *global_parts;
 static word globals_from, globals_to;
 
-static int is_in_heap(word at) { return at - HEAP < HEAP_BYTES; }
+static bool is_in_heap(word at) { return at - HEAP < HEAP_BYTES; }
 static uint32_t place_of(word at) { return is_in_heap(at) ? units[(at - HEAP) >> 3] : 0; }
 
 struct object *aero_object(word at) {
@@ -24,7 +24,7 @@ struct object *aero_object(word at) {
 }
 
 /* Without the room for the tables, as under a limit of address space, nothing is logged. */
-int aero_objects_start(void) {
+bool aero_objects_start(void) {
     units = aero_pages(HEAP_BYTES / 8 * sizeof *units);
     heap_parts = aero_pages(HEAP_BYTES / 8 * sizeof *heap_parts);
     objects = aero_pages((size_t)MOST_OBJECTS * sizeof *objects);
@@ -93,7 +93,7 @@ static char *put_offset(char *to, word offset) {
 }
 
 static char *put_object(char *to, struct object *it, word at) {
-    int is_used_again;
+    bool is_used_again;
     if (!it->number) it->number = aero_take_number(&it->by->objects, &is_used_again);
     to = put_short(to, it->by->text, it->by->length);
     *to++ = '#';

@@ -10,7 +10,7 @@
 enum { FREE, HELD, SOMEBODY_SLEEPS, TURNS = 200 };
 static atomic_int state;
 
-static int takes_it(void) {
+static bool takes_it(void) {
     int found = FREE;
     return atomic_compare_exchange_strong_explicit(&state, &found, HELD, memory_order_acquire, memory_order_relaxed);
 }
@@ -26,13 +26,13 @@ void aero_lock(void) {
 }
 
 /* Whether the lock could be had within a second. */
-int aero_lock_soon(void) {
+bool aero_lock_soon(void) {
     const struct timespec a_while = {0, 1000000};
     for (int turn = 0; turn < 1000; turn++) {
-        if (takes_it()) return 1;
+        if (takes_it()) return true;
         nanosleep(&a_while, NULL);
     }
-    return 0;
+    return false;
 }
 
 void aero_unlock(void) {

@@ -1,6 +1,7 @@
 /* The names of the program's global variables and functions, from the table of symbols in its file. aerodrome-go has go keep the
  * table. Names of functions have what the log has in them: main.Map[...] for each main.Map[int]. */
 #include "log.h"
+#include "../logger/words.h"
 
 #include <elf.h>
 #include <fcntl.h>
@@ -19,7 +20,7 @@ static const Elf64_Sym *all;
 static size_t all_count;
 static const char *strings;
 
-int aero_has_symbols(void) { return all != NULL; }
+bool aero_has_symbols(void) { return all != NULL; }
 
 static const char *image(void) {
     struct stat is;
@@ -36,7 +37,7 @@ static int by_address(const void *one, const void *other) {
 }
 
 /* Go's own tables begin with go: or, up to Go 1.19, with go. */
-static int is_variable(const Elf64_Sym *symbol, const char *name) {
+static bool is_variable(const Elf64_Sym *symbol, const char *name) {
     return ELF64_ST_TYPE(symbol->st_info) == STT_OBJECT && symbol->st_size && !begins(name, "go.") && !begins(name, "go:");
 }
 
@@ -90,7 +91,7 @@ static void put_function(char *to, const char *name) {
 }
 
 /* Names of Go have a dot behind the package; those of C don't. */
-int aero_each_function(int (*each)(const char *label)) {
+int aero_each_function(bool (*each)(const char *label)) {
     static char name[4096];
     for (size_t one = 0; one < all_count; one++) {
         const char *text = strings + all[one].st_name;

@@ -87,11 +87,11 @@ void aero_acquire(struct goroutine *t, struct sync *s, const struct code *place)
 /* ---- sync's types */
 
 /* A lock as long as who has locked it unlocks it, and from then on a variable. */
-static void mutex(struct goroutine *t, word at, int locks, const struct code *place) {
+static void mutex(struct goroutine *t, word at, bool locks, const struct code *place) {
     struct sync *s = aero_sync(at);
     if (!locks && s->owner != t->id) {
         release_for_owner(s);
-        s->is_handed = 1;
+        s->is_handed = true;
     }
     if (s->is_handed) aero_suffixed(t, "w", at, &(struct suffix){".handed", -1, place});
     else aero_suffixed(t, locks ? "acq" : "rel", at, &(struct suffix){"", -1, place});
@@ -118,11 +118,11 @@ static void wait_group(struct goroutine *t, const struct ordered *it) {
     if (it->how == ACQUIRE) {
         aero_waits(t);
         aero_acquire(t, s, it->place);
-        s->is_merged = 0;
+        s->is_merged = false;
         return;
     }
     if (!s->is_merged) s->count = 0;
-    s->is_merged = 1;
+    s->is_merged = true;
     aero_release(t, s, 1, it->place);
 }
 

@@ -2,6 +2,7 @@
  * are line ends, which the checker skips. Lines for a command, a named pipe or a device go through memory that another process
  * shares: it writes them on, and goes on with that when the program has ended. */
 #include "log.h"
+#include "../logger/words.h"
 
 #include <fcntl.h>
 #include <linux/futex.h>
@@ -32,7 +33,7 @@ static struct kept {
     ino_t node;
 } file = {-1, 0, 0};
 
-static int is_kept(void) {
+static bool is_kept(void) {
     struct stat is;
     return file.number >= 0 && !fstat(file.number, &is) && is.st_dev == file.device && is.st_ino == file.node;
 }
@@ -121,7 +122,7 @@ static int open_file(void) {
     int number = open(path, O_RDWR | O_CREAT | O_CLOEXEC, 0666);
     if (number < 0 && (errno == EACCES || errno == ENXIO)) number = open(path, O_WRONLY | O_CLOEXEC);
     if (number < 0 || fstat(number, &is) || !S_ISREG(is.st_mode)) return number;
-    int is_written = flock(number, LOCK_EX | LOCK_NB) && errno == EWOULDBLOCK;
+    bool is_written = flock(number, LOCK_EX | LOCK_NB) && errno == EWOULDBLOCK;
     if (!is_written && !ftruncate(number, 0)) return number;
     int why = is_written ? EWOULDBLOCK : errno;
     close(number);
@@ -152,18 +153,29 @@ static char **without_the_log(void) {
     return rest;
 }
 
-/* Starts the command, and returns where it reads. */
-static int start_command(const char *command, pid_t *process) {
-    int input[2];
+/* Becomes the command, or else ends, and sends errno. */
+static void run_command(const char *command, int input, int refused) {
     char *words[] = {"sh", "-c", (char *)command, NULL};
-    if (pipe2(input, O_CLOEXEC)) return -1;
+    if (dup2(input, STDIN_FILENO) == STDIN_FILENO && !fcntl(STDIN_FILENO, F_SETFD, 0)) execve("/bin/sh", words, without_the_log());
+    int why = errno;
+    _exit(write(refused, &why, sizeof why) < 0 ? 126 : 127);
+}
+
+/* Starts the command, and returns where it reads; -1, and errno, where it can't be started. */
+static int start_command(const char *command, pid_t *process) {
+    int input[2], refused[2], why = 0;
+    if (pipe2(input, O_CLOEXEC) || pipe2(refused, O_CLOEXEC)) return -1;
     *process = fork();
-    if (*process == 0) {
-        if (dup2(input[0], STDIN_FILENO) == STDIN_FILENO) execve("/bin/sh", words, without_the_log());
-        _exit(127);
-    }
+    if (*process == 0) run_command(command, input[0], refused[1]);
+    if (*process < 0) why = errno;
     close(input[0]);
-    return input[1];
+    close(refused[1]);
+    while (read(refused[0], &why, sizeof why) < 0 && errno == EINTR) {}
+    close(refused[0]);
+    if (!why) return input[1];
+    close(input[1]);
+    errno = why;
+    return -1;
 }
 
 static int write_all(int to, const char *from, uint64_t bytes) {
@@ -179,7 +191,7 @@ static int write_all(int to, const char *from, uint64_t bytes) {
 
 /* Writes on what there is until the program has ended, or no more can be written. */
 static int write_on(int to, int program) {
-    for (int is_last = 0;;) {
+    for (bool is_last = false;;) {
         uint64_t taken = atomic_load(&shared->taken), filled = atomic_load(&shared->filled);
         if (filled > taken) {
             int error = write_all(to, shared->bytes + (taken - shared->base), filled - taken);
@@ -200,9 +212,10 @@ static void be_the_writer(int to, int program, const char *command) {
     static const int through[] = {SIGINT, SIGTERM, SIGHUP, SIGQUIT, SIGPIPE, SIGXFSZ};
     pid_t process = 0;
     if (command) to = start_command(command, &process);
+    int why = to < 0 ? errno : 0;
     for (size_t one = 0; one < sizeof through / sizeof *through; one++) signal(through[one], SIG_IGN);
     prctl(PR_SET_NAME, "aerodrome-log", 0, 0, 0);
-    atomic_store(&shared->error, to < 0 ? errno : write_on(to, program));
+    atomic_store(&shared->error, why ? why : write_on(to, program));
     atomic_store(&shared->has_ended, 1);
     syscall(SYS_futex, &shared->taken_turn, FUTEX_WAKE, 1, NULL, NULL, 0);
     close(to);
@@ -210,7 +223,8 @@ static void be_the_writer(int to, int program, const char *command) {
     _exit(0);
 }
 
-/* The writer is no child of the program, which may wait for any of its own. */
+/* The writer is no child of the program, which may wait for any of its own. The process that starts it sends its number, or errno below
+ * 0. */
 static int start_writer(int to, const char *command) {
     int program[2], ends[2];
     shared = mmap(NULL, sizeof *shared, PROT_READ | PROT_WRITE, MAP_SHARED | MAP_ANONYMOUS, -1, 0);
@@ -221,7 +235,8 @@ static int start_writer(int to, const char *command) {
         close(ends[0]);
         pid_t made = fork();
         if (made == 0) be_the_writer(to, program[0], command);
-        _exit(made > 0 && write(ends[1], &made, sizeof made) == sizeof made ? 0 : 1);
+        if (made < 0) made = -errno;
+        _exit(write(ends[1], &made, sizeof made) == sizeof made ? 0 : 1);
     }
     int why = errno;
     close(program[0]);
@@ -231,7 +246,9 @@ static int start_writer(int to, const char *command) {
     errno = why;
     still_there = out_of_the_way(program[1]);
     writer_ends = out_of_the_way(ends[0]);
-    return between > 0 && read(writer_ends, &writer, sizeof writer) == sizeof writer ? 0 : -1;
+    if (between < 0 || read(writer_ends, &writer, sizeof writer) != sizeof writer) return -1;
+    if (writer < 0) errno = -writer;
+    return writer < 0 ? -1 : 0;
 }
 
 static const char *error_of_writer(void) {
@@ -267,19 +284,19 @@ static const char *write_into_pipe(const char *line, size_t length) {
 
 /* ---- the target */
 
-int aero_is_file(void) { return !shared; }
+bool aero_is_file(void) { return !shared; }
 uint64_t aero_written(void) { return written; }
 
-int aero_write(const char *line, size_t length, const char **why) {
+bool aero_write(const char *line, size_t length, const char **why) {
     *why = "AERODROME_LIMIT is reached";
-    if (UNLIKELY(limit && written + length > limit)) return 0;
+    if (UNLIKELY(limit && written + length > limit)) return false;
     *why = shared ? write_into_pipe(line, length) : write_into_file(line, length);
     if (LIKELY(!*why)) written += length;
     return !*why;
 }
 
-/* With the process's number in the place of each %p. */
-static void put_target(const char *said) {
+/* With the process's number in the place of each %p. Says whether there is room for it. */
+static bool put_target(const char *said) {
     size_t length = 0;
     if (*said != '/' && *said != '|' && getcwd(path, sizeof path / 2)) length = strlen(strcat(path, "/"));
     for (; *said && length < sizeof path - 24; said++)
@@ -288,10 +305,13 @@ static void put_target(const char *said) {
             said++;
         } else path[length++] = *said;
     path[length] = 0;
+    errno = ENAMETOOLONG;
+    return !*said;
 }
 
-static int open_target(void) {
+static int open_target(const char *said) {
     struct stat is;
+    if (!put_target(said)) return -1;
     if (*path == '|') return start_writer(-1, path + 1);
     int number = open_file();
     if (number < 0 || fstat(number, &is)) return -1;
@@ -302,24 +322,20 @@ static int open_target(void) {
     return 0;
 }
 
-int aero_open(const char *target) {
-    put_target(target);
-    if (!open_target()) {
+bool aero_open(const char *target) {
+    if (!open_target(target)) {
         limit = aero_settings.limit >= 0 ? (uint64_t)aero_settings.limit : shared ? 0 : (uint64_t)1 << 30;
-        return 1;
+        return true;
     }
-    char why[256];
-    const char *reason = errno == EWOULDBLOCK ? "another process writes its log there" : strerror(errno);
-    snprintf(why, sizeof why, "%.200s: nothing is logged", reason);
-    aero_say(target, why);
-    return 0;
+    refuses_target(target);
+    return false;
 }
 
 /* Only the file that this process has opened, if its name still leads to that. */
-int aero_remove(void) {
+bool aero_remove(void) {
     struct stat is;
-    if (shared || !is_kept() || lstat(path, &is)) return 0;
-    int is_ours = S_ISREG(is.st_mode) && is.st_dev == file.device && is.st_ino == file.node;
+    if (shared || !is_kept() || lstat(path, &is)) return false;
+    bool is_ours = S_ISREG(is.st_mode) && is.st_dev == file.device && is.st_ino == file.node;
     return is_ours && !unlink(path);
 }
 

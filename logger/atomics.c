@@ -12,7 +12,7 @@ enum { SEQUENTIAL = __ATOMIC_SEQ_CST };
     else { \
         if (UNLIKELY(aero_me.jumped)) aero_left(FRAME); \
         aero_lock(); \
-        int locks = aero_me.locking.what, gives = UNLIKELY(locks) && aero_gives_back((uintptr_t)(at), HERE); \
+        bool locks = aero_me.locking.what != NO_LOCK_CALL, gives = UNLIKELY(locks) && aero_gives_back((uintptr_t)(at), HERE); \
         work; \
         if (LIKELY(!locks) || !(gives || aero_takes((uintptr_t)(at), *(operation) == 'w', HERE))) \
             aero_span(operation, PLAIN, (uintptr_t)(at), sizeof(type), HERE); \
@@ -30,7 +30,7 @@ enum { SEQUENTIAL = __ATOMIC_SEQ_CST };
 #define COMPARE(bits, type, name, call) \
     EXPORT int __tsan_atomic##bits##_compare_exchange_##name(volatile type *at, type *expected, type value, int order, \
                                                              int failed) { \
-        int done; \
+        bool done; \
         (void)order, (void)failed; \
         LOGGED(type, done ? "w" : "r", at, done = call(at, expected, value, 0, SEQUENTIAL, SEQUENTIAL)) \
         return done; \
@@ -48,7 +48,7 @@ enum { SEQUENTIAL = __ATOMIC_SEQ_CST };
         LOGGED(type, "w", at, of##store_n(at, value, SEQUENTIAL)) \
     } \
     EXPORT type __tsan_atomic##bits##_compare_exchange_val(volatile type *at, type expected, type value, int order, int failed) { \
-        int done; \
+        bool done; \
         (void)order, (void)failed; \
         LOGGED(type, done ? "w" : "r", at, done = of##compare_exchange_n(at, &expected, value, 0, SEQUENTIAL, SEQUENTIAL)) \
         return expected; \
@@ -72,9 +72,9 @@ ATOMIC(64, uint64_t, __atomic_)
 #ifdef __GCC_HAVE_SYNC_COMPARE_AND_SWAP_16
 typedef unsigned __int128 wide;
 
-static int wide_compare_exchange_n(volatile wide *at, wide *expected, wide value, int weak, int order, int failed) {
+static bool wide_compare_exchange_n(volatile wide *at, wide *expected, wide value, int weak, int order, int failed) {
     wide found = __sync_val_compare_and_swap(at, *expected, value);
-    int done = found == *expected;
+    bool done = found == *expected;
     (void)weak, (void)order, (void)failed;
     *expected = found;
     return done;

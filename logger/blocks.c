@@ -7,26 +7,24 @@
 /* Of a frame's block, in the log: it was split where it waits, and is to begin again. */
 enum { CLOSED, OPEN, SPLIT };
 
-static int has_room(struct thread *me) {
-    if (UNLIKELY(!aero_has_room((void **)&me->frames, sizeof *me->frames, me->depth, &me->room))) {
-        aero_lock();
-        aero_stop("out of memory");
-        aero_unlock();
-        return 0;
-    }
-    if (UNLIKELY(!me->has_end)) aero_end_with_thread();
-    return 1;
+static bool has_room(struct thread *me) {
+    bool has_room = aero_has_room((void **)&me->frames, sizeof *me->frames, me->depth, &me->room);
+    if (LIKELY(has_room && (me->has_end || aero_end_with_thread()))) return true;
+    aero_lock();
+    aero_stop("out of memory");
+    aero_unlock();
+    return false;
 }
 
 /* Whether it is the function that a thread other than main's starts with: below it are at most functions of the runtime, by
  * which std::thread calls it. */
-static int is_start(const struct thread *me) { return me->number != 1 && me->depth == me->leading; }
+static bool is_start(const struct thread *me) { return me->number != 1 && me->depth == me->leading; }
 
 /* Whether it is a test of Rust: its thread starts with a closure that stands in the function itself, f::{{closure}}, and that calls
  * it. */
-static int is_test(const struct thread *me, const struct code *function) {
+static bool is_test(const struct thread *me, const struct code *function) {
     static const char closure[] = "::{{closure}}";
-    if (me->number == 1 || me->depth != me->leading + 1) return 0;
+    if (me->number == 1 || me->depth != me->leading + 1) return false;
     const struct code *start = me->frames[me->depth - 1].function;
     const char *label = function->label, *around = start ? start->label : NULL;
     size_t length = strlen(label);
@@ -34,7 +32,7 @@ static int is_test(const struct thread *me, const struct code *function) {
 }
 
 /* In the runtime, events have the place from where other code has called that. */
-static void note_outside(struct thread *me, const struct frame *top, int is_runtime) {
+static void note_outside(struct thread *me, const struct frame *top, bool is_runtime) {
     if (is_runtime && me->depth == me->leading) me->leading++;
     if (!is_runtime) me->outside = 0;
     else if (!me->outside && me->depth) me->outside = top->call;
@@ -47,17 +45,17 @@ static void push(const struct code *function, uintptr_t frame, uintptr_t call) {
     if (!has_room(me)) return;
     struct frame *top = &me->frames[me->depth];
     int kind = function ? atomic_load_explicit(&function->kind, memory_order_relaxed) : 0;
-    int block = kind & IS_BLOCK && (aero_starts_are_blocks() || !(is_start(me) || is_test(me, function)));
+    bool is_block = kind & IS_BLOCK && (aero_starts_are_blocks() || !(is_start(me) || is_test(me, function)));
     *top = (struct frame){frame, function, call, me->outside, CLOSED};
     if (UNLIKELY(kind & IS_RUNTIME || me->outside)) note_outside(me, top, kind & IS_RUNTIME);
     me->depth++;
-    if (block) {
+    if (is_block) {
         aero_lock();
         aero_line("begin", "", 0, function->label, call);
         top->block = OPEN;
         aero_unlock();
     }
-    if (UNLIKELY(kind >= LOCK_FUNCTION)) aero_enter_lock_function(kind / LOCK_FUNCTION, call);
+    if (UNLIKELY(kind >= LOCK_FUNCTION)) aero_enter_lock_function((enum lock_call)(kind / LOCK_FUNCTION), call);
 }
 static void pop(uintptr_t code) {
     struct thread *me = &aero_me;
@@ -80,16 +78,16 @@ void aero_left(uintptr_t frame) {
     while (me->depth && me->frames[me->depth - 1].at < frame) pop(0);
 }
 
-int aero_has_entered;
+bool aero_has_entered;
 
 /* What no hooked function has called, as main or what a thread starts with, has its own place. */
 EXPORT void __tsan_func_entry(void *caller) {
     aero_may_be_cancelled();
     if (!aero_enter()) return;
     if (UNLIKELY(aero_me.jumped)) aero_left(FRAME + 1);
-    if (UNLIKELY(!aero_has_entered)) aero_has_entered = 1;
+    if (UNLIKELY(!aero_has_entered)) aero_has_entered = true;
     push(aero_function(HERE), FRAME, aero_me.depth ? (uintptr_t)caller : HERE);
-    int begins = UNLIKELY(aero_stirs) && aero_me.depth && aero_me.frames[aero_me.depth - 1].block == OPEN;
+    bool begins = UNLIKELY(aero_stirs) && aero_me.depth && aero_me.frames[aero_me.depth - 1].block == OPEN;
     aero_leave();
     if (UNLIKELY(begins)) aero_may_stir();
 }
@@ -134,7 +132,7 @@ static void begin_again(struct thread *me) {
         it->block = OPEN;
     }
 }
-void aero_split_blocks(int begins) {
+void aero_split_blocks(bool begins) {
     if (!aero_settings.splits_waits) return;
     aero_lock();
     if (begins) begin_again(&aero_me);
@@ -177,7 +175,7 @@ static void leave_until(uintptr_t stack) {
 static void jumps_to(const struct __jmp_buf_tag *to) {
     uintptr_t stack = stack_of(to);
     if (aero_me.busy) aero_interrupted();
-    if (!stack) aero_me.jumped = 1;
+    if (!stack) aero_me.jumped = true;
     if (!stack || !aero_enter()) return;
     leave_until(stack);
     aero_leave();

@@ -10,9 +10,9 @@
 #include <unistd.h>
 
 /* Nothing is asked of the system where no log is open: it may not be allowed. */
-static int has_log(void) { return aero_log.number >= 0 && getpid() == aero_owner && aero_enter(); }
+static bool has_log(void) { return aero_log.number >= 0 && getpid() == aero_owner && aero_enter(); }
 
-static void write_out(int ends_thread) {
+static void write_out(bool ends_thread) {
     if (!has_log()) return;
     aero_lock();
     if (ends_thread) aero_end_thread();
@@ -26,9 +26,9 @@ static void write_out(int ends_thread) {
 static void note_end(void) { aero_me.jumped |= aero_log.number >= 0 && getpid() != aero_owner; }
 
 /* A child with memory of its own. */
-static int is_fork(long number, const long *with) {
+static bool is_fork(long number, const long *with) {
 #ifdef SYS_fork
-    if (number == SYS_fork) return 1;
+    if (number == SYS_fork) return true;
 #endif
 #ifdef SYS_clone3
     if (number == SYS_clone3) return !(*(const uint64_t *)with[0] & CLONE_VM);
@@ -53,13 +53,13 @@ EXPORT long syscall(long number, ...) {
     va_end(list);
     if (number == SYS_exit_group || number == SYS_exit) note_end();
     if (number == SYS_exit_group) aero_finish();
-    if (number == SYS_exit) write_out(1);
+    if (number == SYS_exit) write_out(true);
     if (number == SYS_seccomp && with[0] == SECCOMP_SET_MODE_STRICT) before_strict_mode();
-    if (number == SYS_seccomp) write_out(0);
-    int entered = (number == SYS_execve || number == SYS_execveat) && aero_log.number >= 0 && aero_before_exec();
+    if (number == SYS_seccomp) write_out(false);
+    bool entered = (number == SYS_execve || number == SYS_execveat) && aero_log.number >= 0 && aero_before_exec();
     long result = real(number, with[0], with[1], with[2], with[3], with[4], with[5]);
     if (!result && is_fork(number, with)) aero_forked_apart();
-    if (entered) aero_behind_exec(1);
+    if (entered) aero_behind_exec(true);
     return result;
 }
 
@@ -71,7 +71,7 @@ EXPORT int prctl(int option, ...) {
     for (size_t place = 0; place < 4; place++) with[place] = va_arg(list, unsigned long);
     va_end(list);
     if (option == PR_SET_SECCOMP && with[0] == SECCOMP_MODE_STRICT) before_strict_mode();
-    if (option == PR_SET_SECCOMP) write_out(0);
+    if (option == PR_SET_SECCOMP) write_out(false);
     return real(option, with[0], with[1], with[2], with[3]);
 }
 
@@ -109,9 +109,9 @@ EXPORT int clone(int (*start)(void *), void *stack, int flags, void *with, ...) 
     va_end(list);
     struct cloned cloned = {start, with};
     if (!(flags & CLONE_VM)) return real(run_apart, stack, flags, &cloned, more[0], more[1], more[2]);
-    int is_borrowed = (flags & CLONE_VFORK) && !(flags & CLONE_SETTLS);
+    bool is_borrowed = (flags & CLONE_VFORK) && !(flags & CLONE_SETTLS);
     if (!is_borrowed) before_thread();
-    int logs = is_borrowed && aero_enter();
+    bool logs = is_borrowed && aero_enter();
     int result = real(start, stack, flags, with, more[0], more[1], more[2]);
     if (logs) {
         aero_me.error = errno;

@@ -11,6 +11,7 @@
  * Without it all are but main, those that threads start with (blocks.c), the bodies of OpenMP's teams, and the functions of std::
  * and of the C++ runtime, for Rust those of std, core and alloc. A function without a name may be any of these, so it is none. */
 #include "log.h"
+#include "words.h"
 
 #include <stdio.h>
 #include <string.h>
@@ -21,48 +22,28 @@ static struct name {
     size_t file_length;
     const char *text;
     size_t length;
-    int leaves_out, is_found;
+    bool leaves_out, is_found;
 } *names;
 static size_t name_count;
-static int is_unreadable;            /* the program's names are needed, and it has none */
+static bool is_unreadable;           /* the program's names are needed, and it has none */
 
-int aero_starts_are_blocks(void) { return base != USUAL; }
+bool aero_starts_are_blocks(void) { return base != USUAL; }
 
 /* ---- names that match */
 
-/* Whether the text is what the name of that length says, whose stars stand for any text. */
-static int matches(const char *name, size_t length, const char *text) {
-    size_t place = 0, star = length;
-    const char *behind = NULL;
-    while (*text || place < length) {
-        if (place < length && name[place] == '*') {
-            star = place++;
-            behind = text;
-        } else if (place < length && *text && name[place] == *text) {
-            place++, text++;
-        } else {
-            if (star == length || !*behind) return 0;
-            place = star + 1;
-            text = ++behind;
-        }
-    }
-    return 1;
-}
-static int is_in_file(const struct name *name, const char *file) {
+static bool is_in_file(const struct name *name, const char *file) {
     return !name->file || (strlen(file) == name->file_length && !memcmp(file, name->file, name->file_length));
 }
-static int is_called(const struct name *name, const char *label, const char *symbol, const char *file) {
-    if (!is_in_file(name, file)) return 0;
+static bool is_called(const struct name *name, const char *label, const char *symbol, const char *file) {
+    if (!is_in_file(name, file)) return false;
     return matches(name->text, name->length, label) || (symbol && matches(name->text, name->length, symbol));
 }
 
 /* ---- functions of the C++ runtime */
 
-static int begins(const char *text, const char *with) { return !strncmp(text, with, strlen(with)); }
-
 /* By the symbol: _ZNKSt6vectorIiE4sizeEv is of std, and so is what lies within its functions (_ZZNSt..). */
-static int is_of_std(const char *symbol) {
-    if (!begins(symbol, "_Z")) return 0;
+static bool is_of_std(const char *symbol) {
+    if (!begins(symbol, "_Z")) return false;
     symbol += 2;
     symbol += strspn(symbol, "Z");
     symbol += *symbol == 'N';
@@ -71,51 +52,36 @@ static int is_of_std(const char *symbol) {
     return (*symbol == 'S' && symbol[1] && strchr("tabsiod", symbol[1])) || begins(symbol, "9__gnu_cxx")
         || begins(symbol, "10__cxxabiv1");
 }
-static int is_of_runtime(const char *label, const char *symbol) {
+static bool is_of_runtime(const char *label, const char *symbol) {
     static const char *const heads[] = {"_GLOBAL__", "__cxx_global_", "__static_initialization", "__tls_init", "__cxa_",
                                         "__gthread_", "__clang_call_terminate", "__rust", "TLS init function for ",
                                         "TLS wrapper function for "};
     for (size_t one = 0; one < sizeof heads / sizeof *heads; one++)
-        if (begins(label, heads[one]) || begins(symbol, heads[one])) return 1;
+        if (begins(label, heads[one]) || begins(symbol, heads[one])) return true;
     return aero_is_rust(symbol) ? aero_is_of_rust_library(label) : is_of_std(symbol);
 }
-static int is_main(const char *label, const char *symbol) {
+static bool is_main(const char *label, const char *symbol) {
     return !strcmp(symbol, "main") || (aero_is_rust(symbol) && aero_is_rust_main(label));
 }
 
 /* The part of a function that the threads of a team run, or that copies for a task. */
-static int is_of_team(const char *symbol) {
+static bool is_of_team(const char *symbol) {
     return strstr(symbol, "._omp_fn.") || strstr(symbol, "._omp_cpyfn.") || strstr(symbol, ".omp_outlined");
 }
 
 int aero_kind(const char *label, const char *symbol, const char *file) {
-    int runtime = symbol && is_of_runtime(label, symbol), locks = symbol && aero_is_rust(symbol) ? aero_lock_function(label) : 0;
-    int block = base == ALL || (base == USUAL && symbol && !runtime && !is_main(label, symbol) && !is_of_team(symbol));
+    bool runtime = symbol && is_of_runtime(label, symbol);
+    enum lock_call locks = symbol && aero_is_rust(symbol) ? aero_lock_function(label) : NO_LOCK_CALL;
+    bool block = base == ALL || (base == USUAL && symbol && !runtime && !is_main(label, symbol) && !is_of_team(symbol));
     for (size_t one = 0; one < name_count; one++)
         if (is_called(&names[one], label, symbol, file)) {
             block = !names[one].leaves_out;
             if (!block) break;
         }
-    return (block ? IS_BLOCK : 0) | (runtime ? IS_RUNTIME : 0) | locks * LOCK_FUNCTION;
+    return (block ? IS_BLOCK : 0) | (runtime ? IS_RUNTIME : 0) | (int)locks * LOCK_FUNCTION;
 }
 
 /* ---- names of a list */
-
-/* How long the name is with which the list begins. A comma within brackets, as in pair<int, long>::get, belongs to it. */
-static size_t name_length(const char *list) {
-    int depth = 0;
-    size_t length = 0;
-    for (; list[length] && list[length] != '\n'; length++) {
-        char byte = list[length];
-        if (byte == ',' && depth <= 0) break;
-        depth += (byte == '<' || byte == '(') - (byte == '>' || byte == ')');
-    }
-    return length;
-}
-
-static int is_word(const char *list, const char *word) {
-    return name_length(list) == strlen(word) && begins(list, word);
-}
 
 /* libbank.so:f: where the name of a library stands before a single colon, what is behind it begins. */
 static size_t behind_file(const char *text, size_t length) {
@@ -124,24 +90,24 @@ static size_t behind_file(const char *text, size_t length) {
     return (size_t)(colon - text) + 1;
 }
 
-static struct name name_in(const char *text, size_t length, int leaves_out) {
+static struct name name_in(const char *text, size_t length, bool leaves_out) {
     size_t file = behind_file(text, length);
     return (struct name){file ? text : NULL, file ? file - 1 : 0, text + file, length - file, leaves_out, 0};
 }
 
 /* Puts the names of the list down, and says whether there was memory for them. */
-static int take_names(const char *list, int all_leave_out) {
+static bool take_names(const char *list, bool all_leave_out) {
     names = aero_pages((strlen(list) / 2 + 1) * sizeof *names);
     while (names && *list) {
-        int minus = *list == '-';
-        size_t length = name_length(list += minus);
+        bool minus = *list == '-';
+        size_t length = name_length(list += minus, "<(", ">)");
         if (length) names[name_count++] = name_in(list, length, minus || all_leave_out);
         list += length + (list[length] != 0);
     }
     return names != NULL;
 }
 
-static int find_names(const char *label, const char *symbol, const char *file) {
+static bool find_names(const char *label, const char *symbol, const char *file) {
     size_t found = 0;
     for (size_t one = 0; one < name_count; one++) {
         if (!names[one].is_found) names[one].is_found = is_called(&names[one], label, symbol, file);
@@ -150,7 +116,7 @@ static int find_names(const char *label, const char *symbol, const char *file) {
     return found < name_count;
 }
 
-static int is_address(const struct name *name) { return memmem(name->text, name->length, "+0x", 3) != NULL; }
+static bool is_address(const struct name *name) { return memmem(name->text, name->length, "+0x", 3) != NULL; }
 
 static void tell_unknown(const struct name *name, const char *so) {
     char what[256], why[256];
@@ -164,15 +130,15 @@ static void tell_unknown(const struct name *name, const char *so) {
 static const struct name *unknown_name(const char *file) {
     for (size_t one = 0; one < name_count; one++) {
         const struct name *name = &names[one];
-        int is_wanted = file ? name->file && is_in_file(name, file) : !name->file || aero_is_loaded(name->file, name->file_length);
+        bool is_wanted = file ? name->file && is_in_file(name, file) : !name->file || aero_is_loaded(name->file, name->file_length);
         if (!is_wanted || name->is_found || is_address(name)) continue;
         if (!name->leaves_out || !memchr(name->text, '*', name->length)) return name;
     }
     return NULL;
 }
 
-int aero_knows_blocks(void) {
-    if (is_unreadable) return 0;
+bool aero_knows_blocks(void) {
+    if (is_unreadable) return false;
     if (name_count) aero_each_function(NULL, find_names);
     const struct name *unknown = unknown_name(NULL);
     if (unknown) tell_unknown(unknown, "nothing is logged");
@@ -205,7 +171,7 @@ void aero_tell_never_loaded(void) {
 /* Whoever says which functions are blocks doesn't need the names of others. */
 void aero_lacks_main(const char *file) {
     if (base != USUAL) return;
-    is_unreadable = 1;
+    is_unreadable = true;
     aero_say(file, "it is stripped, so that main and std:: can't be told from its other functions: nothing is logged, "
                    "unless AERODROME_BLOCKS is all, none or a list of blocks");
 }
@@ -222,32 +188,26 @@ void aero_lacks_file(const char *file) {
 static char *lines_of(const char *path, const char *head) {
     struct image file = aero_image(path);
     char *text = file.bytes ? aero_pages(file.size + 2) : NULL, *to = text ? aero_put_text(text, head) : NULL;
-    int is_new = 1, is_comment = 0;
-    for (size_t place = 0; text && place < file.size; place++) {
-        char byte = file.bytes[place];
-        if (is_new) is_comment = byte == '#';
-        is_new = byte == '\n';
-        if (!is_comment && byte != '\r' && !(is_new && to > text && to[-1] == '\n')) *to++ = byte;
-    }
+    if (text) take_lines(to, file.bytes, file.size);
     aero_drop_image(file);
     return text;
 }
 
-int aero_read_blocks(const char *blocks) {
-    if (!blocks) return 1;
-    int minus = *blocks == '-', is_file = blocks[minus] == '@';
+bool aero_read_blocks(const char *blocks) {
+    if (!blocks) return true;
+    bool minus = *blocks == '-', is_file = blocks[minus] == '@';
     const char *said = is_file ? lines_of(blocks + minus + 1, minus ? "-" : "") : blocks;
     if (!said || !said[strspn(said, "-\n")]) {
         char what[256];
         snprintf(what, sizeof what, "AERODROME_BLOCKS=%.180s", blocks);
         aero_say(what, said ? "it has no name: nothing is logged" : "the file is empty or can't be read: nothing is logged");
-        return 0;
+        return false;
     }
-    int all = is_word(said, "all");
+    bool all = is_first(said, "all");
     base = all ? ALL : *said == '-' ? USUAL : ONLY_LISTED;
-    if (is_word(said, "none") && !said[4 + (said[4] == '\n')]) return 1;
+    if (is_first(said, "none") && !said[4 + (said[4] == '\n')]) return true;
     const char *list = all ? said + 3 + (said[3] != 0) : said;
-    if (take_names(list, *said == '-')) return 1;
+    if (take_names(list, *said == '-')) return true;
     aero_say("AERODROME_BLOCKS", "out of memory: nothing is logged");
-    return 0;
+    return false;
 }

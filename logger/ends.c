@@ -19,11 +19,19 @@ static void tell_of_little(void) {
     else if (!aero_has_entered) aero_say("no block is logged", "no function that aerodrome-cc has compiled was called");
 }
 
+static void close_log(void) {
+    char why[256];
+    if (aero_close()) return;
+    snprintf(why, sizeof why, "%.150s: it may lack lines", strerror(errno));
+    aero_say(aero_target(aero_settings.target), why);
+}
+
 /* A signal handler may have come into the logger, and hold its lock already: then what was being written out goes on, and the
  * line that was begun isn't written. A child that shares the program's memory, by vfork(), ends without ending the log. */
 void aero_finish(void) {
     if (aero_log.number < 0 || getpid() != aero_owner) return;
-    int was_busy = aero_me.busy, writes = aero_writes();
+    int was_busy = aero_me.busy;
+    bool writes = aero_writes();
     aero_me.busy = 1;
     if (!aero_me.number) aero_number(aero_next_number());
     if (!writes) aero_lock();
@@ -35,9 +43,9 @@ void aero_finish(void) {
     }
     aero_flush();
     atomic_store(&aero_state, OFF);
-    aero_close();
+    close_log();
     aero_unlock();
-    aero_end_command(1);
+    aero_end_command(true);
     aero_me.busy = was_busy;
 }
 
@@ -78,21 +86,27 @@ EXPORT void __assert_fail(const char *what, const char *file, unsigned line, con
 static const int deadly[] = {SIGHUP, SIGINT, SIGQUIT, SIGILL, SIGTRAP, SIGABRT, SIGBUS, SIGFPE, SIGUSR1, SIGSEGV, SIGUSR2, SIGPIPE,
                              SIGALRM, SIGTERM, SIGXCPU, SIGXFSZ, SIGVTALRM, SIGPROF, SIGIO, SIGSYS};
 
-static int is_deadly(int signal) {
+static bool is_deadly(int signal) {
     for (size_t one = 0; one < sizeof deadly / sizeof *deadly; one++)
-        if (deadly[one] == signal) return 1;
-    return 0;
+        if (deadly[one] == signal) return true;
+    return false;
 }
 
 /* The handler is gone by now (SA_RESETHAND), so the signal ends the process when it comes again: what the kernel found faulty by
- * itself, others because they are sent. Another one that comes meanwhile doesn't wait for the log. */
+ * itself, others because they are sent; where one can't be sent, the process ends with the status that a shell has for it. Another one
+ * that comes meanwhile doesn't wait for the log. */
 static void ends_by(int signal, siginfo_t *how, void *unused) {
-    static __thread int is_ending;
-    int error = errno, is_fault = signal == SIGSEGV || signal == SIGBUS || signal == SIGFPE || signal == SIGILL;
+    static __thread bool is_ending;
+    int error = errno;
+    bool is_fault = signal == SIGSEGV || signal == SIGBUS || signal == SIGFPE || signal == SIGILL;
     (void)unused;
-    if (!is_ending++) aero_finish();
+    if (!is_ending) {
+        is_ending = true;
+        aero_finish();
+    }
     errno = error;
-    if (!is_fault || how->si_code <= 0) syscall(SYS_tgkill, getpid(), syscall(SYS_gettid), signal);
+    if (is_fault && how->si_code > 0) return;
+    if (syscall(SYS_tgkill, getpid(), syscall(SYS_gettid), signal)) syscall(SYS_exit_group, 128 + signal);
 }
 
 /* A stack that is used up has no room for the handler, so each thread has another one for that. Those of threads that have ended
@@ -103,19 +117,28 @@ static int spare_count;
 static lock_word spare_lock;
 static __thread void *signal_stack;
 
+static void tell_of_no_stack(void) {
+    static atomic_int is_told;
+    if (!atomic_exchange(&is_told, 1))
+        aero_say("a thread", "it has no stack for signals: if it uses up its own, the log's last lines are lost");
+}
+
 void aero_take_signal_stack(void) {
     aero_take(&spare_lock);
     signal_stack = spare_count ? spare[--spare_count] : NULL;
     aero_let_go(&spare_lock);
     if (!signal_stack) signal_stack = aero_pages(SIGNAL_STACK);
     stack_t ours = {.ss_sp = signal_stack, .ss_size = SIGNAL_STACK};
-    if (signal_stack) sigaltstack(&ours, NULL);
+    if (signal_stack && !sigaltstack(&ours, NULL)) return;
+    aero_free_pages(signal_stack, SIGNAL_STACK);
+    signal_stack = NULL;
+    tell_of_no_stack();
 }
 void aero_drop_signal_stack(void) {
     const stack_t none = {.ss_flags = SS_DISABLE};
     if (!signal_stack || sigaltstack(&none, NULL)) return;
     aero_take(&spare_lock);
-    int is_kept = spare_count < MOST_SPARE;
+    bool is_kept = spare_count < MOST_SPARE;
     if (is_kept) spare[spare_count++] = signal_stack;
     aero_let_go(&spare_lock);
     if (!is_kept) aero_free_pages(signal_stack, SIGNAL_STACK);
@@ -133,7 +156,7 @@ static struct sigaction at_the_end(void) {
 EXPORT int sigaction(int signal, const struct sigaction *action, struct sigaction *before) {
     REAL(int, sigaction, int, const struct sigaction *, struct sigaction *)
     struct sigaction ours = at_the_end();
-    int kills = action && aero_log.number >= 0 && is_deadly(signal) && action->sa_handler == SIG_DFL;
+    bool kills = action && aero_log.number >= 0 && is_deadly(signal) && action->sa_handler == SIG_DFL;
     int result = real(signal, kills ? &ours : action, before);
     if (!result && before && before->sa_sigaction == ends_by) *before = (struct sigaction){.sa_handler = SIG_DFL};
     return result;
@@ -151,7 +174,6 @@ void aero_ends_start(void) {
     struct sigaction by_default = {.sa_handler = SIG_DFL}, now;
     aero_owner = getpid();
     aero_take_signal_stack();
-    at_quick_exit(aero_finish);
     for (size_t one = 0; one < sizeof deadly / sizeof *deadly; one++)
         if (!sigaction(deadly[one], NULL, &now) && now.sa_handler == SIG_DFL) sigaction(deadly[one], &by_default, NULL);
 }

@@ -34,7 +34,7 @@ static char *behind_type(char *text) {
 }
 
 /* Whether a character of UTF-8 goes on with the byte. */
-static int goes_on(char byte) { return (byte & 0xc0) == 0x80; }
+static bool goes_on(char byte) { return (byte & 0xc0) == 0x80; }
 
 /* A longer text has dots in the place of its middle: it begins with the scope, and ends with the name itself. */
 static void put_within(char *to, const char *text, size_t most) {
@@ -54,8 +54,8 @@ static void put_within(char *to, const char *text, size_t most) {
 
 /* A suffix of the compiler or of a version, as in pay.constprop.0 and environ@GLIBC, goes. The parts of a coroutine, as in
  * _Z4loopPZ4loopvE13_Z4loopv.Frame.actor, have it in the midst of their names too. */
-static char *readable_cpp(const char *symbol, int is_function) {
-    int is_mangled = __cxa_demangle && !strncmp(symbol, "_Z", 2);
+static char *readable_cpp(const char *symbol, bool is_function) {
+    bool is_mangled = __cxa_demangle && !strncmp(symbol, "_Z", 2);
     char *whole = is_mangled && strstr(symbol, ".Frame.") ? __cxa_demangle(symbol, NULL, NULL, NULL) : NULL;
     char *clone = whole ? strstr(whole, " [clone ") : NULL;
     size_t length = strcspn(symbol, ".@");
@@ -68,8 +68,8 @@ static char *readable_cpp(const char *symbol, int is_function) {
     return readable;
 }
 
-void aero_put_label(char *to, const char *symbol, int is_function, size_t most) {
-    int is_rust = aero_is_rust(symbol);
+void aero_put_label(char *to, const char *symbol, bool is_function, size_t most) {
+    bool is_rust = aero_is_rust(symbol);
     char *readable = is_rust ? aero_rust_name(symbol) : readable_cpp(symbol, is_function);
     const char *from = readable ? readable : symbol;
     if (readable && is_function && !is_rust && !strncmp(symbol, "_Z", 2)) from = behind_type(readable);

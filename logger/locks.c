@@ -1,4 +1,5 @@
-/* Locks and what else orders threads. An acquire is logged once the lock is had, a release before it is given back. */
+/* Locks of the program, and its waits on condition variables. An acquire is logged once the lock is had, a release before it is given
+ * back. */
 #include "log.h"
 
 #include <errno.h>
@@ -15,14 +16,14 @@ static struct held *held_at(struct thread *me, size_t place) {
 
 static void hold(uintptr_t lock, enum holding how) {
     struct thread *me = &aero_me;
-    if (UNLIKELY(me->holds >= FEW_HELD)
-        && !aero_has_room((void **)&me->held, sizeof *me->held, me->holds - FEW_HELD, &me->held_room)) {
+    bool has_room = LIKELY(me->holds < FEW_HELD)
+        || aero_has_room((void **)&me->held, sizeof *me->held, me->holds - FEW_HELD, &me->held_room);
+    if (UNLIKELY(!has_room || (!me->has_end && !aero_end_with_thread()))) {
         aero_stop("out of memory");
         return;
     }
     *held_at(me, me->holds) = (struct held){lock, how};
     me->holds++;
-    if (UNLIKELY(!me->has_end)) aero_end_with_thread();
 }
 
 /* How the thread holds the lock, which it gives back; 0 if it isn't known to hold it. */
@@ -90,7 +91,7 @@ enum holding aero_releasing(uintptr_t lock, uintptr_t code) {
 /* ---- mutexes and spin locks */
 
 /* Whether the lock is had, also where its owner has ended with it. */
-static int is_had(int result) { return result == 0 || result == EOWNERDEAD; }
+static bool is_had(int result) { return result == 0 || result == EOWNERDEAD; }
 
 #define ACQUIRE(name, how, arguments, ...) \
     EXPORT int name(__VA_ARGS__) { \
@@ -138,14 +139,14 @@ struct wait {
     uintptr_t lock, code;
     enum holding how;
 };
-static void split(int begins) {
+static void split(bool begins) {
     if (!aero_settings.splits_waits || !aero_enter()) return;
     aero_split_blocks(begins);
     aero_leave();
 }
 static void has_again(void *given) {
     struct wait *wait = given;
-    split(1);
+    split(true);
     if (wait->how) aero_acquired(wait->lock, wait->how, wait->code);
 }
 
@@ -155,7 +156,7 @@ static void has_again(void *given) {
         struct wait wait = {(uintptr_t)lock, HERE, 0}; \
         int result; \
         wait.how = aero_releasing(wait.lock, wait.code); \
-        split(0); \
+        split(false); \
         pthread_cleanup_push(has_again, &wait) \
         result = real arguments; \
         pthread_cleanup_pop(1); \
@@ -174,59 +175,9 @@ WAIT(pthread_cond_clockwait, NULL, (condition, lock, clock, until),
 WAIT(cnd_wait, NULL, (condition, lock), cnd_t *condition, mtx_t *lock)
 WAIT(cnd_timedwait, NULL, (condition, lock, until), cnd_t *condition, mtx_t *lock, until_type until)
 
-/* ---- barriers, what runs once */
+/* ---- mutexes of programs that know of -fsanitize=thread */
 
-EXPORT int pthread_barrier_wait(pthread_barrier_t *barrier) {
-    REAL(int, pthread_barrier_wait, pthread_barrier_t *)
-    aero_event("w", "bar.", (uintptr_t)barrier, HERE);
-    int result = real(barrier);
-    aero_event("r", "bar.", (uintptr_t)barrier, HERE);
-    return result;
-}
-
-/* What runs once is logged where it ends, before others are let through. */
-struct once {
-    void (*routine)(void);
-    uintptr_t once, code;
-    int ran;
-};
-static __thread struct once *running;
-static void run_once(void) {
-    struct once *mine = running;
-    mine->routine();
-    mine->ran = 1;
-    aero_event("w", "once.", mine->once, mine->code);
-}
-#define ONCE(name, result_type, type) \
-    static result_type name##_logged(type *once, struct once *mine) { \
-        REAL(result_type, name, type *, void (*)(void)) \
-        running = mine; \
-        return real(once, run_once); \
-    }
-ONCE(pthread_once, int, pthread_once_t)
-ONCE(call_once, void, once_flag)
-static void after_once(const struct once *mine, struct once *before) {
-    running = before;
-    if (!mine->ran) aero_event("r", "once.", mine->once, mine->code);
-}
-EXPORT int pthread_once(pthread_once_t *once, void (*routine)(void)) {
-    struct once mine = {routine, (uintptr_t)once, HERE, 0}, *before = running;
-    int result = pthread_once_logged(once, &mine);
-    after_once(&mine, before);
-    return result;
-}
-EXPORT void call_once(once_flag *once, void (*routine)(void)) {
-    struct once mine = {routine, (uintptr_t)once, HERE, 0}, *before = running;
-    call_once_logged(once, &mine);
-    after_once(&mine, before);
-}
-
-/* ---- what programs that know of -fsanitize=thread tell it by themselves */
-
-EXPORT void __tsan_acquire(void *at) { aero_event("r", "sync.", (uintptr_t)at, HERE); }
-EXPORT void __tsan_release(void *at) { aero_event("w", "sync.", (uintptr_t)at, HERE); }
-
-/* A mutex of the program's own, which may have readers. */
+/* Such a mutex may have readers. */
 enum { READ_LOCK = 1 << 3, TRY_FAILED = 1 << 5 };
 EXPORT void __tsan_mutex_create(void *at, unsigned flags) { (void)at, (void)flags; }
 EXPORT void __tsan_mutex_destroy(void *at, unsigned flags) { (void)at, (void)flags; }

@@ -68,7 +68,7 @@ int aero_grain;
 __thread struct thread aero_me;
 
 lock_word aero_log_lock;
-static volatile int flushing;
+static volatile bool flushing;
 static atomic_int last_number;
 static const char *target;
 static char buffer[LOG_BUFFER];
@@ -92,16 +92,16 @@ void aero_free_pages(void *at, size_t bytes) {
     if (at) syscall(SYS_munmap, at, bytes);
 }
 
-int aero_has_room(void **items, size_t size, size_t count, size_t *room) {
-    if (LIKELY(count < *room)) return 1;
+bool aero_has_room(void **items, size_t size, size_t count, size_t *room) {
+    if (LIKELY(count < *room)) return true;
     size_t more = *room ? 2 * *room : 4096 / size;
     char *at = aero_pages(more * size), *old = *items;
-    if (!at) return 0;
+    if (!at) return false;
     for (size_t byte = 0; byte < count * size; byte++) at[byte] = old[byte];
     *items = at;
     aero_free_pages(old, *room * size);
     *room = more;
-    return 1;
+    return true;
 }
 
 int aero_next_number(void) { return atomic_fetch_add(&last_number, 1) + 1; }
@@ -124,24 +124,24 @@ void aero_empty(void) {
     atomic_store(&last_number, 0);
 }
 
-int aero_has_lines(void) { return used || written; }
+bool aero_has_lines(void) { return used || written; }
 
 void aero_write_to(const char *said) {
     target = said;
     int64_t most = aero_settings.limit;
     struct stat is;
-    int endless = fstat(aero_log.number, &is) || !S_ISREG(is.st_mode);
+    bool endless = fstat(aero_log.number, &is) || !S_ISREG(is.st_mode);
     limit = most >= 0 ? (uint64_t)most : endless ? 0 : (uint64_t)1 << 30;
 }
 
-/* Leaves the file with whole lines. */
-static void cut(void) {
+/* Leaves the file with whole lines, and says whether it could. What is no file keeps what was written. */
+static bool cut(void) {
     struct stat is;
     size_t whole = sent;
     while (whole && buffer[whole - 1] != '\n') whole--;
     written += whole;
-    if (!aero_is_kept(&aero_log) || fstat(aero_log.number, &is) || !S_ISREG(is.st_mode)) return;
-    if (ftruncate(aero_log.number, (off_t)written)) return;
+    if (!aero_is_kept(&aero_log) || fstat(aero_log.number, &is) || !S_ISREG(is.st_mode)) return true;
+    return !ftruncate(aero_log.number, (off_t)written);
 }
 
 void aero_stop(const char *why) {
@@ -156,20 +156,20 @@ void aero_stop(const char *why) {
 /* Writes the buffer out as far as it goes, and says whether all of it went. A pipe that is full is waited for, and only there
  * signals come through, so that `sent` is right for whoever writes out at the end. By system calls, as the functions of the C
  * library let a thread be cancelled. */
-static int write_out(const sigset_t *masked) {
+static bool write_out(const sigset_t *masked) {
     while (sent < used) {
         errno = EBADF;
-        if (!aero_is_kept(&aero_log)) return 0;
+        if (!aero_is_kept(&aero_log)) return false;
         long more = syscall(SYS_write, aero_log.number, buffer + sent, used - sent);
         struct pollfd pipe = {aero_log.number, POLLOUT, 0};
         if (more > 0) sent += (size_t)more;
-        else if (more < 0 && errno == EAGAIN) syscall(SYS_ppoll, &pipe, 1L, NULL, masked, (size_t)_NSIG / 8);
         else if (more == 0) errno = ENOSPC;
-        if (more == 0 || (more < 0 && errno != EAGAIN && errno != EINTR)) return 0;
+        else if (errno == EAGAIN && syscall(SYS_ppoll, &pipe, 1L, NULL, masked, (size_t)_NSIG / 8) > 0) continue;
+        if (more <= 0 && errno != EINTR) return false;
     }
     written += used;
     used = sent = 0;
-    return 1;
+    return true;
 }
 
 /* Takes back the signal that a failed write has sent, as a pipe or a file takes no more, unless one was pending before. */
@@ -192,16 +192,17 @@ void aero_flush(void) {
     masked = all;
     for (size_t one = 0; one < sizeof through / sizeof *through; one++)
         if (!sigismember(&before, through[one])) sigdelset(&masked, through[one]);
-    flushing = 1;
-    aero_clear();
-    if (!write_out(&masked)) {
+    flushing = true;
+    bool is_clear = aero_clear();
+    if (!is_clear || !write_out(&masked)) {
         int why = errno;
-        cut();
+        bool is_whole = !is_clear || cut();
         take_back(SIGPIPE, &pending);
         take_back(SIGXFSZ, &pending);
         aero_stop(why == EPIPE ? "its reader has ended" : why == EBADF ? "the program has closed it" : strerror(why));
+        if (!is_whole) aero_say(target, "its last line isn't whole, and can't be taken out");
     }
-    flushing = 0;
+    flushing = false;
     pthread_sigmask(SIG_SETMASK, &before, NULL);
 }
 

@@ -8,6 +8,7 @@
 #include <errno.h>
 #include <pthread.h>
 #include <stdatomic.h>
+#include <stdbool.h>
 #include <stddef.h>
 #include <stdint.h>
 #include <sys/types.h>
@@ -58,10 +59,11 @@ struct held {
 };
 enum { FEW_HELD = 16 };
 
-/* A function of Rust's std that locks, which the thread is in; rust.c. */
+/* What a function of Rust's std does with a lock, and that which the thread is in; rust.c. */
+enum lock_call { NO_LOCK_CALL, TAKES, TRIES, TAKES_READER, TRIES_READER, TAKES_WRITER, TRIES_WRITER, GIVES_BACK, WAITS };
 struct locking {
-    int what;                /* 0: none */
-    int is_had;
+    enum lock_call what;
+    bool is_had;
     size_t depth;            /* of its frame */
     uintptr_t word;          /* 0: not known yet */
 };
@@ -70,9 +72,9 @@ struct thread {
     int number;              /* from 1; 0: it has none yet */
     volatile int busy;       /* in the logger: what a signal handler does meanwhile isn't logged */
     int error;               /* errno as the program had it */
-    int jumped;              /* functions may have been left without their hook, as by exec in a child of vfork */
-    int cancels;             /* asynchronous cancelling was asked for; threads.c */
-    int has_end;             /* what it has left open is ended with it */
+    bool jumped;             /* functions may have been left without their hook, as by exec in a child of vfork */
+    bool cancels;            /* asynchronous cancelling was asked for; threads.c */
+    bool has_end;            /* what it has left open is ended with it */
     int length;
     char prefix[16];         /* "T12|" */
     struct frame *frames;
@@ -98,14 +100,14 @@ void aero_wake(lock_word *lock);
 static inline int aero_own_number(void) { return LIKELY(aero_me.number) ? aero_me.number : NUMBERLESS; }
 static inline void aero_take(lock_word *lock) {
     int number = aero_own_number(), found = 0;
-    int is_had = atomic_compare_exchange_strong_explicit(&lock->owner, &found, number, memory_order_acquire, memory_order_relaxed);
+    bool is_had = atomic_compare_exchange_strong_explicit(&lock->owner, &found, number, memory_order_acquire, memory_order_relaxed);
     if (UNLIKELY(!is_had)) aero_wait_for(lock, number);
 }
 static inline void aero_let_go(lock_word *lock) {
     atomic_store_explicit(&lock->owner, 0, memory_order_release);
     if (UNLIKELY(atomic_load_explicit(&lock->sleepers, memory_order_relaxed))) aero_wake(lock);
 }
-static inline int aero_has(lock_word *lock) { return atomic_load(&lock->owner) == aero_own_number(); }
+static inline bool aero_has(lock_word *lock) { return atomic_load(&lock->owner) == aero_own_number(); }
 
 /* log.c */
 enum { OFF, ON };
@@ -114,7 +116,7 @@ extern int aero_grain;               /* bytes of a variable; 0: as they are acce
 extern lock_word aero_log_lock;
 static inline void aero_lock(void) { aero_take(&aero_log_lock); }
 static inline void aero_unlock(void) { aero_let_go(&aero_log_lock); }
-static inline int aero_writes(void) { return aero_has(&aero_log_lock); }    /* whether the calling thread holds the log's lock */
+static inline bool aero_writes(void) { return aero_has(&aero_log_lock); }   /* whether the calling thread holds the log's lock */
 void aero_interrupted(void);         /* a signal handler that came into the logger leaves it by longjmp */
 void aero_number(int number);        /* gives the calling thread its number */
 int aero_next_number(void);
@@ -123,11 +125,11 @@ void aero_stop(const char *why);     /* says why on standard error; the log's lo
 void aero_flush(void);               /* writes out what is there; the log's lock is held */
 void aero_write_to(const char *target);
 void aero_empty(void);               /* drops what the buffer has, and begins to count anew */
-int aero_has_lines(void);            /* whether a line was written, or is in the buffer */
+bool aero_has_lines(void);           /* whether a line was written, or is in the buffer */
 void *aero_pages(size_t bytes);      /* zeroed memory, or NULL */
 void aero_free_pages(void *at, size_t bytes);
 /* Makes room for one item of `size` bytes more behind `count` of them, and says whether there is some. */
-int aero_has_room(void **items, size_t size, size_t count, size_t *room);
+bool aero_has_room(void **items, size_t size, size_t count, size_t *room);
 /* Writes the line OPERATION(KIND NAME)|PLACE of the calling thread; the log's lock is held. The name is that of the variable at
  * the address, or `text` where it isn't NULL; without a kind there are no parentheses. */
 void aero_line(const char *operation, const char *kind, uintptr_t address, const char *text, uintptr_t code);
@@ -135,13 +137,13 @@ void aero_line(const char *operation, const char *kind, uintptr_t address, const
 void aero_event(const char *operation, const char *kind, uintptr_t address, uintptr_t code);
 
 /* Whether the calling thread is to log what it does now. If so it calls aero_leave behind it. */
-static inline int aero_enter(void) {
-    if (LIKELY(atomic_load_explicit(&aero_state, memory_order_relaxed) != ON) || UNLIKELY(aero_me.busy)) return 0;
+static inline bool aero_enter(void) {
+    if (LIKELY(atomic_load_explicit(&aero_state, memory_order_relaxed) != ON) || UNLIKELY(aero_me.busy)) return false;
     aero_me.busy = 1;
     atomic_signal_fence(memory_order_seq_cst);
     aero_me.error = errno;
     if (UNLIKELY(!aero_me.number)) aero_number(aero_next_number());
-    return 1;
+    return true;
 }
 static inline void aero_leave(void) {
     errno = aero_me.error;
@@ -163,27 +165,30 @@ struct kept {
     ino_t node;
 };
 extern struct kept aero_log;
-int aero_is_kept(const struct kept *file);     /* whether the number still is that of the file */
-int aero_target_is_of_process(const char *said);    /* whether each process has a target of its own, by %p */
+bool aero_is_kept(const struct kept *file);    /* whether the number still is that of the file */
+enum { MOST_TARGET = 4096 };                    /* bytes, with the last one that is 0 */
+bool aero_target_fits(const char *said);       /* whether it fits into these, whatever the process's number */
+bool aero_target_is_of_process(const char *said);   /* whether each process has a target of its own, by %p */
 const char *aero_target(const char *said);     /* with the process's number in the place of each %p */
-int aero_open(const char *target);             /* opens the log, and says whether it could */
-void aero_clear(void);                         /* takes away what says that nothing is written yet */
-int aero_remove(void);                         /* removes the file, which has no line, and says whether it did */
-void aero_close(void);                         /* closes the log; its lock is held */
-void aero_end_command(int waits);              /* lets go of the command that reads it, and waits for its end, if it is to */
-int aero_is_read_by_command(void);
+bool aero_open(const char *target);            /* opens the log, and says whether it could */
+bool aero_clear(void);                         /* takes away what says that nothing is written yet; whether it is gone */
+bool aero_remove(void);                        /* removes the file, which has no line, and says whether it did */
+bool aero_close(void);                         /* closes the log, and says whether it is whole; its lock is held */
+void aero_end_command(bool waits);             /* lets go of the command that reads it, and waits for its end, if it is to */
+bool aero_is_read_by_command(void);
 
 /* settings.c */
 struct settings {
     const char *target, *blocks;
-    int grain, fresh, places, splits_waits, splits_threads;
+    int grain, fresh, places;
+    bool splits_waits, splits_threads;
     int64_t limit, stir;             /* -1: not said */
 };
 extern struct settings aero_settings;
-int aero_read_settings(const char *target);    /* from the environment; whether they can be used, else it says why not */
+bool aero_read_settings(const char *target);   /* from the environment; whether they can be used, else it says why not */
 
 /* stir.c */
-extern int aero_stirs;
+extern bool aero_stirs;
 void aero_stir_start(void);
 void aero_stir(void);
 static inline void aero_may_stir(void) {
@@ -204,11 +209,11 @@ void aero_drop_signal_stack(void);
 void aero_calls_start(void);
 
 /* processes.c */
-void aero_processes_start(void);
-int aero_is_child(void);                       /* of fork, with a log of its own */
+bool aero_processes_start(void);               /* whether the C library calls the logger at fork */
+bool aero_is_child(void);                      /* of fork, with a log of its own */
 void aero_forked_apart(void);                  /* a child that the C library's fork hasn't made; its parent goes on with the log */
-int aero_before_exec(void);
-void aero_behind_exec(int entered);            /* it has failed */
+bool aero_before_exec(void);
+void aero_behind_exec(bool entered);           /* it has failed */
 
 /* names.c */
 extern lock_word aero_names_lock;
@@ -223,14 +228,14 @@ struct code {
 #define MOST_NAME 255
 void aero_names_start(void);
 void aero_library_loaded(uintptr_t code);             /* that has code there: its names are read */
-int aero_is_loaded(const char *file, size_t length);  /* whether that of a library is called so */
+bool aero_is_loaded(const char *file, size_t length); /* whether that of a library is called so */
 void aero_lock_names(void);
 void aero_unlock_names(void);
 const struct code *aero_code(uintptr_t at);           /* NULL where memory is refused */
 const struct code *aero_function(uintptr_t at);       /* with its label and its kind */
 /* Calls `each` with the label, the symbol and the object's file of each function that has hooks, of the file or of all by NULL,
  * until it returns 0. */
-void aero_each_function(const char *file, int (*each)(const char *label, const char *symbol, const char *file));
+void aero_each_function(const char *file, bool (*each)(const char *label, const char *symbol, const char *file));
 char *aero_put_hex(char *to, uintptr_t number);
 char *aero_put_text(char *to, const char *text);
 char *aero_put_variable(char *to, uintptr_t address);
@@ -239,15 +244,15 @@ void aero_symbol_bounds(uintptr_t address, uintptr_t *from, uintptr_t *to);
 
 /* labels.c */
 /* Puts the name of the symbol as the log has it, of at most `most` bytes, with a byte 0 behind it. */
-void aero_put_label(char *to, const char *symbol, int is_function, size_t most);
+void aero_put_label(char *to, const char *symbol, bool is_function, size_t most);
 char aero_fitting(char byte);        /* the byte, or ! for one that the format doesn't have in a name */
 
 /* symbols.c */
 struct symbol {
     uintptr_t at, size;
     const char *name;
-    int several;             /* others have the name too */
-    int again;               /* others were there before, and are gone */
+    bool several;            /* others have the name too */
+    bool again;              /* others were there before, and are gone */
 };
 struct table {
     struct symbol *symbols;  /* in the order of their addresses, no two at one */
@@ -262,7 +267,7 @@ struct image aero_image(const char *path);
 void aero_drop_image(struct image image);
 struct table aero_symbols(struct image image, unsigned kind, uintptr_t bias);
 struct image aero_names_of(struct image image, const char *path);    /* that which has its names: a debug file's, or itself */
-int aero_wants_hooks(struct image image);      /* whether code in the library calls the logger */
+bool aero_wants_hooks(struct image image);     /* whether code in the library calls the logger */
 const struct symbol *aero_symbol_at(const struct table *table, uintptr_t address);
 void aero_sort_symbols(struct table *table);
 
@@ -280,32 +285,32 @@ enum access { PLAIN, COPY };
 void aero_span(const char *operation, enum access how, uintptr_t address, size_t bytes, uintptr_t code);
 
 /* choice.c */
-int aero_read_blocks(const char *blocks);             /* whether the list can be read */
-int aero_knows_blocks(void);                          /* whether each name is that of a function; else it says which isn't */
+bool aero_read_blocks(const char *blocks);            /* whether the list can be read */
+bool aero_knows_blocks(void);                         /* whether each name is that of a function; else it says which isn't */
 void aero_look_for_blocks(const char *file);          /* the same of a library that was loaded; where one isn't, the log ends */
 void aero_lacks_main(const char *file);               /* the program has no function of that name */
 void aero_lacks_name(const char *file);               /* a function that was entered has none */
 void aero_lacks_file(const char *file);               /* a library with hooks can't be read, so no function of it has a name */
 void aero_tell_never_loaded(void);                    /* which libraries names are of that weren't there, in lines */
 int aero_kind(const char *label, const char *symbol, const char *file);    /* symbol: NULL where it has no name */
-int aero_starts_are_blocks(void);                     /* whether the functions are that threads start with */
+bool aero_starts_are_blocks(void);                    /* whether the functions are that threads start with */
 
 /* blocks.c */
-extern int aero_has_entered;                          /* a function that has hooks */
+extern bool aero_has_entered;                         /* a function that has hooks */
 void aero_left(uintptr_t frame);                      /* ends the blocks of functions below the frame */
 void aero_end_blocks(void);                           /* ends all of the calling thread's; the log's lock is held */
 void aero_forget_blocks(void);                        /* as the log that they began in isn't written here */
-void aero_split_blocks(int begins);                   /* ends them where they are to be split, and then begins them again */
+void aero_split_blocks(bool begins);                  /* ends them where they are to be split, and then begins them again */
 /* Ends them where a thread starts or is joined, if they are to; the log's lock is held. */
 void aero_split_at_thread(void);
 
 /* threads.c */
-void aero_threads_start(void);
+bool aero_threads_start(void);                        /* whether the C library calls the logger where a thread ends */
 void aero_lock_threads(void);
 void aero_unlock_threads(void);
 void aero_forget_threads(void);                       /* all but the calling one, which has the first number */
 void aero_end_thread(void);                           /* ends its blocks and releases its locks; the log's lock is held */
-void aero_end_with_thread(void);                      /* has that done, and its memory freed, where it ends */
+bool aero_end_with_thread(void);                      /* has that done, and its memory freed, where it ends; 0: it can't */
 
 /* locks.c */
 void aero_acquired(uintptr_t lock, enum holding how, uintptr_t code);
@@ -317,15 +322,15 @@ uintptr_t aero_last_mutex(void);                      /* that the thread has tak
 void aero_release_all(void);
 
 /* rust.c */
-int aero_is_rust(const char *symbol);
+bool aero_is_rust(const char *symbol);
 char *aero_rust_name(const char *symbol);
-int aero_is_of_rust_library(const char *label);
-int aero_is_rust_main(const char *label);
-int aero_lock_function(const char *label);            /* 0: it locks nothing */
-void aero_enter_lock_function(int what, uintptr_t code);
+bool aero_is_of_rust_library(const char *label);
+bool aero_is_rust_main(const char *label);
+enum lock_call aero_lock_function(const char *label);
+void aero_enter_lock_function(enum lock_call what, uintptr_t code);
 void aero_leave_lock_function(uintptr_t code);
 /* Of an atomic operation in such a function, with the log's lock held: whether it gives the lock back, or takes or wants it. */
-int aero_gives_back(uintptr_t word, uintptr_t code);
-int aero_takes(uintptr_t word, int changes, uintptr_t code);
+bool aero_gives_back(uintptr_t word, uintptr_t code);
+bool aero_takes(uintptr_t word, bool changes, uintptr_t code);
 
 #endif

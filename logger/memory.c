@@ -22,11 +22,11 @@ struct leaf {
     unsigned char has_parts[1 << (LEAF_BITS - PAGE_BITS)];
 };
 static _Atomic(struct leaf *) leaves[1 << (47 - LEAF_BITS)];
-static int with_fresh;
+static bool with_fresh;
 
 void aero_memory_start(void) { with_fresh = aero_settings.fresh; }
 
-static struct leaf *leaf_of(uintptr_t address, int make) {
+static struct leaf *leaf_of(uintptr_t address, bool make) {
     if (address >> 47) return NULL;
     _Atomic(struct leaf *) *slot = &leaves[address >> LEAF_BITS];
     struct leaf *leaf = atomic_load_explicit(slot, memory_order_acquire);
@@ -50,7 +50,7 @@ static unsigned char *has_parts(struct leaf *leaf, uintptr_t address) {
 }
 
 uint16_t *aero_parts_at(uintptr_t address) {
-    struct leaf *leaf = leaf_of(address, 1);
+    struct leaf *leaf = leaf_of(address, true);
     if (!leaf) return NULL;
     unsigned char *has = has_parts(leaf, address);
     if (UNLIKELY(!*has)) *has = 1;
@@ -58,14 +58,14 @@ uint16_t *aero_parts_at(uintptr_t address) {
 }
 
 /* What lies there, a unit or a page, has no parts any more. */
-static void forget_parts(struct leaf *leaf, uintptr_t from, uintptr_t bytes, int whole) {
+static void forget_parts(struct leaf *leaf, uintptr_t from, uintptr_t bytes, bool whole) {
     if (LIKELY(!*has_parts(leaf, from))) return;
     for (uintptr_t byte = 0; byte < bytes; byte += 8) leaf->parts[part_of(from + byte)] = 0;
     if (whole) *has_parts(leaf, from) = 0;
 }
 
 uint32_t aero_generation(uintptr_t address) {
-    struct leaf *leaf = leaf_of(address, 0);
+    struct leaf *leaf = leaf_of(address, false);
     return leaf ? *unit_of(leaf, address) + *page_of(leaf, address) : 0;
 }
 
@@ -73,8 +73,8 @@ void aero_renew(uintptr_t from, uintptr_t to) {
     const uintptr_t unit = 1 << UNIT_BITS, page = 1 << PAGE_BITS;
     if (!with_fresh || atomic_load_explicit(&aero_state, memory_order_relaxed) != ON) return;
     for (from &= -unit; from < to;) {
-        struct leaf *leaf = leaf_of(from, 1);
-        int whole = !(from & (page - 1)) && to - from >= page;
+        struct leaf *leaf = leaf_of(from, true);
+        bool whole = !(from & (page - 1)) && to - from >= page;
         if (!leaf) return;
         ++*(whole ? page_of(leaf, from) : unit_of(leaf, from));
         forget_parts(leaf, from, whole ? page : unit, whole);

@@ -16,9 +16,9 @@ struct object {
     char name[64];           /* of its file, without folders */
     char *path;
     struct table functions;  /* those of code that has hooks */
-    int is_read;             /* they were looked for */
-    int is_missing;          /* the file isn't there, or is another one by now */
-    int is_told;             /* that some have no name */
+    bool is_read;            /* they were looked for */
+    bool is_missing;         /* the file isn't there, or is another one by now */
+    bool is_told;            /* that some have no name */
 };
 #define MOST_OBJECTS 4096
 static struct object objects[MOST_OBJECTS];
@@ -110,14 +110,14 @@ static int look_into(struct dl_phdr_info *info, size_t size, void *data) {
         uintptr_t low = info->dlpi_addr + part->p_vaddr;
         if (part->p_type != PT_LOAD || search->at < low || search->at - low >= part->p_memsz) continue;
         *search->found = (struct object){.low = low, .high = low + part->p_memsz, .bias = info->dlpi_addr, .head = head_of(info)};
-        strncpy(search->path, info->dlpi_name, sizeof search->path - 1);
+        snprintf(search->path, sizeof search->path, "%s", info->dlpi_name);
         return 1;
     }
     return 0;
 }
 
 /* Whether some object has the address in memory now; `search` says which. */
-static int is_in_memory(uintptr_t at, struct search *search, struct object *found) {
+static bool is_in_memory(uintptr_t at, struct search *search, struct object *found) {
     search->at = at;
     search->found = found;
     search->path[0] = 0;
@@ -125,7 +125,7 @@ static int is_in_memory(uintptr_t at, struct search *search, struct object *foun
 }
 
 /* Whether it is the file that lies in memory there: its first bytes say where its tables are. */
-static int is_file_of(const struct object *object, struct image image) {
+static bool is_file_of(const struct object *object, struct image image) {
     const size_t bytes = sizeof(ElfW(Ehdr));
     return image.bytes && image.size >= bytes && object->head && !memcmp((const void *)object->head, image.bytes, bytes);
 }
@@ -151,7 +151,7 @@ static void put_path_at(uintptr_t at, char *path, size_t most) {
 static const char *find_program(const struct object *program, char *shown, size_t most) {
     static const char exe[] = "/proc/self/exe", deleted[] = " (deleted)";
     struct image image = aero_image(exe);
-    int is_exe = is_file_of(program, image);
+    bool is_exe = is_file_of(program, image);
     aero_drop_image(image);
     if (!is_exe) {
         put_path_at(program->head, shown, most);
@@ -187,20 +187,20 @@ static struct object *object_at(uintptr_t at) {
     *object = now;
     return object;
 }
-static int is_program(const struct object *object) {
+static bool is_program(const struct object *object) {
     return (uintptr_t)aero_names_start - object->low < object->high - object->low;
 }
 
-static int has_main(const struct table *functions) {
+static bool has_main(const struct table *functions) {
     for (size_t place = 0; place < functions->count; place++)
-        if (!strcmp(functions->symbols[place].name, "main")) return 1;
-    return 0;
+        if (!strcmp(functions->symbols[place].name, "main")) return true;
+    return false;
 }
 
 /* Reads the functions of an object whose code has hooks, and returns its variables; the lock of the names is held. */
 static struct table read_object(struct object *object) {
     if (object->is_read || !object->path) return (struct table){NULL, 0};
-    object->is_read = 1;
+    object->is_read = true;
     struct image image = aero_image(object->path);
     object->is_missing = !is_file_of(object, image);
     if (object->is_missing || (!is_program(object) && !aero_wants_hooks(image))) {
@@ -220,11 +220,11 @@ static int by_name(const void *one, const void *other) {
 }
 
 /* Puts the names as the log has them in the place of the symbols', and says whether there was memory for that. */
-static int make_readable(struct table table) {
+static bool make_readable(struct table table) {
     enum { MOST = 200 };
     char *room = aero_pages(table.count * (MOST + 1)), *to = room;
     for (size_t place = 0; room && place < table.count; place++) {
-        aero_put_label(to, table.symbols[place].name, 0, MOST);
+        aero_put_label(to, table.symbols[place].name, false, MOST);
         table.symbols[place].name = to;
         to += strlen(to) + 1;
     }
@@ -238,8 +238,8 @@ static void tell_apart(struct region *region) {
     qsort(region->by_name, count, sizeof *region->by_name, by_name);
     for (size_t place = 0; place < count; place++) {
         struct symbol *it = (struct symbol *)region->by_name[place];
-        int is_as_next = place + 1 < count && !by_name(&region->by_name[place], &region->by_name[place + 1]);
-        int is_as_before = place > 0 && !by_name(&region->by_name[place - 1], &region->by_name[place]);
+        bool is_as_next = place + 1 < count && !by_name(&region->by_name[place], &region->by_name[place + 1]);
+        bool is_as_before = place > 0 && !by_name(&region->by_name[place - 1], &region->by_name[place]);
         it->several = is_as_next || is_as_before;
         for (int one = 0; one < region_count && !it->several; one++)
             it->several = bsearch(&region->by_name[place], regions[one].by_name, regions[one].table.count,
@@ -248,7 +248,7 @@ static void tell_apart(struct region *region) {
 }
 
 /* What lay there before is gone: what lies there now are new variables. Says whether there were some. */
-static int forget_regions(uintptr_t low, uintptr_t high) {
+static bool forget_regions(uintptr_t low, uintptr_t high) {
     int kept = 0, before = region_count;
     for (int place = 0; place < region_count; place++)
         if (regions[place].low >= high || regions[place].high <= low) regions[kept++] = regions[place];
@@ -268,7 +268,7 @@ static void add_variables(struct table table) {
         if (end > region.high) region.high = end;
     }
     aero_lock();
-    int again = forget_regions(region.low, region.high);
+    bool again = forget_regions(region.low, region.high);
     aero_unlock();
     for (size_t place = 0; place < table.count; place++) table.symbols[place].again = again;
     tell_apart(&region);
@@ -314,7 +314,7 @@ static void forget_replaced(uintptr_t at) {
     if (!is_in_memory(at, &search, &now)) return;
     for (int place = 0; place < object_count; place++) {
         struct object *it = &objects[place];
-        int is_same = it->low == now.low && it->high == now.high && it->path && !strcmp(it->path, search.path);
+        bool is_same = it->low == now.low && it->high == now.high && it->path && !strcmp(it->path, search.path);
         if (is_same || is_program(it) || it->low >= now.high || it->high <= now.low) continue;
         for (size_t slot = 0; slot < (size_t)1 << CODE_BITS; slot++) {
             struct code *code = atomic_load(&codes[slot]);
@@ -329,10 +329,10 @@ void aero_library_loaded(uintptr_t code) {
     aero_lock_names();
     forget_replaced(code);
     struct object *object = object_at(code);
-    int is_new = object && !object->is_read;
+    bool is_new = object && !object->is_read;
     struct table variables = is_new ? read_object(object) : (struct table){NULL, 0};
-    int is_missing = object && object->is_missing && !object->is_told;
-    if (is_missing) object->is_told = 1;
+    bool is_missing = object && object->is_missing && !object->is_told;
+    if (is_missing) object->is_told = true;
     aero_unlock_names();
     if (is_missing) aero_lacks_file(object->name);
     add_variables(variables);
@@ -389,13 +389,13 @@ const struct code *aero_function(uintptr_t at) {
     aero_lock_names();
     struct object *object = object_at(at);
     const struct symbol *symbol = object ? aero_symbol_at(&object->functions, at) : NULL;
-    int is_first = object && !symbol && !object->is_told;
-    if (is_first) object->is_told = 1;
+    bool is_first = object && !symbol && !object->is_told;
+    if (is_first) object->is_told = true;
     *put_place(nameless, at) = 0;
     aero_unlock_names();
     if (is_first) aero_lacks_name(object->name);
     const char *name = symbol ? symbol->name : nameless;
-    if (symbol) aero_put_label(label, name, 1, MOST_NAME);
+    if (symbol) aero_put_label(label, name, true, MOST_NAME);
     else *aero_put_text(label, name) = 0;
     int kind = aero_kind(label, symbol ? name : NULL, object ? object->name : "");
     aero_lock_names();
@@ -406,19 +406,19 @@ const struct code *aero_function(uintptr_t at) {
     return kept ? code : NULL;
 }
 
-int aero_is_loaded(const char *file, size_t length) {
+bool aero_is_loaded(const char *file, size_t length) {
     for (int place = 0; place < object_count; place++)
-        if (strlen(objects[place].name) == length && !memcmp(objects[place].name, file, length)) return 1;
-    return 0;
+        if (strlen(objects[place].name) == length && !memcmp(objects[place].name, file, length)) return true;
+    return false;
 }
 
-void aero_each_function(const char *file, int (*each)(const char *label, const char *symbol, const char *file)) {
+void aero_each_function(const char *file, bool (*each)(const char *label, const char *symbol, const char *file)) {
     char label[MOST_NAME + 1];
     for (int place = 0; place < object_count; place++) {
         if (file && strcmp(file, objects[place].name)) continue;
         const struct table *functions = &objects[place].functions;
         for (size_t one = 0; one < functions->count; one++) {
-            aero_put_label(label, functions->symbols[one].name, 1, MOST_NAME);
+            aero_put_label(label, functions->symbols[one].name, true, MOST_NAME);
             if (!each(label, functions->symbols[one].name, objects[place].name)) return;
         }
     }

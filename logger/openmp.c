@@ -185,7 +185,7 @@ enum { DETACHED = 1 << 13 };
               void **depends, int priority, void *event)
 EXPORT TASK(GOMP_task) {
     REAL(void, GOMP_task, body_type, void *, void (*)(void *, void *), long, long, bool, unsigned, void **, int, void *)
-    int is_logged = atomic_load(&aero_state) == ON && !(flags & DETACHED);
+    bool is_logged = atomic_load(&aero_state) == ON && !(flags & DETACHED);
     struct task *task = is_logged ? new_task(body, data, copy, (size_t)size, alignment > 0 ? (size_t)alignment : 1) : NULL;
     if (!task) {
         real(body, data, copy, size, alignment, is_new, flags, depends, priority, event);

@@ -10,18 +10,18 @@
 
 enum { LOOKS = 300, YIELDS = 50 };
 
-static int is_taken(lock_word *lock, int by) {
+static bool is_taken(lock_word *lock, int by) {
     int found = 0;
     return atomic_compare_exchange_strong_explicit(&lock->owner, &found, by, memory_order_acquire, memory_order_relaxed);
 }
 
 /* Only looks while it is held: to try to change it would take it away from its holder's processor each time. */
-static int is_had_soon(lock_word *lock, int number) {
+static bool is_had_soon(lock_word *lock, int number) {
     for (int looks = 0; looks < LOOKS + YIELDS; looks++) {
-        if (!atomic_load_explicit(&lock->owner, memory_order_relaxed) && is_taken(lock, number)) return 1;
+        if (!atomic_load_explicit(&lock->owner, memory_order_relaxed) && is_taken(lock, number)) return true;
         if (looks >= LOOKS) sched_yield();
     }
-    return 0;
+    return false;
 }
 
 /* Who lets go looks for sleepers without a fence, which would cost each event more than the event itself; so it may miss one that

@@ -16,7 +16,7 @@
 /* A bit for each byte that begins a variable, but for the first one, which always does; and for each that was accessed. */
 enum { COPIED_ONLY = 1, STARTS = 0xfe, TOUCHED = 8, HALVES = 1 << 4, ALL_TOUCHED = 0xff << TOUCHED };
 
-static int is_touched(unsigned parts, unsigned byte) { return parts >> TOUCHED >> byte & 1; }
+static bool is_touched(unsigned parts, unsigned byte) { return parts >> TOUCHED >> byte & 1; }
 static unsigned start_of(unsigned parts, unsigned byte) {
     while (byte && !(parts >> byte & 1)) byte--;
     return byte;
@@ -42,7 +42,7 @@ static unsigned claim(unsigned parts, unsigned from, unsigned to) {
 
 /* The variables behind a copy: what it is the first to access of each four bytes, and no byte more. */
 static unsigned copied(unsigned parts, unsigned from, unsigned to) {
-    int is_whole = from == 0 && to == 8;
+    bool is_whole = from == 0 && to == 8;
     if (is_whole && !parts) return ALL_TOUCHED | HALVES | COPIED_ONLY;
     if (is_whole && parts & COPIED_ONLY) return parts;
     parts &= ~(unsigned)COPIED_ONLY;
@@ -57,7 +57,7 @@ static unsigned accessed(unsigned parts, unsigned from, unsigned to) {
 }
 
 /* Whether the bytes are one variable that was accessed before, other than as a half of a copy. */
-static int is_one(unsigned parts, unsigned from, unsigned to) {
+static bool is_one(unsigned parts, unsigned from, unsigned to) {
     unsigned inner = (1u << to) - (2u << from), begins = parts | 1, ends = to == 8 || parts >> to & 1;
     return is_touched(parts, from) && !(parts & (inner | COPIED_ONLY)) && begins >> from & 1 && ends;
 }

@@ -7,14 +7,14 @@
 
 /* ---- fork */
 
-static int forked_within;                /* by a signal handler that has come into the logger */
-static int is_child;
+static bool forked_within;               /* by a signal handler that has come into the logger */
+static bool is_child;
 
-int aero_is_child(void) { return is_child; }
+bool aero_is_child(void) { return is_child; }
 
 /* The log is written out first, as the parent may end without a word, by daemon(). */
 static void before_fork(void) {
-    int within = aero_writes();
+    bool within = aero_writes();
     aero_me.busy++;
     if (!within) {
         if (!aero_me.number) aero_number(aero_next_number());
@@ -26,7 +26,7 @@ static void before_fork(void) {
     forked_within = within;
 }
 static void in_parent(void) {
-    int within = forked_within;
+    bool within = forked_within;
     aero_unlock_threads();
     aero_unlock_names();
     if (!within) aero_unlock();
@@ -37,7 +37,7 @@ static void in_parent(void) {
 static void log_child(void) {
     const char *target = aero_target(aero_settings.target);
     aero_owner = getpid();
-    is_child = 1;
+    is_child = true;
     aero_number(aero_next_number());
     aero_me.holds = 0;
     aero_forget_blocks();
@@ -49,18 +49,18 @@ static void log_child(void) {
     atomic_store(&aero_state, ON);
 }
 static void in_child(void) {
-    int within = forked_within, logs = atomic_load(&aero_state) == ON && aero_target_is_of_process(aero_settings.target);
+    bool within = forked_within, logs = atomic_load(&aero_state) == ON && aero_target_is_of_process(aero_settings.target);
     atomic_store(&aero_state, OFF);
     aero_unlock_threads();
     aero_unlock_names();
     aero_close();
-    aero_end_command(0);
+    aero_end_command(false);
     aero_empty();
     aero_unlock();
     if (logs) log_child();
     aero_me.busy = within;
 }
-void aero_processes_start(void) { pthread_atfork(before_fork, in_parent, in_child); }
+bool aero_processes_start(void) { return !pthread_atfork(before_fork, in_parent, in_child); }
 
 /* ---- children that another way has made, without what pthread_atfork has */
 
@@ -79,22 +79,22 @@ EXPORT pid_t _Fork(void) {
 
 /* ---- exec */
 
-static int is_removed;                   /* the log, as it had no line yet */
+static bool is_removed;                  /* the log, as it had no line yet */
 
 /* Another program may take this one's place: what is there is written out, and nobody logs more before that has failed. In a child
  * of vfork() the parent has left what the child has entered, and goes on with the log. */
-int aero_before_exec(void) {
+bool aero_before_exec(void) {
     if (getpid() != aero_owner) {
-        aero_me.jumped = 1;
-        return 0;
+        aero_me.jumped = true;
+        return false;
     }
-    if (!aero_enter()) return 0;
+    if (!aero_enter()) return false;
     aero_lock();
     aero_flush();
     is_removed = !aero_has_lines() && aero_remove();
-    return 1;
+    return true;
 }
-void aero_behind_exec(int entered) {
+void aero_behind_exec(bool entered) {
     if (!entered) return;
     int error = errno;
     if (is_removed) {
@@ -109,7 +109,8 @@ void aero_behind_exec(int entered) {
 #define EXEC(name, arguments, ...) \
     EXPORT int name(__VA_ARGS__) { \
         REAL(int, name, __VA_ARGS__) \
-        int entered = aero_before_exec(), result = real arguments; \
+        bool entered = aero_before_exec(); \
+        int result = real arguments; \
         aero_behind_exec(entered); \
         return result; \
     }

@@ -7,8 +7,12 @@
  *   Mutex::lock, try_lock where it succeeds; the guard's drop    acq(M); rel(M)
  *   Condvar::wait, wait_timeout and what calls these             rel(M), acq(M) of the mutex that was taken last
  *   RwLock::read, try_read, and the guard's drop                 r(rw.L)
- *   RwLock::write, try_write, and the guard's drop               w(rw.L) */
+ *   RwLock::write, try_write, and the guard's drop               w(rw.L)
+ *
+ * aerodrome-rustc asks for the older form of symbols (_ZN..17hHASHE). One of the newer form (_R..) stays as it is, and none of these
+ * functions is known by it. */
 #include "log.h"
+#include "words.h"
 
 #include <stdlib.h>
 #include <string.h>
@@ -25,14 +29,14 @@ static size_t part_at(const char *symbol, const char **from) {
 }
 
 /* _ZN4bank4Bank3pay17h0123456789abcdefE: the last part is a hash. */
-static int is_hash(const char *part, const char *end) {
+static bool is_hash(const char *part, const char *end) {
     return end - part == 17 && *part == 'h' && strspn(part + 1, "0123456789abcdef") >= 16;
 }
 
-int aero_is_rust(const char *symbol) {
+bool aero_is_rust(const char *symbol) {
     const char *from = NULL;
     size_t length;
-    if (strncmp(symbol, "_ZN", 3)) return 0;
+    if (strncmp(symbol, "_ZN", 3)) return false;
     symbol += 3;
     while ((length = part_at(symbol, &from))) symbol += length;
     return from && *symbol == 'E' && is_hash(from, symbol);
@@ -82,10 +86,8 @@ char *aero_rust_name(const char *symbol) {
     return name;
 }
 
-static int begins(const char *text, const char *with) { return !strncmp(text, with, strlen(with)); }
-
 /* Whether the path is of std, core or alloc, or of none, as a type that has any parameter (T) or is built in (&[u8]). */
-static int is_of_library(const char *path) {
+static bool is_of_library(const char *path) {
     static const char *const words[] = {"mut ", "dyn ", "const "};
     path += strspn(path, "<&*([");
     for (size_t one = 0; one < sizeof words / sizeof *words; one++)
@@ -105,32 +107,30 @@ static const char *trait_of(const char *label) {
 }
 
 /* What implements a trait is the program's if the type or the trait is. */
-int aero_is_of_rust_library(const char *label) {
+bool aero_is_of_rust_library(const char *label) {
     const char *trait = *label == '<' ? trait_of(label) : NULL;
     return is_of_library(label) && (!trait || is_of_library(trait));
 }
 
-int aero_is_rust_main(const char *label) {
+bool aero_is_rust_main(const char *label) {
     const char *behind = strstr(label, "::");
     return behind && !strcmp(behind, "::main");
 }
 
 /* ---- functions that lock */
 
-enum { TAKES = 1, TRIES, TAKES_READER, TRIES_READER, TAKES_WRITER, TRIES_WRITER, GIVES_BACK, WAITS };
-
 /* Whether the label is that of the type's function, behind std::sync, and the module that some versions have there. */
-static int is_of(const char *label, const char *type, const char *function) {
-    if (!begins(label, "std::sync::")) return 0;
+static bool is_of(const char *label, const char *type, const char *function) {
+    if (!begins(label, "std::sync::")) return false;
     label += strlen("std::sync::");
     if (begins(label, "poison::")) label += strlen("poison::");
     return begins(label, type) && !strcmp(label + strlen(type), function);
 }
 
-int aero_lock_function(const char *label) {
+enum lock_call aero_lock_function(const char *label) {
     static const struct {
         const char *type, *function;
-        int what;
+        enum lock_call what;
     } all[] = {
         {"mutex::Mutex<T>", "::lock", TAKES}, {"mutex::Mutex<T>", "::try_lock", TRIES},
         {"rwlock::RwLock<T>", "::read", TAKES_READER}, {"rwlock::RwLock<T>", "::try_read", TRIES_READER},
@@ -143,52 +143,52 @@ int aero_lock_function(const char *label) {
     label += *label == '<';
     for (size_t one = 0; one < sizeof all / sizeof *all; one++)
         if (is_of(label, all[one].type, all[one].function)) return all[one].what;
-    return 0;
+    return NO_LOCK_CALL;
 }
 
-static enum holding holding_of(int what) {
+static enum holding holding_of(enum lock_call what) {
     if (what == TAKES_READER || what == TRIES_READER) return READER;
     return what == TAKES_WRITER || what == TRIES_WRITER ? WRITER : MUTEX;
 }
 
 /* The frame of the function is the last one. */
-void aero_enter_lock_function(int what, uintptr_t code) {
+void aero_enter_lock_function(enum lock_call what, uintptr_t code) {
     struct thread *me = &aero_me;
-    if (me->locking.what) return;
+    if (me->locking.what != NO_LOCK_CALL) return;
     me->locking = (struct locking){what, 0, me->depth, 0};
     if (what != WAITS) return;
     aero_lock();
     me->locking.word = aero_last_mutex();
     if (me->locking.word) aero_release(me->locking.word, code);
     aero_unlock();
-    aero_split_blocks(0);
+    aero_split_blocks(false);
 }
 
 /* What wasn't had at once is had now, but for what was only tried. */
 void aero_leave_lock_function(uintptr_t code) {
     struct locking it = aero_me.locking;
-    aero_me.locking.what = 0;
-    if (it.what == WAITS) aero_split_blocks(1);
-    int is_tried = it.what == TRIES || it.what == TRIES_READER || it.what == TRIES_WRITER;
+    aero_me.locking.what = NO_LOCK_CALL;
+    if (it.what == WAITS) aero_split_blocks(true);
+    bool is_tried = it.what == TRIES || it.what == TRIES_READER || it.what == TRIES_WRITER;
     if (!it.word || it.is_had || is_tried || it.what == GIVES_BACK) return;
     aero_lock();
     aero_hold(it.word, holding_of(it.what), code);
     aero_unlock();
 }
 
-int aero_gives_back(uintptr_t word, uintptr_t code) {
+bool aero_gives_back(uintptr_t word, uintptr_t code) {
     return aero_me.locking.what == GIVES_BACK && aero_release(word, code);
 }
 
 /* The first word that the function changes, or wants to, is the lock. */
-int aero_takes(uintptr_t word, int changes, uintptr_t code) {
+bool aero_takes(uintptr_t word, bool changes, uintptr_t code) {
     struct locking *it = &aero_me.locking;
-    if (it->what == GIVES_BACK || it->what == WAITS || it->is_had) return 0;
+    if (it->what == GIVES_BACK || it->what == WAITS || it->is_had) return false;
     if (!it->word) it->word = word;
-    if (it->word != word) return 0;
+    if (it->word != word) return false;
     if (changes) {
-        it->is_had = 1;
+        it->is_had = true;
         aero_hold(word, holding_of(it->what), code);
     }
-    return 1;
+    return true;
 }

@@ -22,21 +22,21 @@ static struct semaphore *place_of(uintptr_t at) {
     while (all[place].at && all[place].at != at) place = (place + 1) & (room - 1);
     return &all[place];
 }
-static int has_room(void) {
-    if (2 * (count + 1) <= room) return 1;
+static bool has_room(void) {
+    if (2 * (count + 1) <= room) return true;
     struct semaphore *old = all;
     size_t old_room = room, more = room ? 2 * room : 128;
     struct semaphore *made = aero_pages(more * sizeof *made);
     if (!made) {
         aero_stop("out of memory");
-        return 0;
+        return false;
     }
     all = made;
     room = more;
     for (size_t place = 0; place < old_room; place++)
         if (old[place].at) *place_of(old[place].at) = old[place];
     if (old) aero_free_pages(old, old_room * sizeof *old);
-    return 1;
+    return true;
 }
 /* NULL where memory is refused. One that is met for the first time has as many permits as it says. */
 static struct semaphore *known(sem_t *semaphore) {

@@ -13,6 +13,7 @@
  *
  * One that can't be used is told of in a line, and nothing is logged. */
 #include "log.h"
+#include "words.h"
 
 #include <stdio.h>
 #include <stdlib.h>
@@ -20,65 +21,29 @@
 
 struct settings aero_settings;
 
-/* The number that the text is, with its unit; -1: none. */
-static int64_t number_in(const char *text) {
-    static const char units[] = "KMG";
-    char *end;
-    if (*text < '0' || *text > '9') return -1;
-    errno = 0;
-    unsigned long long number = strtoull(text, &end, 10);
-    const char *unit = *end ? strchr(units, *end) : NULL;
-    int shift = unit ? 10 * (int)(unit - units + 1) : 0;
-    if (errno || end[unit != NULL] || number > (unsigned long long)INT64_MAX >> shift) return -1;
-    return (int64_t)(number << shift);
-}
-
-static int refuses(const char *variable, const char *text, const char *wanted) {
-    char what[256], why[256];
-    snprintf(what, sizeof what, "%s=%.180s", variable, text);
-    snprintf(why, sizeof why, "%s is wanted: nothing is logged", wanted);
-    aero_say(what, why);
-    return 0;
-}
-
-/* What the variable says; NULL where it is missing or empty. */
-static const char *text_of(const char *variable) {
-    const char *text = getenv(variable);
-    return text && *text ? text : NULL;
-}
-
-/* Sets the number to that which the variable says, and says whether it is one of those that are wanted, in `bits`. */
-static int is_one_of(const char *variable, unsigned bits, const char *wanted, int *number) {
-    const char *text = text_of(variable);
-    if (!text) return 1;
-    int64_t said = number_in(text);
-    if (said < 0 || said > 31 || !(bits >> said & 1)) return refuses(variable, text, wanted);
-    *number = (int)said;
-    return 1;
-}
-
 /* Reads the words, of which one is enough. */
-static int is_split(const char *text) {
+static bool is_split(const char *text) {
     static const char *const both[] = {"waits,threads", "threads,waits"};
-    int is_both = !strcmp(text, both[0]) || !strcmp(text, both[1]);
+    bool is_both = !strcmp(text, both[0]) || !strcmp(text, both[1]);
     aero_settings.splits_waits = is_both || !strcmp(text, "waits");
     aero_settings.splits_threads = is_both || !strcmp(text, "threads");
     return aero_settings.splits_waits || aero_settings.splits_threads;
 }
 
-int aero_read_settings(const char *target) {
+bool aero_read_settings(const char *target) {
     struct settings *it = &aero_settings;
     *it = (struct settings){.target = target, .fresh = 1, .places = 1, .stir = -1, .limit = -1};
     it->blocks = text_of("AERODROME_BLOCKS");
     const char *split = text_of("AERODROME_SPLIT"), *limit = text_of("AERODROME_LIMIT"),
                *stir = text_of("AERODROME_STIR");
     if (!strcmp(target, "|")) return refuses("AERODROME_LOG", target, "a command behind |");
-    if (!is_one_of("AERODROME_GRAIN", 1 << 1 | 1 << 2 | 1 << 4 | 1 << 8, "1, 2, 4 or 8", &it->grain)) return 0;
-    if (!is_one_of("AERODROME_FRESH", 1 << 0 | 1 << 1, "0 or 1", &it->fresh)) return 0;
-    if (!is_one_of("AERODROME_PLACES", 1 << 0 | 1 << 1, "0 or 1", &it->places)) return 0;
+    if (!aero_target_fits(target)) return refuses("AERODROME_LOG", target, "a path or a command of at most 4,095 bytes");
+    if (!is_one_of("AERODROME_GRAIN", 1 << 1 | 1 << 2 | 1 << 4 | 1 << 8, "1, 2, 4 or 8", &it->grain)) return false;
+    if (!is_one_of("AERODROME_FRESH", 1 << 0 | 1 << 1, "0 or 1", &it->fresh)) return false;
+    if (!is_one_of("AERODROME_PLACES", 1 << 0 | 1 << 1, "0 or 1", &it->places)) return false;
     if (split && !is_split(split)) return refuses("AERODROME_SPLIT", split, "waits, threads or waits,threads");
     if (stir && (it->stir = number_in(stir)) < 0) return refuses("AERODROME_STIR", stir, "a number");
     if (limit && (it->limit = number_in(limit)) < 0)
         return refuses("AERODROME_LIMIT", limit, "a number of bytes, as 4096, 500K, 20M or 1G,");
-    return 1;
+    return true;
 }

@@ -3,6 +3,13 @@
 
 #include <stdlib.h>
 
+/* Whether the C library calls the logger where a thread ends, at fork and by quick_exit; else it says that it doesn't. */
+static bool is_called(void) {
+    if (aero_threads_start() && aero_processes_start() && !at_quick_exit(aero_finish)) return true;
+    aero_say("AERODROME_LOG", "the C library refuses to call the logger at fork and where threads and the program end: nothing is logged");
+    return false;
+}
+
 void aero_start(void) {
     static atomic_int started;
     if (atomic_exchange(&started, 1)) return;
@@ -16,10 +23,8 @@ void aero_start(void) {
     aero_names_start();
     if (!aero_knows_blocks()) return;
     const char *target = aero_target(said);
-    if (!aero_open(target)) return;
+    if (!is_called() || !aero_open(target)) return;
     aero_write_to(target);
-    aero_threads_start();
-    aero_processes_start();
     aero_ends_start();
     atomic_store(&aero_state, ON);
 }

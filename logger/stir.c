@@ -7,7 +7,7 @@
 #include <time.h>
 #include <unistd.h>
 
-int aero_stirs;
+bool aero_stirs;
 
 void aero_stir_start(void) { aero_stirs = aero_settings.stir >= 0; }
 

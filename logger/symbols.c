@@ -63,8 +63,8 @@ static const ElfW(Shdr) *sections_of(struct image image, int *count) {
     *count = head->e_shnum;
     return (const void *)(image.bytes + head->e_shoff);
 }
-static int is_within(struct image image, const ElfW(Shdr) *section) {
-    if (section->sh_type == SHT_NOBITS || section->sh_offset > image.size) return 0;
+static bool is_within(struct image image, const ElfW(Shdr) *section) {
+    if (section->sh_type == SHT_NOBITS || section->sh_offset > image.size) return false;
     return section->sh_size <= image.size - section->sh_offset;
 }
 static const ElfW(Shdr) *section_of(struct image image, unsigned type) {
@@ -85,11 +85,11 @@ static const char *text_at(struct image image, unsigned number, size_t place) {
 }
 
 /* Calls `each` with each symbol of the section and its name, until it returns 0; and says whether it never did. */
-static int all_of(struct image image, const ElfW(Shdr) *section, int (*each)(const ElfW(Sym) *, const char *, void *), void *with) {
+static bool all_of(struct image image, const ElfW(Shdr) *section, bool (*each)(const ElfW(Sym) *, const char *, void *), void *with) {
     const ElfW(Sym) *symbols = (const void *)(image.bytes + section->sh_offset);
     for (size_t place = 0; place < section->sh_size / sizeof *symbols; place++)
-        if (!each(&symbols[place], text_at(image, section->sh_link, symbols[place].st_name), with)) return 0;
-    return 1;
+        if (!each(&symbols[place], text_at(image, section->sh_link, symbols[place].st_name), with)) return false;
+    return true;
 }
 
 /* ---- the symbols of a kind */
@@ -100,12 +100,12 @@ struct gathering {
     uintptr_t bias;
 };
 /* Variables of no byte mark where something begins or ends (__TMC_END__). */
-static int gather(const ElfW(Sym) *it, const char *name, void *with) {
+static bool gather(const ElfW(Sym) *it, const char *name, void *with) {
     struct gathering *to = with;
-    if ((it->st_info & 15) != to->kind || it->st_shndx == SHN_UNDEF || !*name) return 1;
-    if (to->kind == STT_OBJECT && !it->st_size) return 1;
+    if ((it->st_info & 15) != to->kind || it->st_shndx == SHN_UNDEF || !*name) return true;
+    if (to->kind == STT_OBJECT && !it->st_size) return true;
     to->table.symbols[to->table.count++] = (struct symbol){it->st_value + to->bias, it->st_size, name, 0, 0};
-    return 1;
+    return true;
 }
 
 struct table aero_symbols(struct image image, unsigned kind, uintptr_t bias) {
@@ -120,13 +120,13 @@ struct table aero_symbols(struct image image, unsigned kind, uintptr_t bias) {
 
 /* ---- hooks */
 
-static int is_no_hook(const ElfW(Sym) *it, const char *name, void *with) {
+static bool is_no_hook(const ElfW(Sym) *it, const char *name, void *with) {
     (void)with;
     return it->st_shndx != SHN_UNDEF || strcmp(name, "__tsan_func_entry") != 0;
 }
 
 /* A library has the hook among those that it wants. The program has the logger itself, whatever it offers. */
-int aero_wants_hooks(struct image image) {
+bool aero_wants_hooks(struct image image) {
     const ElfW(Shdr) *section = section_of(image, SHT_DYNSYM);
     return section && !all_of(image, section, is_no_hook, NULL);
 }
@@ -139,7 +139,7 @@ static const ElfW(Shdr) *section_called(struct image image, const char *name) {
     const ElfW(Shdr) *sections = sections_of(image, &count);
     for (int place = 0; place < count; place++) {
         unsigned names = ((const ElfW(Ehdr) *)image.bytes)->e_shstrndx;
-        int is_called = !strcmp(text_at(image, names, sections[place].sh_name), name);
+        bool is_called = !strcmp(text_at(image, names, sections[place].sh_name), name);
         if (is_called && is_within(image, &sections[place])) return &sections[place];
     }
     return NULL;
@@ -171,7 +171,7 @@ static struct image names_in(const char *path, const char *id, const uint32_t *s
     struct image image = aero_image(path);
     if (!image.bytes) return image;
     put_build_id(other, sizeof other, image);
-    int is_same = *id ? !strcmp(id, other) : sum && sum_of(image) == *sum;
+    bool is_same = *id ? !strcmp(id, other) : sum && sum_of(image) == *sum;
     if (is_same && section_of(image, SHT_SYMTAB)) return image;
     aero_drop_image(image);
     return (struct image){NULL, 0};
@@ -188,7 +188,7 @@ struct image aero_names_of(struct image image, const char *path) {
     if (*id) found = names_in(file, id, NULL);
     const ElfW(Shdr) *link = section_called(image, ".gnu_debuglink");
     const char *name = link ? image.bytes + link->sh_offset : NULL;
-    int is_whole = link && link->sh_size >= 8 && memchr(name, 0, link->sh_size - 4);
+    bool is_whole = link && link->sh_size >= 8 && memchr(name, 0, link->sh_size - 4);
     if (found.bytes || !is_whole || !realpath(path, whole)) return found.bytes ? found : image;
     const uint32_t *sum = (const void *)(name + link->sh_size - 4);
     int folder = (int)(strrchr(whole, '/') - whole);

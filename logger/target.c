@@ -1,5 +1,6 @@
 /* Where the log goes: a file, a named pipe, or the command behind `|`. */
 #include "log.h"
+#include "words.h"
 
 #include <fcntl.h>
 #include <signal.h>
@@ -18,7 +19,7 @@ static struct kept command_ends = NONE;     /* reads nothing until the command b
 static char folder[4096];                   /* in which the program has started; a child of its may be elsewhere */
 static struct kept logs_folder = NONE;      /* that of the logs that children write, which may be in another root */
 static char path[2 * sizeof folder];        /* of the log's file */
-static int is_marked;                       /* the file has the mark, and no line */
+static bool is_marked;                      /* the file has the mark, and no line */
 
 /* ---- files that are kept open */
 
@@ -28,14 +29,16 @@ static struct kept identity(int number) {
     return (struct kept){number, is.st_dev, is.st_ino};
 }
 
-int aero_is_kept(const struct kept *file) {
+bool aero_is_kept(const struct kept *file) {
     struct kept found = identity(file->number);
     return found.number >= 0 && found.device == file->device && found.node == file->node;
 }
 
-static void drop(struct kept *file) {
-    if (aero_is_kept(file)) close(file->number);
+/* Closes the file, and says whether what was written to it is there, as far as the system knows. */
+static bool drop(struct kept *file) {
+    bool is_whole = !aero_is_kept(file) || !close(file->number) || errno == EINTR;
     file->number = -1;
+    return is_whole;
 }
 
 /* Puts the file where a program that counts on small numbers, or closes all of those, seldom meets it. */
@@ -45,6 +48,13 @@ static struct kept out_of_the_way(int file) {
     if (moved < 0) return identity(file);
     close(file);
     return identity(moved);
+}
+
+/* Leaves `why` in errno. */
+static void close_both(int why) {
+    drop(&command_ends);
+    drop(&aero_log);
+    errno = why;
 }
 
 /* ---- the command behind | */
@@ -59,13 +69,35 @@ static char **without_the_log(void) {
     return rest;
 }
 
-static void run_command(const char *command, int input, int ends) {
-    char *words[] = {"sh", "-c", (char *)command, NULL}, **rest = without_the_log();
-    if (chdir(folder) || dup2(input, STDIN_FILENO) < 0) syscall(SYS_exit_group, 127);
-    fcntl(STDIN_FILENO, F_SETFD, 0);
-    fcntl(ends, F_SETFD, 0);
-    if (rest) syscall(SYS_execve, "/bin/sh", words, rest);
+/* The pipes of a command: its input; one that only it can write to, and that is closed once it has ended; and one by which it says why
+ * it can't be started. */
+enum { INPUT, ENDS, REFUSED, PIPES };
+
+/* Opens them all, or none, and says whether it could. */
+static bool open_pipes(int pipes[PIPES][2]) {
+    int opened = 0;
+    while (opened < PIPES && !pipe2(pipes[opened], O_CLOEXEC)) opened++;
+    if (opened == PIPES) return true;
+    for (int one = 0; one < opened; one++) {
+        close(pipes[one][0]);
+        close(pipes[one][1]);
+    }
+    return false;
+}
+
+/* Ends a process that can't start the command, and sends errno to the program. */
+static void end_refused(int to) {
+    int why = errno;
+    syscall(SYS_write, to, &why, sizeof why);
     syscall(SYS_exit_group, 127);
+}
+
+static void run_command(const char *command, int pipes[PIPES][2]) {
+    char *words[] = {"sh", "-c", (char *)command, NULL}, **rest = without_the_log();
+    bool is_ready = rest && !chdir(folder) && dup2(pipes[INPUT][0], STDIN_FILENO) >= 0 && !fcntl(STDIN_FILENO, F_SETFD, 0)
+        && !fcntl(pipes[ENDS][1], F_SETFD, 0);
+    if (is_ready) syscall(SYS_execve, "/bin/sh", words, rest);
+    end_refused(pipes[REFUSED][1]);
 }
 
 /* Without what pthread_atfork has: it may be called within that. */
@@ -77,32 +109,41 @@ static pid_t plain_fork(void) {
 #endif
 }
 
-/* Starts the command as no child of the program, which may wait for any of its own. It has ended once the pipe `ends`, which
- * only it can write to, is closed. */
-static int start_command(const char *command) {
-    int input[2], ends[2];
-    if (pipe2(input, O_CLOEXEC)) return -1;
-    if (pipe2(ends, O_CLOEXEC)) {
-        close(input[0]);
-        close(input[1]);
-        return -1;
-    }
+/* Starts the command as no child of the program, which may wait for any of its own, and says whether there is a process for it. */
+static bool start_apart(const char *command, int pipes[PIPES][2]) {
     pid_t between = plain_fork();
-    int why = errno;
     if (between == 0) {
-        if (plain_fork() == 0) run_command(command, input[0], ends[1]);
+        pid_t process = plain_fork();
+        if (process == 0) run_command(command, pipes);
+        if (process < 0) end_refused(pipes[REFUSED][1]);
         syscall(SYS_exit_group, 0);
     }
-    close(input[0]);
-    close(ends[1]);
-    if (between > 0) while (waitpid(between, NULL, 0) < 0 && errno == EINTR) {}
-    command_ends = out_of_the_way(ends[0]);
-    aero_log = out_of_the_way(input[1]);
-    if (between > 0) return 0;
-    drop(&command_ends);
-    drop(&aero_log);
-    errno = why;
-    return -1;
+    while (between > 0 && waitpid(between, NULL, 0) < 0 && errno == EINTR) {}
+    return between > 0;
+}
+
+/* Waits until the command is started, and returns 0, or the errno of what was refused. */
+static int refusal(int from) {
+    int why = 0;
+    ssize_t came;
+    do came = read(from, &why, sizeof why);
+    while (came < 0 && errno == EINTR);
+    return came == sizeof why ? why : 0;
+}
+
+/* Where the command can't be started, no log is open, and errno says why. */
+static void start_command(const char *command) {
+    int pipes[PIPES][2];
+    if (!open_pipes(pipes)) return;
+    int why = start_apart(command, pipes) ? 0 : errno;
+    close(pipes[INPUT][0]);
+    close(pipes[ENDS][1]);
+    close(pipes[REFUSED][1]);
+    if (!why) why = refusal(pipes[REFUSED][0]);
+    close(pipes[REFUSED][0]);
+    command_ends = out_of_the_way(pipes[ENDS][0]);
+    aero_log = out_of_the_way(pipes[INPUT][1]);
+    if (why) close_both(why);
 }
 
 static void wait_for_command(void) {
@@ -115,18 +156,25 @@ static void wait_for_command(void) {
     drop(&command_ends);
 }
 
-int aero_is_read_by_command(void) { return command_ends.number >= 0; }
+bool aero_is_read_by_command(void) { return command_ends.number >= 0; }
 
 /* ---- the target */
 
-int aero_target_is_of_process(const char *said) { return strstr(said, "%p") != NULL; }
+bool aero_target_is_of_process(const char *said) { return strstr(said, "%p") != NULL; }
+
+enum { MOST_DIGITS = 10 };               /* of the number of a process */
+bool aero_target_fits(const char *said) {
+    size_t length = strlen(said);
+    for (const char *at = said; (at = strstr(at, "%p")); at += 2) length += MOST_DIGITS - 2;
+    return length < MOST_TARGET;
+}
 
 const char *aero_target(const char *said) {
-    static char target[4096];
+    static char target[MOST_TARGET];
     size_t length = 0;
-    for (; *said && length < sizeof target - 24; said++)
+    for (; *said; said++)
         if (said[0] == '%' && said[1] == 'p') {
-            length += (size_t)snprintf(target + length, 24, "%d", (int)getpid());
+            length += (size_t)snprintf(target + length, MOST_DIGITS + 1, "%d", (int)getpid());
             said++;
         } else target[length++] = *said;
     target[length] = 0;
@@ -158,9 +206,10 @@ static void mark(int file) {
     if (!getrlimit(RLIMIT_FSIZE, &most) && most.rlim_cur < sizeof text) return;
     is_marked = pwrite(file, text, sizeof text - 1, 0) > 0;
 }
-void aero_clear(void) {
-    if (!is_marked || !aero_is_kept(&aero_log)) return;
+bool aero_clear(void) {
+    if (!is_marked || !aero_is_kept(&aero_log)) return true;
     is_marked = ftruncate(aero_log.number, 0) != 0;
+    return !is_marked;
 }
 
 /* Opens the file. One that another process writes its log to stays as it is; so it is emptied only once it is locked. */
@@ -169,7 +218,7 @@ static int open_file(void) {
     const char *name;
     int at = folder_of(&name), file = openat(at, name, O_WRONLY | O_CREAT | O_CLOEXEC, 0666);
     if (file < 0 || fstat(file, &is) || !S_ISREG(is.st_mode)) return file;
-    int is_written = flock(file, LOCK_EX | LOCK_NB) && errno == EWOULDBLOCK;
+    bool is_written = flock(file, LOCK_EX | LOCK_NB) && errno == EWOULDBLOCK;
     if (!is_written && !ftruncate(file, 0)) {
         mark(file);
         return file;
@@ -181,45 +230,40 @@ static int open_file(void) {
 }
 
 /* Only the file that this process has opened, if its name still leads to that. */
-int aero_remove(void) {
+bool aero_remove(void) {
     const char *name;
     int at = folder_of(&name);
     struct stat is;
-    if (!*path || !aero_is_kept(&aero_log) || fstatat(at, name, &is, AT_SYMLINK_NOFOLLOW)) return 0;
-    int is_ours = S_ISREG(is.st_mode) && is.st_dev == aero_log.device && is.st_ino == aero_log.node;
+    if (!*path || !aero_is_kept(&aero_log) || fstatat(at, name, &is, AT_SYMLINK_NOFOLLOW)) return false;
+    bool is_ours = S_ISREG(is.st_mode) && is.st_dev == aero_log.device && is.st_ino == aero_log.node;
     return is_ours && !unlinkat(at, name, 0);
 }
 
-/* A pipe that is full is waited for by poll. */
-static void never_block(int file) {
+/* A pipe that is full is waited for by poll, and writing to it never blocks. Says whether that is so. */
+static bool never_blocks(int file) {
     struct stat is;
-    if (!fstat(file, &is) && S_ISFIFO(is.st_mode)) fcntl(file, F_SETFL, O_NONBLOCK);
+    return file >= 0 && !fstat(file, &is) && (!S_ISFIFO(is.st_mode) || !fcntl(file, F_SETFL, O_NONBLOCK));
 }
 
-int aero_open(const char *target) {
-    int command = *target == '|';
-    is_marked = 0;
+bool aero_open(const char *target) {
+    bool is_command = *target == '|';
+    is_marked = false;
     if (!*folder && !getcwd(folder, sizeof folder)) strcpy(folder, ".");
     *path = 0;
-    if (command) start_command(target + 1);
+    if (is_command) start_command(target + 1);
     else {
         snprintf(path, sizeof path, "%s%s%s", *target == '/' ? "" : folder, *target == '/' ? "" : "/", target);
         keep_folder(aero_settings.target);
         aero_log = out_of_the_way(open_file());
     }
-    if (aero_log.number >= 0) {
-        never_block(aero_log.number);
-        return 1;
-    }
-    char why[256];
-    const char *reason = errno == EWOULDBLOCK ? "another process writes its log there" : strerror(errno);
-    snprintf(why, sizeof why, "%.200s: nothing is logged", reason);
-    aero_say(target, why);
-    return 0;
+    if (never_blocks(aero_log.number)) return true;
+    close_both(errno);
+    refuses_target(target);
+    return false;
 }
 
-void aero_close(void) { drop(&aero_log); }
-void aero_end_command(int waits) {
+bool aero_close(void) { return drop(&aero_log); }
+void aero_end_command(bool waits) {
     if (waits) wait_for_command();
     else drop(&command_ends);
 }

@@ -33,8 +33,8 @@ void aero_forget_threads(void) {
  * instead, at its next access, function entry or cancellation point. */
 EXPORT int pthread_setcanceltype(int type, int *old) {
     REAL(int, pthread_setcanceltype, int, int *)
-    int is_known = type == PTHREAD_CANCEL_DEFERRED || type == PTHREAD_CANCEL_ASYNCHRONOUS;
-    int is_logged = atomic_load_explicit(&aero_state, memory_order_relaxed) == ON || aero_me.cancels;
+    bool is_known = type == PTHREAD_CANCEL_DEFERRED || type == PTHREAD_CANCEL_ASYNCHRONOUS;
+    bool is_logged = atomic_load_explicit(&aero_state, memory_order_relaxed) == ON || aero_me.cancels;
     if (!is_known || !is_logged) return real(type, old);
     int error = real(PTHREAD_CANCEL_DEFERRED, old);
     if (old && aero_me.cancels) *old = PTHREAD_CANCEL_ASYNCHRONOUS;
@@ -48,7 +48,7 @@ void aero_be_cancelled(void) {
 /* ---- numbers */
 
 /* The place of the thread, or else a free one, which is the last if there is none but that. */
-static size_t place_of(pthread_t id, int or_free) {
+static size_t place_of(pthread_t id, bool or_free) {
     size_t free_place = joinable_count;
     for (size_t place = 0; place < joinable_count; place++)
         if (!joinable[place].number) free_place = place;
@@ -58,7 +58,7 @@ static size_t place_of(pthread_t id, int or_free) {
 
 /* The system uses the id of a thread again that was joined, or detached and has ended: then the new number counts. */
 static void note(pthread_t id, int number) {
-    size_t place = place_of(id, 1);
+    size_t place = place_of(id, true);
     if (!aero_has_room((void **)&joinable, sizeof *joinable, place, &joinable_room)) return;
     joinable[place] = (struct joinable){id, number};
     if (place == joinable_count) joinable_count++;
@@ -69,7 +69,7 @@ static int take(pthread_t id) {
     int number = 0;
     if (atomic_load_explicit(&aero_state, memory_order_relaxed) != ON) return 0;
     aero_lock_threads();
-    size_t place = place_of(id, 0);
+    size_t place = place_of(id, false);
     if (place < joinable_count) {
         number = joinable[place].number;
         joinable[place].number = 0;
@@ -104,7 +104,7 @@ static void free_memory(struct thread *me) {
     void *frames = me->frames, *held = me->held;
     size_t frame_room = me->room, held_room = me->held_room;
     me->depth = me->room = me->holds = me->held_room = 0;
-    me->has_end = 0;
+    me->has_end = false;
     me->frames = NULL;
     me->held = NULL;
     atomic_signal_fence(memory_order_seq_cst);
@@ -112,7 +112,7 @@ static void free_memory(struct thread *me) {
     aero_free_pages(held, held_room * sizeof *me->held);
 }
 static void ends(void *unused) {
-    int logs = aero_enter();
+    bool logs = aero_enter();
     (void)unused;
     if (logs) {
         aero_lock();
@@ -123,11 +123,8 @@ static void ends(void *unused) {
     aero_drop_signal_stack();
     if (logs) aero_leave();
 }
-void aero_threads_start(void) { pthread_key_create(&at_end, ends); }
-void aero_end_with_thread(void) {
-    aero_me.has_end = 1;
-    pthread_setspecific(at_end, &aero_me);
-}
+bool aero_threads_start(void) { return !pthread_key_create(&at_end, ends); }
+bool aero_end_with_thread(void) { return aero_me.has_end = !pthread_setspecific(at_end, &aero_me); }
 
 /* ---- starts */
 
@@ -137,7 +134,8 @@ struct seed {
     void *(*run)(void *);
     int (*run_c11)(void *);
     void *with;
-    int number, noted;
+    int number;
+    bool noted;
     atomic_int users;
 };
 
@@ -156,7 +154,7 @@ static void let_go(struct seed *seed) {
 static void note_once(struct seed *seed, pthread_t id) {
     aero_lock_threads();
     if (!seed->noted) note(id, seed->number);
-    seed->noted = 1;
+    seed->noted = true;
     aero_unlock_threads();
     let_go(seed);
 }
@@ -223,4 +221,5 @@ CREATE(thrd_create, , run_c11, run_c11, thrd_t *id, thrd_start_t start, void *wi
 JOIN(pthread_join, pthread_t, (id, result), void **result)
 JOIN(pthread_tryjoin_np, pthread_t, (id, result), void **result)
 JOIN(pthread_timedjoin_np, pthread_t, (id, result, until), void **result, const struct timespec *until)
+JOIN(pthread_clockjoin_np, pthread_t, (id, result, clock, until), void **result, clockid_t clock, const struct timespec *until)
 JOIN(thrd_join, thrd_t, (id, result), int *result)

@@ -3,11 +3,14 @@
 //   bank apart      a withdrawal takes the lock twice, and another one comes between
 //   bank together   each takes it once
 //   bank locks      a helper finds TOTAL and RATES taken, and then takes them in each way
+//   bank sleeps     a helper waits for TOTAL and RATES until main, which holds them, has seen it sleep
 //   bank waits      a thread waits on a condition variable
+//   bank runs_out   a thread waits on it for a millisecond, and nobody tells it
 use std::io::{Read, Write};
 use std::os::unix::net::UnixStream;
 use std::sync::{Arc, Condvar, Mutex, RwLock};
 use std::thread;
+use std::time::Duration;
 
 static TOTAL: Mutex<i64> = Mutex::new(100);
 static RATES: RwLock<i64> = RwLock::new(1);
@@ -100,6 +103,30 @@ fn locks() {
     thread::spawn(takes_each).join().unwrap();
 }
 
+fn takes_total() {
+    *TOTAL.lock().unwrap() += 1;
+}
+fn takes_rates_to_read() {
+    assert!(*RATES.read().unwrap() > 0);
+}
+fn takes_rates_to_write() {
+    *RATES.write().unwrap() += 1;
+}
+fn sleeps(helper: fn()) {
+    let guards = (TOTAL.lock().unwrap(), RATES.write().unwrap());
+    let (to_main, from_helper) = std::sync::mpsc::channel();
+    let thread = thread::spawn(move || {
+        to_main.send(std::fs::read_link("/proc/thread-self").unwrap()).unwrap();
+        helper();
+    });
+    let status = std::path::Path::new("/proc").join(from_helper.recv().unwrap()).join("stat");
+    while !std::fs::read_to_string(&status).unwrap().contains(") S ") {
+        thread::yield_now();
+    }
+    drop(guards);
+    thread.join().unwrap();
+}
+
 fn wait_until_open(waits: &Place) {
     let mut is_open = IS_OPEN.lock().unwrap();
     waits.pass();
@@ -120,11 +147,22 @@ fn waits() {
     waiter.join().unwrap();
 }
 
+fn wait_for_a_moment() {
+    let is_open = IS_OPEN.lock().unwrap();
+    assert!(!*OPENED.wait_timeout(is_open, Duration::from_millis(1)).unwrap().0);
+}
+
 fn main() {
     match std::env::args().nth(1).as_deref() {
         Some("apart") => withdraw(true),
         Some("together") => withdraw(false),
         Some("locks") => locks(),
+        Some("sleeps") => {
+            sleeps(takes_total);
+            sleeps(takes_rates_to_read);
+            sleeps(takes_rates_to_write);
+        }
+        Some("runs_out") => thread::spawn(wait_for_a_moment).join().unwrap(),
         _ => waits(),
     }
 }

@@ -1,5 +1,5 @@
 /* Tries to join a thread that still runs, by each call that needn't wait for it, and then joins it: once by pthread_join, once by a
- * try that succeeds, once by a wait that doesn't run out. The threads wait for a byte in a pipe. */
+ * try that succeeds, and by each wait that doesn't run out. The threads wait for a byte in a pipe. */
 #define _GNU_SOURCE
 #include <errno.h>
 #include <pthread.h>
@@ -21,6 +21,7 @@ static pthread_t tried(void) {
     pthread_create(&helper, NULL, waits, NULL);
     expect(pthread_tryjoin_np(helper, NULL), EBUSY);
     expect(pthread_timedjoin_np(helper, NULL, &past), ETIMEDOUT);
+    expect(pthread_clockjoin_np(helper, NULL, CLOCK_MONOTONIC, &past), ETIMEDOUT);
     if (write(go[1], "", 1) != 1) perror("write");
     return helper;
 }
@@ -31,5 +32,6 @@ int main(void) {
     pthread_t helper = tried();
     while (pthread_tryjoin_np(helper, NULL) == EBUSY) usleep(100);
     expect(pthread_timedjoin_np(tried(), NULL, &second), 0);
+    expect(pthread_clockjoin_np(tried(), NULL, CLOCK_REALTIME, &second), 0);
     return wrong;
 }

@@ -5,6 +5,7 @@
  *                               comes to the first
  *   killed fault, deep          it adds ten times, and then writes to address 0, or calls itself until its stack is used up, which
  *                               no hook sees
+ *   killed deep-thread          the same, but another thread calls itself
  *   killed abort, assert        it adds ten times, and then calls abort or fails an assertion; a handler of its own lets that pass
  *   killed by-default           its own handler of SIGTERM gives way to the default, and sends the signal again
  *   killed never, alone         two threads, or one, add until somebody ends it */
@@ -72,15 +73,22 @@ NOT_LOGGED static long go_deep(long depth) {
     return never ? depth : go_deep(depth + 1) + room[0];
 }
 
+static void *goes_deep(void *unused) {
+    never = (int)go_deep(1);
+    return unused;
+}
+
 static void let_pass(int number) { (void)number; }
 
 static void fail(const char *way) {
+    pthread_t other;
     add_ten_times();
     if (way[0] == 'a') signal(SIGABRT, let_pass);
     if (!strcmp(way, "fault")) *(volatile int *)0 = 1;
     if (!strcmp(way, "abort")) abort();
     if (!strcmp(way, "assert")) assert(count == 0);
     if (!strcmp(way, "deep")) never = (int)go_deep(1);
+    if (!strcmp(way, "deep-thread")) pthread_create(&other, NULL, goes_deep, NULL), pthread_join(other, NULL);
     if (!strcmp(way, "by-default")) signal(SIGTERM, send_again), raise(SIGTERM);
 }
 

@@ -3,8 +3,10 @@
  *
  *   locks posix    mutexes, spin locks, read-write locks, semaphores, waits that run out, what runs once
  *   locks c11      the same of threads.h
- *   locks meet     two threads at a barrier */
+ *   locks meet     two threads at a barrier, one of which is told that it is the last
+ *   locks unseen   a mutex that is taken by the C library's own function, which no log has, and waits that run out */
 #define _GNU_SOURCE
+#include <dlfcn.h>
 #include <errno.h>
 #include <pthread.h>
 #include <semaphore.h>
@@ -128,16 +130,27 @@ static void c11(void) {
     run_c11(takes_it);
 }
 
-static void *comes(void *unused) {
-    pthread_barrier_wait(&barrier);
-    return unused;
+static void *comes(void *is_last) {
+    *(int *)is_last = pthread_barrier_wait(&barrier);
+    return NULL;
 }
 static void meet(void) {
     pthread_t other;
+    int lasts[2] = {0, 0};
     pthread_barrier_init(&barrier, NULL, 2);
-    pthread_create(&other, NULL, comes, NULL);
-    comes(NULL);
+    pthread_create(&other, NULL, comes, &lasts[0]);
+    comes(&lasts[1]);
     pthread_join(other, NULL);
+    expect(lasts[0] + lasts[1], PTHREAD_BARRIER_SERIAL_THREAD);
+}
+
+static void unseen(void) {
+    void *library = dlopen("libc.so.6", RTLD_NOW);
+    int (*lock)(pthread_mutex_t *) = (int (*)(pthread_mutex_t *))dlsym(library, "pthread_mutex_lock");
+    expect(lock(&mutex), 0);
+    expect(pthread_cond_timedwait(&never, &mutex, &past), ETIMEDOUT);
+    expect(pthread_cond_clockwait(&never, &mutex, CLOCK_REALTIME, &past), ETIMEDOUT);
+    unlock_mutex();
 }
 
 int main(int words, char **word) {
@@ -145,5 +158,6 @@ int main(int words, char **word) {
     if (!strcmp(which, "posix")) posix();
     if (!strcmp(which, "c11")) c11();
     if (!strcmp(which, "meet")) meet();
+    if (!strcmp(which, "unseen")) unseen();
     return wrong;
 }

@@ -2,7 +2,7 @@
  *
  *   moves moved      there is no room for eight numbers to grow where they are: each is read, and written at its new place
  *   moves range      memset of 10,000 bytes, from the fourth byte of a number on
- *   moves overflow   reallocarray of more than there are addresses */
+ *   moves overflow   reallocarray of more than there are addresses, where the product of both numbers seems to be 4 */
 #define _GNU_SOURCE
 #include <errno.h>
 #include <stdint.h>
@@ -23,10 +23,11 @@ static int moved(void) {
 
 static int overflow(void) {
     char *kept = malloc(64);
-    volatile size_t count = SIZE_MAX / 2;
+    volatile size_t count = SIZE_MAX / 4 + 2;
+    kept[63] = 7;
     void *at = reallocarray(kept, count, 4);
     printf("%s, %s\n", at ? "memory" : "none", errno == ENOMEM ? "ENOMEM" : "no reason");
-    return at != NULL;
+    return at || kept[63] != 7;
 }
 
 int main(int words, char **word) {

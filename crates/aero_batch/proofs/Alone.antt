@@ -38,8 +38,8 @@ track_tells terms old now p goes place below (tracks.Found bytes ending finding)
       refl,
     )
 track_tells terms old now p goes place below (tracks.Arriving known) is at = absurd is
-track_tells terms old now p goes place below (tracks.Arrived bytes blocks known) is at = absurd is
-track_tells terms old now p goes place below (tracks.Checking bytes) is at = absurd is
+track_tells terms old now p goes place below (tracks.Arrived bytes ending blocks known) is at = absurd is
+track_tells terms old now p goes place below (tracks.Checking bytes ending) is at = absurd is
 
 pub begun_alone : (terms : Terms) (old : List Sighted) (p : Underway) → IsStart terms (length old) p → length old ≤ 65536 → terms.rules.limits.bytes ≤ 2 ^ 46 → GoesOnAlone terms old old p
 begun_alone terms old p start few few_bytes = record {

@@ -13,7 +13,7 @@ use Rattle.aero_intake.specs.declared.track.Track.{Track}
 use Rattle.aero_intake.specs.declared.track.Track.TheVariants.{Arriving, Arrived, Checking, Found}
 use Rattle.aero_intake.specs.Stories.{Story, own_block, own_check, blocks_asked, checks_asked, AreSettled, IsTracked, AreTracked}
 use Rattle.aero_intake.proofs.Tracked.{blocks_asked-more, checks_asked-more, nil_right}
-use Rattle.aero_verdict.specs.Finding.{Terms}
+use Rattle.aero_verdict.specs.Finding.{Terms, to_the_end}
 
 blocks_asked-append : (s : ℕ) (xs ys : List Question) → blocks_asked s (xs ++ ys) ≡ blocks_asked s xs ++ blocks_asked s ys
 blocks_asked-append s [] ys = refl
@@ -40,8 +40,8 @@ same_tracked terms qs rs tale tracks blocks checks tracked s t at = go t (tracke
 
     go : (t : Track) → IsTracked terms qs s (tale s) t → IsTracked terms rs s (tale s) t
     go (Arriving known) is = (settled known is.0, sym (checks s) ∙ is.1, is.2)
-    go (Arrived n k known) is = (settled known is.0, sym (checks s) ∙ is.1, is.2)
-    go (Checking n) is = (subst (λ cs. All (λ a. a ≡ record { parts = map reading_of (tale s).blocks; terms = terms }) cs) (checks s) is.0, is.1)
+    go (Arrived n ending k known) is = (settled known is.0, sym (checks s) ∙ is.1, is.2)
+    go (Checking n ending) is = (subst (λ cs. All (λ a. a ≡ record { parts = map reading_of (tale s).blocks; terms = to_the_end terms }) cs) (checks s) is.0, is.1)
     go (Found n ending finding) is = is
 
 -- the first question on a block, in front of all

@@ -1,5 +1,5 @@
 -- A step of reading keeps what holds of the sources.
-use Rattle.std.proofs.Common.{◌≡◌, ℕ, ◌+◌, ◌<◌, Bool, true, false, List, [], ◌∷◌, ◌++◌, map, length, slice_get, Option, Some, None, refl, sym, ◌∙◌, ap, subst}
+use Rattle.std.proofs.Common.{◌≡◌, ℕ, ◌+◌, ◌<◌, ◌≤◌, Bool, true, false, List, [], ◌∷◌, ◌++◌, map, length, slice_get, Option, Some, None, refl, sym, ◌∙◌, ap, subst}
 use Rattle.std.proofs.Common.{append_assoc, inl, inr, arith}
 use Rattle.std.specs.Prelude.{option_to_list}
 use Rattle.std.specs.List.{concat}
@@ -7,10 +7,10 @@ use Rattle.std.proofs.lemmas.Bool.{cases_eq}
 use Rattle.std.proofs.lemmas.Grind.{merely}
 use Rattle.std.proofs.lemmas.List.{append-nil, length-append}
 use Rattle.aero_model.specs.declared.verdict.Ending.{Ending}
-use Rattle.aero_model.specs.declared.verdict.Ending.TheVariants.{Whole, Broken, TooLarge}
+use Rattle.aero_model.specs.declared.verdict.Ending.TheVariants.{Whole, Broken, TooLarge, Stopped}
 use Rattle.aero_model.specs.declared.verdict.Finding.TheVariants as findings
 use Rattle.aero_grammar.specs.Reading.{reading_of}
-use Rattle.aero_lines.specs.Cutting.{nothing_yet, block_of}
+use Rattle.aero_lines.specs.Cutting.{nothing_yet, block_of, blocks_from}
 use Rattle.aero_pieces.specs.declared.question.Question.{Question}
 use Rattle.aero_batch.specs.declared.underway.Underway.{Underway}
 use Rattle.aero_intake.specs.declared.track.Track.{Track}
@@ -19,15 +19,15 @@ use Rattle.aero_batch.specs.Founds.{Sighted}
 use Rattle.aero_batch.specs.Holding.{Holds, HasEnded, HasCome, HasComeFrom, nothing_known}
 use Rattle.aero_batch.specs.Inquiries.{Inquired, AreApart, all_open}
 use Rattle.aero_intake.specs.Held.{Known, IsDecisive}
-use Rattle.aero_intake.specs.Intake.{Taking, IsTaken, HaveCome, with_passing, fed_all}
+use Rattle.aero_intake.specs.Intake.{Taking, IsTaken, HaveCome, Ends, with_passing, fed_all}
 use Rattle.aero_intake.specs.Source.{Sight, WasRead}
-use Rattle.aero_batch.specs.Steps.{TakesPiece, NotesEnding, CutsHeld, PassesOver, PassesOn, IsReadFrom, DecidesThere, HasDecided, HasEnough, IsWanted}
+use Rattle.aero_batch.specs.Steps.{TakesPiece, NotesEnding, CutsHeld, PassesOver, PassesOn, StopsReading, IsReadFrom, DecidesThere, HasDecided, HasEnough, IsWanted}
 use Rattle.aero_batch.specs.Steps.{with_block, last_of, ended_track}
-use Rattle.aero_intake.specs.Stories.{Story, AreEnough, BeginAlike, IsTracked, AreTracked, changed}
+use Rattle.aero_intake.specs.Stories.{Story, AreEnough, BeginAlike, Suffices, IsTracked, AreTracked, changed}
 use Rattle.aero_batch.proofs.Apart.{block_apart}
 use Rattle.aero_batch.proofs.Retold.{retold, retold_there, retold_same, retold_elsewhere, with_pieces, block_tracked, still_arriving}
 use Rattle.aero_intake.proofs.Taken.{nothing_is_taken, piece_is_held, held_is_cut, held_is_passed, cut_bytes, blocks_with_last, nothing_has_come}
-use Rattle.aero_intake.proofs.Taken.{more_has_come, source_was_read}
+use Rattle.aero_intake.proofs.Taken.{more_has_come, source_was_read, source_was_stopped, blocks_with_more}
 use Rattle.aero_intake.proofs.Tracked.{changed_there, changed_elsewhere, before_change, enough_asked, alike_dropped, begin_alike, settled_decide}
 use Rattle.aero_verdict.specs.Finding.{Terms}
 
@@ -36,6 +36,14 @@ the_some x y p = cc p
 
 not_both : (b : Bool) → b ≡ true → b ≡ false → ⊥
 not_both b is_true is_false = cc (is_true, is_false)
+
+pub not_none : {A : Type 0} (o : Option A) (x : A) → o ≡ None → o ≡ Some x → ⊥
+not_none o x none some = cc (none, some)
+
+-- a reading that has ended by itself wasn't stopped
+not_stopped : (before after : Sight) (limit count : ℕ) (ending : Ending) → Ends before after limit count ending → Some ending ≡ Some Stopped → ⊥
+not_stopped before after limit count ending ends same =
+    subst (λ e. Ends before after limit count e) (the_some ending Stopped same) ends
 
 -- what became of the other sources stays
 ended_stays : (terms : Terms) (old now after : List Sighted) (place s : ℕ) (story : Story) →
@@ -59,8 +67,8 @@ story_decides terms p tale tracked is = go (slice_get p.tracks.items p.read) ref
     go : (o : Option Track) → slice_get p.tracks.items p.read ≡ o → DecidesThere o → IsDecisive terms (map reading_of (tale p.read).blocks)
     go None at is = absurd is
     go (Some (Arriving known)) at is = settled_decide terms (all_open p.inquiry) p.read (tale p.read) known (tracked p.read (Arriving known) at).0 is
-    go (Some (Arrived bytes blocks known)) at is = absurd is
-    go (Some (Checking bytes)) at is = absurd is
+    go (Some (Arrived bytes ending blocks known)) at is = absurd is
+    go (Some (Checking bytes ending)) at is = absurd is
     go (Some (Found bytes ending finding)) at is = absurd is
 
 -- where no further block counts, those that were asked about decide
@@ -121,6 +129,7 @@ taking_holds terms old now after p q tale before_read after_read from reading ta
       taken = piece_is_held p.intake pieces holds.cut takes.piece holds.taken;
       enough = holds.enough;
       passed = holds.passed;
+      stopped = λ e. absurd (not_none p.ended Stopped reading e);
       come = come_on terms old now after p.read before_read after_read bytes (concat pieces ++ (p.intake.held ++ takes.piece)) p.ended p.ended from
           (λ first come. subst (λ e. HasCome first after_read limit (concat pieces ++ (p.intake.held ++ takes.piece)) e) (sym reading)
           (subst (λ bs. HaveCome first after_read bs) (append_assoc (concat pieces) p.intake.held takes.piece)
@@ -147,6 +156,7 @@ noting_holds terms old now after p q tale before_read after_read from reading no
       taken = holds.taken;
       enough = holds.enough;
       passed = holds.passed;
+      stopped = λ e. absurd (not_stopped before_read after_read limit p.intake.count notes.ending notes.ends e);
       come = come_on terms old now after p.read before_read after_read bytes bytes p.ended (Some notes.ending) from
           (λ first come. source_was_read first before_read after_read limit p.intake.count bytes notes.ending
           (subst (λ e. HasCome first before_read limit bytes e) reading come) holds.taken.count notes.ends)
@@ -195,6 +205,7 @@ cutting_holds terms old now after p q tale before_read after_read from unread cu
         enough = subst (λ (x : Story). AreEnough terms x.blocks cut) (sym there')
             (enough_asked terms (tale p.read).blocks holds.cut (option_to_list given) holds.enough);
         passed = λ is_passed. absurd (not_both p.intake.passed (ap (λ (i : Taking). i.passed) (sym cuts.intake) ∙ is_passed) cuts.going_on.none_passed);
+        stopped = λ e. absurd (not_both p.intake.passed (holds.stopped (sym cuts.ended ∙ e)).1 cuts.going_on.none_passed);
         come = subst (λ (x : Story). HasComeFrom terms old after q.read (concat x.pieces ++ q.intake.held) q.ended) (sym there')
             (subst (λ (i : Taking). HasComeFrom terms old after q.read (concat pieces ++ i.held) q.ended) (sym cuts.intake)
             (subst (λ e. HasComeFrom terms old after q.read (concat pieces ++ []) e) (sym cuts.ended)
@@ -246,6 +257,7 @@ passing_over_holds terms old now after p q tale before_read after_read from unre
                 (held_is_passed p.intake (tale p.read).pieces holds.cut holds.taken);
             enough = subst (λ (x : Story). AreEnough terms x.blocks cut) (sym there) (inr alike);
             passed = λ is_passed. subst (λ (x : Story). BeginAlike terms x.blocks cut) (sym there) alike;
+            stopped = λ e. ((holds.stopped e).0, refl);
             come = subst (λ (x : Story). HasComeFrom terms old after p.read (concat x.pieces ++ []) p.ended) (sym there) come;
             asked = holds.asked ∙ ap length (sym same) ∙ ap (λ (x : Story). length x.blocks) (sym there);
             not_ended = ap (λ (x : Story). x.ending) there;
@@ -256,13 +268,21 @@ passing_over_holds terms old now after p q tale before_read after_read from unre
       λ s less. elsewhere s (λ e. omega (arith, less, e)),
     )
 
+-- what was asked about begins as the blocks of whatever could follow
+alike_with_more : (terms : Terms) (asked cut pieces : List (List ℕ)) (i : Taking) (more : List ℕ) → IsTaken i pieces cut → BeginAlike terms asked cut →
+    BeginAlike terms asked (blocks_from nothing_yet (pieces ++ more ∷ []))
+alike_with_more terms asked cut pieces i more taken alike =
+    let all = blocks_with_more i pieces cut more taken in
+    subst (λ bs. BeginAlike terms asked bs) all.1 (alike_dropped terms asked cut all.0 alike)
+
 -- a source that was arriving has ended
 ended_track_fits : (terms : Terms) (qs : List Question) (s count blocks : ℕ) (ending : Ending) (i : Taking) (pieces cut all : List (List ℕ)) (known : Known) →
     IsTaken i pieces cut → count ≡ length (concat pieces) → AreEnough terms all (cut ++ option_to_list (last_of (fed_all nothing_yet pieces) ending)) →
+    (ending ≡ Stopped → (terms.stop ≡ true) × BeginAlike terms all cut) →
     blocks ≡ length all →
     IsTracked terms qs s (record { pieces = pieces; blocks = all; ending = None }) (Arriving known) →
     IsTracked terms qs s (record { pieces = pieces; blocks = all; ending = Some ending }) (ended_track ending count blocks (Arriving known))
-ended_track_fits terms qs s count blocks Whole i pieces cut all known taken is_count enough is_blocks is = (
+ended_track_fits terms qs s count blocks Whole i pieces cut all known taken is_count enough stopped is_blocks is = (
   record { on = is.0.on; all = is.0.all },
   is.1,
   record {
@@ -272,19 +292,30 @@ ended_track_fits terms qs s count blocks Whole i pieces cut all known taken is_c
     block_count = is_blocks;
   },
 )
-ended_track_fits terms qs s count blocks Broken i pieces cut all known taken is_count enough is_blocks is =
+ended_track_fits terms qs s count blocks Broken i pieces cut all known taken is_count enough stopped is_blocks is =
     (refl, is_count, merely (ap findings.Broken is_count))
-ended_track_fits terms qs s count blocks TooLarge i pieces cut all known taken is_count enough is_blocks is =
+ended_track_fits terms qs s count blocks TooLarge i pieces cut all known taken is_count enough stopped is_blocks is =
     (refl, is_count, merely refl)
+ended_track_fits terms qs s count blocks Stopped i pieces cut all known taken is_count enough stopped is_blocks is = (
+  record { on = is.0.on; all = is.0.all },
+  is.1,
+  record {
+    ended = refl;
+    enough = ((stopped refl).0, λ more. alike_with_more terms all cut pieces i more taken (stopped refl).1);
+    byte_count = is_count;
+    block_count = is_blocks;
+  },
+)
 
 ended_tracked : (terms : Terms) (p : Underway) (tale : ℕ → Story) (ending : Ending) (o : Option (List ℕ)) (all cut : List (List ℕ)) →
     AreEnough terms all (cut ++ option_to_list (last_of (fed_all nothing_yet (tale p.read).pieces) ending)) →
+    (ending ≡ Stopped → (terms.stop ≡ true) × BeginAlike terms all cut) →
     IsTaken p.intake (tale p.read).pieces cut → p.intake.count ≡ length (concat (tale p.read).pieces) → (with_block p o).blocks ≡ length all →
     AreTracked terms (all_open (with_block p o).inquiry)
     (retold tale p.read (record { pieces = (tale p.read).pieces; blocks = all; ending = None })) p.tracks.items →
     AreTracked terms (all_open (with_block p o).inquiry) (retold tale p.read (record { pieces = (tale p.read).pieces; blocks = all; ending = Some ending }))
     (changed p.read (ended_track ending p.intake.count (with_block p o).blocks) p.tracks.items)
-ended_tracked terms p tale ending o all cut enough taken is_count blocks tracked s t at =
+ended_tracked terms p tale ending o all cut enough stopped taken is_count blocks tracked s t at =
     let qs = (all_open (with_block p o).inquiry) in
     let f : Track → Track = ended_track ending p.intake.count (with_block p o).blocks in
     let mid : Story = record { pieces = (tale p.read).pieces; blocks = all; ending = None } in
@@ -296,7 +327,7 @@ ended_tracked terms p tale ending o all cut enough taken is_count blocks tracked
           let is = subst (λ x. IsTracked terms qs s x was.0) (retold_same tale p.read s mid same) (tracked s was.0 was.1) in
           let arriving = still_arriving terms qs s mid was.0 refl is in
           let fits = ended_track_fits terms qs s p.intake.count (with_block p o).blocks ending p.intake
-          (tale p.read).pieces cut all arriving.0 taken is_count enough blocks
+          (tale p.read).pieces cut all arriving.0 taken is_count enough stopped blocks
           (subst (λ x. IsTracked terms qs s mid x) {y = Arriving arriving.0} arriving.1 is) in
           subst (λ x. IsTracked terms qs s x t) {x = story} {y = retold tale p.read story s} (sym (retold_same tale p.read s story same))
           (subst (λ x. IsTracked terms qs s story x) {y = t} (sym (was.2 ∙ ap f {y = Arriving arriving.0} arriving.1)) fits))
@@ -337,6 +368,51 @@ empty : (xs : List ℕ) → length xs ≡ 0 → xs ≡ []
 empty [] none = refl
 empty (x ∷ xs) none = absurd (omega (arith, none))
 
+-- where the reading was stopped, what was asked about decides, and no last block is asked about
+stopped_begins : (terms : Terms) (old now : List Sighted) (p : Underway) (tale : ℕ → Story) (ending : Ending) (o : Option (List ℕ)) →
+    (holds : Holds terms old now p tale) → p.ended ≡ Some ending → IsWanted p (last_of p.intake.cutting ending) o → ending ≡ Stopped →
+    (terms.stop ≡ true) × BeginAlike terms ((tale p.read).blocks ++ option_to_list o) holds.cut
+stopped_begins terms old now p tale ending o holds ended wanted same =
+    let was = holds.stopped (ended ∙ ap Some same) in
+    let none : o ≡ None = elim wanted [
+      | inl asked ↦ (asked.0 ∙ ap (λ e. last_of p.intake.cutting e) same)
+      | inr asked ↦ asked.0
+    ] in (
+      was.0,
+      subst (λ x. BeginAlike terms ((tale p.read).blocks ++ option_to_list x) holds.cut) (sym none)
+          (subst (λ bs. BeginAlike terms bs holds.cut) (sym (append-nil (tale p.read).blocks)) (holds.passed was.1)),
+    )
+
+-- what was passed over has come, and no more of it is read
+now_stopped : (terms : Terms) (old now : List Sighted) (p : Underway) (tale : ℕ → Story) → p.ended ≡ None → terms.stop ≡ true → p.intake.passed ≡ true →
+    p.intake.count ≤ terms.rules.limits.bytes → Holds terms old now p tale → Holds terms old now (record p { ended = Some Stopped }) tale
+now_stopped terms old now p tale reading asked_for passed within holds = record {
+  apart = holds.apart;
+  tracked = holds.tracked;
+  ended = holds.ended;
+  cut = holds.cut;
+  taken = holds.taken;
+  enough = holds.enough;
+  passed = holds.passed;
+  stopped = λ e. (asked_for, passed);
+  come = λ before after was is.
+      source_was_stopped before.reader after.reader terms.rules.limits.bytes p.intake.count (concat (tale p.read).pieces ++ p.intake.held)
+      (subst (λ e. HasCome before.reader after.reader terms.rules.limits.bytes (concat (tale p.read).pieces ++ p.intake.held) e) reading
+      (holds.come before after was is)) holds.taken.count within;
+  asked = holds.asked;
+  not_ended = holds.not_ended;
+  later = holds.later;
+}
+
+-- the source is read no further
+pub stopping_holds : (terms : Terms) (old now after : List Sighted) (p q : Underway) (tale : ℕ → Story) (before_read after_read : Sight) →
+    IsReadFrom now after p.read before_read after_read → after_read ≡ before_read → p.ended ≡ None → StopsReading terms p q → Holds terms old now p tale →
+    (new : ℕ → Story) × Holds terms old after q new × ((s : ℕ) → s < p.read → new s ≡ tale s)
+stopping_holds terms old now after p q tale before_read after_read from unread reading stops holds =
+    let mid : Underway = record p { intake = with_passing p.intake } in
+    let passed = passing_over_holds terms old now after p mid tale before_read after_read from unread (record { enough = stops.enough; new_is = refl }) holds in
+    (passed.0, subst (λ (m : Underway). Holds terms old after m passed.0) (sym stops.new_is) (now_stopped terms old after mid passed.0 reading stops.asked_for refl stops.within passed.1), passed.2)
+
 -- the source is passed on from
 pub passing_holds : (terms : Terms) (old now after : List Sighted) (p q : Underway) (tale : ℕ → Story) (before_read after_read : Sight) (first : Sighted) →
     slice_get old p.read ≡ Some first → IsReadFrom now after p.read before_read after_read → after_read ≡ before_read → PassesOn p q →
@@ -354,6 +430,8 @@ passing_holds terms old now after p q tale before_read after_read first was from
     subst (λ (x : Sight). WasRead first.reader x limit (concat pieces) ending) (from.used ∙ sym unread)
     (subst (λ bs. WasRead first.reader from.was.reader limit bs ending) bytes_are
     (subst (λ e. HasCome first.reader from.was.reader limit (concat pieces ++ p.intake.held) e) passes.ended (holds.come first from.was was from.was_there))) in
+    let stopped : ending ≡ Stopped → (terms.stop ≡ true) × BeginAlike terms all holds.cut = λ e.
+    stopped_begins terms old now p tale ending o holds passes.ended is.wanted e in
     let mid : Story = with_pieces (tale p.read) pieces o in
     let story : Story = record { pieces = pieces; blocks = all; ending = Some ending } in
     let arriving : ℕ → Story = retold tale p.read mid in
@@ -371,7 +449,7 @@ passing_holds terms old now after p q tale before_read after_read first was from
         apart = subst AreApart (sym is.inquiry) (block_apart p o holds.apart);
         tracked = subst (λ (i : Inquired). AreTracked terms (all_open i) new q.tracks.items) (sym is.inquiry)
             (subst (λ ts. AreTracked terms qs new ts) (sym is.tracks)
-            (ended_tracked terms p tale ending o all holds.cut (enough_wanted terms old now p tale ending o holds is.wanted) holds.taken
+            (ended_tracked terms p tale ending o all holds.cut (enough_wanted terms old now p tale ending o holds is.wanted) stopped holds.taken
             (holds.taken.count ∙ ap length bytes_are) blocks tracked));
         ended = λ s below. ended_before terms old now after p tale before_read after_read ending first story new was from read holds refl refl there elsewhere
             s (omega (arith, below, is.read));
@@ -379,6 +457,7 @@ passing_holds terms old now after p q tale before_read after_read first was from
         taken = subst (λ (x : Story). IsTaken q.intake x.pieces []) (sym next_known) (subst (λ (i : Taking). IsTaken i [] []) (sym is.intake) nothing_is_taken);
         enough = subst (λ (x : Story). AreEnough terms x.blocks []) (sym next_known) (inl refl);
         passed = λ is_passed. absurd (not_both q.intake.passed is_passed (ap (λ (i : Taking). i.passed) is.intake));
+        stopped = λ e. absurd (not_none q.ended Stopped is.reading e);
         come = subst (λ e. HasComeFrom terms old after q.read (concat (new q.read).pieces ++ q.intake.held) e) (sym is.reading)
             (subst (λ (i : Taking). HasComeFrom terms old after q.read (concat (new q.read).pieces ++ i.held) None) (sym is.intake)
             (subst (λ (x : Story). HasComeFrom terms old after q.read (concat x.pieces ++ []) None) (sym next_known)

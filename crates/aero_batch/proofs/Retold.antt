@@ -54,6 +54,7 @@ without_reading terms old now p q tale read intake blocks ended apart tracked ho
   enough = subst (λ r. AreEnough terms (tale r).blocks holds.cut) (sym read) holds.enough;
   passed = λ is_passed. subst (λ r. BeginAlike terms (tale r).blocks holds.cut) (sym read)
       (holds.passed (ap (λ (i : Taking). i.passed) (sym intake) ∙ is_passed));
+  stopped = λ e. ((holds.stopped (sym ended ∙ e)).0, ap (λ (i : Taking). i.passed) intake ∙ (holds.stopped (sym ended ∙ e)).1);
   come = subst (λ e. HasComeFrom terms old now q.read (concat (tale q.read).pieces ++ q.intake.held) e) (sym ended)
       (subst (λ (i : Taking). HasComeFrom terms old now q.read (concat (tale q.read).pieces ++ i.held) p.ended) (sym intake)
       (subst (λ r. HasComeFrom terms old now r (concat (tale r).pieces ++ p.intake.held) p.ended) (sym read) holds.come));
@@ -144,19 +145,19 @@ check_asked : (terms : Terms) (i : Inquired) (tale : ℕ → Story) (tracks : Li
     slice_get tracks place ≡ Some before → IsReady before → GivesParts before after parts → AreTracked terms (all_open i) tale tracks →
     AreTracked terms (checked_on terms i place parts) tale (changed place (λ t. after) tracks)
 check_asked terms i tale tracks place (Arriving known) after parts was ready gives tracked = absurd ready
-check_asked terms i tale tracks place (Checking bytes) after parts was ready gives tracked = absurd ready
-check_asked terms i tale tracks place (Arrived bytes blocks known) after parts was ready (inl gives) tracked =
+check_asked terms i tale tracks place (Checking bytes ending) after parts was ready gives tracked = absurd ready
+check_asked terms i tale tracks place (Arrived bytes ending blocks known) after parts was ready (inl gives) tracked =
     let question = Check place known.parts terms.rules.limits terms.rules.labels terms.order terms.explain in
     subst (λ o. AreTracked terms (checked_on terms i place o) tale (changed place (λ t. after) tracks)) (sym gives.0)
-    (known_after terms (all_open i) (all_open i ++ question ∷ []) tale tracks place (Arrived bytes blocks known) after was
+    (known_after terms (all_open i) (all_open i ++ question ∷ []) tale tracks place (Arrived bytes ending blocks known) after was
     (subst (λ x. IsTracked terms (all_open i ++ question ∷ []) place (tale place) x) (sym gives.1)
-    (asked_check terms (all_open i) place bytes blocks (tale place) known ready (tracked place (Arrived bytes blocks known) was)))
+    (asked_check terms (all_open i) place bytes ending blocks (tale place) known ready (tracked place (Arrived bytes ending blocks known) was)))
     (λ s t other. asked_other terms (all_open i) question s (tale s) t other) tracked)
-check_asked terms i tale tracks place (Arrived bytes blocks known) after parts was ready (inr gives) tracked =
+check_asked terms i tale tracks place (Arrived bytes ending blocks known) after parts was ready (inr gives) tracked =
     subst (λ o. AreTracked terms (checked_on terms i place o) tale (changed place (λ t. after) tracks)) (sym gives.0)
-    (known_after terms (all_open i) (all_open i) tale tracks place (Arrived bytes blocks known) after was
+    (known_after terms (all_open i) (all_open i) tale tracks place (Arrived bytes ending blocks known) after was
     (subst (λ x. IsTracked terms (all_open i) place (tale place) x) (sym gives.3)
-    (found_here terms (all_open i) place bytes blocks (tale place) known gives.1 ready gives.2 (tracked place (Arrived bytes blocks known) was)))
+    (found_here terms (all_open i) place bytes ending blocks (tale place) known gives.1 ready gives.2 (tracked place (Arrived bytes ending blocks known) was)))
     (λ s t other is. is) tracked)
 check_asked terms i tale tracks place (Found bytes ending finding) after parts was ready gives tracked =
     subst (λ o. AreTracked terms (checked_on terms i place o) tale (changed place (λ t. after) tracks)) (sym gives.0)
@@ -186,11 +187,11 @@ checking_holds terms old now p q tale is holds =
 pub still_arriving : (terms : Terms) (qs : List Question) (s : ℕ) (story : Story) (t : Track) → story.ending ≡ None → IsTracked terms qs s story t →
     (known : Known) × (t ≡ Arriving known)
 still_arriving terms qs s story (Arriving known) none is = (known, refl)
-still_arriving terms qs s story (Arrived bytes blocks known) none is = absurd (clash none is.2.ended)
+still_arriving terms qs s story (Arrived bytes ending blocks known) none is = absurd (clash none is.2.ended)
   where
     clash : {A : Type 0} {o : Option A} {x : A} → o ≡ None → o ≡ Some x → ⊥
     clash p q = cc (p, q)
-still_arriving terms qs s story (Checking bytes) none is = absurd (clash none is.1.ended)
+still_arriving terms qs s story (Checking bytes ending) none is = absurd (clash none is.1.ended)
   where
     clash : {A : Type 0} {o : Option A} {x : A} → o ≡ None → o ≡ Some x → ⊥
     clash p q = cc (p, q)

@@ -10,6 +10,7 @@ use Rattle.std.proofs.lemmas.List.Sums.{fold-append}
 use Rattle.std.proofs.lemmas.Option.{slice_get_within}
 use Rattle.aero_model.specs.declared.verdict.Counts.{Counts}
 use Rattle.aero_model.specs.declared.verdict.Ending.{Ending}
+use Rattle.aero_model.specs.declared.verdict.Ending.TheVariants.{Stopped}
 use Rattle.aero_model.specs.declared.verdict.Finding.{Finding}
 use Rattle.aero_model.specs.CallCounts.{Seen}
 use Rattle.aero_report.specs.Texts.{counts_of, counted, no_counts}
@@ -17,13 +18,13 @@ use Rattle.aero_report.specs.declared.form.Form.{Form}
 use Rattle.aero_report.specs.Forms.{source_line_in, source_lines_in}
 use Rattle.aero_batch.specs.declared.outcome.Cause.{Cause}
 use Rattle.aero_batch.specs.declared.outcome.Cause.TheVariants.{Memory, Write}
-use Rattle.aero_batch.specs.declared.outcome.FaultyLine.{FaultyLine}
+use Rattle.aero_batch.specs.declared.outcome.Notable.{Notable}
 use Rattle.aero_batch.specs.declared.underway.Underway.{Underway}
 use Rattle.aero_batch.specs.declared.told.Told.{Told}
 use Rattle.aero_intake.specs.declared.track.Track.{Track}
 use Rattle.aero_intake.specs.declared.track.Track.TheVariants as tracks
-use Rattle.aero_batch.specs.Faults.{fault_of}
-use Rattle.aero_batch.specs.Founds.{Sighted, whose, Found, IsFoundAt, AreOfTheFirst, told, ending_of, faulty_line, lines_of_all, counts_of_all, Took, IsNextText}
+use Rattle.aero_batch.specs.Notables.{notable_of}
+use Rattle.aero_batch.specs.Founds.{Sighted, whose, Found, IsFoundAt, AreOfTheFirst, told, ending_of, notable, lines_of_all, counts_of_all, Took, IsNextText}
 use Rattle.aero_batch.specs.Founds.{WasCutOff, IsWritten, WasRunTo, WasTold, no_text}
 use Rattle.aero_batch.specs.Holding.{Holds, HasComeFrom, Counted, AreTold, Tells, Stands, HasNumbers, IsBegun, nothing_known}
 use Rattle.aero_batch.specs.Inquiries.{Inquired, AreApart, all_open, open_count}
@@ -34,10 +35,10 @@ use Rattle.aero_batch.specs.Steps.{IsStart, Steps, ReadsOn}
 use Rattle.aero_batch.specs.Telling.{SumsUp, WasCut, TellsNext, IsOneMore, total}
 use Rattle.aero_intake.specs.Stories.{Story, IsTracked}
 use Rattle.aero_batch.proofs.Apart.{nothing_apart}
-use Rattle.aero_batch.proofs.Readings.{taking_holds, noting_holds, cutting_holds, passing_over_holds, passing_holds}
+use Rattle.aero_batch.proofs.Readings.{not_none, taking_holds, noting_holds, stopping_holds, cutting_holds, passing_over_holds, passing_holds}
 use Rattle.aero_intake.proofs.Taken.{nothing_is_taken, nothing_has_come}
 use Rattle.aero_batch.proofs.Retold.{settling_holds, checking_holds}
-use Rattle.aero_batch.proofs.Sums.{settling_counted, checking_counted, taking_counted, noting_counted, cutting_counted, passing_counted, ending_counted}
+use Rattle.aero_batch.proofs.Sums.{settling_counted, checking_counted, taking_counted, noting_counted, cutting_counted, passing_counted, stopping_counted, ending_counted}
 use Rattle.aero_verdict.specs.Finding.{Terms}
 
 pub the_some : {A : Type 0} (x y : A) → Some x ≡ Some y → x ≡ y
@@ -167,8 +168,8 @@ told_stands terms form old now before mid after p a b bytes ending finding name 
         counts = more.counts ∙ (ap (λ c. counted c finding) t.counts ∙ sym (counts_more st.founds f));
         total_is = omega (arith, more.counted_one, t.total_is, length_push st.founds f);
         room = more.room ∙ t.room;
-        faults = more.faults ∙ (ap (λ fs. fs ++ fault_of finding ∷ []) t.faults ∙ sym (map-append faulty_line st.founds (f ∷ [])));
-        faults_room = more.faults_room ∙ t.faults_room;
+        notables = more.notables ∙ (ap (λ fs. fs ++ notable_of finding ∷ []) t.notables ∙ sym (map-append notable st.founds (f ∷ [])));
+        notables_room = more.notables_room ∙ t.notables_room;
       };
       counted = st.counted;
       names = st.names;
@@ -179,7 +180,7 @@ told_stands terms form old now before mid after p a b bytes ending finding name 
 stopped : (terms : Terms) (form : Form) (old now now' : List Sighted) (before mid after : Seen) (p : Underway) (a : Told)
     (st : Stands terms form old now before mid p a) (cause : Option Cause) →
     ((s : ℕ) → s < p.read → slice_get now' s ≡ slice_get now s) → map whose now' ≡ map whose now →
-    IsWritten terms form no_text old now' st.founds before after cause → WasTold terms form old now' before after a.endings.items a.faults.items a.counts cause
+    IsWritten terms form no_text old now' st.founds before after cause → WasTold terms form old now' before after a.endings.items a.notables.items a.counts cause
 stopped terms form old now now' before mid after p a st cause same names written = record {
   founds = st.founds;
   found = λ place f at.
@@ -189,7 +190,7 @@ stopped terms form old now now' before mid after p a st cause same names written
       record { before = is.before; after = is.after; was = is.was; is = same place (omega (arith, within, few)) ∙ is.is; found_of = is.found_of };
   names = names ∙ st.names;
   ended = st.are_told.endings;
-  faulty = st.are_told.faults;
+  notable = st.are_told.notables;
   counted = st.are_told.counts;
   written = written;
 }
@@ -197,7 +198,7 @@ stopped terms form old now now' before mid after p a st cause same names written
 pub memory_stops : (terms : Terms) (form : Form) (old now now' : List Sighted) (before mid after : Seen) (p : Underway) (a : Told) →
     Stands terms form old now before mid p a →
     ((s : ℕ) → s < p.read → slice_get now' s ≡ slice_get now s) → map whose now' ≡ map whose now → Took mid after [] →
-    WasTold terms form old now' before after a.endings.items a.faults.items a.counts (Some Memory)
+    WasTold terms form old now' before after a.endings.items a.notables.items a.counts (Some Memory)
 memory_stops terms form old now now' before mid after p a st same names took =
     stopped terms form old now now' before mid after p a st (Some Memory) same names
     (took_nothing before mid after (lines_of_all form st.founds) st.are_told.took took)
@@ -220,7 +221,7 @@ pub line_stops : (terms : Terms) (form : Form) (old now : List Sighted) (before 
     vec_len a.endings < p.checked → slice_get p.tracks.items (vec_len a.endings) ≡ Some (tracks.Found bytes ending finding) →
     ((x : Sighted) → slice_get now (vec_len a.endings) ≡ Some x → x.name ≡ name) → WasCut mid after (source_line_in form name finding) →
     Stands terms form old now before mid p a →
-    WasTold terms form old now before after a.endings.items a.faults.items a.counts (Some Write)
+    WasTold terms form old now before after a.endings.items a.notables.items a.counts (Some Write)
 line_stops terms form old now before mid after p a bytes ending finding name below at named cut st =
     let t = st.are_told in
     let place = vec_len a.endings in
@@ -258,11 +259,11 @@ still_told terms form old before mid p q a tale new founds below more same t = r
   few = omega (arith, t.few, more);
   took = t.took;
   endings = t.endings;
-  faults = t.faults;
+  notables = t.notables;
   counts = t.counts;
   total_is = t.total_is;
   room = t.room;
-  faults_room = t.faults_room;
+  notables_room = t.notables_room;
 }
 
 pub slice_get_some : {A : Type 0} (xs : List A) (i : ℕ) → i < length xs → (x : A) × (slice_get xs i ≡ Some x)
@@ -301,14 +302,23 @@ step_goes terms old now after p q tale (inr (inr is)) names holds counted = go i
     same_length = sym (length-map now whose) ∙ (ap length names ∙ length-map old whose)
 
     go : ReadsOn terms is.before_read is.after_read p q → Goes terms old after p q tale
-    go (inl (reading, inl takes)) = record {
+    go (inl (reading, inl (inl takes))) = record {
       new = tale;
       holds = taking_holds terms old now after p q tale is.before_read is.after_read is.from reading takes holds;
       same = λ s less. refl;
       counted = taking_counted terms (length old) p q is.before_read is.after_read takes counted;
       more = omega (arith, ap (λ (m : Underway). m.checked) takes.new_is);
     }
-    go (inl (reading, inr notes)) = record {
+    go (inl (reading, inr (unused, stops))) =
+        let new = stopping_holds terms old now after p q tale is.before_read is.after_read is.from unused reading stops holds in
+        record {
+          new = new.0;
+          holds = new.1;
+          same = new.2;
+          counted = stopping_counted terms (length old) p q stops counted;
+          more = omega (arith, ap (λ (m : Underway). m.checked) stops.new_is);
+        }
+    go (inl (reading, inl (inr notes))) = record {
       new = tale;
       holds = noting_holds terms old now after p q tale is.before_read is.after_read is.from reading notes holds;
       same = λ s less. refl;
@@ -374,7 +384,7 @@ module _ (terms : Terms) (form : Form) (now : List Sighted) (mid after : Seen) (
 
   abbrev Stops : Result Bool Cause → Type 0
   Stops r = IfErr r (λ cause. (old : List Sighted) (before : Seen) → Stands terms form old now before mid p a →
-      WasTold terms form old now before after b.endings.items b.faults.items b.counts (Some cause))
+      WasTold terms form old now before after b.endings.items b.notables.items b.counts (Some cause))
 
   abbrev Tellings : Result Bool Cause → Type 0
   Tellings r = KeepsStanding r × Untouched r × Stops r
@@ -394,13 +404,13 @@ module _ (terms : Terms) (form : Form) (now : List Sighted) (mid after : Seen) (
   found_told bytes ending finding (Err Memory) at tells = (
     tt,
     tt,
-    λ old before st. subst (λ (t : Told). WasTold terms form old now before after t.endings.items t.faults.items t.counts (Some Memory)) (sym tells.1)
+    λ old before st. subst (λ (t : Told). WasTold terms form old now before after t.endings.items t.notables.items t.counts (Some Memory)) (sym tells.1)
         (memory_stops terms form old now now before mid after p a st (λ s less. refl) refl tells.0),
   )
   found_told bytes ending finding (Err Write) at tells = (
     tt,
     tt,
-    λ old before st. subst (λ (t : Told). WasTold terms form old now before after t.endings.items t.faults.items t.counts (Some Write)) (sym tells.1)
+    λ old before st. subst (λ (t : Told). WasTold terms form old now before after t.endings.items t.notables.items t.counts (Some Write)) (sym tells.1)
         (line_stops terms form old now before mid after p a bytes ending finding name below at named tells.0 st),
   )
 
@@ -410,12 +420,12 @@ module _ (terms : Terms) (form : Form) (now : List Sighted) (mid after : Seen) (
   telling (tracks.Arriving known) (Ok false) at tells = not_told tells
   telling (tracks.Arriving known) (Ok true) at tells = absurd tells
   telling (tracks.Arriving known) (Err cause) at tells = absurd tells
-  telling (tracks.Arrived bytes blocks known) (Ok false) at tells = not_told tells
-  telling (tracks.Arrived bytes blocks known) (Ok true) at tells = absurd tells
-  telling (tracks.Arrived bytes blocks known) (Err cause) at tells = absurd tells
-  telling (tracks.Checking bytes) (Ok false) at tells = not_told tells
-  telling (tracks.Checking bytes) (Ok true) at tells = absurd tells
-  telling (tracks.Checking bytes) (Err cause) at tells = absurd tells
+  telling (tracks.Arrived bytes ending blocks known) (Ok false) at tells = not_told tells
+  telling (tracks.Arrived bytes ending blocks known) (Ok true) at tells = absurd tells
+  telling (tracks.Arrived bytes ending blocks known) (Err cause) at tells = absurd tells
+  telling (tracks.Checking bytes ending) (Ok false) at tells = not_told tells
+  telling (tracks.Checking bytes ending) (Ok true) at tells = absurd tells
+  telling (tracks.Checking bytes ending) (Err cause) at tells = absurd tells
 
 -- the numbers of what stands
 pub standing_numbers : (terms : Terms) (form : Form) (old now : List Sighted) (before mid : Seen) (p : Underway) (a : Told) →
@@ -427,8 +437,8 @@ standing_numbers terms form old now before mid p a st =
       told_few = omega (arith, same, st.are_told.few);
       total_is = st.are_told.total_is ∙ sym same;
       room = st.are_told.room;
-      as_many = a.faults.ok.0 ∙ (ap length st.are_told.faults ∙ length-map st.founds faulty_line) ∙ sym same;
-      faults_room = st.are_told.faults_room;
+      as_many = a.notables.ok.0 ∙ (ap length st.are_told.notables ∙ length-map st.founds notable) ∙ sym same;
+      notables_room = st.are_told.notables_room;
     }
 
 get_replicate : {A : Type 0} (n s : ℕ) (x y : A) → slice_get (replicate n x) s ≡ Some y → y ≡ x
@@ -451,6 +461,7 @@ begun_holds terms old p start = record {
   taken = subst (λ (i : Taking). IsTaken i [] []) (sym start.intake) nothing_is_taken;
   enough = inl refl;
   passed = λ is_passed. absurd (not_both p.intake.passed is_passed (ap (λ (i : Taking). i.passed) start.intake));
+  stopped = λ e. absurd (not_none p.ended Stopped start.reading e);
   come = subst (λ e. HasComeFrom terms old old p.read ([] ++ p.intake.held) e) (sym start.reading)
       (subst (λ (i : Taking). HasComeFrom terms old old p.read i.held None) (sym start.intake)
       (λ x y at_old at_now. subst (λ (z : Sighted). HaveCome x.reader z.reader []) (the_some x y (sym at_old ∙ at_now)) (nothing_has_come x.reader)));
@@ -488,11 +499,11 @@ begun_stands terms form old before p a is = record {
     few = omega arith;
     took = record { went = Appends-nil before.bytes; faults = refl };
     endings = is.endings;
-    faults = is.faults;
+    notables = is.notables;
     counts = is.counts;
     total_is = ap total is.counts;
     room = is.room;
-    faults_room = is.faults_room;
+    notables_room = is.notables_room;
   };
   counted = begun_counted terms (length old) p is.start is.few is.few_bytes;
   names = refl;
@@ -505,7 +516,7 @@ refused_at_once terms form old before = record {
   found = λ place f at. cc (at);
   names = refl;
   ended = refl;
-  faulty = refl;
+  notable = refl;
   counted = refl;
   written = record { went = Appends-nil before.bytes; faults = refl };
 }
@@ -513,7 +524,7 @@ refused_at_once terms form old before = record {
 -- at the end: all sources are told
 pub all_done : (terms : Terms) (form : Form) (old now : List Sighted) (before mid : Seen) (p : Underway) (a : Told) →
     vec_len a.endings ≡ length now → Stands terms form old now before mid p a →
-    WasTold terms form old now before mid a.endings.items a.faults.items a.counts None
+    WasTold terms form old now before mid a.endings.items a.notables.items a.counts None
 all_done terms form old now before mid p a all st =
     let told_all : length st.founds ≡ length old =
     sym (a.endings.ok.0 ∙ (ap length st.are_told.endings ∙ length-map st.founds ending_of))
@@ -539,7 +550,7 @@ cut_before terms form last old new founds before after cut = record {
 
 -- behind the lines stands the last text, or not
 pub summed : (terms : Terms) (form : Form) (last : Counts → List ℕ) (old new : List Sighted) (before mid after : Seen) (endings : List (ℕ × Ending))
-    (faults : List (Option FaultyLine)) (counts : Counts) (first cause : Option Cause) →
+    (faults : List (Option Notable)) (counts : Counts) (first cause : Option Cause) →
     WasTold terms form old new before mid endings faults counts first → SumsUp (last counts) first mid after cause →
     WasRunTo terms form last old new before after endings faults counts cause
 summed terms form last old new before mid after endings faults counts first cause was sums = record {
@@ -547,7 +558,7 @@ summed terms form last old new before mid after endings faults counts first caus
   found = was.found;
   names = was.names;
   ended = was.ended;
-  faulty = was.faulty;
+  notable = was.notable;
   counted = was.counted;
   written = go first cause was.written sums;
 }
@@ -574,7 +585,7 @@ summed terms form last old new before mid after endings faults counts first caus
 
 -- the same by lists and counts that are the same
 pub summed_so : (terms : Terms) (form : Form) (last : Counts → List ℕ) (old new : List Sighted) (before mid after : Seen) (es endings : List (ℕ × Ending))
-    (fs faults : List (Option FaultyLine)) (cs counts : Counts) (first cause : Option Cause) → endings ≡ es → faults ≡ fs → counts ≡ cs →
+    (fs faults : List (Option Notable)) (cs counts : Counts) (first cause : Option Cause) → endings ≡ es → faults ≡ fs → counts ≡ cs →
     WasTold terms form old new before mid es fs cs first → SumsUp (last cs) first mid after cause →
     WasRunTo terms form last old new before after endings faults counts cause
 summed_so terms form last old new before mid after es endings fs faults cs counts first cause same_endings same_faults same_counts was sums =

@@ -14,7 +14,7 @@ use Rattle.aero_batch.specs.declared.kind.Kind.{Kind}
 use Rattle.aero_batch.specs.declared.kind.Kind.TheVariants as kinds
 use Rattle.aero_batch.specs.Inquiries.{Inquired, open_count, open_of, with_open}
 use Rattle.aero_intake.specs.Intake.{Taking}
-use Rattle.aero_batch.specs.Steps.{ChecksNext, SettlesNext, TakesPiece, NotesEnding, CutsHeld, PassesOver, EndsSource, MayAsk, with_block, with_check}
+use Rattle.aero_batch.specs.Steps.{ChecksNext, SettlesNext, TakesPiece, NotesEnding, CutsHeld, PassesOver, StopsReading, EndsSource, MayAsk, with_block, with_check}
 use Rattle.aero_batch.specs.Steps.{ended_track, Settles}
 use Rattle.aero_intake.specs.Stories.{trace_of}
 use Rattle.aero_intake.specs.Tracks.{with_value}
@@ -168,6 +168,21 @@ cutting_counted terms n p q may is c =
 
 pub passing_counted : (terms : Terms) (n : ℕ) (p q : Underway) → PassesOver p q → Counted terms n p → Counted terms n q
 passing_counted terms n p q is c =
+    subst (λ (m : Underway). Counted terms n m) (sym is.new_is)
+    (record {
+      tracks = c.tracks;
+      few_sources = c.few_sources;
+      read = c.read;
+      checked = c.checked;
+      open_few = c.open_few;
+      within = c.within;
+      few_bytes = c.few_bytes;
+      blocks = omega (arith, c.blocks);
+      asked = c.asked;
+    })
+
+pub stopping_counted : (terms : Terms) (n : ℕ) (p q : Underway) → StopsReading terms p q → Counted terms n p → Counted terms n q
+stopping_counted terms n p q is c =
     subst (λ (m : Underway). Counted terms n m) (sym is.new_is)
     (record {
       tracks = c.tracks;

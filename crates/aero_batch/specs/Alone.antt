@@ -14,14 +14,14 @@ abbrev pub TellsOf : Terms → List Sighted → List Sighted → ℕ → Track �
 TellsOf terms old new place (Found bytes ending finding) =
     (found : founds.Found) × IsFoundAt terms old new place found × (ending_of found ≡ (bytes, ending)) × (found.finding ≡ finding)
 TellsOf terms old new place (Arriving known) = ⊥
-TellsOf terms old new place (Arrived bytes blocks known) = ⊥
-TellsOf terms old new place (Checking bytes) = ⊥
+TellsOf terms old new place (Arrived bytes ending blocks known) = ⊥
+TellsOf terms old new place (Checking bytes ending) = ⊥
 
 abbrev pub IsFound : Track → Type 0
 IsFound (Found bytes ending finding) = ⊤
 IsFound (Arriving known) = ⊥
-IsFound (Arrived bytes blocks known) = ⊥
-IsFound (Checking bytes) = ⊥
+IsFound (Arrived bytes ending blocks known) = ⊥
+IsFound (Checking bytes ending) = ⊥
 
 -- between two steps of work on sources of which nothing is told
 pub record GoesOnAlone (terms : Terms) (old now : List Sighted) (p : Underway) : Type 0 where

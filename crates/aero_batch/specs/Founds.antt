@@ -8,10 +8,10 @@ use Rattle.aero_model.specs.CallCounts.{Seen}
 use Rattle.aero_report.specs.declared.form.Form.{Form}
 use Rattle.aero_report.specs.Forms.{source_line_in, source_lines_in, summary_line_in}
 use Rattle.aero_report.specs.Texts.{counts_of}
-use Rattle.aero_batch.specs.Faults.{fault_of}
+use Rattle.aero_batch.specs.Notables.{notable_of}
 use Rattle.aero_batch.specs.declared.outcome.Cause.{Cause}
 use Rattle.aero_batch.specs.declared.outcome.Cause.TheVariants.{Memory, Write}
-use Rattle.aero_batch.specs.declared.outcome.FaultyLine.{FaultyLine}
+use Rattle.aero_batch.specs.declared.outcome.Notable.{Notable}
 use Rattle.aero_intake.specs.declared.source.SourceOf.{SourceOf}
 use Rattle.aero_intake.specs.PlanTerms.{options_in}
 use Rattle.aero_intake.specs.Source.{Origin, Sight, WasRead, origin_in}
@@ -63,9 +63,9 @@ told found = (found.name, found.finding)
 abbrev pub ending_of : Found → ℕ × Ending
 ending_of found = (length found.bytes, found.ending)
 
--- the faulty line that is told of a source, if one is
-abbrev pub faulty_line : Found → Option FaultyLine
-faulty_line found = fault_of found.finding
+-- what is noted of a source beside its line, if something is
+abbrev pub notable : Found → Option Notable
+notable found = notable_of found.finding
 
 abbrev pub lines_of_all : Form → List Found → List ℕ
 lines_of_all form founds = source_lines_in form (map told founds)
@@ -101,25 +101,25 @@ IsWritten terms form last old new founds before after (Some Memory) = Took befor
 IsWritten terms form last old new founds before after (Some Write) = WasCutOff terms form last old new founds before after
 
 -- A run over these sources, behind whose lines stands a last text. It tells how many bytes came of each of the first ones, how they ended,
--- which line is told to be faulty, and how many were found to be what, and wrote of these what is said of them.
+-- what is noted of each beside its line, and how many were found to be what, and wrote of these what is said of them.
 pub record WasRunTo (terms : Terms) (form : Form) (last : Counts → List ℕ) (old new : List Sighted) (before after : Seen) (endings : List (ℕ × Ending))
-    (faults : List (Option FaultyLine)) (counts : Counts) (cause : Option Cause) : Type 0 where
+    (notables : List (Option Notable)) (counts : Counts) (cause : Option Cause) : Type 0 where
   pub founds : List Found
   pub found : AreOfTheFirst terms old new founds
   pub names : map whose new ≡ map whose old
   pub ended : endings ≡ map ending_of founds
-  pub faulty : faults ≡ map faulty_line founds
+  pub notable : notables ≡ map notable founds
   pub counted : counts ≡ counts_of_all founds
   pub written : IsWritten terms form last old new founds before after cause
 
 -- a run that writes the report: the lines, and behind them the summary
-abbrev pub WasRun : Terms → Form → List Sighted → List Sighted → Seen → Seen → List (ℕ × Ending) → List (Option FaultyLine) → Counts → Option Cause → Type 0
-WasRun terms form old new before after endings faults counts cause = WasRunTo terms form (summary_line_in form (options_in terms)) old new before after endings faults counts cause
+abbrev pub WasRun : Terms → Form → List Sighted → List Sighted → Seen → Seen → List (ℕ × Ending) → List (Option Notable) → Counts → Option Cause → Type 0
+WasRun terms form old new before after endings notables counts cause = WasRunTo terms form (summary_line_in form (options_in terms)) old new before after endings notables counts cause
 
 -- where nothing stands behind the lines
 abbrev pub no_text : Counts → List ℕ
 no_text counts = []
 
 -- a run that writes the lines alone
-abbrev pub WasTold : Terms → Form → List Sighted → List Sighted → Seen → Seen → List (ℕ × Ending) → List (Option FaultyLine) → Counts → Option Cause → Type 0
-WasTold terms form old new before after endings faults counts cause = WasRunTo terms form no_text old new before after endings faults counts cause
+abbrev pub WasTold : Terms → Form → List Sighted → List Sighted → Seen → Seen → List (ℕ × Ending) → List (Option Notable) → Counts → Option Cause → Type 0
+WasTold terms form old new before after endings notables counts cause = WasRunTo terms form no_text old new before after endings notables counts cause

@@ -2,12 +2,13 @@
 use Rattle.std.specs.Prelude.{◌≡◌, true, ℕ, ◌+◌, ◌*◌, ◌<◌, ◌≤◌, ◌^◌, List, [], ◌++◌, map, length, slice_get, Option, Some, None, vec_len, vec_capacity}
 use Rattle.std.specs.List.{concat}
 use Rattle.aero_model.specs.declared.verdict.Ending.{Ending}
+use Rattle.aero_model.specs.declared.verdict.Ending.TheVariants as endings
 use Rattle.aero_model.specs.CallCounts.{Seen}
 use Rattle.aero_report.specs.Texts.{no_counts}
 use Rattle.aero_report.specs.declared.form.Form.{Form}
 use Rattle.aero_batch.specs.declared.underway.Underway.{Underway}
 use Rattle.aero_batch.specs.declared.told.Told.{Told}
-use Rattle.aero_batch.specs.Founds.{Sighted, whose, Found, Took, ending_of, counts_of_all, lines_of_all, faulty_line}
+use Rattle.aero_batch.specs.Founds.{Sighted, whose, Found, Took, ending_of, counts_of_all, lines_of_all, notable}
 use Rattle.aero_intake.specs.Intake.{IsTaken, HaveCome}
 use Rattle.aero_intake.specs.Source.{Sight, WasRead}
 use Rattle.aero_batch.specs.Inquiries.{AreApart, all_open, open_count}
@@ -43,8 +44,8 @@ HasComeFrom terms old now s bytes ending =
 
 -- The open questions on blocks and on verdicts stand apart. Each source has a story: it has ended, is being read, or was not read yet. What
 -- is known of each fits its story. Of the blocks that the source that is being read was cut into, enough were asked about, and where some
--- of it was passed over those decide. The pieces that were cut or passed over and what is held have come from it, and its reading has ended
--- so, if it has.
+-- of it was passed over those decide. If it is read no further, some of it was passed over, and the terms ask for that. The pieces that were
+-- cut or passed over and what is held have come from it, and its reading has ended so, if it has.
 pub record Holds (terms : Terms) (old now : List Sighted) (p : Underway) (tale : ℕ → Story) : Type 0 where
   pub apart : AreApart p.inquiry
   pub tracked : AreTracked terms (all_open p.inquiry) tale p.tracks.items
@@ -53,6 +54,7 @@ pub record Holds (terms : Terms) (old now : List Sighted) (p : Underway) (tale :
   pub taken : IsTaken p.intake (tale p.read).pieces cut
   pub enough : AreEnough terms (tale p.read).blocks cut
   pub passed : p.intake.passed ≡ true → BeginAlike terms (tale p.read).blocks cut
+  pub stopped : p.ended ≡ Some endings.Stopped → (terms.stop ≡ true) × (p.intake.passed ≡ true)
   pub come : HasComeFrom terms old now p.read (concat (tale p.read).pieces ++ p.intake.held) p.ended
   pub asked : p.blocks ≡ length (tale p.read).blocks
   pub not_ended : (tale p.read).ending ≡ None
@@ -87,11 +89,11 @@ pub record AreTold (terms : Terms) (form : Form) (old : List Sighted) (before af
   pub few : length founds ≤ p.checked
   pub took : Took before after (lines_of_all form founds)
   pub endings : told.endings.items ≡ map ending_of founds
-  pub faults : told.faults.items ≡ map faulty_line founds
+  pub notables : told.notables.items ≡ map notable founds
   pub counts : told.counts ≡ counts_of_all founds
   pub total_is : total told.counts ≡ length founds
   pub room : vec_capacity told.endings ≡ length old
-  pub faults_room : vec_capacity told.faults ≡ length old
+  pub notables_room : vec_capacity told.notables ≡ length old
 
 -- between two steps
 pub record Stands (terms : Terms) (form : Form) (old now : List Sighted) (before after : Seen) (p : Underway) (told : Told) : Type 0 where
@@ -108,8 +110,8 @@ pub record HasNumbers (terms : Terms) (sources : ℕ) (p : Underway) (told : Tol
   pub told_few : vec_len told.endings ≤ p.checked
   pub total_is : total told.counts ≡ vec_len told.endings
   pub room : vec_capacity told.endings ≡ sources
-  pub as_many : vec_len told.faults ≡ vec_len told.endings
-  pub faults_room : vec_capacity told.faults ≡ sources
+  pub as_many : vec_len told.notables ≡ vec_len told.endings
+  pub notables_room : vec_capacity told.notables ≡ sources
 
 -- before the first step
 pub record IsBegun (terms : Terms) (sources : ℕ) (p : Underway) (told : Told) : Type 0 where
@@ -117,7 +119,7 @@ pub record IsBegun (terms : Terms) (sources : ℕ) (p : Underway) (told : Told) 
   pub few : sources ≤ 65536
   pub few_bytes : terms.rules.limits.bytes ≤ 2 ^ 46
   pub endings : told.endings.items ≡ []
-  pub faults : told.faults.items ≡ []
+  pub notables : told.notables.items ≡ []
   pub counts : told.counts ≡ no_counts
   pub room : vec_capacity told.endings ≡ sources
-  pub faults_room : vec_capacity told.faults ≡ sources
+  pub notables_room : vec_capacity told.notables ≡ sources

@@ -11,7 +11,7 @@ use Rattle.aero_intake.specs.PlanTerms.{terms_of}
 
 -- a run by the plan that told this, without a summary, and stopped so
 abbrev pub HasRun : Plan → List Sighted → List Sighted → Seen → Seen → Told → Option Cause → Type 0
-HasRun plan old new before after told cause = WasTold (terms_of plan) plan.form old new before after told.endings.items told.faults.items told.counts cause
+HasRun plan old new before after told cause = WasTold (terms_of plan) plan.form old new before after told.endings.items told.notables.items told.counts cause
 
 -- between two steps of a run by the plan
 abbrev pub StandsBy : Plan → List Sighted → List Sighted → Seen → Seen → Underway → Told → Type 0

@@ -1,5 +1,5 @@
 -- The steps of a run.
-use Rattle.std.specs.Prelude.{◌≡◌, ℕ, ◌+◌, ◌-◌, ◌<◌, ◌^◌, ◌⊎◌, Bool, true, false, List, [], ◌∷◌, length, replicate, slice_get, Option, Some, None}
+use Rattle.std.specs.Prelude.{◌≡◌, ℕ, ◌+◌, ◌-◌, ◌<◌, ◌≤◌, ◌^◌, ◌⊎◌, Bool, true, false, List, [], ◌∷◌, length, replicate, slice_get, Option, Some, None}
 use Rattle.aero_model.specs.declared.verdict.Ending.{Ending}
 use Rattle.aero_model.specs.declared.verdict.Ending.TheVariants as endings
 use Rattle.aero_model.specs.declared.verdict.Finding.TheVariants as findings
@@ -77,15 +77,17 @@ pub record GoesOn (p : Underway) : Type 0 where
 abbrev pub IsWanted : Underway → (given asked : Option (List ℕ)) → Type 0
 IsWanted p given asked = ((asked ≡ given) × GoesOn p) ⊎ ((asked ≡ None) × HasEnough p)
 
--- the last block of a source that is whole
+-- the last block of a source that is whole: of another, none is asked about
 abbrev pub last_of : Cutting → Ending → Option (List ℕ)
 last_of cutting endings.Whole = last_block cutting
 last_of cutting endings.Broken = None
 last_of cutting endings.TooLarge = None
+last_of cutting endings.Stopped = None
 
 -- the track of a source that has ended
 abbrev pub ended_track : Ending → ℕ → ℕ → Track → Track
-ended_track endings.Whole bytes blocks t = with_arrival t bytes blocks
+ended_track endings.Whole bytes blocks t = with_arrival t bytes endings.Whole blocks
+ended_track endings.Stopped bytes blocks t = with_arrival t bytes endings.Stopped blocks
 ended_track endings.Broken bytes blocks t = Found bytes endings.Broken (findings.Broken bytes)
 ended_track endings.TooLarge bytes blocks t = Found bytes endings.TooLarge findings.TooLarge
 
@@ -139,6 +141,14 @@ pub record PassesOver (old new : Underway) : Type 0 where
 abbrev pub LetsHeldGo : Underway → Underway → Type 0
 LetsHeldGo old new = CutsHeld old new ⊎ PassesOver old new
 
+-- The source that is being read is read no further, and what is held of it is passed over: the terms ask for that, no further block of it counts, and
+-- it isn't too large.
+pub record StopsReading (terms : Terms) (old new : Underway) : Type 0 where
+  pub asked_for : terms.stop ≡ true
+  pub enough : HasEnough old
+  pub within : old.intake.count ≤ terms.rules.limits.bytes
+  pub new_is : new ≡ record old { intake = with_passing old.intake; ended = Some endings.Stopped }
+
 -- The reading of the source has ended so, nothing that came is held any more, and the next source is to be read.
 pub record PassesOn (old new : Underway) : Type 0 where
   pub ending : Ending
@@ -146,10 +156,11 @@ pub record PassesOn (old new : Underway) : Type 0 where
   pub none_held : length old.intake.held ≡ 0
   pub ends : EndsSource ending old new
 
--- One step of reading: the reader is used while the reading has not ended; or what is held is cut, or passed over; or the source is passed on from.
+-- One step of reading: while the reading has not ended the reader is used, or the source is read no further; or what is held is cut, or passed over; or
+-- the source is passed on from.
 abbrev pub ReadsOn : Terms → Sight → Sight → Underway → Underway → Type 0
 ReadsOn terms before after old new =
-    ((old.ended ≡ None) × ReadsPiece terms before after old new)
+    ((old.ended ≡ None) × (ReadsPiece terms before after old new ⊎ ((after ≡ before) × StopsReading terms old new)))
     ⊎ (((after ≡ before) × LetsHeldGo old new) ⊎ ((after ≡ before) × PassesOn old new))
 
 -- the verdict is asked for on what the blocks of a source say

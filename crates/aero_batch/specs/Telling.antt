@@ -14,7 +14,7 @@ use Rattle.aero_batch.specs.declared.outcome.Cause.TheVariants.{Memory, Write}
 use Rattle.aero_batch.specs.declared.told.Told.{Told}
 use Rattle.aero_intake.specs.declared.track.Track.{Track}
 use Rattle.aero_intake.specs.declared.track.Track.TheVariants.{Found}
-use Rattle.aero_batch.specs.Faults.{fault_of}
+use Rattle.aero_batch.specs.Notables.{notable_of}
 use Rattle.aero_batch.specs.Founds.{Took}
 
 abbrev pub total : Counts → ℕ
@@ -23,7 +23,7 @@ total counts = counts.serializable + counts.pending + counts.violations + counts
 -- one more source may be told
 pub record HasRoom (told : Told) : Type 0 where
   pub reserved : vec_len told.endings < vec_capacity told.endings
-  pub faults_reserved : vec_len told.faults < vec_capacity told.faults
+  pub notables_reserved : vec_len told.notables < vec_capacity told.notables
   pub few : total told.counts < 65536
 
 -- A part of the text went out, and then a write failed.
@@ -49,8 +49,8 @@ SumsUp text None before after (Some why) = TellsText text before after (Err why)
 pub record IsOneMore (old new : Told) (bytes : ℕ) (ending : Ending) (finding : Finding) : Type 0 where
   pub endings : new.endings.items ≡ old.endings.items ++ (bytes, ending) ∷ []
   pub room : vec_capacity new.endings ≡ vec_capacity old.endings
-  pub faults : new.faults.items ≡ old.faults.items ++ fault_of finding ∷ []
-  pub faults_room : vec_capacity new.faults ≡ vec_capacity old.faults
+  pub notables : new.notables.items ≡ old.notables.items ++ notable_of finding ∷ []
+  pub notables_room : vec_capacity new.notables ≡ vec_capacity old.notables
   pub counts : new.counts ≡ counted old.counts finding
   pub counted_one : total new.counts ≡ total old.counts + 1
 

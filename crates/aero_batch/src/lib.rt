@@ -35,6 +35,9 @@
 //! - Where an order is asked for, the line of a serializable trace has its transactions under it: `ran`.
 //! - Where violations are to be explained, the line of each has the events of a telling cycle under it, which begins in
 //!   the block that the line names and goes through as few transactions as may be: `ran`.
+//! - Where the plan asks for it, a source is read no further once its verdict is certain: then whatever could follow has
+//!   the same finding. By another plan each source is read to its end, unless a read fails or it is too large: `ran`,
+//!   over `IsFinding`.
 //! - After a refusal of memory exactly the lines of the first sources stand there. After a failed write a proper part
 //!   of the next text follows: `ran`.
 //! - It holds of each run that returns, whichever answers come, in whatever order, lost, repeated or forged. Any
@@ -45,8 +48,8 @@
 //! - `run_over` says how many helpers it had, and `run` no more than were asked for: `workers`. Answers kept and values
 //!   worked out here are no more than the questions, and as many where nothing was refused: `tallied`, `all_settled`.
 //!
-//! No contract says that `run` or `run_over` returns, nor when a question is given up, nor that nothing is flushed: tests
-//! show these two.
+//! No contract says that `run` or `run_over` returns, when a question is given up, when a source is read no further, or
+//! that nothing is flushed: tests show these three.
 #![tactic(auto)]
 
 mod checking;
@@ -66,6 +69,6 @@ pub mod told;
 mod underway;
 
 pub use aero_intake::{intake, laws, plan, source};
-pub use outcome::{Cause, Fault, FaultyLine, Outcome};
+pub use outcome::{Cause, Fault, FaultyLine, Notable, Outcome};
 pub use run::{run_lines, run_lines_over, run_over};
 pub use told::sum_up;

@@ -25,13 +25,22 @@ pub struct FaultyLine {
     pub fault: Fault,
 }
 
+/// What a run notes of a source beside its line in the report.
+#[derive(Clone, Copy, Debug, PartialEq, Eq)]
+pub enum Notable {
+    /// This line is faulty, and so the verdict says.
+    Faulty(FaultyLine),
+    /// The source is serializable, and there was no block to check: none begins, or each has a label that is left out.
+    Unchecked,
+}
+
 /// What a run came to. It speaks of the sources whose text was written whole, in their order: how
-/// many bytes were read of each and how its reading ended, which of its lines is faulty, if the
-/// verdict on it is that one is, and how many were found to be what.
+/// many bytes were read of each and how its reading ended, what is noted of it beside its line, if
+/// something is, and how many were found to be what.
 #[derive(Drop)]
 pub struct Outcome {
     pub endings: Vec<(u64, Ending)>,
-    pub faults: Vec<Option<FaultyLine>>,
+    pub notables: Vec<Option<Notable>>,
     pub counts: Counts,
     /// Why it stopped before the summary was written, if it did.
     pub cause: Option<Cause>,

@@ -1,10 +1,10 @@
 //! Reading the sources, and asking about their blocks.
-ghost use Rattle.std.specs.Prelude.{◌≡◌, ◌<◌, ◌≤◌, ◌+◌, ◌^◌, length, vec_len, None, if◌then◌else◌, IfOk, IfSome, OnOk, true, false};
+ghost use Rattle.std.specs.Prelude.{◌≡◌, ◌<◌, ◌≤◌, ◌+◌, ◌^◌, length, vec_len, None, if◌then◌else◌, IfOk, IfSome, OnOk, Some, true, false};
 ghost use Rattle.std.specs.Arc.{arc_value};
 ghost use Rattle.aero_intake.specs.PlanTerms.{terms_of};
-ghost use Rattle.aero_intake.specs.Intake.{nothing_taken};
+ghost use Rattle.aero_intake.specs.Intake.{nothing_taken, with_passing};
 ghost use Rattle.aero_intake.specs.Source.{origin_in};
-ghost use Rattle.aero_batch.specs.Steps.{MayAsk, ReadsOn, ReadsPiece, CutsHeld, LetsHeldGo, HasEnough, GoesOn, EndsSource, with_block, last_of, ended_track};
+ghost use Rattle.aero_batch.specs.Steps.{MayAsk, ReadsOn, ReadsPiece, CutsHeld, LetsHeldGo, StopsReading, HasEnough, GoesOn, EndsSource, with_block, last_of, ended_track};
 
 use crate::helpers::Helpers;
 use crate::kind::Kind;
@@ -19,9 +19,10 @@ use aero_pieces::{Bytes, Question};
 use std::alloc::{AllocError, Global};
 use std::sync::{Arc, Wait};
 
-/// One step of reading the next source: a piece of it comes, or is known not to come any more; or what is
-/// held of it is cut, and its block asked about, or is passed over where what was read before decides; or, once
-/// nothing is held, it is noted how it has ended. An `AllocError` says that memory was refused.
+/// One step of reading the next source: a piece of it comes, or is known not to come any more; or it is read no
+/// further, where the plan asks for that and what was read before decides; or what is held of it is cut, and its block
+/// asked about, or is passed over where what was read before decides; or, once nothing is held, it is noted how it has
+/// ended. An `AllocError` says that memory was refused.
 pub fn read_on<R: Followed, H: Helpers, T: Wait>(
     setting: &Setting<'_, T>,
     reader: &mut R,
@@ -39,12 +40,48 @@ pub fn read_on<R: Followed, H: Helpers, T: Wait>(
         Some(ending) if underway.intake.is_cut() => {
             end_source(setting, helpers, underway, ending)
         }
-        None if !underway.intake.is_full() => {
+        None if stops_here(setting.plan, underway) => {
+            stop_reading(underway);
+            Ok(())
+        }
+        None if is_read_next(setting.plan, underway) => {
             read_piece(setting.plan, reader, underway);
             Ok(())
         }
         _ => let_held_go(setting, helpers, underway),
     }
+}
+
+// Whether the source is read no further: the plan asks for that, no further block of it counts, and it isn't too large.
+fn stops_here(plan: &Plan, underway: &Underway) -> bool
+    requires { underway.now.read < vec_len underway.now.tracks }
+    ensures asked_for { result ≡ true → (terms_of plan.now).stop ≡ true }
+    ensures enough { result ≡ true → HasEnough underway.now }
+    ensures within { result ≡ true → underway.now.intake.count ≤ (terms_of plan.now).rules.limits.bytes }
+{
+    plan.terms.stop()
+        && underway.intake.count() <= plan.terms.limits().bytes
+        && has_enough(underway)
+}
+
+// Reads the source no further, and passes over what is held of it.
+fn stop_reading(underway: &mut Underway)
+    ensures { underway.new ≡ record underway.old { intake = with_passing underway.old.intake; ended = Some Ending.Stopped } }
+{
+    underway.intake.pass_over();
+    underway.ended = Some(Ending::Stopped);
+}
+
+// Whether a piece is read next: there is room for one. Where the plan stops early, what is held is cut first: its lines may
+// decide, and the next piece of a pipe may be long in coming.
+fn is_read_next(plan: &Plan, underway: &Underway) -> bool
+    ensures room { result ≡ true → length underway.now.intake.held < 2 ^ 18 }
+    ensures some { result ≡ false → 0 < length underway.now.intake.held }
+{
+    if plan.terms.stop() {
+        return underway.intake.is_cut();
+    }
+    !underway.intake.is_full()
 }
 
 // Reads one piece of the source that is being read, or notes how its reading has ended.
@@ -190,7 +227,7 @@ fn last_block(
     let last = intake.finish()?;
     match ending {
         Ending::Whole if !enough => Ok(last),
-        Ending::Whole | Ending::Broken | Ending::TooLarge => Ok(None),
+        Ending::Whole | Ending::Broken | Ending::TooLarge | Ending::Stopped => Ok(None),
     }
 }
 
@@ -198,8 +235,8 @@ fn end_track(track: &mut Track, ending: Ending, bytes: u64, blocks: u64)
     ensures { track.new ≡ ended_track ending bytes blocks track.old }
 {
     let finding = match ending {
-        Ending::Whole => {
-            arrive(track, bytes, blocks);
+        Ending::Whole | Ending::Stopped => {
+            arrive(track, bytes, ending, blocks);
             return;
         }
         Ending::Broken => Finding::Broken(bytes),

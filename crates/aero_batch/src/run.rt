@@ -46,7 +46,7 @@ pub fn run<R: Read, W: Write, G: Gate + Drop + 'static, T: Threads + Wait + Copy
 ) -> Outcome
     requires { length sources.old ≤ 65536 }
     ensures ran { WasRun (terms_of plan.now) plan.now.form (map (sighted (counted R.remaining)) sources.old) (map (sighted (counted R.remaining)) sources.new)
-        (seen_by W.contents writer.old) (seen_by W.contents writer.new) result.endings.items result.faults.items result.counts result.cause }
+        (seen_by W.contents writer.old) (seen_by W.contents writer.new) result.endings.items result.notables.items result.counts result.cause }
     ensures all_settled { result.cause ≡ None → result.tally.asked ≡ result.tally.kept + result.tally.done_here }
     ensures tallied { result.tally.kept + result.tally.done_here ≤ result.tally.asked }
     ensures workers { result.workers ≤ plan.now.workers }
@@ -72,7 +72,7 @@ pub fn run_over<R: Read, W: Write, H: Helpers, T: Wait>(
 ) -> Outcome
     requires { length sources.old ≤ 65536 }
     ensures ran { WasRun (terms_of plan.now) plan.now.form (map (sighted (counted R.remaining)) sources.old) (map (sighted (counted R.remaining)) sources.new)
-        (seen_by W.contents writer.old) (seen_by W.contents writer.new) result.endings.items result.faults.items result.counts result.cause }
+        (seen_by W.contents writer.old) (seen_by W.contents writer.new) result.endings.items result.notables.items result.counts result.cause }
     ensures all_settled { result.cause ≡ None → result.tally.asked ≡ result.tally.kept + result.tally.done_here }
     ensures tallied { result.tally.kept + result.tally.done_here ≤ result.tally.asked }
     ensures workers { result.workers ≡ H.count helpers.old }
@@ -97,7 +97,7 @@ pub fn run_lines<
 ) -> Outcome
     requires { length sources.old ≤ 65536 }
     ensures told { WasTold (terms_of setting.now.plan.now) setting.now.plan.now.form (map (sighted R.sight) sources.old) (map (sighted R.sight) sources.new)
-        (seen_by W.contents writer.old) (seen_by W.contents writer.new) result.endings.items result.faults.items result.counts result.cause }
+        (seen_by W.contents writer.old) (seen_by W.contents writer.new) result.endings.items result.notables.items result.counts result.cause }
     ensures all_settled { result.cause ≡ None → result.tally.asked ≡ result.tally.kept + result.tally.done_here }
     ensures tallied { result.tally.kept + result.tally.done_here ≤ result.tally.asked }
     ensures workers { result.workers ≤ setting.now.plan.now.workers }
@@ -120,7 +120,7 @@ pub fn run_lines_over<R: Followed, W: Write, H: Helpers, T: Wait>(
 ) -> Outcome
     requires { length sources.old ≤ 65536 }
     ensures told { WasTold (terms_of setting.now.plan.now) setting.now.plan.now.form (map (sighted R.sight) sources.old) (map (sighted R.sight) sources.new)
-        (seen_by W.contents writer.old) (seen_by W.contents writer.new) result.endings.items result.faults.items result.counts result.cause }
+        (seen_by W.contents writer.old) (seen_by W.contents writer.new) result.endings.items result.notables.items result.counts result.cause }
     ensures all_settled { result.cause ≡ None → result.tally.asked ≡ result.tally.kept + result.tally.done_here }
     ensures tallied { result.tally.kept + result.tally.done_here ≤ result.tally.asked }
     ensures workers { result.workers ≡ H.count helpers.old }
@@ -143,7 +143,7 @@ fn with_summary<W: Write>(
     outcome: Outcome,
 ) -> Outcome
     ensures endings { result.endings ≡ outcome.endings }
-    ensures faults { result.faults ≡ outcome.faults }
+    ensures notables { result.notables ≡ outcome.notables }
     ensures counts { result.counts ≡ outcome.counts }
     ensures tally { result.tally ≡ outcome.tally }
     ensures workers { result.workers ≡ outcome.workers }
@@ -176,7 +176,7 @@ fn begin(alloc: Global, plan: &Plan, sources: usize, is_alone: bool) -> Result<S
 // Where memory was refused before the first step.
 fn refused(alloc: Global, workers: u32) -> Outcome
     ensures endings { result.endings.items ≡ [] }
-    ensures faults { result.faults.items ≡ [] }
+    ensures notables { result.notables.items ≡ [] }
     ensures counts { result.counts ≡ no_counts }
     ensures cause { result.cause ≡ Some Cause.Memory }
     ensures nothing { (result.tally.asked ≡ 0) × (result.tally.kept ≡ 0) × (result.tally.done_here ≡ 0) }
@@ -189,7 +189,7 @@ fn refused(alloc: Global, workers: u32) -> Outcome
     };
     Outcome {
         endings: Vec::new(alloc),
-        faults: Vec::new(alloc),
+        notables: Vec::new(alloc),
         counts: nothing_counted(),
         cause: Some(Cause::Memory),
         tally,
@@ -200,7 +200,7 @@ fn refused(alloc: Global, workers: u32) -> Outcome
 // What a run that came so far has told, asked and kept.
 fn outcome_of(standing: Standing, cause: Option<Cause>, workers: u32) -> Outcome
     ensures endings { result.endings ≡ standing.told.endings }
-    ensures faults { result.faults ≡ standing.told.faults }
+    ensures notables { result.notables ≡ standing.told.notables }
     ensures counts { result.counts ≡ standing.told.counts }
     ensures cause { result.cause ≡ cause }
     ensures asked { result.tally.asked ≡ standing.underway.inquiry.asked }
@@ -211,12 +211,12 @@ fn outcome_of(standing: Standing, cause: Option<Cause>, workers: u32) -> Outcome
     let Standing { underway, told } = standing;
     let Told {
         endings,
-        faults,
+        notables,
         counts,
     } = told;
     Outcome {
         endings,
-        faults,
+        notables,
         counts,
         cause,
         tally: underway.inquiry.tally(),

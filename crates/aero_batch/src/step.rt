@@ -13,7 +13,7 @@ use crate::reading::read_on;
 use crate::setting::Setting;
 use crate::underway::Underway;
 use aero_intake::track::is_ready;
-use aero_intake::{Followed, SourceOf};
+use aero_intake::{Followed, Plan, SourceOf};
 use std::alloc::AllocError;
 use std::sync::Wait;
 
@@ -60,7 +60,7 @@ fn step_on<R: Followed, H: Helpers, T: Wait>(
     if underway.checked < underway.read && is_ready(&underway.tracks[underway.checked]) {
         return check_next(setting, helpers, underway);
     }
-    let is_settled_first = answered.is_some() || is_held_back(sources, underway);
+    let is_settled_first = answered.is_some() || is_held_back(setting.plan, sources, underway);
     if !is_settled_first && underway.read < sources.len() {
         let source = &mut sources[underway.read];
         return read_on(setting, &mut source.reader, helpers, underway);
@@ -77,10 +77,13 @@ fn next_kind(inquiry: &Inquiry, answered: Option<Kind>) -> Kind {
 }
 
 // Whether the next read is the first of a source that may wait, while questions on those before it are
-// open: what they say is told first.
-fn is_held_back<R>(sources: &[SourceOf<R>], underway: &Underway) -> bool {
+// open: what they say is told first. Where the plan stops early that is so of each read of such a source: what came of
+// it may decide, and the next piece may be long in coming.
+fn is_held_back<R>(plan: &Plan, sources: &[SourceOf<R>], underway: &Underway) -> bool {
     let Some(source) = sources.get(underway.read) else {
         return false;
     };
-    source.may_wait && underway.intake.count() == 0 && !underway.inquiry.is_settled()
+    let waits_for_what_came = plan.terms.stop() && underway.intake.is_cut();
+    let is_next_to_wait = underway.intake.count() == 0 || waits_for_what_came;
+    source.may_wait && is_next_to_wait && !underway.inquiry.is_settled()
 }

@@ -4,22 +4,22 @@ ghost use Rattle.aero_model.specs.CallCounts.{seen_by};
 ghost use Rattle.aero_report.specs.Asked.{options_of};
 ghost use Rattle.aero_report.specs.Forms.{summary_line_in};
 ghost use Rattle.aero_report.specs.Texts.{no_counts, counted, verdict_counted};
-ghost use Rattle.aero_batch.specs.Faults.{fault_of as fault_in, verdict_fault as verdict_fault_in};
+ghost use Rattle.aero_batch.specs.Notables.{notable_of as notable_in, verdict_notable as verdict_notable_in};
 ghost use Rattle.aero_batch.specs.Telling.{SumsUp, TellsNext, TellsText, HasRoom, total};
 
-use crate::outcome::{Cause, Fault, FaultyLine};
+use crate::outcome::{Cause, Fault, FaultyLine, Notable};
 use aero_intake::track::Track;
 use aero_model::{Counting, Counts, Ending, Finding, Verdict};
 use aero_report::{Form, Options, put, source_text, totals_text};
 use std::alloc::{AllocError, Global};
 use std::io::Write;
 
-/// The endings and the faulty lines of the sources that were told, in order, and how many were found
-/// to be what.
+/// The endings of the sources that were told, in order, what is noted of each beside its line, and how many were
+/// found to be what.
 #[derive(Drop)]
 pub struct Told {
     pub endings: Vec<(u64, Ending)>,
-    pub faults: Vec<Option<FaultyLine>>,
+    pub notables: Vec<Option<Notable>>,
     pub counts: Counts,
 }
 
@@ -28,13 +28,13 @@ impl Told {
     pub fn new(alloc: Global, sources: usize) -> Result<Told, AllocError>
         ensures endings { IfOk result (λ told. told.endings.items ≡ []) }
         ensures room { IfOk result (λ told. vec_capacity told.endings ≡ sources) }
-        ensures faults { IfOk result (λ told. told.faults.items ≡ []) }
-        ensures faults_room { IfOk result (λ told. vec_capacity told.faults ≡ sources) }
+        ensures notables { IfOk result (λ told. told.notables.items ≡ []) }
+        ensures notables_room { IfOk result (λ told. vec_capacity told.notables ≡ sources) }
         ensures counts { IfOk result (λ told. told.counts ≡ no_counts) }
     {
         Ok(Told {
             endings: Vec::with_capacity(alloc, sources)?,
-            faults: Vec::with_capacity(alloc, sources)?,
+            notables: Vec::with_capacity(alloc, sources)?,
             counts: nothing_counted(),
         })
     }
@@ -111,7 +111,7 @@ pub fn tell_found<W: Write>(
     let text = source_text(style.alloc, style.form, name, said.finding).map_err(|_| Cause::Memory)?;
     tell(writer, &text)?;
     told.endings.push_reserved((said.bytes, said.ending));
-    told.faults.push_reserved(fault_of(said.finding));
+    told.notables.push_reserved(notable_of(said.finding));
     told.counts = with_finding(&told.counts, said.finding);
     Ok(true)
 }
@@ -160,31 +160,32 @@ fn tell<W: Write>(writer: &mut Counting<W>, text: &[u8]) -> Result<(), Cause>
     }
 }
 
-// The faulty line of a source, if this says of it that one is.
-fn fault_of(finding: &Finding) -> Option<FaultyLine>
-    ensures { result ≡ fault_in finding.now }
+// What is noted of a source of which this is said.
+fn notable_of(finding: &Finding) -> Option<Notable>
+    ensures { result ≡ notable_in finding.now }
 {
     match finding {
-        Finding::Judged(verdict) => verdict_fault(verdict),
-        Finding::Ordered(verdict, _) => verdict_fault(verdict),
-        Finding::Explained(verdict, _) => verdict_fault(verdict),
-        Finding::Opened(verdict, _) => verdict_fault(verdict),
+        Finding::Judged(verdict) => verdict_notable(verdict),
+        Finding::Ordered(verdict, _) => verdict_notable(verdict),
+        Finding::Explained(verdict, _) => verdict_notable(verdict),
+        Finding::Opened(verdict, _) => verdict_notable(verdict),
         Finding::Broken(_) | Finding::TooLarge => None,
     }
 }
 
-fn verdict_fault(verdict: &Verdict) -> Option<FaultyLine>
-    ensures { result ≡ verdict_fault_in verdict.now }
+fn verdict_notable(verdict: &Verdict) -> Option<Notable>
+    ensures { result ≡ verdict_notable_in verdict.now }
 {
     match verdict {
-        Verdict::Malformed { line, fault } => Some(FaultyLine {
+        Verdict::Malformed { line, fault } => Some(Notable::Faulty(FaultyLine {
             line: *line,
             fault: Fault::Malformed(*fault),
-        }),
-        Verdict::IllFormed { line, fault } => Some(FaultyLine {
+        })),
+        Verdict::IllFormed { line, fault } => Some(Notable::Faulty(FaultyLine {
             line: *line,
             fault: Fault::IllFormed(*fault),
-        }),
+        })),
+        Verdict::Serializable { blocks: 0, .. } => Some(Notable::Unchecked),
         _ => None,
     }
 }

@@ -7,6 +7,7 @@ mod habits;
 mod lanes;
 mod live;
 mod runs;
+mod stops;
 mod streams;
 mod verdicts;
 

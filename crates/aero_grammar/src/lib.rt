@@ -42,7 +42,7 @@
 
 pub mod batch;
 pub mod block;
-mod bytes;
+pub mod bytes;
 pub mod laws;
 pub mod line;
 pub mod line_event;

@@ -1,3 +1,4 @@
+pub mod AsFar
 pub mod Decided
 pub mod Decisive
 mod Filled

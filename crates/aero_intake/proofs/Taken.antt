@@ -6,7 +6,7 @@ use Rattle.std.specs.Prelude.{option_to_list}
 use Rattle.std.specs.List.{concat}
 use Rattle.std.specs.Io.KnownBytes.{Consumes}
 use Rattle.aero_model.specs.declared.verdict.Ending.{Ending}
-use Rattle.aero_model.specs.declared.verdict.Ending.TheVariants.{Whole, Broken, TooLarge}
+use Rattle.aero_model.specs.declared.verdict.Ending.TheVariants.{Whole, Broken, TooLarge, Stopped}
 use Rattle.aero_lines.specs.Cutting.{Cutting, nothing_yet, fed, block_of, last_block, blocks_from}
 use Rattle.aero_intake.specs.Source.{Sight, Trail, Trails, WasRead}
 use Rattle.aero_intake.specs.Intake.{Taking, nothing_taken, with_piece, with_cut, with_passing, fed_all, blocks_so_far, IsTaken, HaveCome, Ends}
@@ -29,7 +29,7 @@ blocks_from-last c (first ∷ pieces) =
     append_assoc (option_to_list (block_of c first)) (blocks_so_far (fed c first) pieces) (option_to_list (last_block (fed_all (fed c first) pieces)))
     ∙ ap (λ bs. option_to_list (block_of c first) ++ bs) (blocks_from-last (fed c first) pieces)
 
-concat-more : (pieces : List (List ℕ)) (piece : List ℕ) → concat (pieces ++ piece ∷ []) ≡ concat pieces ++ piece
+pub concat-more : (pieces : List (List ℕ)) (piece : List ℕ) → concat (pieces ++ piece ∷ []) ≡ concat pieces ++ piece
 concat-more [] piece = append-nil piece
 concat-more (first ∷ pieces) piece = ap (λ bs. first ++ bs) (concat-more pieces piece) ∙ sym (append_assoc first (concat pieces) piece)
 
@@ -127,3 +127,30 @@ source_was_read before mid after limit count bytes TooLarge have is ends = recor
   fits = sym is ∙ ends.1;
   rest = tt;
 }
+source_was_read before mid after limit count bytes Stopped have is ends = absurd ends
+
+-- what was read of a source that is read no further
+pub source_was_stopped : (before after : Sight) (limit count : ℕ) (bytes : List ℕ) →
+    HaveCome before after bytes → count ≡ length bytes → count ≤ limit → WasRead before after limit bytes Stopped
+source_was_stopped before after limit count bytes have is within = record {
+  came = have.came;
+  trail = have.trail;
+  faults = omega (arith, have.quiet.faults);
+  ends = omega (arith, have.quiet.ends);
+  fits = subst (λ n. n ≤ limit) is within;
+  rest = tt;
+}
+
+-- whatever could follow the pieces, its blocks begin with those that they gave
+pub blocks_with_more : (i : Taking) (pieces blocks : List (List ℕ)) (more : List ℕ) → IsTaken i pieces blocks →
+    (rest : List (List ℕ)) × (blocks ++ rest ≡ blocks_from nothing_yet (pieces ++ more ∷ []))
+blocks_with_more i pieces blocks more is =
+    let c = fed_all nothing_yet pieces in
+    let given = option_to_list (block_of c more) in
+    let last = option_to_list (last_block (fed_all nothing_yet (pieces ++ more ∷ []))) in (
+      given ++ last,
+      ap (λ bs. bs ++ (given ++ last)) is.given
+          ∙ (sym (append_assoc (blocks_so_far nothing_yet pieces) given last)
+          ∙ (ap (λ bs. bs ++ last) (sym (blocks_so_far-more nothing_yet pieces more))
+          ∙ blocks_from-last nothing_yet (pieces ++ more ∷ []))),
+    )

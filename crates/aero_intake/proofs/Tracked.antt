@@ -9,6 +9,7 @@ use Rattle.std.proofs.lemmas.Grind.{merely}
 use Rattle.std.proofs.lemmas.List.{append-nil, map-append, length-append, length-map}
 use Rattle.std.proofs.lemmas.List.Elements.{All-head, All-cons, All-nil}
 use Rattle.aero_model.specs.declared.limits.Limits.{Limits}
+use Rattle.aero_model.specs.declared.verdict.Ending.{Ending}
 use Rattle.aero_model.specs.declared.verdict.Ending.TheVariants as endings
 use Rattle.aero_model.specs.declared.verdict.Finding.{Finding}
 use Rattle.aero_model.specs.declared.verdict.Finding.TheVariants as findings
@@ -20,15 +21,17 @@ use Rattle.aero_pieces.specs.declared.question.Question.TheVariants.{Parse, Chec
 use Rattle.aero_pieces.specs.declared.answer.Value.{Value}
 use Rattle.aero_pieces.specs.declared.answer.Value.TheVariants.{Parsed, Judged, Ordered, Explained, Opened}
 use Rattle.aero_pieces.specs.Values.{IsValueOf}
-use Rattle.aero_verdict.specs.Finding.{Terms, asking, IsFinding, IsTraceFinding}
+use Rattle.aero_verdict.specs.Finding.{Terms, asking, to_the_end, IsFinding, IsTraceFinding}
 use Rattle.aero_intake.specs.Held.{Known, with_next, IsDecisive}
 use Rattle.aero_intake.specs.declared.track.Track.{Track}
 use Rattle.aero_intake.specs.declared.track.Track.TheVariants.{Arriving, Arrived, Checking, Found}
 use Rattle.aero_intake.specs.Stories.{Story, Asked, AreEnough, BeginAlike, own_block, own_check, blocks_asked, checks_asked, HasArrived, AreSettled}
 use Rattle.aero_intake.specs.Stories.{IsTracked, AreTracked, changed, trace_of}
 use Rattle.aero_intake.specs.Tracks.{with_finding, with_value}
+use Rattle.aero_intake.proofs.AsFar.{found_as_far, found_to_the_end}
 use Rattle.aero_intake.proofs.Decisive.{more_decide}
 use Rattle.aero_intake.proofs.Judged.{judged_alike, same_finding}
+use Rattle.aero_intake.proofs.Taken.{concat-more}
 use Rattle.aero_intake.proofs.Values.{parsed_value, not_judged, not_ordered, not_explained, not_opened, not_parsed}
 
 -- what is asked of the sources
@@ -98,13 +101,13 @@ settled_other terms q rest s story (Arriving known) no_block no_check is = (
   subst (λ cs. cs ++ checks_asked s rest ≡ []) no_check is.1,
   is.2,
 )
-settled_other terms q rest s story (Arrived bytes blocks known) no_block no_check is = (
+settled_other terms q rest s story (Arrived bytes ending blocks known) no_block no_check is = (
   record { on = is.0.on; all = subst (λ bs. known.parts ++ map reading_of (bs ++ blocks_asked s rest) ≡ map reading_of story.blocks) no_block is.0.all },
   subst (λ cs. cs ++ checks_asked s rest ≡ []) no_check is.1,
   is.2,
 )
-settled_other terms q rest s story (Checking bytes) no_block no_check is = (
-  subst (λ cs. All (λ a. a ≡ record { parts = map reading_of story.blocks; terms = terms }) (cs ++ checks_asked s rest)) no_check is.0,
+settled_other terms q rest s story (Checking bytes ending) no_block no_check is = (
+  subst (λ cs. All (λ a. a ≡ record { parts = map reading_of story.blocks; terms = to_the_end terms }) (cs ++ checks_asked s rest)) no_check is.0,
   is.1,
 )
 settled_other terms q rest s story (Found bytes ending finding) no_block no_check is = is
@@ -165,15 +168,32 @@ begin_alike terms asked all decided (inl same) = record {
 }
 begin_alike terms asked all decided (inr alike) = alike
 
-trace_found : (terms : Terms) (story : Story) (bytes : ℕ) (parts : List Reading) (asked : Terms) (f : Finding) →
-    ◌≡◌ {A = Asked} (record { parts = parts; terms = asked }) (record { parts = map reading_of story.blocks; terms = terms }) →
-    HasArrived terms story bytes (length story.blocks) → ∥ IsTraceFinding parts asked f ∥₁ → ∥ IsFinding (concat story.pieces) endings.Whole terms f ∥₁
-trace_found terms story bytes parts asked f same has known =
-    let there : ∥ IsTraceFinding (map reading_of story.blocks) terms f ∥₁ = subst (λ (a : Asked). ∥ IsTraceFinding a.parts a.terms f ∥₁) same known in
-    let all = blocks_from nothing_yet story.pieces in
-    let alike = judged_alike story.pieces terms.rules in
-    ∥∥₁_elim there squash₁ (λ found. merely (same_finding terms (map reading_of all) (reading_of (concat story.pieces) ∷ []) f alike
-    (enough_found terms story.blocks all f has.enough found)))
+-- what is found of enough blocks is found of the text that the pieces are
+text_found : (terms : Terms) (asked pieces : List (List ℕ)) (f : Finding) → AreEnough terms asked (blocks_from nothing_yet pieces) →
+    IsTraceFinding (map reading_of asked) terms f → IsTraceFinding (reading_of (concat pieces) ∷ []) terms f
+text_found terms asked pieces f enough found =
+    let all = blocks_from nothing_yet pieces in
+    same_finding terms (map reading_of all) (reading_of (concat pieces) ∷ []) f (judged_alike pieces terms.rules) (enough_found terms asked all f enough found)
+
+-- what is found of the blocks that were asked about is found of the source, as far as it came
+source_found : (ending : Ending) (terms : Terms) (story : Story) (bytes blocks : ℕ) (f : Finding) → HasArrived terms story bytes ending blocks →
+    IsTraceFinding (map reading_of story.blocks) terms f → IsFinding (concat story.pieces) ending terms f
+source_found endings.Whole terms story bytes blocks f has found = text_found terms story.blocks story.pieces f has.enough found
+source_found endings.Stopped terms story bytes blocks f has found = (
+  has.enough.0,
+  λ more. subst (λ bs. IsTraceFinding (reading_of bs ∷ []) terms f) (concat-more story.pieces more)
+      (text_found terms story.blocks (story.pieces ++ more ∷ []) f (inr (has.enough.1 more)) found),
+)
+source_found endings.Broken terms story bytes blocks f has found = absurd has.enough
+source_found endings.TooLarge terms story bytes blocks f has found = absurd has.enough
+
+trace_found : (ending : Ending) (terms : Terms) (story : Story) (bytes : ℕ) (parts : List Reading) (asked : Terms) (f : Finding) →
+    ◌≡◌ {A = Asked} (record { parts = parts; terms = asked }) (record { parts = map reading_of story.blocks; terms = to_the_end terms }) →
+    HasArrived terms story bytes ending (length story.blocks) → ∥ IsTraceFinding parts asked f ∥₁ → ∥ IsFinding (concat story.pieces) ending terms f ∥₁
+trace_found ending terms story bytes parts asked f same has known =
+    let there : ∥ IsTraceFinding (map reading_of story.blocks) (to_the_end terms) f ∥₁ = subst (λ (a : Asked). ∥ IsTraceFinding a.parts a.terms f ∥₁) same known in
+    ∥∥₁_elim there squash₁ (λ found. merely (source_found ending terms story bytes (length story.blocks) f has
+    (found_as_far (map reading_of story.blocks) terms f found)))
 
 -- what is known of the source whose trace was checked
 settled_check : (terms : Terms) (trace : ℕ) (parts : List Reading) (limits : Limits) (labels : Listed) (order explain : Bool) (rest : List Question)
@@ -182,14 +202,14 @@ settled_check : (terms : Terms) (trace : ℕ) (parts : List Reading) (limits : L
     IsTracked terms (Check trace parts limits labels order explain ∷ rest) s story t → IsTracked terms rest s story (with_finding t f)
 settled_check terms trace parts limits labels order explain rest s story (Arriving k) f same known is =
     (record { on = is.0.on; all = is.0.all }, nil_right (own_check s (Check trace parts limits labels order explain)) (checks_asked s rest) is.1, is.2)
-settled_check terms trace parts limits labels order explain rest s story (Arrived n blocks k) f same known is =
+settled_check terms trace parts limits labels order explain rest s story (Arrived n ending blocks k) f same known is =
     (record { on = is.0.on; all = is.0.all }, nil_right (own_check s (Check trace parts limits labels order explain)) (checks_asked s rest) is.1, is.2)
-settled_check terms trace parts limits labels order explain rest s story (Checking n) f same known is =
-    let all = subst (λ cs. All (λ a. a ≡ record { parts = map reading_of story.blocks; terms = terms }) (cs ++ checks_asked s rest))
+settled_check terms trace parts limits labels order explain rest s story (Checking n ending) f same known is =
+    let all = subst (λ cs. All (λ a. a ≡ record { parts = map reading_of story.blocks; terms = to_the_end terms }) (cs ++ checks_asked s rest))
     (own_check-same s trace parts limits labels order explain same) is.0 in
-    let first = All-head (λ a. a ≡ record { parts = map reading_of story.blocks; terms = terms })
+    let first = All-head (λ a. a ≡ record { parts = map reading_of story.blocks; terms = to_the_end terms })
     (record { parts = parts; terms = asking limits labels order explain }) (checks_asked s rest) all in
-    (is.1.ended, is.1.byte_count, trace_found terms story n parts (asking limits labels order explain) f first is.1 known)
+    (is.1.ended, is.1.byte_count, trace_found ending terms story n parts (asking limits labels order explain) f first is.1 known)
 settled_check terms trace parts limits labels order explain rest s story (Found n ending finding) f same known is = is
 
 -- what is known of the source of which a question is settled
@@ -198,9 +218,9 @@ settled_own : (terms : Terms) (q : Question) (rest : List Question) (s most : �
     IsTracked terms (q ∷ rest) s story t → IsTracked terms rest s story (with_value most certain t v)
 settled_own terms (Parse trace number bytes) rest s most certain story (Arriving k) (Parsed r) same known is =
     (part_settled terms story rest s trace number most certain bytes k r same (parsed_value trace number bytes r known) is.0, is.1, is.2)
-settled_own terms (Parse trace number bytes) rest s most certain story (Arrived n blocks k) (Parsed r) same known is =
+settled_own terms (Parse trace number bytes) rest s most certain story (Arrived n ending blocks k) (Parsed r) same known is =
     (part_settled terms story rest s trace number most certain bytes k r same (parsed_value trace number bytes r known) is.0, is.1, is.2)
-settled_own terms (Parse trace number bytes) rest s most certain story (Checking n) (Parsed r) same known is = is
+settled_own terms (Parse trace number bytes) rest s most certain story (Checking n ending) (Parsed r) same known is = is
 settled_own terms (Parse trace number bytes) rest s most certain story (Found n ending finding) (Parsed r) same known is = is
 settled_own terms (Parse trace number bytes) rest s most certain story t (Judged w) same known is = absurd (not_judged trace number bytes w known)
 settled_own terms (Parse trace number bytes) rest s most certain story t (Ordered w steps) same known is = absurd (not_ordered trace number bytes w steps known)
@@ -252,8 +272,8 @@ asked_other terms qs q s story t other is = go t is
 
     go : (t : Track) → IsTracked terms qs s story t → IsTracked terms (qs ++ q ∷ []) s story t
     go (Arriving known) is = (settled known is.0, checks ∙ is.1, is.2)
-    go (Arrived n k known) is = (settled known is.0, checks ∙ is.1, is.2)
-    go (Checking n) is = (subst (λ cs. All (λ a. a ≡ record { parts = map reading_of story.blocks; terms = terms }) cs) (sym checks) is.0, is.1)
+    go (Arrived n ending k known) is = (settled known is.0, checks ∙ is.1, is.2)
+    go (Checking n ending) is = (subst (λ cs. All (λ a. a ≡ record { parts = map reading_of story.blocks; terms = to_the_end terms }) cs) (sym checks) is.0, is.1)
     go (Found n ending finding) is = is
 
 -- one more block of a source that hasn't ended is asked about
@@ -291,33 +311,38 @@ no_blocks_left readings rs blocks (b ∷ bs) is same =
     absurd (omega (arith, lengths, same, length-append readings (reading_of b ∷ map reading_of bs), length-map blocks reading_of))
 
 -- the verdict on a whole source is asked for once all its blocks are read
-pub asked_check : (terms : Terms) (qs : List Question) (s bytes blocks : ℕ) (story : Story) (known : Known) → length known.parts ≡ blocks →
-    IsTracked terms qs s story (Arrived bytes blocks known) →
-    IsTracked terms (qs ++ Check s known.parts terms.rules.limits terms.rules.labels terms.order terms.explain ∷ []) s story (Checking bytes)
-asked_check terms qs s bytes blocks story known ready is =
+pub asked_check : (terms : Terms) (qs : List Question) (s bytes : ℕ) (ending : Ending) (blocks : ℕ) (story : Story) (known : Known) → length known.parts ≡ blocks →
+    IsTracked terms qs s story (Arrived bytes ending blocks known) →
+    IsTracked terms (qs ++ Check s known.parts terms.rules.limits terms.rules.labels terms.order terms.explain ∷ []) s story (Checking bytes ending)
+asked_check terms qs s bytes ending blocks story known ready is =
     let readings = known.parts in
     let all_read = no_blocks_left readings [] story.blocks (blocks_asked s qs) is.0.all (ready ∙ is.2.block_count) in
     let one : checks_asked s (qs ++ Check s readings terms.rules.limits terms.rules.labels terms.order terms.explain ∷ []) ≡
-    record { parts = readings; terms = terms } ∷ [] =
+    record { parts = readings; terms = to_the_end terms } ∷ [] =
     checks_asked-more s qs (Check s readings terms.rules.limits terms.rules.labels terms.order terms.explain)
     ∙ ap₂ (λ xs ys. xs ++ ys) is.1 (own_check-same s s readings terms.rules.limits terms.rules.labels terms.order terms.explain refl) in (
-      subst (λ cs. All (λ a. a ≡ record { parts = map reading_of story.blocks; terms = terms }) cs) (sym one)
-          (All-cons (λ a. a ≡ record { parts = map reading_of story.blocks; terms = terms }) (record { parts = readings; terms = terms }) []
-          (ap (λ rs. record { parts = rs; terms = terms }) all_read) (All-nil (λ a. a ≡ record { parts = map reading_of story.blocks; terms = terms }))),
+      subst (λ cs. All (λ a. a ≡ record { parts = map reading_of story.blocks; terms = to_the_end terms }) cs) (sym one)
+          (All-cons (λ a. a ≡ record { parts = map reading_of story.blocks; terms = to_the_end terms }) (record { parts = readings; terms = to_the_end terms }) []
+          (ap (λ rs. record { parts = rs; terms = to_the_end terms }) all_read) (All-nil (λ a. a ≡ record { parts = map reading_of story.blocks; terms = to_the_end terms }))),
       record { ended = is.2.ended; enough = is.2.enough; byte_count = is.2.byte_count; block_count = refl },
     )
 
 -- it is known what is found of a whole source once all its blocks are read
-pub found_here : (terms : Terms) (qs : List Question) (s bytes blocks : ℕ) (story : Story) (known : Known) (f : Finding) → length known.parts ≡ blocks →
-    IsTraceFinding known.parts known.terms f → IsTracked terms qs s story (Arrived bytes blocks known) →
-    IsTracked terms qs s story (Found bytes endings.Whole f)
-found_here terms qs s bytes blocks story known f ready found is =
+pub found_here : (terms : Terms) (qs : List Question) (s bytes : ℕ) (ending : Ending) (blocks : ℕ) (story : Story) (known : Known) (f : Finding) → length known.parts ≡ blocks →
+    IsTraceFinding known.parts known.terms f → IsTracked terms qs s story (Arrived bytes ending blocks known) →
+    IsTracked terms qs s story (Found bytes ending f)
+found_here terms qs s bytes ending blocks story known f ready found is =
     let all_read = no_blocks_left known.parts [] story.blocks (blocks_asked s qs) is.0.all (ready ∙ is.2.block_count) in
-    let has : HasArrived terms story bytes (length story.blocks) =
+    let has : HasArrived terms story bytes ending (length story.blocks) =
     record { ended = is.2.ended; enough = is.2.enough; byte_count = is.2.byte_count; block_count = refl } in
-    let same : ◌≡◌ {A = Asked} (record { parts = known.parts; terms = known.terms }) (record { parts = map reading_of story.blocks; terms = terms }) =
-    ap₂ (λ rs (t : Terms). record { parts = rs; terms = t }) all_read is.0.on in
-    (is.2.ended, is.2.byte_count, trace_found terms story bytes known.parts known.terms f same has (merely found))
+    let same : ◌≡◌ {A = Asked} (record { parts = known.parts; terms = to_the_end known.terms })
+    (record { parts = map reading_of story.blocks; terms = to_the_end terms }) =
+    ap₂ (λ rs (t : Terms). record { parts = rs; terms = to_the_end t }) all_read is.0.on in (
+      is.2.ended,
+      is.2.byte_count,
+      trace_found ending terms story bytes known.parts (to_the_end known.terms) f same has
+          (merely (found_to_the_end known.parts known.terms f found)),
+    )
 
 -- a list with an element written at a place
 

@@ -7,7 +7,7 @@ use Rattle.aero_intake.specs.declared.keeping.Held.TheVariants.{Kept, Live}
 use Rattle.aero_intake.specs.declared.keeping.Basis.{Basis}
 use Rattle.aero_intake.specs.declared.keeping.Basis.TheVariants.{ByParts, Already}
 use Rattle.aero_model.specs.declared.verdict.Finding.{Finding}
-use Rattle.aero_verdict.specs.Finding.{Terms, IsTraceFinding}
+use Rattle.aero_verdict.specs.Finding.{Terms, to_the_end, IsTraceFinding}
 
 -- on what terms a source is judged, what its first blocks say, in their order, whether it is live, that is, judged as it comes, and whether its
 -- verdict is certain then
@@ -62,10 +62,10 @@ abbrev pub CountsEvents : Held → Type 0
 CountsEvents (Kept parts events) = events ≡ event_count parts.items
 CountsEvents (Live live) = ⊤
 
--- A source is judged as it comes on its own terms.
+-- A source is judged as it comes on its own terms. How far it is read is no matter of the judge.
 abbrev pub FitsTerms : Terms → Held → Type 0
 FitsTerms terms (Kept parts events) = ⊤
-FitsTerms terms (Live live) = live.terms ≡ terms
+FitsTerms terms (Live live) = live.terms ≡ to_the_end terms
 
 -- the parts themselves, or what is found of them
 abbrev pub IsBasis : List Reading → Terms → Basis → Type 0

@@ -68,7 +68,7 @@ NothingIsLeft Whole left = IsAtEnd left
 NothingIsLeft ending left = ⊤
 
 -- These bytes came from the reader, and then the reading ended so: by one failed read exactly where the source is broken, by one end exactly where it
--- is whole, and then nothing is left.
+-- is whole, and then nothing is left. Of a source that is read no further all that came was read, and nothing is said of what is left.
 pub record WasRead (before after : Sight) (limit : ℕ) (bytes : List ℕ) (ending : Ending) : Type 0 where
   pub came : Consumes before.bytes after.bytes bytes
   pub trail : Trails before.trail after.trail bytes

@@ -1,5 +1,5 @@
 -- What is known of each source, while questions on it are asked and settled.
-use Rattle.std.specs.Prelude.{◌≡◌, ◌⊎◌, Bool, ℕ, zero, suc, ◌==◌, if◌then◌else◌, List, [], ◌∷◌, ◌++◌, map, length, slice_get, Option, Some, None, All}
+use Rattle.std.specs.Prelude.{◌≡◌, ◌⊎◌, Bool, true, ℕ, zero, suc, ◌==◌, if◌then◌else◌, List, [], ◌∷◌, ◌++◌, map, length, slice_get, Option, Some, None, All}
 use Rattle.std.specs.List.{concat}
 use Rattle.aero_model.specs.declared.verdict.Ending.{Ending}
 use Rattle.aero_model.specs.declared.verdict.Ending.TheVariants as endings
@@ -9,7 +9,7 @@ use Rattle.aero_pieces.specs.declared.question.Question.{Question}
 use Rattle.aero_pieces.specs.declared.question.Question.TheVariants.{Parse, Check}
 use Rattle.aero_pieces.specs.declared.answer.Value.{Value}
 use Rattle.aero_pieces.specs.Values.{IsValueOf}
-use Rattle.aero_verdict.specs.Finding.{Terms, asking, IsFinding}
+use Rattle.aero_verdict.specs.Finding.{Terms, asking, to_the_end, IsFinding}
 use Rattle.aero_intake.specs.Held.{Known, IsDecisive}
 use Rattle.aero_intake.specs.declared.track.Track.{Track}
 use Rattle.aero_intake.specs.declared.track.Track.TheVariants.{Arriving, Arrived, Checking, Found}
@@ -58,10 +58,18 @@ pub record BeginAlike (terms : Terms) (asked all : List (List ℕ)) : Type 0 whe
 abbrev pub AreEnough : Terms → List (List ℕ) → List (List ℕ) → Type 0
 AreEnough terms asked all = (asked ≡ all) ⊎ BeginAlike terms asked all
 
--- What is known of a source that has come whole: how many bytes came, and how many of its blocks were asked about.
-pub record HasArrived (terms : Terms) (story : Story) (bytes blocks : ℕ) : Type 0 where
-  pub ended : story.ending ≡ Some endings.Whole
-  pub enough : AreEnough terms story.blocks (blocks_from nothing_yet story.pieces)
+-- What was asked about is enough to judge what came. If the source came whole, that is so of its blocks. If it is read no further, the terms ask for
+-- that, and the blocks that were asked about decide, whatever could follow.
+abbrev pub Suffices : Ending → Terms → Story → Type 0
+Suffices endings.Whole terms story = AreEnough terms story.blocks (blocks_from nothing_yet story.pieces)
+Suffices endings.Stopped terms story = (terms.stop ≡ true) × ((more : List ℕ) → BeginAlike terms story.blocks (blocks_from nothing_yet (story.pieces ++ more ∷ [])))
+Suffices endings.Broken terms story = ⊥
+Suffices endings.TooLarge terms story = ⊥
+
+-- What is known of a source that has come: how many bytes came, how they ended, and how many of its blocks were asked about.
+pub record HasArrived (terms : Terms) (story : Story) (bytes : ℕ) (ending : Ending) (blocks : ℕ) : Type 0 where
+  pub ended : story.ending ≡ Some ending
+  pub enough : Suffices ending terms story
   pub byte_count : bytes ≡ length (concat story.pieces)
   pub block_count : blocks ≡ length story.blocks
 
@@ -74,9 +82,9 @@ pub record AreSettled (terms : Terms) (story : Story) (qs : List Question) (s : 
 -- The track of source s fits the story.
 abbrev pub IsTracked : Terms → List Question → ℕ → Story → Track → Type 0
 IsTracked terms qs s story (Arriving known) = AreSettled terms story qs s known × (checks_asked s qs ≡ []) × (story.ending ≡ None)
-IsTracked terms qs s story (Arrived bytes blocks known) = AreSettled terms story qs s known × (checks_asked s qs ≡ []) × HasArrived terms story bytes blocks
-IsTracked terms qs s story (Checking bytes) =
-    All (λ a. a ≡ record { parts = map reading_of story.blocks; terms = terms }) (checks_asked s qs) × HasArrived terms story bytes (length story.blocks)
+IsTracked terms qs s story (Arrived bytes ending blocks known) = AreSettled terms story qs s known × (checks_asked s qs ≡ []) × HasArrived terms story bytes ending blocks
+IsTracked terms qs s story (Checking bytes ending) =
+    All (λ a. a ≡ record { parts = map reading_of story.blocks; terms = to_the_end terms }) (checks_asked s qs) × HasArrived terms story bytes ending (length story.blocks)
 IsTracked terms qs s story (Found bytes ending finding) =
     (story.ending ≡ Some ending) × (bytes ≡ length (concat story.pieces)) × ∥ IsFinding (concat story.pieces) ending terms finding ∥₁
 

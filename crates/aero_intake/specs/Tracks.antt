@@ -1,7 +1,7 @@
 -- How far a source is.
 use Rattle.std.specs.Prelude.{◌≡◌, ◌⊎◌, ℕ, Bool, false, ◌||◌, is_some, List, length, Option, Some, None, ⊤}
 use Rattle.aero_model.specs.declared.limits.Limits.{Limits}
-use Rattle.aero_model.specs.declared.verdict.Ending.TheVariants as endings
+use Rattle.aero_model.specs.declared.verdict.Ending.{Ending}
 use Rattle.aero_model.specs.declared.verdict.Finding.{Finding}
 use Rattle.aero_model.specs.declared.verdict.Finding.TheVariants as findings
 use Rattle.aero_grammar.specs.Reading.{Reading, whole_reading, malformed_line}
@@ -34,21 +34,21 @@ IsDecided track = ⊥
 -- whether the verdict on a source that is live is certain before its end
 abbrev pub certain_of : Track → Bool
 certain_of (Arriving known) = known.certain
-certain_of (Arrived bytes blocks known) = known.certain
+certain_of (Arrived bytes ending blocks known) = known.certain
 certain_of track = false
 
 -- the track with one more part of its source read, of which so many events are kept at most
 abbrev pub with_part : ℕ → Bool → Track → Reading → Track
 with_part most certain (Arriving known) r = Arriving (with_next most certain known r)
-with_part most certain (Arrived bytes blocks known) r = Arrived bytes blocks (with_next most certain known r)
-with_part most certain (Checking bytes) r = Checking bytes
+with_part most certain (Arrived bytes ending blocks known) r = Arrived bytes ending blocks (with_next most certain known r)
+with_part most certain (Checking bytes ending) r = Checking bytes ending
 with_part most certain (Found bytes ending finding) r = Found bytes ending finding
 
 -- the track with what is found of its source
 abbrev pub with_finding : Track → Finding → Track
 with_finding (Arriving known) f = Arriving known
-with_finding (Arrived bytes blocks known) f = Arrived bytes blocks known
-with_finding (Checking bytes) f = Found bytes endings.Whole f
+with_finding (Arrived bytes ending blocks known) f = Arrived bytes ending blocks known
+with_finding (Checking bytes ending) f = Found bytes ending f
 with_finding (Found bytes ending finding) f = Found bytes ending finding
 
 abbrev pub with_value : ℕ → Bool → Track → Value → Track
@@ -58,26 +58,26 @@ with_value most certain track (Ordered verdict steps) = with_finding track (find
 with_value most certain track (Explained verdict cycle) = with_finding track (findings.Explained verdict cycle)
 with_value most certain track (Opened verdict blocks) = with_finding track (findings.Opened verdict blocks)
 
--- the track of a source that came whole
-abbrev pub with_arrival : Track → ℕ → ℕ → Track
-with_arrival (Arriving known) bytes blocks = Arrived bytes blocks known
-with_arrival track bytes blocks = track
+-- the track of a source that came whole, or is read no further
+abbrev pub with_arrival : Track → ℕ → Ending → ℕ → Track
+with_arrival (Arriving known) bytes ending blocks = Arrived bytes ending blocks known
+with_arrival track bytes ending blocks = track
 
 -- all blocks of the source that were asked about were read, or it is found what is to be said of it
 abbrev pub IsReady : Track → Type 0
 IsReady (Arriving known) = ⊥
-IsReady (Arrived bytes blocks known) = length known.parts ≡ blocks
-IsReady (Checking bytes) = ⊥
+IsReady (Arrived bytes ending blocks known) = length known.parts ≡ blocks
+IsReady (Checking bytes ending) = ⊥
 IsReady (Found bytes ending finding) = ⊤
 
--- what the blocks of a whole source say is taken from its track
+-- what the blocks of a source that has come say is taken from its track
 abbrev pub TakesKnown : Track → Track → Option Known → Type 0
-TakesKnown (Arrived bytes blocks known) new given = (given ≡ Some known) × (new ≡ Checking bytes)
+TakesKnown (Arrived bytes ending blocks known) new given = (given ≡ Some known) × (new ≡ Checking bytes ending)
 TakesKnown old new given = (given ≡ None) × (new ≡ old)
 
--- the verdict is asked for where a whole source waits for it, unless the source was judged as it came: then it is known what is found of it
+-- the verdict is asked for where a source that has come waits for it, unless the source was judged as it came: then it is known what is found of it
 abbrev pub GivesParts : Track → Track → Option (List Reading) → Type 0
-GivesParts (Arrived bytes blocks known) new given =
-    ((given ≡ Some known.parts) × (new ≡ Checking bytes))
-    ⊎ ((given ≡ None) × (finding : Finding) × IsTraceFinding known.parts known.terms finding × (new ≡ Found bytes endings.Whole finding))
+GivesParts (Arrived bytes ending blocks known) new given =
+    ((given ≡ Some known.parts) × (new ≡ Checking bytes ending))
+    ⊎ ((given ≡ None) × (finding : Finding) × IsTraceFinding known.parts known.terms finding × (new ≡ Found bytes ending finding))
 GivesParts old new given = (given ≡ None) × (new ≡ old)

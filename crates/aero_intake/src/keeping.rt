@@ -1,7 +1,7 @@
 //! What is held of a source whose blocks are being read.
 ghost use Rattle.std.specs.Prelude.{◌≡◌, ◌++◌, ◌∷◌, [], length, false, not, ◌&&◌, ◌||◌, nat_lt, IfOk, OnOk, IsTrue};
 ghost use Rattle.aero_intake.specs.Held.{parts_in, live_in, certain_in, event_count, turns_live, CountsEvents, FitsTerms, IsDecisive, IsBasis};
-ghost use Rattle.aero_verdict.specs.Finding.{Terms as Asked, IsTraceFinding};
+ghost use Rattle.aero_verdict.specs.Finding.{Terms as Asked, to_the_end, IsTraceFinding};
 
 use crate::live::Live;
 use aero_grammar::Parsed;
@@ -113,7 +113,7 @@ fn go_live(held: &mut Held, alloc: Global, terms: &Terms, most: u64) -> Result<(
         return Ok(());
     }
     let kept = mem::replace(held, nothing_held(alloc));
-    *held = Held::Live(live_from(kept, alloc, terms)?);
+    *held = Held::Live(live_from(kept, alloc, terms, most)?);
     Ok(())
 }
 
@@ -128,15 +128,31 @@ fn has_more(held: &Held, most: u64) -> bool
     }
 }
 
-fn live_from(held: Held, alloc: Global, terms: &Terms) -> Result<Live, AllocError>
+fn live_from(held: Held, alloc: Global, terms: &Terms, most: u64) -> Result<Live, AllocError>
     requires fits { FitsTerms terms.now held }
     ensures parts { IfOk result (λ live. live.parts ≡ parts_in held) }
-    ensures terms { IfOk result (λ live. live.terms ≡ terms.now) }
+    ensures terms { IfOk result (λ live. live.terms ≡ to_the_end terms.now) }
 {
     match held {
-        Held::Kept { parts, .. } => Live::new(alloc, terms, parts),
+        Held::Kept { parts, .. } => {
+            let live = Live::new(alloc, terms, parts)?;
+            Ok(caught_up(live, alloc, terms, most))
+        }
         Held::Live(live) => Ok(live),
     }
+}
+
+// With all judged that came, where nothing is to be kept: its verdict may be certain by now.
+fn caught_up(live: Live, alloc: Global, terms: &Terms, most: u64) -> Live
+    requires fits { live.terms ≡ to_the_end terms.now }
+    ensures parts { result.parts ≡ live.parts }
+    ensures terms { result.terms ≡ live.terms }
+{
+    let mut live = live;
+    if most == 0 {
+        live.catch_up(alloc, terms.except());
+    }
+    live
 }
 
 /// What a whole source is judged by, on these terms. An `AllocError` says that memory was refused.
@@ -152,7 +168,7 @@ pub fn basis_of(held: Held, terms: &Terms) -> Result<Basis, AllocError>
 
 // What is found of a source that was judged as it came.
 fn found(live: Live, terms: &Terms) -> Result<Finding, AllocError>
-    requires { live.terms ≡ terms.now }
+    requires { live.terms ≡ to_the_end terms.now }
     ensures { IfOk result (IsTraceFinding live.parts terms.now) }
 {
     live.finish(terms.except())

@@ -14,7 +14,8 @@
 //! - A plan is made exactly within its ranges, and has what it was made with. It keeps 1,048,576 events of a source at
 //!   most, and 65,536 of the last: `Plan::new`, `within`, `events`, `last_events`, and a clause for each field.
 //! - Another `Keeping` changes nothing else: `Plan::with_keeping`. It has a number for the last source, and one for
-//!   each other: `Keeping::most`. Nor does it that violations are to be explained: `Plan::explaining`.
+//!   each other: `Keeping::most`. Nor does it that violations are to be explained: `Plan::explaining`. A plan by which a
+//!   source is read no further once its verdict is certain keeps nothing: `Plan::stopping`.
 //! - A read of a source is one step. A source is broken exactly where a read failed, and whole exactly where one found
 //!   the end; then nothing is left of bytes that the reader's type tells. It is too large after one byte more than the
 //!   limit: `Intake::take`. What the reader says of itself goes on with the bytes that came: `trail`.
@@ -28,6 +29,7 @@
 //!   `feed_rest`, `finish`. After a `feed` that is done either a verdict is certain, or nothing is wrong yet, but for one
 //!   line too many at most: `Judge::feed`, `going_on`; `is_certain`, `told`, `certain`.
 //! - With each block that comes a `Live` judges two: one waits less than before, if one did: `Live::new`, `feed`, `waiting`.
+//!   After `catch_up` none waits.
 //! - Kept or judged as they came, the parts of a source are those that its blocks gave, on the terms that it began
 //!   with: `Knowledge::new`, `add`, `len`. With the block that makes them more than so many events the source turns
 //!   live, and it stays so: `Knowledge::add`, `take_value`.

@@ -1,7 +1,7 @@
 //! A source that is judged as it comes.
 ghost use Rattle.std.specs.Prelude.{◌≡◌, ◌++◌, ◌∷◌, [], ◌-◌, length, is_some, IfOk, IfSome, OnOk};
 ghost use Rattle.aero_verdict.specs.Fed.{IsCertain};
-ghost use Rattle.aero_verdict.specs.Finding.{IsTraceFinding};
+ghost use Rattle.aero_verdict.specs.Finding.{IsTraceFinding, to_the_end};
 ghost use Rattle.aero_intake.specs.Lives.{watched_by};
 
 use crate::judge::Judge;
@@ -11,6 +11,7 @@ use aero_verdict::Terms;
 use std::alloc::{AllocError, Global};
 use std::collections::VecDeque;
 use std::marker::Model;
+use std::mem;
 
 /// What judges the blocks of a source as they come. What was kept of it before waits, and for each block that comes
 /// two are judged, the first ones first, and let go: so no block holds the others up for long.
@@ -44,7 +45,7 @@ impl Live {
     pub fn new(alloc: Global, terms: &Terms, kept: Vec<Parsed>) -> Result<Live, AllocError>
         ensures parts { IfOk result (λ live. live.parts ≡ kept.items) }
         ensures waiting { IfOk result (λ live. live.waiting ≡ length kept.items) }
-        ensures terms { IfOk result (λ live. live.terms ≡ terms.now) }
+        ensures terms { IfOk result (λ live. live.terms ≡ to_the_end terms.now) }
     {
         let count = kept.len() as u64;
         Ok(Live {
@@ -75,6 +76,17 @@ impl Live {
         self.count = count;
         judge_next(&mut self.judge, &mut self.waiting, except)?;
         judge_next(&mut self.judge, &mut self.waiting, except)
+    }
+
+    /// Judges all blocks that wait, with the same labels as at first. Where memory is refused, `finish` says so.
+    pub fn catch_up(&mut self, alloc: Global, except: &Except)
+        requires { except.now ≡ self.old.terms.rules.labels }
+        ensures parts { self.new.parts ≡ self.old.parts }
+        ensures waiting { self.new.waiting ≡ 0 }
+        ensures terms { self.new.terms ≡ self.old.terms }
+    {
+        let waiting = mem::replace(&mut self.waiting, VecDeque::new(alloc));
+        judge_rest(&mut self.judge, waiting, except);
     }
 
     /// How many blocks have come.

@@ -119,6 +119,24 @@ impl Plan {
         plan
     }
 
+    /// The same plan, by which each source is read no further once its verdict is certain. So that this is known early,
+    /// nothing is kept of a source: it is judged as it comes.
+    pub fn stopping(self) -> Plan
+        ensures workers { result.workers ≡ self.workers }
+        ensures piece { result.piece ≡ self.piece }
+        ensures terms { result.terms ≡ record self.terms { stop = true } }
+        ensures events { result.keeping.events ≡ 0 }
+        ensures last_events { result.keeping.last_events ≡ 0 }
+        ensures form { result.form ≡ self.form }
+    {
+        let mut plan = self;
+        plan.terms.ask_to_stop();
+        plan.with_keeping(Keeping {
+            events: 0,
+            last_events: 0,
+        })
+    }
+
     /// The same plan, by which the report has this form.
     pub fn with_form(self, form: Form) -> Plan
         ensures workers { result.workers ≡ self.workers }
@@ -149,6 +167,7 @@ impl Plan {
             except: self.terms.except(),
             order: self.terms.order(),
             explain: self.terms.explain(),
+            stop: self.terms.stop(),
             unused,
             notes,
         }

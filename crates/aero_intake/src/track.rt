@@ -99,7 +99,7 @@ impl Knowledge {
         held_count(&self.held)
     }
 
-    /// What a whole source is judged by. An `AllocError` says that memory was refused.
+    /// What a source that has come is judged by. An `AllocError` says that memory was refused.
     pub fn into_basis(self) -> Result<Basis, AllocError>
         ensures { IfOk result (IsBasis self.parts self.terms) }
     {
@@ -113,15 +113,17 @@ impl Knowledge {
 pub enum Track {
     /// Its bytes are coming, or are still to come. This is what its first blocks say.
     Arriving(Knowledge),
-    /// It is whole, so many bytes came, and so many of its blocks were asked about.
+    /// It is whole, or is read no further: so many bytes came, they ended so, and so many of its blocks were asked about.
     Arrived {
         bytes: u64,
+        ending: Ending,
         blocks: u64,
         known: Knowledge,
     },
-    /// The blocks that were asked about were read, and the verdict is asked for. So many bytes came.
+    /// The blocks that were asked about were read, and the verdict is asked for. So many bytes came, and they ended so.
     Checking {
         bytes: u64,
+        ending: Ending,
     },
     /// So many bytes came, they ended so, and this is said of them.
     Found {
@@ -175,26 +177,27 @@ fn take_part(track: &mut Track, alloc: Global, part: Parsed, most: u64) -> Resul
 fn take_finding(track: &mut Track, finding: Finding)
     ensures { track.new ≡ with_finding track.old finding }
 {
-    let bytes = match track {
-        Track::Checking { bytes } => *bytes,
+    let (bytes, ending) = match track {
+        Track::Checking { bytes, ending } => (*bytes, *ending),
         _ => return,
     };
     *track = Track::Found {
         bytes,
-        ending: Ending::Whole,
+        ending,
         finding,
     };
 }
 
-/// Notes that a source is whole, that so many bytes came, and that so many of its blocks were asked
-/// about.
-pub fn arrive(track: &mut Track, bytes: u64, blocks: u64)
-    ensures { track.new ≡ with_arrival track.old bytes blocks }
+/// Notes that a source has come, whole or as far as it is read: that so many bytes came, that they ended so, and that so
+/// many of its blocks were asked about.
+pub fn arrive(track: &mut Track, bytes: u64, ending: Ending, blocks: u64)
+    ensures { track.new ≡ with_arrival track.old bytes ending blocks }
 {
-    let old = mem::replace(track, Track::Checking { bytes });
+    let old = mem::replace(track, Track::Checking { bytes, ending });
     *track = match old {
         Track::Arriving(known) => Track::Arrived {
             bytes,
+            ending,
             blocks,
             known,
         },
@@ -226,7 +229,7 @@ pub fn is_decided(track: &Track) -> bool
     }
 }
 
-/// Takes what the blocks of a whole source say that were asked about, where that is what its verdict
+/// Takes what the blocks of a source that has come say that were asked about, where that is what its verdict
 /// is to be asked for. Where the source was judged as they came, it is noted what is found of it. An `AllocError`
 /// says that memory was refused.
 pub fn take_parts(track: &mut Track) -> Result<Option<Parts>, AllocError>
@@ -247,11 +250,11 @@ pub fn take_parts(track: &mut Track) -> Result<Option<Parts>, AllocError>
 fn take_known(track: &mut Track) -> Option<Knowledge>
     ensures { TakesKnown track.old track.new result }
 {
-    let bytes = match track {
-        Track::Arrived { bytes, .. } => *bytes,
+    let (bytes, ending) = match track {
+        Track::Arrived { bytes, ending, .. } => (*bytes, *ending),
         _ => return None,
     };
-    match mem::replace(track, Track::Checking { bytes }) {
+    match mem::replace(track, Track::Checking { bytes, ending }) {
         Track::Arrived { known, .. } => Some(known),
         _ => None,
     }

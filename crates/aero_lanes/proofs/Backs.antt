@@ -83,13 +83,13 @@ module _ {R : Type 0} (known : R → Sight) (terms : Terms) (form : Form) (origi
   }
 
   pub was_told : (before after : Seen) (a : Told) (cause : Option Cause) → StopsSo known terms form origin before after all a cause →
-      WasTold terms form (map (sighted known) origin) (map (sighted known) back) before after a.endings.items a.faults.items a.counts cause
+      WasTold terms form (map (sighted known) origin) (map (sighted known) back) before after a.endings.items a.notables.items a.counts cause
   was_told before after a cause st = record {
     founds = st.founds;
     found = λ place f at. found_at place f (st.found place f at);
     names = names_back;
     ended = st.endings;
-    faulty = st.faults;
+    notable = st.notables;
     counted = st.counts;
     written = written_of st.founds before after cause st.written;
   }

@@ -15,8 +15,8 @@ use Rattle.aero_batch.specs.declared.outcome.Cause.{Cause}
 use Rattle.aero_batch.specs.declared.outcome.Cause.TheVariants.{Memory, Write}
 use Rattle.aero_batch.specs.declared.told.Told.{Told}
 use Rattle.aero_batch.specs.Alone.{TellsOf}
-use Rattle.aero_batch.specs.Faults.{fault_of}
-use Rattle.aero_batch.specs.Founds.{Sighted, Found, IsFoundOf, Took, sighted, ending_of, faulty_line, lines_of_all}
+use Rattle.aero_batch.specs.Notables.{notable_of}
+use Rattle.aero_batch.specs.Founds.{Sighted, Found, IsFoundOf, Took, sighted, ending_of, notable, lines_of_all}
 use Rattle.aero_batch.specs.Telling.{WasCut, TellsNext, IsOneMore, total}
 use Rattle.aero_batch.proofs.Stands.{get_push, lines_more, counts_more, took_more, took_nothing, slice_get_some, the_some}
 use Rattle.aero_intake.specs.Source.{Sight}
@@ -41,7 +41,7 @@ begun_so known terms form origin before seats a seated sources is = record {
     found = λ place f at. cc (at);
     took = record { went = Appends-nil before.bytes; faults = refl };
     endings = is.endings;
-    faults = is.faults;
+    notables = is.notables;
     counts = is.counts;
   };
 }
@@ -54,8 +54,8 @@ begun_numbers sources a few is =
       few_sources = few;
       total_is = ap total is.counts ∙ sym none;
       room = is.room;
-      as_many = a.faults.ok.0 ∙ (ap length is.faults ∙ sym none);
-      faults_room = is.faults_room;
+      as_many = a.notables.ok.0 ∙ (ap length is.notables ∙ sym none);
+      notables_room = is.notables_room;
     }
 
 -- what is told stays true where seats change
@@ -70,7 +70,7 @@ stands_on known terms form origin before mid old new a on st = record {
         record { before = is.before; end = is.end; was = is.was; is = on.done place is.end is.is; found_of = is.found_of };
     took = st.told_so.took;
     endings = st.told_so.endings;
-    faults = st.told_so.faults;
+    notables = st.told_so.notables;
     counts = st.told_so.counts;
   };
 }
@@ -131,7 +131,7 @@ module _ {R : Type 0} (known : R → Sight) (terms : Terms) (form : Form) (all :
           took = subst (λ text. Took before after text) (sym (lines_more form st.founds f))
               (took_more before mid after (lines_of_all form st.founds) (source_line_in form f.name f.finding) t.took (subst (λ text. Took mid after text) line took));
           endings = more.endings ∙ (ap₂ (λ es e. es ++ e ∷ []) t.endings (sym next.2) ∙ sym (map-append ending_of st.founds (f ∷ [])));
-          faults = more.faults ∙ (ap₂ (λ fs x. fs ++ fault_of x ∷ []) t.faults (sym next.3) ∙ sym (map-append faulty_line st.founds (f ∷ [])));
+          notables = more.notables ∙ (ap₂ (λ fs x. fs ++ notable_of x ∷ []) t.notables (sym next.3) ∙ sym (map-append notable st.founds (f ∷ [])));
           counts = more.counts ∙ (ap₂ counted t.counts (sym next.3) ∙ sym (counts_more st.founds f));
         };
       }
@@ -146,7 +146,7 @@ module _ {R : Type 0} (known : R → Sight) (terms : Terms) (form : Form) (all :
         founds = st.founds;
         found = t.found;
         endings = t.endings;
-        faults = t.faults;
+        notables = t.notables;
         counts = t.counts;
         written = took_nothing before mid after (lines_of_all form st.founds) t.took took;
       })
@@ -177,7 +177,7 @@ module _ {R : Type 0} (known : R → Sight) (terms : Terms) (form : Form) (all :
         founds = st.founds;
         found = t.found;
         endings = t.endings;
-        faults = t.faults;
+        notables = t.notables;
         counts = t.counts;
         written = cut_so origin before st.founds (source_line_in form end.source.name.items j.finding)
             (f, subst (λ n. IsFoundBy known terms origin all n f) same_place next.1, line) t.took cut;
@@ -234,7 +234,7 @@ all_so known terms form origin all before after a whole st = record {
   founds = st.founds;
   found = st.told_so.found;
   endings = st.told_so.endings;
-  faults = st.told_so.faults;
+  notables = st.told_so.notables;
   counts = st.told_so.counts;
   written = (sym (place_is known terms form all after after a a st.founds st.told_so.endings) ∙ (whole ∙ st.seated.count), st.told_so.took);
 }
@@ -247,14 +247,14 @@ module _ (R : Type 0) (form : Form) (sources : ℕ) (mid after : Seen) (a b : To
   more_numbers : (bytes : ℕ) (ending : Ending) (finding : Finding) → vec_len a.endings < sources → IsOneMore a b bytes ending finding → HasNumbersOf sources b
   more_numbers bytes ending finding below more =
       let len : vec_len b.endings ≡ vec_len a.endings + 1 = b.endings.ok.0 ∙ (ap length more.endings ∙ (length_push a.endings.items (bytes, ending) ∙ ap (λ n. n + 1) (sym a.endings.ok.0))) in
-      let lines : vec_len b.faults ≡ vec_len a.faults + 1 = b.faults.ok.0 ∙ (ap length more.faults ∙ (length_push a.faults.items (fault_of finding) ∙ ap (λ n. n + 1) (sym a.faults.ok.0))) in
+      let lines : vec_len b.notables ≡ vec_len a.notables + 1 = b.notables.ok.0 ∙ (ap length more.notables ∙ (length_push a.notables.items (notable_of finding) ∙ ap (λ n. n + 1) (sym a.notables.ok.0))) in
       record {
         few = omega (arith, below, len);
         few_sources = numbers.few_sources;
         total_is = omega (arith, more.counted_one, numbers.total_is, len);
         room = more.room ∙ numbers.room;
         as_many = omega (arith, len, lines, numbers.as_many);
-        faults_room = more.faults_room ∙ numbers.faults_room;
+        notables_room = more.notables_room ∙ numbers.notables_room;
       }
 
   numbers_judged : (name : List ℕ) (j : Judged) (r : Result Bool Cause) → vec_len a.endings < sources →

@@ -23,4 +23,4 @@ pub record IsReady {R : Type 0} (all : Room R) : Type 0 where
 pub record HasJudged {R : Type 0} (known : R → Sight) (terms : Terms) (form : Form) (seats : List (Seat R)) (before after : Seen) (report : Report)
     (back : List (SourceOf R)) : Type 0 where
   pub told : (origin : List (SourceOf R)) → AreSeated known terms origin seats →
-      WasTold terms form (map (sighted known) origin) (map (sighted known) back) before after report.endings.items report.faults.items report.counts report.cause
+      WasTold terms form (map (sighted known) origin) (map (sighted known) back) before after report.endings.items report.notables.items report.counts report.cause

@@ -9,7 +9,7 @@ use Rattle.aero_report.specs.Forms.{source_line_in}
 use Rattle.aero_batch.specs.declared.outcome.Cause.{Cause}
 use Rattle.aero_batch.specs.declared.outcome.Cause.TheVariants.{Memory, Write}
 use Rattle.aero_batch.specs.declared.told.Told.{Told}
-use Rattle.aero_batch.specs.Founds.{Found, Took, ending_of, faulty_line, lines_of_all, counts_of_all}
+use Rattle.aero_batch.specs.Founds.{Found, Took, ending_of, notable, lines_of_all, counts_of_all}
 use Rattle.aero_batch.specs.Telling.{TellsNext, total}
 use Rattle.aero_intake.specs.Source.{Sight}
 use Rattle.aero_intake.specs.declared.source.SourceOf.{SourceOf}
@@ -26,7 +26,7 @@ pub record AreToldSo {R : Type 0} (known : R → Sight) (terms : Terms) (form : 
   pub found : (place : ℕ) (found : Found) → slice_get founds place ≡ Some found → IsFoundBy known terms origin seats place found
   pub took : Took before after (lines_of_all form founds)
   pub endings : told.endings.items ≡ map ending_of founds
-  pub faults : told.faults.items ≡ map faulty_line founds
+  pub notables : told.notables.items ≡ map notable founds
   pub counts : told.counts ≡ counts_of_all founds
 
 -- The numbers of what was told over so many sources.
@@ -35,16 +35,16 @@ pub record HasNumbersOf (sources : ℕ) (told : Told) : Type 0 where
   pub few_sources : sources ≤ 65536
   pub total_is : total told.counts ≡ vec_len told.endings
   pub room : vec_capacity told.endings ≡ sources
-  pub as_many : vec_len told.faults ≡ vec_len told.endings
-  pub faults_room : vec_capacity told.faults ≡ sources
+  pub as_many : vec_len told.notables ≡ vec_len told.endings
+  pub notables_room : vec_capacity told.notables ≡ sources
 
 -- before anything is told
 pub record IsBegunSo (sources : ℕ) (told : Told) : Type 0 where
   pub endings : told.endings.items ≡ []
-  pub faults : told.faults.items ≡ []
+  pub notables : told.notables.items ≡ []
   pub counts : told.counts ≡ no_counts
   pub room : vec_capacity told.endings ≡ sources
-  pub faults_room : vec_capacity told.faults ≡ sources
+  pub notables_room : vec_capacity told.notables ≡ sources
 
 -- between two steps
 pub record StandsSo {R : Type 0} (known : R → Sight) (terms : Terms) (form : Form) (origin : List (SourceOf R)) (before after : Seen)
@@ -80,7 +80,7 @@ pub record StopsSo {R : Type 0} (known : R → Sight) (terms : Terms) (form : Fo
   pub founds : List Found
   pub found : (place : ℕ) (found : Found) → slice_get founds place ≡ Some found → IsFoundBy known terms origin seats place found
   pub endings : told.endings.items ≡ map ending_of founds
-  pub faults : told.faults.items ≡ map faulty_line founds
+  pub notables : told.notables.items ≡ map notable founds
   pub counts : told.counts ≡ counts_of_all founds
   pub written : IsWrittenSo known terms form origin seats founds before after cause
 

@@ -13,7 +13,7 @@ use crate::shared::Shared;
 use crate::steps::tell_all;
 use aero_batch::setting::Setting;
 use aero_batch::told::{Told, nothing_counted};
-use aero_batch::{Cause, FaultyLine, Outcome, run_lines};
+use aero_batch::{Cause, Notable, Outcome, run_lines};
 use aero_intake::{Followed, Plan, SourceOf};
 use aero_model::{Counting, Counts, Ending};
 use aero_worker::NoGate;
@@ -29,8 +29,8 @@ use std::thread::{Scope, Threads};
 pub struct Report {
     /// How many bytes came of each of these sources, and how they ended.
     pub endings: Vec<(u64, Ending)>,
-    /// The faulty line of each, if one was found.
-    pub faults: Vec<Option<FaultyLine>>,
+    /// What is noted of each beside its line, if something is.
+    pub notables: Vec<Option<Notable>>,
     /// How many of them were found to be what: 65,536 in all at most.
     pub counts: Counts,
     /// Why not all lines were written, if so.
@@ -59,7 +59,7 @@ pub fn run_in_lanes<
 ) -> (Report, Vec<SourceOf<R>>)
     requires { vec_len sources ≤ 65536 }
     ensures told { WasTold (terms_of plan.now) plan.now.form (map (sighted R.sight) sources.items) (map (sighted R.sight) result.1.items)
-        (seen_by W.contents writer.old) (seen_by W.contents writer.new) result.0.endings.items result.0.faults.items result.0.counts result.0.cause }
+        (seen_by W.contents writer.old) (seen_by W.contents writer.new) result.0.endings.items result.0.notables.items result.0.counts result.0.cause }
 {
     if sources.len() < 2 || plan.workers < 2 {
         return run_in_turn(rt, alloc, sources, writer, plan);
@@ -90,7 +90,7 @@ pub fn run_in_turn<R: Followed, W: Write, T: Threads + Wait + Copy + Send + 'sta
 ) -> (Report, Vec<SourceOf<R>>)
     requires { vec_len sources ≤ 65536 }
     ensures told { WasTold (terms_of plan.now) plan.now.form (map (sighted R.sight) sources.items) (map (sighted R.sight) result.1.items)
-        (seen_by W.contents writer.old) (seen_by W.contents writer.new) result.0.endings.items result.0.faults.items result.0.counts result.0.cause }
+        (seen_by W.contents writer.old) (seen_by W.contents writer.new) result.0.endings.items result.0.notables.items result.0.counts result.0.cause }
 {
     let Ok(gate) = Arc::new(alloc, NoGate) else {
         return (refused(alloc), sources);
@@ -102,14 +102,14 @@ pub fn run_in_turn<R: Followed, W: Write, T: Threads + Wait + Copy + Send + 'sta
     };
     let Outcome {
         endings,
-        faults,
+        notables,
         counts,
         cause,
         ..
     } = run_lines(&setting, &mut sources, writer, gate);
     let report = Report {
         endings,
-        faults,
+        notables,
         counts,
         cause,
     };
@@ -119,13 +119,13 @@ pub fn run_in_turn<R: Followed, W: Write, T: Threads + Wait + Copy + Send + 'sta
 // Where memory was refused before any source was read.
 fn refused(alloc: Global) -> Report
     ensures endings { result.endings.items ≡ [] }
-    ensures faults { result.faults.items ≡ [] }
+    ensures notables { result.notables.items ≡ [] }
     ensures counts { result.counts ≡ no_counts }
     ensures cause { result.cause ≡ Some Cause.Memory }
 {
     Report {
         endings: Vec::new(alloc),
-        faults: Vec::new(alloc),
+        notables: Vec::new(alloc),
         counts: nothing_counted(),
         cause: Some(Cause::Memory),
     }
@@ -192,12 +192,12 @@ fn judge_in<'s, E, R: Followed + Drop + Send + 's, W: Write, T: Threads + Wait +
     let sources = all_back(shared.rt, seats, back);
     let Told {
         endings,
-        faults,
+        notables,
         counts,
     } = told;
     let report = Report {
         endings,
-        faults,
+        notables,
         counts,
         cause,
     };

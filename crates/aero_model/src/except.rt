@@ -2,37 +2,48 @@
 ghost use Rattle.std.specs.Prelude.{◌≡◌, ◌↔◌, IsTrue};
 
 use crate::name::Name;
+use indexmap::IndexSet;
 use std::alloc::{AllocError, Global};
 use std::marker::Model;
 use std::sync::Arc;
 
-/// How many labels are listed at most.
+/// How many labels `Except::new` and `Except::all_but` take at most.
 pub const MOST_LABELS: usize = 64;
 
-/// A list of labels, at most 64. A block that begins with one of them is no transaction, or, of a list
-/// of `all_but`, one that begins with none of them or without a label.
+/// How many labels a set of `Except::of_set` has at most.
+pub const MOST_LABELS_OF_SET: usize = 65_536;
+
+// The labels: a short list is searched from its front, and a set by hashes.
+#[derive(Drop)]
+enum Labels {
+    Few(Vec<Name>),
+    Set(IndexSet<Name>),
+}
+
+/// A list of labels, of at most 64, or a set of at most 65,536. A block that begins with one of them is no
+/// transaction. If the list says that its labels are the only ones, it is the other way round: a block that
+/// begins with none of them, or without a label, is no transaction.
 #[derive(Drop)]
 pub struct Except {
-    labels: Vec<Name>,
+    labels: Labels,
     only: bool,
 }
 
 impl Model for Except {
-    ghost use Rattle.std.specs.Prelude.{◌≤◌, length};
-    ghost use Rattle.aero_model.specs.Excepts.{most_labels};
+    ghost use Rattle.aero_model.specs.Excepts.{AreFew, labels_in};
     ghost use Rattle.aero_model.specs.Exempt.{Listed};
 
     ghost Value = { Listed };
 
-    ghost view = { λ except. record { labels = except.labels.items; only = except.only } };
+    ghost view = { λ except. record { labels = labels_in except.labels; only = except.only } };
 
-    ghost invariant = { λ except. length except.labels.items ≤ most_labels };
+    ghost invariant = { λ except. AreFew except.labels };
 }
 
 impl Except {
-    ghost use Rattle.std.specs.Prelude.{◌≡◌, ◌≤◌, ◌↔◌, length, bytes_eq, vec_len, Some, None, IsSome, IsTrue, IfSome};
+    ghost use Rattle.std.specs.Prelude.{◌≡◌, ◌≤◌, ◌↔◌, length, position, bytes_eq, vec_len, Some, None, IsSome, IsTrue, IfSome};
     ghost use Rattle.std.specs.List.{list_any};
-    ghost use Rattle.aero_model.specs.Excepts.{most_labels};
+    ghost use Rattle.aero_model.specs.Excepts.{most_labels, most_labels_of_set};
     ghost use Rattle.aero_model.specs.Exempt.{these, all_but, leaves_out};
 
     /// Just the blocks with these labels are no transactions. `None` where there are more than 64.
@@ -59,14 +70,36 @@ impl Except {
         if labels.len() > MOST_LABELS {
             return None;
         }
-        Some(Except { labels, only })
+        Some(Except {
+            labels: Labels::Few(labels),
+            only,
+        })
+    }
+
+    /// Just the blocks with these labels are no transactions, or, if `only` is true, they are the only transactions,
+    /// beside events outside of them. The result is `None` if there are more than 65,536. A look-up takes expected
+    /// constant time in the number of labels.
+    pub fn of_set(labels: IndexSet<Name>, only: bool) -> Option<Except>
+        ensures few { IsSome result ↔ (length labels.keys ≤ most_labels_of_set) }
+        ensures labels { IfSome result (λ except. except ≡ record { labels = labels.keys; only = only }) }
+    {
+        if labels.len() > MOST_LABELS_OF_SET {
+            return None;
+        }
+        Some(Except {
+            labels: Labels::Set(labels),
+            only,
+        })
     }
 
     /// The labels that are listed, in their order.
     pub fn labels(&self) -> &[Name]
         ensures { result.now ≡ self.now.labels }
     {
-        &self.labels
+        match &self.labels {
+            Labels::Few(labels) => labels,
+            Labels::Set(labels) => labels.as_slice(),
+        }
     }
 
     /// Whether the blocks with these labels are the only transactions, beside events outside of them.
@@ -87,7 +120,21 @@ impl Except {
     pub fn has_bytes(&self, label: &[u8]) -> bool
         ensures { result ≡ list_any (bytes_eq label.now) self.now.labels }
     {
-        self.labels.iter().any(|listed| listed.bytes() == label)
+        match &self.labels {
+            Labels::Few(labels) => labels.iter().any(|listed| listed.bytes() == label),
+            Labels::Set(labels) => labels.contains(label),
+        }
+    }
+
+    /// The place of the label with these bytes, from 0: the first one in a list that repeats it. The result is `None`
+    /// if it isn't listed.
+    pub fn place_of(&self, label: &[u8]) -> Option<usize>
+        ensures { result ≡ position (bytes_eq label.now) self.now.labels }
+    {
+        match &self.labels {
+            Labels::Few(labels) => labels.iter().position(|listed| listed.bytes() == label),
+            Labels::Set(labels) => labels.get_index_of(label),
+        }
     }
 
     /// Whether a block that begins with a label of these bytes is no transaction.
@@ -112,7 +159,7 @@ impl Except {
     pub fn is_same(&self, other: &Except) -> bool
         ensures { IsTrue result ↔ (self.now ≡ other.now) }
     {
-        self.only == other.only && are_same_names(&self.labels, &other.labels)
+        self.only == other.only && are_same_names(self.labels(), other.labels())
     }
 }
 

@@ -17,9 +17,9 @@
 //!   bytes: `Name::read`.
 //! - Limits are made exactly where none is 0 or above the greatest of its kind: `Limits::new`, `within`. What the
 //!   greatest are, and those of long sources, is said by the clauses of `Limits::greatest` and `Limits::long`.
-//! - A list of labels is made exactly of up to 64, and has exactly those: `Except::new`, `all_but`, `few` and `labels`;
-//!   `has`, `has_bytes`, `is_same`. It says which blocks are left out: `leaves_out`, `leaves_out_unlabelled`. A
-//!   `SharedExcept` is the list that it was made of: `new`, `share`, `get`.
+//! - A list of labels is made exactly of up to 64, or of a set of up to 65,536, and has exactly those: `Except::new`,
+//!   `all_but`, `of_set`, `few` and `labels`; `has`, `has_bytes`, `place_of`, `is_same`. It says which blocks are left
+//!   out: `leaves_out`, `leaves_out_unlabelled`. A `SharedExcept` is the list that it was made of: `new`, `share`, `get`.
 //! - Of a `Counting` one number rises by 1 exactly where a read or a write failed. A write that takes none of some
 //!   bytes counts as failed. The other rises by 1 exactly where a read found the end. The bytes are those of what is
 //!   within, and a flush changes neither number: `read`, `write`, `flush`; `bytes`, `faults`, `ends`.

@@ -1,11 +1,18 @@
 //! Names of threads, variables and locks.
 ghost use Rattle.std.specs.Prelude.{◌≡◌};
 ghost use Rattle.std.specs.List.{list_any};
+ghost use Rattle.std.specs.Prelude.{bytes_eq};
+ghost use Rattle.std.proofs.Common.{ap};
+ghost use Rattle.std.specs.Cmp.{partial_equiv_from_equiv};
+ghost use Rattle.std.specs.Cmp.Lexicographic.{bytes_decides, nat_list_eq_equiv};
+ghost use Rattle.std.specs.Hash as fed;
 ghost use Rattle.aero_model.specs.Names.{is_barred as is_barred_byte};
 
 use crate::bytes::is_bad_byte;
+use indexmap::Equivalent;
 use smallvec::SmallVec;
 use std::alloc::Global;
+use std::hash::{Hash, Hasher};
 use std::marker::Model;
 use thiserror::Error;
 
@@ -72,6 +79,43 @@ impl Name {
         ensures { result.now ≡ self.now }
     {
         self.bytes.as_slice()
+    }
+}
+
+impl PartialEq for Name {
+    ghost eq = { bytes_eq };
+
+    ghost laws = { partial_equiv_from_equiv nat_list_eq_equiv };
+
+    fn eq(&self, other: &Name) -> bool {
+        self.bytes() == other.bytes()
+    }
+}
+
+impl Eq for Name {
+    ghost laws = { nat_list_eq_equiv };
+}
+
+impl Hash for Name {
+    ghost hash_input = { λ name. fed.slice fed.u8 name };
+
+    ghost respects_eq = { λ a b h. ap (fed.slice fed.u8) ((bytes_decides a b).0 h) };
+
+    fn hash<H: Hasher>(&self, state: &mut H) {
+        self.bytes().hash(state);
+    }
+}
+
+// A name in a set is found by its bytes.
+impl Equivalent<Name> for &[u8] {
+    ghost equivalent = { λ bytes name. bytes_eq bytes.now name };
+
+    ghost respects_hash = { λ bytes name h. ap (fed.slice fed.u8) ((bytes_decides bytes.now name).0 h) };
+
+    ghost respects_eq = { λ bytes a b. nat_list_eq_equiv.congr bytes.now a b };
+
+    fn equivalent(&self, name: &Name) -> bool {
+        *self == name.bytes()
     }
 }
 

@@ -126,12 +126,14 @@ pub struct OpenBlock {
     pub label: Option<Name>,
 }
 
-/// How the reading of a source ended.
+/// How the reading of a source ended: at its end, at a read that failed, at one byte more than may come, or, where a
+/// run stops early, once the verdict was certain.
 #[derive(Clone, Copy, Debug, PartialEq, Eq)]
 pub enum Ending {
     Whole,
     Broken,
     TooLarge,
+    Stopped,
 }
 
 /// What is said of a source: the verdict on its trace, or how many bytes came before a read failed,

@@ -1,6 +1,6 @@
 -- Standard input, as a run leaves it.
-use Rattle.std.proofs.Common.{◌≡◌, ◌∙◌, ℕ, List, [], ◌∷◌, ◌++◌, length, length-append, map, Option, Some, ap, sym, refl, arith}
-use Rattle.std.specs.Prelude.{slice_get}
+use Rattle.std.proofs.Common.{◌≡◌, ◌∙◌, ℕ, List, [], ◌∷◌, ◌++◌, length, length-append, map, Option, None, Some, ap, sym, refl, arith, true≢false}
+use Rattle.std.specs.Prelude.{IsSome, is_some, option_map, slice_get, true}
 use Rattle.std.proofs.Math.Logic.{∥∥₁_elim}
 use Rattle.std.proofs.lemmas.Grind.{merely}
 use Rattle.std.proofs.lemmas.List.{length-map}
@@ -14,7 +14,7 @@ use Rattle.aero_program.specs.declared.stamp.Stamp.{Stamp}
 use Rattle.aero_program.specs.Executed.{IsLeftBy, IsLeftOf, seen_in}
 use Rattle.aero_program.specs.Inputs.{Standing, Standard, Unopened, Reading, Ended, Failed, IsStandardOf, bytes_left, standing_of}
 use Rattle.aero_program.specs.Led.{IsLed, StaysStream, place_of, sight_at}
-use Rattle.aero_program.specs.Sightings.{AreNames, source_sightings}
+use Rattle.aero_program.specs.Sightings.{AreNames, IsLeftBeside, source_sightings}
 
 pub the_some : {A : Type 0} (x y : A) → Some x ≡ Some y → x ≡ y
 the_some x y p = cc p
@@ -22,20 +22,24 @@ the_some x y p = cc p
 the_head : {A : Type 0} (x y : A) (xs ys : List A) → x ∷ xs ≡ y ∷ ys → x ≡ y
 the_head x y xs ys p = cc p
 
--- where standard input is the source, it is the one, and its reader was made for it
-pub left_by : (paths : List ℕ → Option (List ℕ)) (labels : List (List ℕ)) (files : Sources) (given : Option (List ℕ)) (names : List (List ℕ)) (new : List Sighted) (left : Option Seen)
+-- Where standard input is the source, it is the one, and its reader was made for it. Else it is left as beside the sources.
+pub left_by : (paths : List ℕ → Option (List ℕ)) (labels : List (List ℕ)) (files : Sources) (given : Option (List ℕ)) (names : List (List ℕ)) (new : List Sighted) (rest left : Option Seen)
+    → IsLeftBeside files given rest → (is_some rest ≡ true → left ≡ rest)
     → map whose new ≡ map whose (source_sightings paths labels files given names) → AreNames paths files given names
-    → (length new ≡ 1 → (s : Sighted) → slice_get new 0 ≡ Some s → IsLeftOf s left) → IsLeftBy files new left
-left_by paths labels (sources.Files words) given names new left kept named of_one = tt
-left_by paths labels (sources.Listed path) given names new left kept named of_one = tt
-left_by paths labels (sources.Standard name) given names [] left kept named of_one = λ s at. absurd (cc)
-left_by paths labels (sources.Standard name) given names (x ∷ more) left kept named of_one = λ s at.
+    → (rest ≡ None → length new ≡ 1 → (s : Sighted) → slice_get new 0 ≡ Some s → IsLeftOf s left) → IsLeftBy files given new left
+left_by paths labels (sources.Files words) given names new rest left beside same kept named of_one = same (ap is_some beside) ∙ beside
+left_by paths labels (sources.Listed path) given names new rest left beside same kept named of_one = record {
+  stream = λ is. let read = beside.stream is in (read.0, same (ap is_some read.1) ∙ read.1, read.2, read.3);
+  file = λ is. same (ap is_some (beside.file is)) ∙ beside.file is;
+}
+left_by paths labels (sources.Standard name) given names [] rest left beside same kept named of_one = λ s at. absurd (cc)
+left_by paths labels (sources.Standard name) given names (x ∷ more) rest left beside same kept named of_one = λ s at.
     let made : Origin = record { place = Stream; labels = labels } in
     let one = kept ∙ ap (λ ns. map whose (source_sightings paths labels (sources.Standard name) given ns)) named in
     let count : length (x ∷ more) ≡ 1 = sym (length-map (x ∷ more) whose) ∙ ap length one in
     let first : origin_in x.reader ≡ Some made = ap (λ (w : List ℕ × Option Origin). w.1) (the_head (whose x) _ (map whose more) [] one) in
-    let same : x ≡ s = the_some x s at in
-    of_one count s at made (ap (λ (y : Sighted). origin_in y.reader) (sym same) ∙ first) refl
+    let is : x ≡ s = the_some x s at in
+    of_one beside count s at made (ap (λ (y : Sighted). origin_in y.reader) (sym is) ∙ first) refl
 
 -- a stream that has failed and found the end so often is seen so
 seen_as : (bytes : Option (List ℕ)) (reader : Seen) (faults ends : ℕ) → bytes ≡ reader.bytes → reader.faults ≡ faults → reader.ends ≡ ends
@@ -68,3 +72,12 @@ left_of stdin known file can_fail holds first now given faults ends left is led 
 pub one_source : {A : Type 0} (f : A → Sighted) (all front : List A) (last : A) (s : Sighted) → all ≡ front ++ last ∷ [] → length all ≡ 1 → slice_get (map f all) 0 ≡ Some s → f last ≡ s
 one_source f all [] last s is one at = the_some (f last) s (sym (ap (λ l. slice_get (map f l) 0) is) ∙ at)
 one_source f all (x ∷ front) last s is one at = absurd (let long = ap length is in let more = length-append front (last ∷ []) in omega (arith, long, more, one))
+
+-- what was kept of an option is kept of what is seen of it
+pub rest_kept : {A B : Type 0} (f : A → B) (rest result : Option A) → (IsSome rest → result ≡ rest) → is_some (option_map f rest) ≡ true → option_map f result ≡ option_map f rest
+rest_kept f None result kept is = absurd (true≢false (sym is))
+rest_kept f (Some x) result kept is = ap (option_map f) (kept refl)
+
+pub rest_none : {A B : Type 0} (f : A → B) (rest : Option A) → option_map f rest ≡ None → rest ≡ None
+rest_none f None is = refl
+rest_none f (Some x) is = cc (is)

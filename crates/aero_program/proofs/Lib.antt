@@ -1,9 +1,12 @@
+mod Closed
+mod Executing
 mod Faulting
 mod Fronts
 mod Gathering
 mod Helping
 mod Interruptions
 mod Judged
+mod LabelLines
 mod Labelling
 mod Leading
 mod Looking

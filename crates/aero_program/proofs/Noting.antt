@@ -10,25 +10,26 @@ use Rattle.std.proofs.lemmas.List.{append-nil, map-append}
 use Rattle.std.proofs.lemmas.Grind.{flat_map-append}
 use Rattle.aero_model.specs.declared.verdict.Ending.{Ending}
 use Rattle.aero_batch.specs.declared.outcome.FaultyLine.{FaultyLine}
+use Rattle.aero_batch.specs.declared.outcome.Notable.{Notable}
 use Rattle.aero_intake.specs.declared.source.SourceOf.{SourceOf}
 use Rattle.aero_report.specs.Options.{Note}
 use Rattle.aero_program.specs.declared.input.Input.{Input}
 use Rattle.aero_program.specs.declared.stamp.Stamp.{Stamp}
-use Rattle.aero_program.specs.Notes.{AreFaulty, AreNoted, AreNotes, AreShown, GrowsBy, Noted, Remark, fault_told, missing_in_each, note_items, noted_of, noted_of_all, notes_on, was_too_large}
+use Rattle.aero_program.specs.Notes.{AreNotable, AreNoted, AreNotes, AreShown, GrowsBy, Noted, Remark, faulty_in, is_unchecked, notable_told, missing_in_each, note_items, noted_of, noted_of_all, notes_on, was_too_large}
 use Rattle.aero_program.specs.Looks.{ShowsAs}
 use Rattle.aero_faults.specs.declared.look.Look.TheVariants.{Nothing}
 
-pub one_more : {R S O F : Type 0} (input : R → Input S O F) (unused : R → List (List ℕ)) (words : Bool) (sources : List (SourceOf R)) (source : SourceOf R) (endings : List (ℕ × Ending)) (faults : List (Option FaultyLine))
-    → noted_of_all input unused words (sources ++ source ∷ []) endings faults
-    ≡ noted_of_all input unused words sources endings faults ++ noted_of input unused words source (was_too_large (slice_get endings (length sources))) (fault_told (slice_get faults (length sources))) ∷ []
+pub one_more : {R S O F : Type 0} (input : R → Input S O F) (unused : R → List (List ℕ)) (words : Bool) (sources : List (SourceOf R)) (source : SourceOf R) (endings : List (ℕ × Ending)) (notables : List (Option Notable))
+    → noted_of_all input unused words (sources ++ source ∷ []) endings notables
+    ≡ noted_of_all input unused words sources endings notables ++ noted_of input unused words source (was_too_large (slice_get endings (length sources))) (notable_told (slice_get notables (length sources))) ∷ []
 one_more input unused words [] source [] [] = refl
-one_more input unused words [] source [] (fault ∷ faults) = refl
+one_more input unused words [] source [] (notable ∷ notables) = refl
 one_more input unused words [] source (ending ∷ rest) [] = refl
-one_more input unused words [] source (ending ∷ rest) (fault ∷ faults) = refl
+one_more input unused words [] source (ending ∷ rest) (notable ∷ notables) = refl
 one_more input unused words (first ∷ more) source [] [] = ap (λ l. noted_of input unused words first false None ∷ l) (one_more input unused words more source [] [])
-one_more input unused words (first ∷ more) source [] (fault ∷ faults) = ap (λ l. noted_of input unused words first false fault ∷ l) (one_more input unused words more source [] faults)
+one_more input unused words (first ∷ more) source [] (notable ∷ notables) = ap (λ l. noted_of input unused words first false notable ∷ l) (one_more input unused words more source [] notables)
 one_more input unused words (first ∷ more) source (ending ∷ rest) [] = ap (λ l. noted_of input unused words first (was_too_large (Some ending)) None ∷ l) (one_more input unused words more source rest [])
-one_more input unused words (first ∷ more) source (ending ∷ rest) (fault ∷ faults) = ap (λ l. noted_of input unused words first (was_too_large (Some ending)) fault ∷ l) (one_more input unused words more source rest faults)
+one_more input unused words (first ∷ more) source (ending ∷ rest) (notable ∷ notables) = ap (λ l. noted_of input unused words first (was_too_large (Some ending)) notable ∷ l) (one_more input unused words more source rest notables)
 
 -- nothing is told of no sources
 pub no_notes : (holds : List ℕ → Stamp → Option (List ℕ) → Type 0) → AreNotes holds [] []
@@ -51,9 +52,11 @@ notes_grown holds noted n old new before grows =
     }
 
 -- the notes on a source
-pub four_parts : (old a b c d one two three four : List Note) → one ≡ old ++ a → two ≡ one ++ b → three ≡ two ++ c → four ≡ three ++ d → four ≡ old ++ (a ++ (b ++ (c ++ d)))
-four_parts old a b c d one two three four p q r s =
-    s ∙ ap (λ l. l ++ d) (r ∙ ap (λ l. l ++ c) (q ∙ ap (λ l. l ++ b) p)) ∙ append_assoc ((old ++ a) ++ b) c d ∙ append_assoc (old ++ a) b (c ++ d) ∙ append_assoc old a (b ++ (c ++ d))
+pub five_parts : (old a b c d e one two three four five : List Note) → one ≡ old ++ a → two ≡ one ++ b → three ≡ two ++ c → four ≡ three ++ d → five ≡ four ++ e
+    → five ≡ old ++ (a ++ (b ++ (c ++ (d ++ e))))
+five_parts old a b c d e one two three four five p q r s t =
+    t ∙ ap (λ l. l ++ e) (s ∙ ap (λ l. l ++ d) (r ∙ ap (λ l. l ++ c) (q ∙ ap (λ l. l ++ b) p))) ∙ append_assoc (((old ++ a) ++ b) ++ c) d e
+    ∙ append_assoc ((old ++ a) ++ b) c (d ++ e) ∙ append_assoc (old ++ a) b (c ++ (d ++ e)) ∙ append_assoc old a (b ++ (c ++ (d ++ e)))
 
 abbrev large_in : Option Noted → Bool
 large_in None = false
@@ -67,29 +70,33 @@ abbrev fault_in : Option Noted → Option FaultyLine
 fault_in None = None
 fault_in (Some noted) = noted.fault
 
-pub are_noted : {R S O F : Type 0} (input : R → Input S O F) (unused : R → List (List ℕ)) (words : Bool) (sources : List (SourceOf R)) (endings : List (ℕ × Ending)) (faults : List (Option FaultyLine))
-    → AreNoted words endings (noted_of_all input unused words sources endings faults)
-are_noted input unused words [] endings faults at n is = absurd (cc)
+abbrev unchecked_in : Option Noted → Bool
+unchecked_in None = false
+unchecked_in (Some noted) = noted.unchecked
+
+pub are_noted : {R S O F : Type 0} (input : R → Input S O F) (unused : R → List (List ℕ)) (words : Bool) (sources : List (SourceOf R)) (endings : List (ℕ × Ending)) (notables : List (Option Notable))
+    → AreNoted words endings (noted_of_all input unused words sources endings notables)
+are_noted input unused words [] endings notables at n is = absurd (cc)
 are_noted input unused words (source ∷ more) [] [] zero n is = (sym (ap large_in is), sym (ap (word_in words) is))
 are_noted input unused words (source ∷ more) [] [] (suc at) n is = are_noted input unused words more [] [] at n is
-are_noted input unused words (source ∷ more) [] (fault ∷ faults) zero n is = (sym (ap large_in is), sym (ap (word_in words) is))
-are_noted input unused words (source ∷ more) [] (fault ∷ faults) (suc at) n is = are_noted input unused words more [] faults at n is
+are_noted input unused words (source ∷ more) [] (notable ∷ notables) zero n is = (sym (ap large_in is), sym (ap (word_in words) is))
+are_noted input unused words (source ∷ more) [] (notable ∷ notables) (suc at) n is = are_noted input unused words more [] notables at n is
 are_noted input unused words (source ∷ more) (ending ∷ rest) [] zero n is = (sym (ap large_in is), sym (ap (word_in words) is))
 are_noted input unused words (source ∷ more) (ending ∷ rest) [] (suc at) n is = are_noted input unused words more rest [] at n is
-are_noted input unused words (source ∷ more) (ending ∷ rest) (fault ∷ faults) zero n is = (sym (ap large_in is), sym (ap (word_in words) is))
-are_noted input unused words (source ∷ more) (ending ∷ rest) (fault ∷ faults) (suc at) n is = are_noted input unused words more rest faults at n is
+are_noted input unused words (source ∷ more) (ending ∷ rest) (notable ∷ notables) zero n is = (sym (ap large_in is), sym (ap (word_in words) is))
+are_noted input unused words (source ∷ more) (ending ∷ rest) (notable ∷ notables) (suc at) n is = are_noted input unused words more rest notables at n is
 
-pub are_faulty : {R S O F : Type 0} (input : R → Input S O F) (unused : R → List (List ℕ)) (words : Bool) (sources : List (SourceOf R)) (endings : List (ℕ × Ending)) (faults : List (Option FaultyLine))
-    → AreFaulty faults (noted_of_all input unused words sources endings faults)
-are_faulty input unused words [] endings faults at n is = absurd (cc)
-are_faulty input unused words (source ∷ more) [] [] zero n is = sym (ap fault_in is)
-are_faulty input unused words (source ∷ more) [] [] (suc at) n is = are_faulty input unused words more [] [] at n is
-are_faulty input unused words (source ∷ more) [] (fault ∷ faults) zero n is = sym (ap fault_in is)
-are_faulty input unused words (source ∷ more) [] (fault ∷ faults) (suc at) n is = are_faulty input unused words more [] faults at n is
-are_faulty input unused words (source ∷ more) (ending ∷ rest) [] zero n is = sym (ap fault_in is)
-are_faulty input unused words (source ∷ more) (ending ∷ rest) [] (suc at) n is = are_faulty input unused words more rest [] at n is
-are_faulty input unused words (source ∷ more) (ending ∷ rest) (fault ∷ faults) zero n is = sym (ap fault_in is)
-are_faulty input unused words (source ∷ more) (ending ∷ rest) (fault ∷ faults) (suc at) n is = are_faulty input unused words more rest faults at n is
+pub are_notable : {R S O F : Type 0} (input : R → Input S O F) (unused : R → List (List ℕ)) (words : Bool) (sources : List (SourceOf R)) (endings : List (ℕ × Ending)) (notables : List (Option Notable))
+    → AreNotable notables (noted_of_all input unused words sources endings notables)
+are_notable input unused words [] endings notables at n is = absurd (cc)
+are_notable input unused words (source ∷ more) [] [] zero n is = (sym (ap fault_in is), sym (ap unchecked_in is))
+are_notable input unused words (source ∷ more) [] [] (suc at) n is = are_notable input unused words more [] [] at n is
+are_notable input unused words (source ∷ more) [] (notable ∷ notables) zero n is = (sym (ap fault_in is), sym (ap unchecked_in is))
+are_notable input unused words (source ∷ more) [] (notable ∷ notables) (suc at) n is = are_notable input unused words more [] notables at n is
+are_notable input unused words (source ∷ more) (ending ∷ rest) [] zero n is = (sym (ap fault_in is), sym (ap unchecked_in is))
+are_notable input unused words (source ∷ more) (ending ∷ rest) [] (suc at) n is = are_notable input unused words more rest [] at n is
+are_notable input unused words (source ∷ more) (ending ∷ rest) (notable ∷ notables) zero n is = (sym (ap fault_in is), sym (ap unchecked_in is))
+are_notable input unused words (source ∷ more) (ending ∷ rest) (notable ∷ notables) (suc at) n is = are_notable input unused words more rest notables at n is
 
 -- what a look-up gives
 pub looked_up : {A : Type 0} (o : Option (Bor A)) (xs : List A) (i : ℕ) → is_some o ≡ nat_lt i (length xs) → IfSome o (λ x. x.now ≡ get_or xs i x.now) → option_copied o ≡ slice_get xs i
@@ -119,13 +126,13 @@ pub record ToldRemarks {V : Type 0} (holds : List ℕ → Stamp → Option (List
   pub shown : AreShown holds remarks
   pub told : IfSome notes (λ n. items n ≡ notes_on remarks)
 
-pub missing_noted : {R S O F : Type 0} (input : R → Input S O F) (unused : R → List (List ℕ)) (words : Bool) (sources : List (SourceOf R)) (endings : List (ℕ × Ending)) (faults : List (Option FaultyLine))
-    → map (λ n. n.missing) (noted_of_all input unused words sources endings faults) ≡ map (λ s. unused s.reader) sources
-missing_noted input unused words [] endings faults = refl
+pub missing_noted : {R S O F : Type 0} (input : R → Input S O F) (unused : R → List (List ℕ)) (words : Bool) (sources : List (SourceOf R)) (endings : List (ℕ × Ending)) (notables : List (Option Notable))
+    → map (λ n. n.missing) (noted_of_all input unused words sources endings notables) ≡ map (λ s. unused s.reader) sources
+missing_noted input unused words [] endings notables = refl
 missing_noted input unused words (source ∷ more) [] [] = ap (λ l. unused source.reader ∷ l) (missing_noted input unused words more [] [])
-missing_noted input unused words (source ∷ more) [] (fault ∷ faults) = ap (λ l. unused source.reader ∷ l) (missing_noted input unused words more [] faults)
+missing_noted input unused words (source ∷ more) [] (notable ∷ notables) = ap (λ l. unused source.reader ∷ l) (missing_noted input unused words more [] notables)
 missing_noted input unused words (source ∷ more) (ending ∷ rest) [] = ap (λ l. unused source.reader ∷ l) (missing_noted input unused words more rest [])
-missing_noted input unused words (source ∷ more) (ending ∷ rest) (fault ∷ faults) = ap (λ l. unused source.reader ∷ l) (missing_noted input unused words more rest faults)
+missing_noted input unused words (source ∷ more) (ending ∷ rest) (notable ∷ notables) = ap (λ l. unused source.reader ∷ l) (missing_noted input unused words more rest notables)
 
 told_on : {V : Type 0} (holds : List ℕ → Stamp → Option (List ℕ) → Type 0) (items : V → List Note) (noted : List Noted) (notes : Option V)
     → IfSome notes (λ n. AreNotes holds noted (items n)) → ToldRemarks holds items noted notes
@@ -134,13 +141,13 @@ told_on holds items noted None h = record { remarks = map unseen noted; are = un
 
 -- the notes on sources that are named so
 pub told_as : {R S O F V : Type 0} (input : R → Input S O F) (unused : R → List (List ℕ)) (holds : List ℕ → Stamp → Option (List ℕ) → Type 0) (items : V → List Note) (is words : Bool) (sources : List (SourceOf R))
-    (given : List (ℕ × Ending)) (faults : List (Option FaultyLine))
+    (given : List (ℕ × Ending)) (notables : List (Option Notable))
     → is ≡ words → (notes : Option V)
-    → IfSome notes (λ n. AreNotes holds (noted_of_all input unused is sources given faults) (items n))
-    → ToldRemarks holds items (noted_of_all input unused words sources given faults) notes
-told_as input unused holds items is words sources given faults known notes h =
-    told_on holds items (noted_of_all input unused words sources given faults) notes
-    (subst (λ w. IfSome notes (λ n. AreNotes holds (noted_of_all input unused w sources given faults) (items n))) known h)
+    → IfSome notes (λ n. AreNotes holds (noted_of_all input unused is sources given notables) (items n))
+    → ToldRemarks holds items (noted_of_all input unused words sources given notables) notes
+told_as input unused holds items is words sources given notables known notes h =
+    told_on holds items (noted_of_all input unused words sources given notables) notes
+    (subst (λ w. IfSome notes (λ n. AreNotes holds (noted_of_all input unused w sources given notables) (items n))) known h)
 
 -- labels and lists of missing ones
 

@@ -1,21 +1,22 @@
 -- What is told of sources whose bytes are known.
-use Rattle.std.proofs.Common.{◌≡◌, ◌∙◌, ◌+◌, ◌≤◌, ℕ, zero, suc, true, if◌then◌else◌, List, [], ◌∷◌, ◌++◌, length, length-append, take, Option, None, Some, IfSome, ap, ap₂, sym, subst, refl, arith, slice_get}
+use Rattle.std.proofs.Common.{◌≡◌, ◌∙◌, ◌+◌, ◌≤◌, ℕ, zero, suc, true, if◌then◌else◌, List, [], ◌∷◌, ◌++◌, length, length-append, take, Option, None, Some, IfSome, ap, ap₂, sym, subst, refl, arith, slice_get, inl, inr}
 use Rattle.std.proofs.Math.Logic.{∥∥₁_elim}
 use Rattle.std.proofs.lemmas.Grind.{merely}
 use Rattle.std.proofs.lemmas.List.{append-nil}
+use Rattle.std.specs.Prelude.{◌⊎◌}
 use Rattle.std.specs.Io.KnownBytes.{Consumes}
 use Rattle.aero_model.specs.declared.verdict.Ending.{Ending}
-use Rattle.aero_model.specs.declared.verdict.Ending.TheVariants.{Whole, Broken, TooLarge}
+use Rattle.aero_model.specs.declared.verdict.Ending.TheVariants.{Whole, Broken, TooLarge, Stopped}
 use Rattle.aero_batch.specs.Founds.{Found}
 use Rattle.aero_intake.specs.Source.{FitsLimit, NothingIsLeft, Origin, File, Sight, Trail, Trails, WasRead, is_broken}
-use Rattle.aero_verdict.specs.Finding.{Terms, IsFinding}
+use Rattle.aero_verdict.specs.Finding.{Terms, IsCertainFinding, IsFinding}
 use Rattle.aero_watch.specs.Watches.{unbegun}
 use Rattle.aero_program.specs.declared.command.Sources.{Sources}
 use Rattle.aero_program.specs.declared.command.Sources.TheVariants as sources
 use Rattle.aero_program.specs.declared.stamp.Stamp.{Stamp}
-use Rattle.aero_program.specs.Command.{are_words, listed_by}
+use Rattle.aero_program.specs.Command.{are_words}
 use Rattle.aero_program.specs.Executed.{terms_asked}
-use Rattle.aero_program.specs.Laws.{IsFrontOf, IsOfText, KnownBytesAreJudged, KnownFilesAreJudged}
+use Rattle.aero_program.specs.Laws.{IsFrontOf, IsOfFront, IsOfText, KnownBytesAreJudged, KnownFilesAreJudged}
 use Rattle.aero_program.specs.Led.{MayFailAt, reason_at}
 use Rattle.aero_program.specs.Notes.{IsNotedBy, IsNotedFrom, Noted}
 use Rattle.aero_program.specs.Sightings.{file_made, sightings, source_made}
@@ -31,7 +32,7 @@ front_of text bytes None ending came rest = absurd came
 front_of text bytes (Some left) ending came rest = record { left = left; is = came; whole = λ is. subst (λ e. NothingIsLeft e (Some left)) is rest }
 
 pub known_bytes_are_judged : KnownBytesAreJudged
-known_bytes_are_judged terms form last made names new before after endings faults counts cause ran place found text at is =
+known_bytes_are_judged terms form last made names new before after endings notables counts cause ran place found text at is =
     let here = ran.found place found at in
     let was : here.before.reader.bytes ≡ (made here.before.name).bytes = subst (λ o. IfSome o (λ s. s.reader.bytes ≡ (made s.name).bytes)) here.was (all_known made names place) in
     let bytes : here.before.reader.bytes ≡ Some text = was ∙ ap (λ n. (made n).bytes) (sym here.found_of.name) ∙ is in
@@ -49,9 +50,10 @@ made_for_word known labels (sources.Standard word) given name words = absurd (cc
 made_for_word known labels (sources.Files all) given name words = refl
 made_for_word known labels (sources.Listed path) given name words = absurd (cc)
 
--- a text that isn't too large, and of which no read failed, was read to its end
-whole_of : (text bytes : List ℕ) (limit : ℕ) (ending : Ending) → IsFrontOf text bytes ending → length text ≤ limit → FitsLimit limit ending (length bytes) → (ending ≡ Broken → ⊥) → (ending ≡ Whole) × (bytes ≡ text)
-whole_of text bytes limit Whole front few fits never = (refl, sym (front.is ∙ ap (λ l. bytes ++ l) (front.whole refl) ∙ append-nil bytes))
+-- a text that isn't too large, and of which no read failed, was read to its end, or was read no further
+whole_of : (text bytes : List ℕ) (limit : ℕ) (ending : Ending) → IsFrontOf text bytes ending → length text ≤ limit → FitsLimit limit ending (length bytes) → (ending ≡ Broken → ⊥) → ((ending ≡ Whole) × (bytes ≡ text)) ⊎ (ending ≡ Stopped)
+whole_of text bytes limit Stopped front few fits never = inr refl
+whole_of text bytes limit Whole front few fits never = inl (refl, sym (front.is ∙ ap (λ l. bytes ++ l) (front.whole refl) ∙ append-nil bytes))
 whole_of text bytes limit Broken front few fits never = absurd (never refl)
 whole_of text bytes limit TooLarge front few fits never = absurd (let long = ap length front.is ∙ length-append bytes front.left in omega (arith, long, few, fits))
 
@@ -62,31 +64,42 @@ trail_of origin bytes (Some t) trails = (t, refl, trails.0, trails.1)
 
 module _ (can_fail : List ℕ → Type 0) (holds : List ℕ → Stamp → Option (List ℕ) → Type 0) (known : List ℕ → Option (List ℕ)) (labels : List (List ℕ)) (terms : Terms)
     (found : Found) (n : Noted) (text : List ℕ) (after : Sight) (is : known found.name ≡ Some text) (never : can_fail found.name → ⊥) (few : length text ≤ terms.rules.limits.bytes)
-    (read : WasRead (file_made known labels found.name) after terms.rules.limits.bytes found.bytes found.ending) (finding : ∥ IsFinding found.bytes found.ending terms found.finding ∥₁) where
-  -- the source was read to its end, where no read of it may fail
-  of_text : (t : Trail) → t.origin ≡ record { place = File found.name; labels = labels } → t.given ≡ found.bytes → IsNotedFrom can_fail holds n after.faults t → IsOfText terms labels text found n
+    (read : WasRead (file_made known labels found.name) after terms.rules.limits.bytes found.bytes found.ending) (finding : IsFinding found.bytes found.ending terms found.finding) where
+  -- the source was read to its end, where no read of it may fail, or no further than is asked for
+  of_text : (t : Trail) → t.origin ≡ record { place = File found.name; labels = labels } → t.given ≡ found.bytes → IsNotedFrom can_fail holds n after.faults t →
+      IsOfText terms labels text found n ⊎ IsOfFront terms text found
   of_text t made came own =
       let at : t.origin.place ≡ File found.name = ap (λ (o : Origin). o.place) made in
       let front = front_of text found.bytes after.bytes found.ending (subst (λ b. Consumes b after.bytes found.bytes) is read.came) read.rest in
       let unbroken : found.ending ≡ Broken → ⊥ = λ broken.
       let failed : after.faults ≡ 1 = read.faults ∙ ap (λ (e : Ending). 0 + (if is_broken e then 1 else 0)) broken in
       never (subst (MayFailAt can_fail) at (own.may (omega (arith, failed)))) in
-      let ended = whole_of text found.bytes terms.rules.limits.bytes found.ending front few read.fits unbroken in
-      let none : after.faults ≡ 0 = read.faults ∙ ap (λ (e : Ending). 0 + (if is_broken e then 1 else 0)) ended.0 in
-      let all : t.given ≡ text = came ∙ ended.1 in
-      record {
-        bytes = ended.1;
-        ending = ended.0;
-        finding = subst (λ b. ∥ IsFinding b Whole terms found.finding ∥₁) ended.1 (subst (λ e. ∥ IsFinding found.bytes e terms found.finding ∥₁) ended.0 finding);
-        start = own.start ∙ ap (take 3) all;
-        reason = own.reason none ∙ ap reason_at at;
-        missing = own.missing ∙ ap₂ unbegun (ap (λ (o : Origin). o.labels) made) all;
-      }
+      elim (whole_of text found.bytes terms.rules.limits.bytes found.ending front few read.fits unbroken) [
+        | inl ended ↦
+            (let none : after.faults ≡ 0 = read.faults ∙ ap (λ (e : Ending). 0 + (if is_broken e then 1 else 0)) ended.0 in
+            let all : t.given ≡ text = came ∙ ended.1 in
+            inl (record {
+              bytes = ended.1;
+              ending = ended.0;
+              finding = merely (subst (λ b. IsFinding b Whole terms found.finding) ended.1 (subst (λ e. IsFinding found.bytes e terms found.finding) ended.0 finding));
+              start = own.start ∙ ap (take 3) all;
+              reason = own.reason none ∙ ap reason_at at;
+              missing = own.missing ∙ ap₂ unbegun (ap (λ (o : Origin). o.labels) made) all;
+            }))
+        | inr stopped ↦
+            (let certain : (terms.stop ≡ true) × IsCertainFinding found.bytes terms found.finding = subst (λ e. IsFinding found.bytes e terms found.finding) stopped finding in
+            inr (record {
+              asked_for = certain.0;
+              ending = stopped;
+              front = front;
+              finding = merely (subst (λ b. IsFinding b Whole terms found.finding) (sym front.is) (certain.1 front.left));
+            }))
+      ]
 
 pub known_files_are_judged : (can_fail : List ℕ → Type 0) (holds : List ℕ → Stamp → Option (List ℕ) → Type 0) → KnownFilesAreJudged can_fail holds
 known_files_are_judged can_fail holds known config given left shown shown_after told told_after status was place found n text words at noted_at is never few =
-    let labels : List (List ℕ) = (listed_by config.except.items config.only.items).labels in
-    let terms : Terms = terms_asked config was.limits in
+    let labels : List (List ℕ) = was.listed.labels in
+    let terms : Terms = terms_asked config was.listed was.limits in
     let here = was.ran.found place found at in
     let made : here.before.reader ≡ file_made known labels found.name =
     subst (λ o. IfSome o (λ s. s.reader ≡ source_made known labels config.files given s.name)) here.was (all_made (source_made known labels config.files given) was.names place)
@@ -94,4 +107,5 @@ known_files_are_judged can_fail holds known config given left shown shown_after 
     let read = subst (λ r. WasRead r here.after.reader was.limits.bytes found.bytes found.ending) made here.found_of.read in
     let trail = trail_of (record { place = File found.name; labels = labels }) found.bytes here.after.reader.trail read.trail in
     let own = subst (IsNotedBy can_fail holds n here.after.reader.faults) trail.1 (was.are_own place n here.after noted_at here.is) in
-    ∥∥₁_elim own squash₁ (λ o. merely (of_text can_fail holds known labels terms found n text here.after.reader is never few read here.found_of.finding trail.0 trail.2 trail.3 o))
+    ∥∥₁_elim own squash₁ (λ o. ∥∥₁_elim here.found_of.finding squash₁ (λ f.
+    merely (of_text can_fail holds known labels terms found n text here.after.reader is never few read f trail.0 trail.2 trail.3 o)))

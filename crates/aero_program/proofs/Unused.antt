@@ -5,7 +5,7 @@ use Rattle.std.specs.Prelude.{IfOk, IfSome, IsSome}
 use Rattle.aero_model.specs.declared.verdict.Ending.{Ending}
 use Rattle.aero_model.specs.CallCounts.{Seen}
 use Rattle.aero_batch.specs.declared.outcome.Cause.{Cause}
-use Rattle.aero_batch.specs.declared.outcome.FaultyLine.{FaultyLine}
+use Rattle.aero_batch.specs.declared.outcome.Notable.{Notable}
 use Rattle.aero_batch.specs.Founds.{Took}
 use Rattle.aero_batch.specs.Telling.{SumsUp}
 use Rattle.aero_intake.specs.declared.source.SourceOf.{SourceOf}
@@ -24,15 +24,15 @@ told_if false lists labels = refl
 
 -- what is found where nothing stopped the run
 pub found_labels : {R S O F V : Type 0} (input : R → Input S O F) (unbegun : R → List (List ℕ)) (unused : Option V) (names : V → List (List ℕ)) (stopped : Option Cause) (endings : List (ℕ × Ending)) (words : Bool) (sources : List (SourceOf R))
-    (given : List (ℕ × Ending)) (faults : List (Option FaultyLine)) (listed labels : List (List ℕ))
+    (given : List (ℕ × Ending)) (notables : List (Option Notable)) (listed labels : List (List ℕ))
     → IfSome unused (λ u. names u ≡ missing_in_each (map (λ s. unbegun s.reader) sources) listed) → listed ≡ (if all_read stopped endings then labels else [])
-    → stopped ≡ None → IfSome unused (λ u. names u ≡ labels_told None endings (noted_of_all input unbegun words sources given faults) labels)
-found_labels input unbegun None names stopped endings words sources given faults listed labels found are none = tt
-found_labels input unbegun (Some u) names stopped endings words sources given faults listed labels found are none =
+    → stopped ≡ None → IfSome unused (λ u. names u ≡ labels_told None endings (noted_of_all input unbegun words sources given notables) labels)
+found_labels input unbegun None names stopped endings words sources given notables listed labels found are none = tt
+found_labels input unbegun (Some u) names stopped endings words sources given notables listed labels found are none =
     let lists : List (List (List ℕ)) = map (λ s. unbegun s.reader) sources in
     found ∙ ap (missing_in_each lists) (are ∙ ap (λ o. if all_read o endings then labels else []) none)
     ∙ told_if (all_read None endings) lists labels
-    ∙ ap (λ ls. if all_read None endings then missing_in_each ls labels else []) (sym (missing_noted input unbegun words sources given faults))
+    ∙ ap (λ ls. if all_read None endings then missing_in_each ls labels else []) (sym (missing_noted input unbegun words sources given notables))
 
 -- where the run stopped before, no text goes out
 any_text : (text other : List ℕ) (stopped cause : Option Cause) (a b : Seen) → (stopped ≡ None → text ≡ other) → SumsUp text stopped a b cause → SumsUp other stopped a b cause
@@ -60,10 +60,10 @@ lines_told (Ok t) text (Some n) items lines_of notes some lines known = lines �
 
 -- and so have the lines beside the report, where nothing stopped it
 pub told_labels : {R S O F V N : Type 0} (input : R → Input S O F) (unbegun : R → List (List ℕ)) (unused : Option V) (items : V → List N) (name : N → List ℕ) (told : List N) (stopped cause : Option Cause) (endings : List (ℕ × Ending)) (words : Bool)
-    (sources : List (SourceOf R)) (given : List (ℕ × Ending)) (faults : List (Option FaultyLine)) (labels : List (List ℕ))
-    → (stopped ≡ None → IfSome unused (λ u. map name (items u) ≡ labels_told None endings (noted_of_all input unbegun words sources given faults) labels))
+    (sources : List (SourceOf R)) (given : List (ℕ × Ending)) (notables : List (Option Notable)) (labels : List (List ℕ))
+    → (stopped ≡ None → IfSome unused (λ u. map name (items u) ≡ labels_told None endings (noted_of_all input unbegun words sources given notables) labels))
     → (cause ≡ None → IsSome unused) → (cause ≡ None → stopped ≡ None) → (cause ≡ None → IfSome unused (λ u. told ≡ items u)) → IfSome cause (λ why. told ≡ [])
-    → map name told ≡ labels_told cause endings (noted_of_all input unbegun words sources given faults) labels
-told_labels input unbegun unused items name told stopped (Some why) endings words sources given faults labels found known whole are none = ap (map name) none
-told_labels input unbegun None items name told stopped None endings words sources given faults labels found known whole are none = absurd (true≢false (sym (known refl)))
-told_labels input unbegun (Some u) items name told stopped None endings words sources given faults labels found known whole are none = ap (map name) (are refl) ∙ found (whole refl)
+    → map name told ≡ labels_told cause endings (noted_of_all input unbegun words sources given notables) labels
+told_labels input unbegun unused items name told stopped (Some why) endings words sources given notables labels found known whole are none = ap (map name) none
+told_labels input unbegun None items name told stopped None endings words sources given notables labels found known whole are none = absurd (true≢false (sym (known refl)))
+told_labels input unbegun (Some u) items name told stopped None endings words sources given notables labels found known whole are none = ap (map name) (are refl) ∙ found (whole refl)

@@ -13,6 +13,9 @@ pub record AskAlike (one other : Config) : Type 0 where
   pub files : one.files ≡ other.files
   pub except : one.except ≡ other.except
   pub only : one.only ≡ other.only
+  pub except_from : one.except_from ≡ other.except_from
+  pub only_from : one.only_from ≡ other.only_from
+  pub stop : one.stop ≡ other.stop
   pub order : one.order ≡ other.order
   pub explain : one.explain ≡ other.explain
   pub long : one.long ≡ other.long

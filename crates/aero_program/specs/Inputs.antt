@@ -60,6 +60,10 @@ opened_of input = stage_opened input.stage
 abbrev pub unread : Option (List ℕ) → Seen
 unread bytes = record { bytes = bytes; faults = 0; ends = 0 }
 
+-- standard input that has these bytes, and of which nothing was read
+abbrev pub IsUntouched : (given : Option (List ℕ)) → (left : Option Seen) → Type 0
+IsUntouched given left = left ≡ Some (unread given)
+
 -- the bytes that an input has left, where they are known
 abbrev pub bytes_left : Standing → Option (List ℕ)
 bytes_left (Standard reader) = reader.bytes

@@ -1,12 +1,14 @@
 -- The names of files in a list, each ended by a byte 0.
-use Rattle.std.specs.Prelude.{◌≡◌, ◌<◌, ◌^◌, ℕ, ◌==◌, Bool, false, if◌then◌else◌, List, length, Option, Some, ⊤, codes}
+use Rattle.std.specs.Prelude.{◌≡◌, ◌<◌, ◌^◌, ℕ, ◌==◌, Bool, false, true, if◌then◌else◌, List, length, Option, Some, Result, Ok, Err, ⊤, codes}
 use Rattle.std.specs.Io.KnownBytes.{Consumes, IsAtEnd}
 use Rattle.std.specs.List.{slice_split}
 use Rattle.std.specs.Str.{bytes_eq}
+use Rattle.aero_model.specs.CallCounts.{Seen}
 use Rattle.aero_model.specs.Lines.{without_empty_last}
 use Rattle.aero_program.specs.declared.listing.Unlisted.{Unlisted}
 use Rattle.aero_program.specs.declared.listing.Unlisted.TheVariants.{Unread, TooMany, Memory}
 use Rattle.aero_program.specs.declared.reason.Reason.{Reason}
+use Rattle.aero_program.specs.Inputs.{Standing, Standard, Unopened, Reading, Ended, Failed, IsUntouched}
 
 abbrev pub is_name_end : ℕ → Bool
 is_name_end b = b == 0
@@ -47,3 +49,44 @@ abbrev pub IsFaultOf : (may_fail : Type 0) → (given : Option (List ℕ)) → O
 IsFaultOf may_fail given reason (Unread why) = may_fail × (reason ≡ Some why)
 IsFaultOf may_fail given reason TooMany = HasTooMany given
 IsFaultOf may_fail given reason Memory = ⊤
+
+-- the reads of a stream from which a list was to be read: the end was found and none failed, or one failed, or none did and there were too many names
+abbrev pub IsReadFor : {A : Type 0} → (before after : Seen) → Result A Unlisted → Type 0
+IsReadFor before after (Ok a) = (after.faults ≡ before.faults) × (before.ends < after.ends)
+IsReadFor before after (Err (Unread why)) = before.faults < after.faults
+IsReadFor before after (Err TooMany) = after.faults ≡ before.faults
+IsReadFor before after (Err Memory) = ⊤
+
+-- how an input stands from which a list was to be read: standard input is that still
+abbrev pub StandsAfter : {A : Type 0} → (before after : Standing) → Result A Unlisted → Type 0
+StandsAfter (Standard before) after result = (stream : Seen) × (after ≡ Standard stream) × IsReadFor before stream result
+StandsAfter (Unopened path left) after result = ⊤
+StandsAfter (Reading left) after result = ⊤
+StandsAfter Ended after result = ⊤
+StandsAfter (Failed left) after result = ⊤
+
+-- a stream was read to its end, and no read failed
+abbrev pub IsReadOut : (left : Option Seen) → Type 0
+IsReadOut left = (stream : Seen) × (left ≡ Some stream) × (stream.faults ≡ 0) × (0 < stream.ends)
+
+-- How standard input is left, where a list at this path has the names: one in standard input, which is at `-`, was read to its end, and for one in a file nothing was read of it.
+pub record IsLeftByList (path : List ℕ) (given : Option (List ℕ)) (left : Option Seen) : Type 0 where
+  pub stream : bytes_eq path (codes "-") ≡ true → IsReadOut left
+  pub file : bytes_eq path (codes "-") ≡ false → IsUntouched given left
+
+-- how a stream is left that has no list: a read has failed, or none has and there were too many names
+abbrev pub IsCutFor : Unlisted → (left : Option Seen) → Type 0
+IsCutFor (Unread why) left = (stream : Seen) × (left ≡ Some stream) × (0 < stream.faults)
+IsCutFor TooMany left = (stream : Seen) × (left ≡ Some stream) × (stream.faults ≡ 0)
+IsCutFor Memory left = ⊤
+
+-- nothing was read of standard input, unless memory was refused
+abbrev pub IsUntouchedFor : Unlisted → (given : Option (List ℕ)) → (left : Option Seen) → Type 0
+IsUntouchedFor (Unread why) given left = IsUntouched given left
+IsUntouchedFor TooMany given left = IsUntouched given left
+IsUntouchedFor Memory given left = ⊤
+
+-- how standard input is left, where the list at this path couldn't be had
+pub record IsLeftByFault (path : List ℕ) (given : Option (List ℕ)) (why : Unlisted) (left : Option Seen) : Type 0 where
+  pub stream : bytes_eq path (codes "-") ≡ true → IsCutFor why left
+  pub file : bytes_eq path (codes "-") ≡ false → IsUntouchedFor why given left

@@ -1,5 +1,5 @@
 -- What is told of the sources beside their lines, and the lines of it on standard error, each with the byte 10 that ends it.
-use Rattle.std.specs.Prelude.{◌≡◌, ◌==◌, ◌&&◌, ℕ, Bool, true, false, List, [], ◌∷◌, ◌++◌, Option, None, Some, codes, decimal, bytes_eq, flat_map, is_some, map, take, ⊤, ◌<◌, if◌then◌else◌, slice_get}
+use Rattle.std.specs.Prelude.{◌≡◌, ◌==◌, ◌&&◌, ℕ, ◌-◌, Bool, true, false, List, [], ◌∷◌, ◌++◌, length, Option, None, Some, codes, decimal, bytes_eq, flat_map, is_some, map, take, ⊤, ◌<◌, if◌then◌else◌, slice_get}
 use Rattle.std.specs.List.{filter, list_all, list_any}
 use Rattle.aero_model.specs.declared.verdict.Ending.{Ending}
 use Rattle.aero_model.specs.declared.verdict.Ending.TheVariants as endings
@@ -7,6 +7,8 @@ use Rattle.aero_batch.specs.declared.outcome.Cause.{Cause}
 use Rattle.aero_batch.specs.declared.outcome.Fault.{Fault}
 use Rattle.aero_batch.specs.declared.outcome.Fault.TheVariants.{Malformed, IllFormed}
 use Rattle.aero_batch.specs.declared.outcome.FaultyLine.{FaultyLine}
+use Rattle.aero_batch.specs.declared.outcome.Notable.{Notable}
+use Rattle.aero_batch.specs.declared.outcome.Notable.TheVariants.{Faulty, Unchecked}
 use Rattle.aero_faults.specs.declared.look.Look.{Look}
 use Rattle.aero_faults.specs.Sentences.{line_sentence, shape_sentence}
 use Rattle.aero_batch.specs.Founds.{Sighted}
@@ -25,13 +27,14 @@ use Rattle.aero_program.specs.Reasons.{reason_words}
 use Rattle.aero_program.specs.Starts.{byte_order_mark, gzip_mark}
 use Rattle.aero_watch.specs.Watches.{unbegun}
 
--- what was noted of a source: its name, whether that is a FILE word, the first three bytes that came, why the first read that failed did, whether it had more bytes than a source may have that isn't long, its faulty line, the stamp that its file had when it was opened, and the labels that it was watched for and with which no line that came begins a block
+-- what was noted of a source: its name, whether that is a FILE word, the first three bytes that came, why the first read that failed did, whether it had more bytes than a source may have that isn't long, whether there was no block to check in it, its faulty line, the stamp that its file had when it was opened, and the labels that it was watched for and with which no line that came begins a block
 pub record Noted : Type 0 where
   pub name : List ℕ
   pub is_word : Bool
   pub start : List ℕ
   pub reason : Option Reason
   pub too_large : Bool
+  pub unchecked : Bool
   pub fault : Option FaultyLine
   pub opened : Option Stamp
   pub missing : List (List ℕ)
@@ -41,30 +44,43 @@ abbrev pub was_too_large : Option (ℕ × Ending) → Bool
 was_too_large (Some (bytes, endings.TooLarge)) = true
 was_too_large ending = false
 
--- the faulty line of a source, of which this was told; of one that the run didn't come to none was
-abbrev pub fault_told : Option (Option FaultyLine) → Option FaultyLine
-fault_told None = None
-fault_told (Some fault) = fault
+-- what a run noted of a source beside its line; of one that the run didn't come to it noted nothing
+abbrev pub notable_told : Option (Option Notable) → Option Notable
+notable_told None = None
+notable_told (Some notable) = notable
 
-abbrev pub noted_of : {R S O F : Type 0} → (input : R → Input S O F) → (unused : R → List (List ℕ)) → (are_words : Bool) → SourceOf R → (too_large : Bool) → Option FaultyLine → Noted
-noted_of input unused are_words source too_large fault = record {
+-- the faulty line of a source of which this was noted
+abbrev pub faulty_in : Option Notable → Option FaultyLine
+faulty_in None = None
+faulty_in (Some (Faulty line)) = Some line
+faulty_in (Some Unchecked) = None
+
+-- whether there was no block to check in it
+abbrev pub is_unchecked : Option Notable → Bool
+is_unchecked None = false
+is_unchecked (Some (Faulty line)) = false
+is_unchecked (Some Unchecked) = true
+
+abbrev pub noted_of : {R S O F : Type 0} → (input : R → Input S O F) → (unused : R → List (List ℕ)) → (are_words : Bool) → SourceOf R → (too_large : Bool) → Option Notable → Noted
+noted_of input unused are_words source too_large notable = record {
   name = source.name.items;
   is_word = are_words;
   start = start_of (input source.reader);
   reason = reason_of (input source.reader);
   too_large = too_large;
-  fault = fault;
+  unchecked = is_unchecked notable;
+  fault = faulty_in notable;
   opened = opened_of (input source.reader);
   missing = unused source.reader;
 }
 
--- what was noted of the sources, whose names are FILE words, or none is, whose readings ended so, and of which these faulty lines were told, as far as the run came
-abbrev pub noted_of_all : {R S O F : Type 0} → (input : R → Input S O F) → (unused : R → List (List ℕ)) → (are_words : Bool) → List (SourceOf R) → List (ℕ × Ending) → List (Option FaultyLine) → List Noted
-noted_of_all input unused are_words [] endings faults = []
+-- what was noted of the sources, whose names are FILE words, or none is, whose readings ended so, and of which this was noted beside their lines, as far as the run came
+abbrev pub noted_of_all : {R S O F : Type 0} → (input : R → Input S O F) → (unused : R → List (List ℕ)) → (are_words : Bool) → List (SourceOf R) → List (ℕ × Ending) → List (Option Notable) → List Noted
+noted_of_all input unused are_words [] endings notables = []
 noted_of_all input unused are_words (source ∷ more) [] [] = noted_of input unused are_words source false None ∷ noted_of_all input unused are_words more [] []
-noted_of_all input unused are_words (source ∷ more) [] (fault ∷ faults) = noted_of input unused are_words source false fault ∷ noted_of_all input unused are_words more [] faults
+noted_of_all input unused are_words (source ∷ more) [] (notable ∷ notables) = noted_of input unused are_words source false notable ∷ noted_of_all input unused are_words more [] notables
 noted_of_all input unused are_words (source ∷ more) (ending ∷ rest) [] = noted_of input unused are_words source (was_too_large (Some ending)) None ∷ noted_of_all input unused are_words more rest []
-noted_of_all input unused are_words (source ∷ more) (ending ∷ rest) (fault ∷ faults) = noted_of input unused are_words source (was_too_large (Some ending)) fault ∷ noted_of_all input unused are_words more rest faults
+noted_of_all input unused are_words (source ∷ more) (ending ∷ rest) (notable ∷ notables) = noted_of input unused are_words source (was_too_large (Some ending)) notable ∷ noted_of_all input unused are_words more rest notables
 
 -- the sources were noted as too large whose readings ended so, and all as FILE words, or none
 abbrev pub AreNoted : (are_words : Bool) → List (ℕ × Ending) → List Noted → Type 0
@@ -91,9 +107,11 @@ abbrev pub AreOwn : (can_fail : List ℕ → Type 0) → (holds : List ℕ → S
 AreOwn can_fail holds sources noted =
     (at : ℕ) (n : Noted) (s : Sighted) → slice_get noted at ≡ Some n → slice_get sources at ≡ Some s → IsNotedBy can_fail holds n s.reader.faults s.reader.trail
 
--- the sources were noted with the faulty lines that were told
-abbrev pub AreFaulty : List (Option FaultyLine) → List Noted → Type 0
-AreFaulty faults noted = (at : ℕ) (n : Noted) → slice_get noted at ≡ Some n → n.fault ≡ fault_told (slice_get faults at)
+-- the sources were noted with what a run noted of them beside their lines
+abbrev pub AreNotable : List (Option Notable) → List Noted → Type 0
+AreNotable notables noted =
+    (at : ℕ) (n : Noted) → slice_get noted at ≡ Some n
+    → (n.fault ≡ faulty_in (notable_told (slice_get notables at))) × (n.unchecked ≡ is_unchecked (notable_told (slice_get notables at)))
 
 -- bytes that others chose, as they are told: a terminal is shown no control characters of theirs
 abbrev pub said_on : (terminal : Bool) → List ℕ → List ℕ
@@ -129,6 +147,11 @@ abbrev pub size_notes : List ℕ → (too_large : Bool) → List Note
 size_notes name true = note_at name None (codes "over 1073741824 bytes: --long accepts inputs of any size") ∷ []
 size_notes name false = []
 
+-- that a source is serializable says nothing where there was no block to check
+abbrev pub block_notes : List ℕ → (unchecked : Bool) → List Note
+block_notes name true = note_at name None (codes "nothing was checked: no block begins, or each one is left out by its label") ∷ []
+block_notes name false = []
+
 -- what is told of a faulty line, by what a second look showed
 abbrev pub sentence_of : Fault → Look → List ℕ
 sentence_of (Malformed fault) look = line_sentence fault look
@@ -162,7 +185,7 @@ note_items remark =
     let noted = remark.noted in
     let sentence = sentence_on (bytes_eq (take 2 noted.start) gzip_mark) noted.fault remark.look in
     mark_notes noted.name (bytes_eq noted.start byte_order_mark)
-    ++ (reason_notes noted.is_word noted.name noted.reason ++ (size_notes noted.name noted.too_large ++ fault_notes noted.name noted.fault sentence))
+    ++ (reason_notes noted.is_word noted.name noted.reason ++ (size_notes noted.name noted.too_large ++ (block_notes noted.name noted.unchecked ++ fault_notes noted.name noted.fault sentence)))
 
 -- the notes on all sources, in order
 abbrev pub notes_on : List Remark → List Note
@@ -197,6 +220,7 @@ abbrev pub is_whole : Ending → Bool
 is_whole endings.Whole = true
 is_whole endings.Broken = false
 is_whole endings.TooLarge = false
+is_whole endings.Stopped = false
 
 -- whether a run that stopped for this cause, or for none, read each source to its end
 abbrev pub all_read : Option Cause → List (ℕ × Ending) → Bool
@@ -210,9 +234,13 @@ labels_told cause endings noted labels = if all_read cause endings then missing_
 abbrev pub label_line : (on_terminal : Bool) → List ℕ → List ℕ
 label_line on_terminal label = codes "aerodrome: no block begins with begin(" ++ said_on on_terminal label ++ codes ")" ++ 10 ∷ []
 
--- the lines on labels, in order
+-- the line on so many labels that have none of their own, where there are any
+abbrev pub more_line : ℕ → List ℕ
+more_line more = if more == 0 then [] else codes "aerodrome: no block begins with " ++ (decimal more ++ (codes " more of the labels" ++ 10 ∷ []))
+
+-- the lines on the first ten labels, in order, and the one on the others
 abbrev pub label_lines : (on_terminal : Bool) → List (List ℕ) → List ℕ
-label_lines on_terminal labels = flat_map (label_line on_terminal) labels
+label_lines on_terminal labels = flat_map (label_line on_terminal) (take 10 labels) ++ more_line (length labels - 10)
 
 -- notes to which those on a source were added of which this was noted
 pub record GrowsBy (holds : List ℕ → Stamp → Option (List ℕ) → Type 0) (old new : List Note) (noted : Noted) : Type 0 where

@@ -2,6 +2,7 @@
 use Rattle.std.specs.Prelude.{◌≡◌, ℕ, if◌then◌else◌, List, [], ◌∷◌, map, Option, Some, None, ⊤, codes, option_map, string_bytes, unwrap_or}
 use Rattle.std.specs.Str.{is_utf8}
 use Rattle.aero_batch.specs.Founds.{Sighted}
+use Rattle.aero_model.specs.CallCounts.{Seen}
 use Rattle.aero_intake.specs.Source.{File, Nowhere, Place, Sight, Stream}
 use Rattle.aero_program.specs.declared.command.Sources.{Sources}
 use Rattle.aero_program.specs.declared.command.Sources.TheVariants as sources
@@ -9,8 +10,8 @@ use Rattle.aero_program.specs.declared.listing.Unlisted.{Unlisted}
 use Rattle.aero_program.specs.declared.listing.Unlisted.TheVariants as unlisted
 use Rattle.aero_program.specs.declared.reason.Reason.{Reason}
 use Rattle.aero_program.specs.declared.reason.Reason.TheVariants.{NotUtf8}
-use Rattle.aero_program.specs.Inputs.{Standing, Standard, Failed, unopened, unread}
-use Rattle.aero_program.specs.Listing.{IsListFault, IsWhole, MayFailListed, list_given, names_in}
+use Rattle.aero_program.specs.Inputs.{IsUntouched, Standing, Standard, Failed, unopened, unread}
+use Rattle.aero_program.specs.Listing.{IsLeftByFault, IsLeftByList, IsListFault, IsWhole, MayFailListed, list_given, names_in}
 
 -- the names, in order: that of standard input, or `-`, the words, or what stands in the list; `known` says which bytes each file has that is opened at a path, and `given` is what standard input has, where these are known
 abbrev pub AreNames : (known : List ℕ → Option (List ℕ)) → Sources → (given : Option (List ℕ)) → List (List ℕ) → Type 0
@@ -67,3 +68,15 @@ abbrev pub AreUnlisted : (known : List ℕ → Option (List ℕ)) → (can_fail 
 AreUnlisted known can_fail (sources.Listed path) given why = IsListFault (MayFailListed can_fail (string_bytes path)) (list_given known (string_bytes path) given) why
 AreUnlisted known can_fail sources given unlisted.Memory = ⊤
 AreUnlisted known can_fail sources given why = ⊥
+
+-- how standard input is left beside the sources: it is the source, or nothing was read of it, or a list was
+abbrev pub IsLeftBeside : Sources → (given : Option (List ℕ)) → (left : Option Seen) → Type 0
+IsLeftBeside (sources.Standard name) given left = left ≡ None
+IsLeftBeside (sources.Files words) given left = IsUntouched given left
+IsLeftBeside (sources.Listed path) given left = IsLeftByList (string_bytes path) given left
+
+-- how it is left where there are no sources; of one that is the source, or that nothing is read of, memory alone was refused then
+abbrev pub IsLeftUnlisted : Sources → (given : Option (List ℕ)) → Unlisted → (left : Option Seen) → Type 0
+IsLeftUnlisted (sources.Standard name) given why left = ⊤
+IsLeftUnlisted (sources.Files words) given why left = ⊤
+IsLeftUnlisted (sources.Listed path) given why left = IsLeftByFault (string_bytes path) given why left

@@ -1,5 +1,5 @@
 //! What a command line asks for, or why nothing is judged.
-ghost use Rattle.std.specs.Prelude.{◌≡◌, ◌<◌, ◌≤◌, ◌^◌, ◌&&◌, false, IfOk, length, map, nat_lt, string_bytes, vec_len};
+ghost use Rattle.std.specs.Prelude.{◌≡◌, ◌<◌, ◌≤◌, ◌^◌, ◌&&◌, ◌||◌, false, IfOk, length, map, nat_lt, string_bytes, unwrap_or, vec_len};
 ghost use Rattle.aero_program.specs.Command.{AreLimitsFor, are_counted, are_words, count_named, files_named, form_on, list_path, listed_by, shown_after};
 
 use crate::arguments::Unread;
@@ -19,9 +19,10 @@ const LONG_RUN: u64 = 2_000;
 
 /// What a command line asks for: 1 to 16 workers, reads of 1 to 1,048,576 bytes, the sources, of which
 /// it names 65,536 files at most, and at most 64 labels of blocks that are no transactions or, in their
-/// place, of the only blocks that are, both in the order of the words, whether the serial order is asked for, whether
-/// violations are to be explained, whether long sources are to be judged, the form of the report, and when the line on
-/// progress is shown.
+/// place, of the only blocks that are, both in the order of the words, at most 64 files with more of these labels,
+/// whether the serial order is asked for, whether violations are to be explained, whether long sources are to be judged,
+/// whether a source is read no further once its verdict is certain, the form of the report, and when the line on progress
+/// is shown.
 /// The serial orders of long sources aren't to be had: each source is kept for its order.
 #[derive(Drop)]
 pub struct Config {
@@ -30,9 +31,15 @@ pub struct Config {
     pub files: Sources,
     pub except: Vec<Name>,
     pub only: Vec<Name>,
+    /// The files with more labels of `except`.
+    pub except_from: Vec<String>,
+    /// The files with more labels of `only`.
+    pub only_from: Vec<String>,
     pub order: bool,
     pub explain: bool,
     pub long: bool,
+    /// Whether a source is read no further once its verdict is certain.
+    pub stop: bool,
     /// Whether open blocks make the exit status 1, as a violation does.
     pub fail_open: bool,
     pub form: Form,
@@ -47,7 +54,10 @@ pub struct Config {
     ghost most_files: { count_named files ≤ 2 ^ 16 },
     ghost most_labels: { vec_len except ≤ 64 },
     ghost most_only: { vec_len only ≤ 64 },
+    ghost most_except_files: { vec_len except_from ≤ 64 },
+    ghost most_only_files: { vec_len only_from ≤ 64 },
     ghost one_list: { (nat_lt 0 (vec_len except) && nat_lt 0 (vec_len only)) ≡ false },
+    ghost one_list_of_files: { ((nat_lt 0 (vec_len except) || nat_lt 0 (vec_len except_from)) && (nat_lt 0 (vec_len only) || nat_lt 0 (vec_len only_from))) ≡ false },
     ghost no_long_order: { (long && order) ≡ false },
 }
 
@@ -142,19 +152,24 @@ impl Config {
     }
 
     /// The plan of a run that does what is asked for, under the greatest limits, or those of long
-    /// sources where these are asked for, and what it is to judge. A text is one for a terminal where
-    /// standard output is one.
-    pub fn into_plan(self, alloc: Global) -> Result<(Plan, Sources), AllocError>
+    /// sources where these are asked for, and what it is to judge. If there is a set of labels, as `label_set` reads it, it
+    /// stands in the place of the labels of the options. A text is one for a terminal where standard output is one.
+    pub fn into_plan(
+        self,
+        alloc: Global,
+        set: Option<Except>,
+    ) -> Result<(Plan, Sources), AllocError>
         ensures workers { IfOk result (λ made. made.0.workers ≡ self.workers) }
         ensures piece { IfOk result (λ made. made.0.piece ≡ self.piece) }
         ensures limits { IfOk result (λ made. AreLimitsFor self.long made.0.terms.rules.limits) }
-        ensures except { IfOk result (λ made. made.0.terms.rules.labels ≡ listed_by self.except.items self.only.items) }
+        ensures except { IfOk result (λ made. made.0.terms.rules.labels ≡ unwrap_or set (listed_by self.except.items self.only.items)) }
         ensures order { IfOk result (λ made. made.0.terms.order ≡ self.order) }
         ensures explain { IfOk result (λ made. made.0.terms.explain ≡ self.explain) }
+        ensures stop { IfOk result (λ made. made.0.terms.stop ≡ self.stop) }
         ensures form { IfOk result (λ made. made.0.form ≡ form_on self.terminals self.form) }
         ensures files { IfOk result (λ made. made.1 ≡ self.files) }
     {
-        let except = except_of(self.except, self.only);
+        let except = except_of(set, self.except, self.only);
         let shared = SharedExcept::new(alloc, except)?;
         let limits = limits_for(self.long);
         let plan = Plan::new(self.workers, self.piece, limits, shared, self.order).unwrap();
@@ -163,6 +178,7 @@ impl Config {
         } else {
             plan
         };
+        let plan = if self.stop { plan.stopping() } else { plan };
         let form = form_on(self.terminals, self.form);
         Ok((plan.with_form(form), self.files))
     }
@@ -185,8 +201,20 @@ fn form_on(terminals: Terminals, form: Form) -> Form
     }
 }
 
-// What the labels leave out: the blocks with those of `except`, or all blocks but those with one of `only`.
-fn except_of(except: Vec<Name>, only: Vec<Name>) -> Except
+// What the labels leave out: those of the set, if there is one, or else those of the options.
+fn except_of(set: Option<Except>, except: Vec<Name>, only: Vec<Name>) -> Except
+    requires except { vec_len except ≤ 64 }
+    requires only { vec_len only ≤ 64 }
+    ensures { result ≡ unwrap_or set (listed_by except.items only.items) }
+{
+    match set {
+        Some(set) => set,
+        None => except_by(except, only),
+    }
+}
+
+// What the labels of options leave out: the blocks with those of `except`, or all blocks but those with one of `only`.
+fn except_by(except: Vec<Name>, only: Vec<Name>) -> Except
     requires except { vec_len except ≤ 64 }
     requires only { vec_len only ≤ 64 }
     ensures { result ≡ listed_by except.items only.items }

@@ -1,15 +1,18 @@
 //! What the program does with what its words ask for.
-ghost use Rattle.std.specs.Prelude.{◌≡◌, ◌⊎◌, ◌≤◌, ◌++◌, ℕ, List, [], if◌then◌else◌, map, option_map, slice_get, vec_len, None, Some, IfOk, IfSome, IsSome, OnOk, OnErr};
+ghost use Rattle.std.specs.Prelude.{◌≡◌, ◌⊎◌, ◌≤◌, ◌++◌, ℕ, List, [], if◌then◌else◌, map, option_map, slice_get, unwrap_or, vec_len, None, Some, IfOk, IfSome, IsSome, OnOk, OnErr};
 ghost use Rattle.aero_model.specs.CallCounts.{Seen, seen_by};
 ghost use Rattle.aero_batch.specs.Founds.{Sighted, sighted, Took, WasTold};
 ghost use Rattle.aero_batch.specs.Telling.{SumsUp};
 ghost use Rattle.aero_intake.specs.PlanTerms.{options_with, terms_of};
-ghost use Rattle.aero_program.specs.Executed.{Executes, Ends, IsLeftOf, Fails, Helps, Judges, Stops, TellsNoWords, TellsUnlisted, TellsWord};
+ghost use Rattle.aero_program.specs.Executed.{Executes, Ends, IsLeftOf, Fails, Helps, Judges, Stops, TellsNoWords, TellsUnlabelled, TellsUnlisted, TellsWord};
 ghost use Rattle.aero_program.specs.declared.failure.Failure.TheVariants.{Memory};
 ghost use Rattle.aero_program.specs.declared.listing.Unlisted.TheVariants.{Unread};
-ghost use Rattle.aero_program.specs.Notes.{AreNotes, label_lines, note_texts, noted_of_all};
+ghost use Rattle.aero_program.specs.Command.{listed_by};
+ghost use Rattle.aero_program.specs.Inputs.{IsUntouched};
+ghost use Rattle.aero_program.specs.LabelFiles.{AreListed};
+ghost use Rattle.aero_program.specs.Notes.{AreNotes, label_lines, note_at, note_text, note_texts, noted_of_all};
 ghost use Rattle.aero_program.specs.Retries.{seen_within, tried_by};
-ghost use Rattle.aero_program.specs.Streams.{WasCut, shown_by};
+ghost use Rattle.aero_program.specs.Streams.{IsTold, WasCut, shown_by};
 ghost use Rattle.aero_program.specs.Traces.{input_of, sight_of, unused_in};
 ghost use Rattle.aero_report.specs.Asked.{note_of};
 ghost use Rattle.aero_report.specs.Forms.{summary_line_in};
@@ -18,23 +21,24 @@ use crate::arguments;
 use crate::command::{Config, Refused, Stop};
 use crate::failure::{Failure, odd_word_line};
 use crate::files::Opener;
+use crate::label_files::{LabelFault, Unlabelled, label_set};
 use crate::labels::{all_read, lines_on, unused_labels};
 use crate::lasting::flush_fault;
 use crate::listing::Unlisted;
 use crate::looker::Looker;
-use crate::notes::{note_texts, notes_of, reason_note};
+use crate::notes::{line_note, note_texts, notes_of, reason_note};
 use crate::output::Output;
 use crate::reason::Reason;
 use crate::retrying::Retrying;
 use crate::sizes::{Sizes, are_worth_threads, tell_work};
-use crate::sources::sources_of;
+use crate::sources::{Gathered, Ungathered, sources_of, untouched};
 use crate::status::end_after;
 use crate::traced::Traced;
 use aero_batch::told::Style;
 use aero_batch::{Cause, sum_up};
 use aero_intake::{Followed, Plan, SourceOf};
 use aero_lanes::{Report, run_in_lanes, run_in_turn};
-use aero_model::{Counting, Ending, Name};
+use aero_model::{Counting, Ending, Except, Name};
 use aero_report::{Cut, Note, put};
 use std::alloc::{AllocError, Global};
 use std::io::{Read, Write};
@@ -55,7 +59,7 @@ pub struct Streams<'a, O: Write, E: Write> {
     pub errors: &'a mut Counting<Retrying<E>>,
 }
 
-/// Does what the words ask for, and gives the exit status, and standard input as it left it, where that was the source.
+/// Does what the words ask for, and gives the exit status, and standard input as it left it, unless memory was refused.
 ///
 /// Where they ask for traces to be judged, it judges the files, or standard input where there are
 /// none, in which blocks with the labels that they give are no transactions, writes the report, with
@@ -87,8 +91,23 @@ where
     let Streams { output, errors } = streams;
     match asked {
         Ok(config) => judge(Place { host, files }, config, stdin, output, errors),
-        Err(stop) => (tell_stop(host.alloc, &stop, output, errors), None),
+        Err(stop) => stop_for(host.alloc, stop, stdin, output, errors),
     }
+}
+
+// Tells why nothing is judged, and leaves standard input as it is.
+fn stop_for<S: Read + Drop, O: Write, E: Write>(
+    alloc: Global,
+    stop: Stop,
+    stdin: S,
+    output: &mut Output<O>,
+    errors: &mut Counting<E>,
+) -> (u8, Option<Retrying<S>>)
+    ensures untouched { IsUntouched (S.remaining stdin) (option_map (seen_within S.remaining) result.1) }
+    ensures stops { Stops stop (shown_by O.contents output.old) (shown_by O.contents output.new) (seen_by E.contents errors.old) (seen_by E.contents errors.new) result.0 }
+{
+    let status = tell_stop(alloc, &stop, output, errors);
+    (status, Some(untouched(stdin)))
 }
 
 // What a run takes time, threads and memory from, and the files of the machine.
@@ -97,7 +116,13 @@ struct Place<'a, T, F> {
     files: &'a F,
 }
 
-// Judges the sources, and tells what is found.
+// What is asked for, and the set of labels that files have, if there are files of labels.
+struct Chosen {
+    config: Config,
+    set: Option<Except>,
+}
+
+// Reads the files of labels, judges the sources, and tells what is found.
 fn judge<
     S: Read + Drop + Send,
     F: Opener + Sizes + Drop + Sync,
@@ -118,19 +143,58 @@ where
 {
     let Place { host, files } = place;
     let alloc = host.alloc;
+    match label_set(alloc, files, &config) {
+        Ok(set) => {
+            let place = Place { host, files };
+            judge_by(place, Chosen { config, set }, stdin, output, errors)
+        }
+        Err(fault) => {
+            let status = tell_label_fault(alloc, fault, config.terminals.errors, errors);
+            (status, Some(untouched(stdin)))
+        }
+    }
+}
+
+// Judges the sources by the labels that were chosen, and tells what is found.
+fn judge_by<
+    S: Read + Drop + Send,
+    F: Opener + Sizes + Drop + Sync,
+    O: Write,
+    E: Write,
+    T: Threads + Wait + Copy + Send + Sync + 'static,
+>(
+    place: Place<'_, T, F>,
+    chosen: Chosen,
+    stdin: S,
+    output: &mut Output<O>,
+    errors: &mut Counting<E>,
+) -> (u8, Option<Retrying<S>>)
+where
+    F::File: Send,
+    requires { AreListed (F.known place.files.now) chosen.config (unwrap_or chosen.set (listed_by chosen.config.except.items chosen.config.only.items)) }
+    ensures { Judges (F.known place.entry.files.now) F.can_fail F.holds chosen.config (S.remaining stdin) (option_map (seen_within S.remaining) result.1) (shown_by O.contents output.old) (shown_by O.contents output.new)
+        (seen_by E.contents errors.old) (seen_by E.contents errors.new) result.0 }
+{
+    let Place { host, files } = place;
+    let alloc = host.alloc;
+    let Chosen { config, set } = chosen;
     let long = config.long;
     let fail_open = config.fail_open;
     let on_terminal = config.terminals.errors;
-    let Ok((plan, asked)) = config.into_plan(alloc) else {
+    let Ok((plan, asked)) = config.into_plan(alloc, set) else {
         return (fail(Failure::Memory, errors), None);
     };
-    let sources = match sources_of(alloc, files, stdin, &asked, plan.terms.shared_except()) {
-        Ok(sources) => sources,
-        Err(why) => {
+    let gathered = match sources_of(alloc, files, stdin, &asked, plan.terms.shared_except()) {
+        Ok(gathered) => gathered,
+        Err(Ungathered { why, stdin }) => {
             let status = tell_unlisted(alloc, asked.list_path(), why, on_terminal, errors);
-            return (status, None);
+            return (status, stdin);
         }
     };
+    let Gathered {
+        sources,
+        stdin: rest,
+    } = gathered;
     tell_work(files, &asked, &sources);
     let in_lanes = are_worth_threads(files, &sources);
     let (report, sources) = run_all(host, in_lanes, sources, &mut output.writer, &plan);
@@ -147,7 +211,22 @@ where
     let end = end_after(cause, &report.counts, &flushed, fail_open);
     let told = told_after(&beside.unused, cause);
     let lines = all_lines(alloc, &beside.notes, told, on_terminal);
-    (finish(end, lines, errors), standard_left(sources))
+    (finish(end, lines, errors), left_beside(rest, sources))
+}
+
+// Standard input as it was left beside the sources, or else as a run left it, where it was the one source.
+fn left_beside<S: Read + Drop, F: Opener + Drop>(
+    rest: Option<Retrying<S>>,
+    sources: Vec<SourceOf<Traced<S, F>>>,
+) -> Option<Retrying<S>>
+    ensures kept { IsSome rest → result ≡ rest }
+    ensures source { rest ≡ None → vec_len sources ≡ 1 → (s : Sighted) → slice_get (map (sighted (sight_of S.remaining F.known F.File.remaining)) sources.items) 0 ≡ Some s
+        → IsLeftOf s (option_map (seen_within S.remaining) result) }
+{
+    match rest {
+        Some(stdin) => Some(stdin),
+        None => standard_left(sources),
+    }
 }
 
 // Standard input as a run left it, where it was the one source.
@@ -239,10 +318,10 @@ fn all_notes<S: Read + Drop, F: Opener + Drop, G: Opener>(
     long: bool,
     are_words: bool,
 ) -> Option<Vec<Note>>
-    ensures { IfSome result (λ notes. AreNotes G.holds (noted_of_all input_of unused_in are_words sources.now (if long then [] else report.now.endings.items) report.now.faults.items) (map note_of notes.items)) }
+    ensures { IfSome result (λ notes. AreNotes G.holds (noted_of_all input_of unused_in are_words sources.now (if long then [] else report.now.endings.items) report.now.notables.items) (map note_of notes.items)) }
 {
     let endings = noted(&report.endings, long);
-    match notes_of(looker, sources, endings, &report.faults, are_words) {
+    match notes_of(looker, sources, endings, &report.notables, are_words) {
         Ok(notes) => Some(notes),
         Err(_) => None,
     }
@@ -284,7 +363,7 @@ fn run_all<R: Followed + Drop + Send, W: Write, T: Threads + Wait + Copy + Send 
 ) -> (Report, Vec<SourceOf<R>>)
     requires { vec_len sources ≤ 65536 }
     ensures told { WasTold (terms_of plan.now) plan.now.form (map (sighted R.sight) sources.items) (map (sighted R.sight) result.1.items)
-        (seen_by W.contents writer.old) (seen_by W.contents writer.new) result.0.endings.items result.0.faults.items result.0.counts result.0.cause }
+        (seen_by W.contents writer.old) (seen_by W.contents writer.new) result.0.endings.items result.0.notables.items result.0.counts result.0.cause }
 {
     if in_lanes {
         return run_in_lanes(host.rt, host.alloc, sources, writer, plan);
@@ -322,6 +401,56 @@ fn tell_unread<E: Write>(
         ⊎ Fails Memory (seen_by E.contents errors.old) (seen_by E.contents errors.new) result }
 {
     let Ok(line) = reason_note(alloc, path.as_bytes(), reason, on_terminal) else {
+        return fail(Failure::Memory, errors);
+    };
+    let _ = tell(errors, &line);
+    3
+}
+
+// Tells why there is no list of labels.
+fn tell_label_fault<E: Write>(
+    alloc: Global,
+    fault: LabelFault<'_>,
+    on_terminal: bool,
+    errors: &mut Counting<E>,
+) -> u8
+    ensures { TellsUnlabelled on_terminal fault.entry.path.now fault.entry.why (seen_by E.contents errors.old) (seen_by E.contents errors.new) result
+        ⊎ Fails Memory (seen_by E.contents errors.old) (seen_by E.contents errors.new) result }
+{
+    let path = fault.path;
+    match fault.why {
+        Unlabelled::Unread(reason) => tell_unread(alloc, path, reason, on_terminal, errors),
+        Unlabelled::NoLabel(line) => {
+            let place = LineAt { path, line };
+            tell_on_line(alloc, place, b"not a label", on_terminal, errors)
+        }
+        Unlabelled::TooMany(line) => {
+            let place = LineAt { path, line };
+            tell_on_line(alloc, place, b"more than 65536 labels", on_terminal, errors)
+        }
+        Unlabelled::Memory => fail(Failure::Memory, errors),
+    }
+}
+
+// A line of the file at a path.
+#[derive(Clone, Copy)]
+struct LineAt<'a> {
+    path: &'a str,
+    line: u64,
+}
+
+// Tells what is wrong with a line of a file.
+fn tell_on_line<E: Write>(
+    alloc: Global,
+    at: LineAt<'_>,
+    words: &[u8],
+    on_terminal: bool,
+    errors: &mut Counting<E>,
+) -> u8
+    ensures { (IsTold (seen_by E.contents errors.old) (seen_by E.contents errors.new) (note_text on_terminal (note_at at.entry.path.now (Some at.entry.line) words.now)) × (result ≡ 3))
+        ⊎ Fails Memory (seen_by E.contents errors.old) (seen_by E.contents errors.new) result }
+{
+    let Ok(line) = line_note(alloc, at.path.as_bytes(), at.line, words, on_terminal) else {
         return fail(Failure::Memory, errors);
     };
     let _ = tell(errors, &line);

@@ -1,11 +1,10 @@
 //! The labels of `--only` and `--except` that begin no block of any source, as a run tells them.
-ghost use Rattle.std.specs.Prelude.{◌≡◌, ◌++◌, ℕ, List, [], if◌then◌else◌, true, map, vec_len, IfOk, IfSome, OnOk};
+ghost use Rattle.std.specs.Prelude.{◌≡◌, ◌++◌, ℕ, List, [], if◌then◌else◌, true, flat_map, map, vec_len, IfOk, IfSome, OnOk};
 ghost use Rattle.std.specs.List.{filter, list_all, list_any};
 ghost use Rattle.std.specs.Prelude.{bytes_eq};
 ghost use Rattle.aero_program.specs.Labels.{HasWatched, watched_in};
-ghost use Rattle.aero_program.specs.Notes.{all_read, is_whole, label_line, label_lines, missing_in_each};
+ghost use Rattle.aero_program.specs.Notes.{all_read, is_whole, label_line, label_lines, missing_in_each, more_line};
 ghost use Rattle.aero_program.specs.Traces.{unused_in};
-ghost use Rattle.aero_watch.specs.Watches.{at_places};
 
 use crate::files::Opener;
 use crate::notes::append_said;
@@ -14,8 +13,12 @@ use aero_batch::Cause;
 use aero_intake::SourceOf;
 use aero_model::{Ending, Name, SharedExcept};
 use aero_watch::Watch;
+use itoa::Buffer;
 use std::alloc::{AllocError, Global};
 use std::io::Read;
+
+// How many labels with which no block begins have a line of their own.
+const MOST_LINES: usize = 10;
 
 // A watch for the labels of the list, if it has any.
 pub(crate) fn watch_for(alloc: Global, except: &SharedExcept) -> Result<Option<Watch>, AllocError>
@@ -97,7 +100,8 @@ fn lacking<'a, S: Read + Drop, F: Opener + Drop>(
     Ok(left)
 }
 
-/// The lines on these labels, in order. A terminal is shown no control characters of them.
+/// The lines on the first ten of these labels, in order, and behind them one that says how many more there are, if there
+/// are. A terminal is shown no control characters of them.
 ///
 /// # Errors
 ///
@@ -105,11 +109,34 @@ fn lacking<'a, S: Read + Drop, F: Opener + Drop>(
 pub fn lines_on(alloc: Global, labels: &[&Name], on_terminal: bool) -> Result<Vec<u8>, AllocError>
     ensures { IfOk result (λ text. text.items ≡ label_lines on_terminal (map (λ label. label.now) labels.now)) }
 {
+    let shown = labels.len().min(MOST_LINES);
+    let mut text = lines_on_each(alloc, &labels[..shown], on_terminal)?;
+    append_more(&mut text, labels.len() - shown)?;
+    Ok(text)
+}
+
+// A line on each of these labels.
+fn lines_on_each(alloc: Global, labels: &[&Name], on_terminal: bool) -> Result<Vec<u8>, AllocError>
+    ensures { IfOk result (λ text. text.items ≡ flat_map (label_line on_terminal) (map (λ label. label.now) labels.now)) }
+{
     let mut text = Vec::new(alloc);
     for label in labels {
         append_line(&mut text, label.bytes(), on_terminal)?;
     }
     Ok(text)
+}
+
+// The line on labels that have none of their own.
+fn append_more(text: &mut Vec<u8>, more: usize) -> Result<(), AllocError>
+    ensures { OnOk result (text.new.items ≡ text.old.items ++ more_line more) }
+{
+    if more == 0 {
+        return Ok(());
+    }
+    text.extend_from_slice(b"aerodrome: no block begins with ")?;
+    text.extend_from_slice(Buffer::new().format(more).as_bytes())?;
+    text.extend_from_slice(b" more of the labels\n")?;
+    Ok(())
 }
 
 // The line on a label.

@@ -5,7 +5,8 @@
 //! the sources of `sources_of`, of which each is a `Traced` `Input`, standard input or a file that is opened
 //! at its first read by an `Opener`. What `notes_of` says of them it tells in the summary as JSON, and then on
 //! standard error. The files may be named in a list (`read_list`). A `Failure` has the line and the status where
-//! there is no whole report.
+//! there is no whole report. Readers and files that end the blocks which are open at their ends are `Closing` and
+//! `ClosingFiles`.
 //!
 //! ```text
 //! let mut output = Output::new(rt.stdout());
@@ -31,6 +32,8 @@
 //! - There is a source for each word, named as it, whose reader stands unopened for that word's file, or for each name
 //!   in a list, or standard input under its name: `sources_of`, `names`, `readers`, `reasons`, `sighted`.
 //! - A list of names is read to its end, or it is said why not, and is cut at each byte 0: `read_list`, `first_name`.
+//! - The labels of files are those on their lines, behind those of options, each once, or the first file and line at fault is
+//!   told: `label_set`, `listed`, `fault`.
 //! - A read of standard input fails exactly where the stream does, interruptions apart, or where it is given up. It
 //!   finds the end exactly where the stream does: `Input::standard`, `read`, `steps`.
 //! - A file is opened at its first read, by any `Opener`. It has bytes or an end only where an open can have worked, and
@@ -42,7 +45,10 @@
 //! - An open or a read of a file fails only where the opener says that it may: `Opener::can_fail`, `Input::read`, `failed`. A file whose
 //!   opener tells its bytes and can't fail is judged by all of them: `execute`, `laws`.
 //! - Standard input is told as broken exactly where a call of its stream failed, interruptions apart: `execute` gives it back as the run
-//!   left it, where it was the source.
+//!   left it. Where files are named, or nothing is judged, nothing is read of it. A list that it has is read to its end, and is told as
+//!   unreadable only if a read failed: `sources_of`, `left`, `unlisted_left`; `execute`.
+//! - A closing reader gives the bytes of the reader within, and then the lines that end the blocks which are open there. So do the files of
+//!   `ClosingFiles`: `Closing::new`, `read`; `ClosingFiles`, `known`.
 //! - An input notes its first three bytes and its first failure: `Input::read`, `start`, `reason`. It notes with which labels
 //!   of its watch no line of the bytes that came begins a block: `Input::read`, `watched`, `seen`; `lacks`.
 //! - Behind the notes on sources those labels are told, in order, that each source lacks, where each was read to its end:
@@ -76,6 +82,7 @@
 #![tactic(auto)]
 
 pub mod arguments;
+pub mod closing;
 pub mod command;
 pub mod crew;
 pub mod execute;
@@ -83,6 +90,7 @@ pub mod failure;
 pub mod files;
 mod ghost_text;
 pub mod input;
+pub mod label_files;
 pub mod labels;
 mod lasting;
 pub mod laws;

@@ -2,7 +2,7 @@
 ghost use Rattle.std.specs.Prelude.{◌≡◌, ◌<◌, ◌≤◌, ◌∷◌, ◌^◌, [], IfErr, IfOk, None, OnOk, length};
 ghost use Rattle.std.specs.List.{count_by};
 ghost use Rattle.aero_program.specs.Inputs.{MayFailFrom, bytes_left, reason_of, standing_of};
-ghost use Rattle.aero_program.specs.Listing.{IsFaultOf, IsWhole, is_name_end, names_in};
+ghost use Rattle.aero_program.specs.Listing.{IsFaultOf, IsWhole, StandsAfter, is_name_end, names_in};
 
 use crate::command::MOST_FILES;
 use crate::files::Opener;
@@ -38,7 +38,7 @@ impl From<AllocError> for Unlisted {
     }
 }
 
-/// Reads a list to its end. Of one with too many names no more is read than shows it.
+/// Reads a list to its end. Of one with too many names no more is read than shows it. An input that was standard input is that still.
 ///
 /// # Errors
 ///
@@ -49,11 +49,14 @@ pub fn read_list<S: Read + Drop, O: Opener + Drop>(
 ) -> Result<Vec<u8>, Unlisted>
     ensures whole { IfOk result (λ list. IsWhole (bytes_left (standing_of S.remaining O.known O.File.remaining input.old)) list.items) }
     ensures fault { reason_of input.old ≡ None → IfErr result (IsFaultOf (MayFailFrom O.can_fail (standing_of S.remaining O.known O.File.remaining input.old)) (bytes_left (standing_of S.remaining O.known O.File.remaining input.old)) (reason_of input.new)) }
+    ensures stream { StandsAfter (standing_of S.remaining O.known O.File.remaining input.old) (standing_of S.remaining O.known O.File.remaining input.new) result }
 {
     let mut buffer = vec![in alloc; 0u8; PIECE]?;
     let mut list = Vec::new(alloc);
-    gather(input, &mut buffer, &mut list)?;
-    Ok(list)
+    match gather(input, &mut buffer, &mut list) {
+        Ok(()) => Ok(list),
+        Err(why) => Err(why),
+    }
 }
 
 // Reads until the end, into a buffer of some bytes, and gathers what came.
@@ -67,6 +70,7 @@ fn gather<S: Read + Drop, O: Opener + Drop>(
     requires empty { list.old.items ≡ [] }
     ensures whole { OnOk result (IsWhole (bytes_left (standing_of S.remaining O.known O.File.remaining input.old)) list.new.items) }
     ensures fault { reason_of input.old ≡ None → IfErr result (IsFaultOf (MayFailFrom O.can_fail (standing_of S.remaining O.known O.File.remaining input.old)) (bytes_left (standing_of S.remaining O.known O.File.remaining input.old)) (reason_of input.new)) }
+    ensures stream { StandsAfter (standing_of S.remaining O.known O.File.remaining input.old) (standing_of S.remaining O.known O.File.remaining input.new) result }
 {
     let mut ends = 0usize;
     for _ in 0..u64::MAX {

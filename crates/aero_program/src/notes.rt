@@ -2,7 +2,7 @@
 ghost use Rattle.std.specs.Prelude.{◌≡◌, [], ◌∷◌, ◌++◌, map, None, IfOk, OnOk, bytes_eq, codes, decimal};
 ghost use Rattle.std.specs.Option.{option_copied};
 ghost use Rattle.aero_report.specs.Asked.{note_of};
-ghost use Rattle.aero_program.specs.Notes.{AreNotes, GrowsBy, fault_notes, fault_told, is_missing, mark_notes, note_at, note_text, note_texts, noted_of, noted_of_all, place_text, reason_notes, reason_text, said_on, sentence_of, sentence_on, size_notes, was_too_large};
+ghost use Rattle.aero_program.specs.Notes.{AreNotes, GrowsBy, block_notes, fault_notes, faulty_in, is_unchecked, notable_told, is_missing, mark_notes, note_at, note_text, note_texts, noted_of, noted_of_all, place_text, reason_notes, reason_text, said_on, sentence_of, sentence_on, size_notes, was_too_large};
 ghost use Rattle.aero_program.specs.Reasons.{reason_words};
 ghost use Rattle.aero_program.specs.Traces.{input_of, unused_in};
 
@@ -10,7 +10,7 @@ use crate::files::Opener;
 use crate::looker::Looker;
 use crate::reason::Reason;
 use crate::traced::Traced;
-use aero_batch::{Fault, FaultyLine};
+use aero_batch::{Fault, FaultyLine, Notable};
 use aero_faults::look::{Look, append_ill_formed, append_malformed};
 use aero_intake::SourceOf;
 use aero_model::Ending;
@@ -26,9 +26,9 @@ const GZIP_SENTENCE: &str =
 
 /// The notes on the sources, in order: of each that it starts with a byte order mark, if it does,
 /// then why its first read that failed did, if one did, then how it is judged all the same, if it
-/// was too large, and then what is wrong with its faulty line, if it has one, as far as a second look
-/// at its file shows it. The endings are those of the first sources, each with how many bytes came, and
-/// the faults are theirs. Where the names are FILE words, one `-` that names no file is told what would
+/// was too large, then that nothing was checked, if there was no block to check, and then what is wrong with
+/// its faulty line, if it has one, as far as a second look at its file shows it. The endings are those of the
+/// first sources, each with how many bytes came, and the notables are theirs. Where the names are FILE words, one `-` that names no file is told what would
 /// be read without it.
 ///
 /// # Errors
@@ -39,28 +39,28 @@ pub fn notes_of<S: Read + Drop, F: Opener + Drop, G: Opener>(
     looker: &Looker<'_, G>,
     sources: &[SourceOf<Traced<S, F>>],
     endings: &[(u64, Ending)],
-    faults: &[Option<FaultyLine>],
+    notables: &[Option<Notable>],
     are_words: bool,
 ) -> Result<Vec<Note>, AllocError>
-    ensures { IfOk result (λ notes. AreNotes G.holds (noted_of_all input_of unused_in are_words sources.now endings.now faults.now) (map note_of notes.items)) }
+    ensures { IfOk result (λ notes. AreNotes G.holds (noted_of_all input_of unused_in are_words sources.now endings.now notables.now) (map note_of notes.items)) }
 {
     let mut notes = Vec::new(looker.alloc);
     for place in 0..sources.len() {
-        let fault = fault_of(faults.get(place));
+        let notable = notable_of(notables.get(place));
         let found = Found {
             too_large: is_too_large(endings.get(place)),
-            fault,
+            notable,
         };
         add_notes(&mut notes, looker, &sources[place], found, are_words)?;
     }
     Ok(notes)
 }
 
-// What a run found of a source, beside its line in the report: whether it was too large, and its faulty line.
+// What a run found of a source, beside its line in the report: whether it was too large, and what is notable.
 #[derive(Clone, Copy)]
 struct Found {
     too_large: bool,
-    fault: Option<FaultyLine>,
+    notable: Option<Notable>,
 }
 
 // Whether the reading of a source ended as too large. One that the run didn't come to has no ending.
@@ -70,14 +70,31 @@ fn is_too_large(ending: Option<&(u64, Ending)>) -> bool
     matches!(ending, Some((_, Ending::TooLarge)))
 }
 
-// The faulty line of a source. One that the run didn't come to has none.
-fn fault_of(fault: Option<&Option<FaultyLine>>) -> Option<FaultyLine>
-    ensures { result ≡ fault_told (option_copied fault.entry) }
+// What is notable of a source. Of one that the run didn't come to nothing is.
+fn notable_of(notable: Option<&Option<Notable>>) -> Option<Notable>
+    ensures { result ≡ notable_told (option_copied notable.entry) }
 {
-    match fault {
-        Some(fault) => *fault,
+    match notable {
+        Some(notable) => *notable,
         None => None,
     }
+}
+
+// The faulty line of a source, if it has one.
+fn faulty_in(notable: Option<Notable>) -> Option<FaultyLine>
+    ensures { result ≡ faulty_in notable }
+{
+    match notable {
+        Some(Notable::Faulty(line)) => Some(line),
+        _ => None,
+    }
+}
+
+// Whether there was no block to check in a source.
+fn is_unchecked(notable: Option<Notable>) -> bool
+    ensures { result ≡ is_unchecked notable }
+{
+    matches!(notable, Some(Notable::Unchecked))
 }
 
 fn add_notes<S: Read + Drop, F: Opener + Drop, G: Opener>(
@@ -87,17 +104,19 @@ fn add_notes<S: Read + Drop, F: Opener + Drop, G: Opener>(
     found: Found,
     are_words: bool,
 ) -> Result<(), AllocError>
-    ensures { OnOk result (GrowsBy G.holds (map note_of notes.old.items) (map note_of notes.new.items) (noted_of input_of unused_in are_words source.now found.too_large found.fault)) }
+    ensures { OnOk result (GrowsBy G.holds (map note_of notes.old.items) (map note_of notes.new.items) (noted_of input_of unused_in are_words source.now found.too_large found.notable)) }
 {
     let name = source.name.as_slice();
     let input = source.reader.input();
     let alloc = looker.alloc;
-    let seen = looker.look(name, input.opened(), found.fault);
+    let fault = faulty_in(found.notable);
+    let seen = looker.look(name, input.opened(), fault);
     add_mark(notes, alloc, name, input.has_mark())?;
     add_reason(notes, alloc, name, input.reason(), are_words)?;
     add_size(notes, alloc, name, found.too_large)?;
-    let sentence = sentence_on(alloc, input.is_gzip(), found.fault, &seen)?;
-    add_fault(notes, alloc, name, found.fault, sentence)?;
+    add_unchecked(notes, alloc, name, is_unchecked(found.notable))?;
+    let sentence = sentence_on(alloc, input.is_gzip(), fault, &seen)?;
+    add_fault(notes, alloc, name, fault, sentence)?;
     Ok(())
 }
 
@@ -176,6 +195,25 @@ fn add_size(
         alloc,
         name,
         "over 1073741824 bytes: --long accepts inputs of any size",
+    )
+}
+
+fn add_unchecked(
+    notes: &mut Vec<Note>,
+    alloc: Global,
+    name: &[u8],
+    unchecked: bool,
+) -> Result<(), AllocError>
+    ensures { OnOk result (map note_of notes.new.items ≡ map note_of notes.old.items ++ block_notes name.now unchecked) }
+{
+    if !unchecked {
+        return Ok(());
+    }
+    add_words(
+        notes,
+        alloc,
+        name,
+        "nothing was checked: no block begins, or each one is left out by its label",
     )
 }
 
@@ -297,6 +335,30 @@ pub fn reason_note(
     Ok(line)
 }
 
+/// The line that says what is wrong with a line of a file, which is numbered from 1.
+///
+/// # Errors
+///
+/// `AllocError` where memory is refused.
+pub fn line_note(
+    alloc: Global,
+    name: &[u8],
+    number: u64,
+    words: &[u8],
+    on_terminal: bool,
+) -> Result<Vec<u8>, AllocError>
+    ensures { IfOk result (λ text. text.items ≡ note_text on_terminal (note_at name.now (Some number) words.now)) }
+{
+    let mut text = Vec::new(alloc);
+    text.extend_from_slice(b"aerodrome: ")?;
+    append_said(&mut text, name, on_terminal)?;
+    append_line(&mut text, number)?;
+    text.extend_from_slice(b": ")?;
+    append_said(&mut text, words, on_terminal)?;
+    text.extend_from_slice(b"\n")?;
+    Ok(text)
+}
+
 // The line of a note.
 fn append_note(text: &mut Vec<u8>, note: &Note, on_terminal: bool) -> Result<(), AllocError>
     ensures { OnOk result (text.new.items ≡ text.old.items ++ note_text on_terminal (note_of note.now)) }
@@ -316,11 +378,11 @@ fn append_place(text: &mut Vec<u8>, line: Option<u32>) -> Result<(), AllocError>
 {
     match line {
         None => Ok(()),
-        Some(line) => append_line(text, line),
+        Some(line) => append_line(text, u64::from(line)),
     }
 }
 
-fn append_line(text: &mut Vec<u8>, line: u32) -> Result<(), AllocError>
+fn append_line(text: &mut Vec<u8>, line: u64) -> Result<(), AllocError>
     ensures { OnOk result (text.new.items ≡ text.old.items ++ (codes ":" ++ decimal line)) }
 {
     let mut buffer = Buffer::new();

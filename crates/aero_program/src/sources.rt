@@ -1,20 +1,24 @@
 //! The sources that are asked for.
-ghost use Rattle.std.specs.Prelude.{◌≡◌, ◌≤◌, ◌^◌, ◌∷◌, ℕ, List, [], Some, None, if◌then◌else◌, IfErr, IfOk, OnOk, map, option_map, codes, string_bytes, unwrap_or, vec_len};
+ghost use Rattle.std.specs.Prelude.{◌≡◌, ◌⊎◌, ◌<◌, ◌≤◌, ◌^◌, ◌∷◌, ⊤, length, ℕ, List, [], Some, None, if◌then◌else◌, IfErr, IfOk, OnOk, map, option_map, codes, string_bytes, unwrap_or, vec_len};
 ghost use Rattle.std.specs.Str.{is_utf8};
 ghost use Rattle.aero_batch.specs.Founds.{sighted};
 ghost use Rattle.aero_intake.specs.Source.{Nowhere, Stream};
 ghost use Rattle.aero_program.specs.Command.{count_named};
-ghost use Rattle.aero_program.specs.Inputs.{MayFailFrom, bytes_left, reason_of, standing_of, unopened, unread, Standard, Failed};
-ghost use Rattle.aero_program.specs.Listing.{IsListFault, IsWhole, MayFailListed, list_given, names_in};
+ghost use Rattle.aero_model.specs.CallCounts.{Seen};
+ghost use Rattle.aero_program.specs.Inputs.{IsUntouched, MayFailFrom, bytes_left, reason_of, standing_of, unopened, unread, Standard, Failed};
+ghost use Rattle.aero_program.specs.Listing.{HasTooMany, IsCutFor, IsLeftByFault, IsLeftByList, IsListFault, IsReadOut, IsUntouchedFor, IsWhole, MayFailListed, list_given, names_in};
+ghost use Rattle.aero_program.specs.Retries.{seen_within};
 ghost use Rattle.aero_program.specs.Traces.{input_of, sight_of};
+ghost use Rattle.aero_program.specs.declared.listing.Unlisted.TheVariants.{Memory, TooMany};
 ghost use Rattle.aero_program.specs.declared.reason.Reason.TheVariants.{NotUtf8};
-ghost use Rattle.aero_program.specs.Sightings.{AreNames, AreUnlisted, file_made, listed_made, listed_reason, listed_standing, made_at, sightings, source_reasons, source_sightings, source_standings};
+ghost use Rattle.aero_program.specs.Sightings.{AreNames, AreUnlisted, IsLeftBeside, IsLeftUnlisted, file_made, listed_made, listed_reason, listed_standing, made_at, sightings, source_reasons, source_sightings, source_standings};
 
 use crate::command::{MOST_FILES, Sources};
 use crate::files::Opener;
 use crate::input::Input;
 use crate::labels::watch_for;
 use crate::listing::{Unlisted, first_name, read_list};
+use crate::retrying::Retrying;
 use crate::traced::Traced;
 use aero_intake::SourceOf;
 use aero_model::SharedExcept;
@@ -22,10 +26,39 @@ use std::alloc::{AllocError, Global};
 use std::io::Read;
 use std::str;
 
+/// The sources that are asked for, and standard input as it is left, unless it is the source.
+#[derive(Drop)]
+pub struct Gathered<S: Read, O: Opener> {
+    pub sources: Vec<SourceOf<Traced<S, O>>>,
+    pub stdin: Option<Retrying<S>>,
+}
+
+/// Why there are no sources, and standard input as it is left, unless memory was refused.
+#[derive(Drop)]
+pub struct Ungathered<S> {
+    pub why: Unlisted,
+    pub stdin: Option<Retrying<S>>,
+}
+
+impl<S> From<AllocError> for Ungathered<S> {
+    ghost use Rattle.std.specs.Prelude.{◌≡◌, None};
+    ghost use Rattle.aero_program.specs.declared.sources.Ungathered.{Ungathered};
+    ghost use Rattle.aero_program.specs.declared.listing.Unlisted.TheVariants.{Memory};
+
+    ghost from_gives = { λ _ ungathered. ungathered ≡ record { why = Memory; stdin = None } };
+
+    fn from(_error: AllocError) -> Ungathered<S> {
+        Ungathered {
+            why: Unlisted::Memory,
+            stdin: None,
+        }
+    }
+}
+
 /// Standard input, under its name or `-`, or the file of each word, named as it, or of each name in a
 /// list, which is read for that. No other file is opened yet, and what is no plain file, a pipe say, is
 /// taken for one that may wait. A file can't be opened of which a list has a name that isn't UTF-8. Each looks for the labels
-/// of the list, where it has any.
+/// of the list, where it has any. Nothing is read of standard input but a list that it has.
 ///
 /// # Errors
 ///
@@ -36,19 +69,40 @@ pub fn sources_of<'a, S: Read + Drop, F: Opener + Drop>(
     stdin: S,
     asked: &Sources,
     except: &SharedExcept,
-) -> Result<Vec<SourceOf<Traced<S, &'a F>>>, Unlisted>
-    ensures few { count_named asked.now ≤ 2 ^ 16 → IfOk result (λ sources. vec_len sources ≤ 2 ^ 16) }
-    ensures names { IfOk result (λ sources. AreNames (F.known files.now) asked.now (S.remaining stdin) (map (λ s. s.name.items) sources.items)) }
-    ensures readers { IfOk result (λ sources. map (λ s. standing_of S.remaining (λ f. F.known f.now) F.File.remaining (input_of s.reader)) sources.items ≡ source_standings (F.known files.now) asked.now (S.remaining stdin) (map (λ s. s.name.items) sources.items)) }
-    ensures reasons { IfOk result (λ sources. map (λ s. reason_of (input_of s.reader)) sources.items ≡ source_reasons asked.now (map (λ s. s.name.items) sources.items)) }
-    ensures sighted { IfOk result (λ sources. map (sighted (sight_of S.remaining (λ f. F.known f.now) F.File.remaining)) sources.items ≡ source_sightings (F.known files.now) except.now.labels asked.now (S.remaining stdin) (map (λ s. s.name.items) sources.items)) }
-    ensures unlisted { IfErr result (AreUnlisted (F.known files.now) F.can_fail asked.now (S.remaining stdin)) }
+) -> Result<Gathered<S, &'a F>, Ungathered<S>>
+    ensures few { count_named asked.now ≤ 2 ^ 16 → IfOk result (λ made. vec_len made.sources ≤ 2 ^ 16) }
+    ensures names { IfOk result (λ made. AreNames (F.known files.now) asked.now (S.remaining stdin) (map (λ s. s.name.items) made.sources.items)) }
+    ensures readers { IfOk result (λ made. map (λ s. standing_of S.remaining (λ f. F.known f.now) F.File.remaining (input_of s.reader)) made.sources.items ≡ source_standings (F.known files.now) asked.now (S.remaining stdin) (map (λ s. s.name.items) made.sources.items)) }
+    ensures reasons { IfOk result (λ made. map (λ s. reason_of (input_of s.reader)) made.sources.items ≡ source_reasons asked.now (map (λ s. s.name.items) made.sources.items)) }
+    ensures sighted { IfOk result (λ made. map (sighted (sight_of S.remaining (λ f. F.known f.now) F.File.remaining)) made.sources.items ≡ source_sightings (F.known files.now) except.now.labels asked.now (S.remaining stdin) (map (λ s. s.name.items) made.sources.items)) }
+    ensures left { IfOk result (λ made. IsLeftBeside asked.now (S.remaining stdin) (option_map (seen_within S.remaining) made.stdin)) }
+    ensures unlisted { IfErr result (λ un. AreUnlisted (F.known files.now) F.can_fail asked.now (S.remaining stdin) un.why) }
+    ensures unlisted_left { IfErr result (λ un. IsLeftUnlisted asked.now (S.remaining stdin) un.why (option_map (seen_within S.remaining) un.stdin)) }
 {
     match asked {
-        Sources::Standard(name) => Ok(standard_alone(alloc, stdin, name, except)?),
-        Sources::Files(words) => Ok(files_of(alloc, files, words, except)?),
+        Sources::Standard(name) => {
+            let sources = standard_alone(alloc, stdin, name, except)?;
+            Ok(Gathered {
+                sources,
+                stdin: None,
+            })
+        }
+        Sources::Files(words) => {
+            let sources = files_of(alloc, files, words, except)?;
+            Ok(Gathered {
+                sources,
+                stdin: Some(untouched(stdin)),
+            })
+        }
         Sources::Listed(path) => listed_at(alloc, files, stdin, path.as_str(), except),
     }
+}
+
+/// Standard input of which nothing was read.
+pub fn untouched<S: Read>(stdin: S) -> Retrying<S>
+    ensures { seen_within S.remaining result ≡ unread (S.remaining stdin) }
+{
+    Retrying::new(stdin)
 }
 
 // Standard input alone.
@@ -173,38 +227,98 @@ fn listed_at<'a, S: Read + Drop, F: Opener + Drop>(
     stdin: S,
     path: &str,
     except: &SharedExcept,
-) -> Result<Vec<SourceOf<Traced<S, &'a F>>>, Unlisted>
-    ensures few { IfOk result (λ sources. vec_len sources ≤ 2 ^ 16) }
-    ensures names { IfOk result (λ sources. (list : List ℕ) × IsWhole (list_given (F.known files.now) path.now (S.remaining stdin)) list × (map (λ s. s.name.items) sources.items ≡ names_in list)) }
-    ensures readers { IfOk result (λ sources. map (λ s. standing_of S.remaining (λ f. F.known f.now) F.File.remaining (input_of s.reader)) sources.items ≡ map (listed_standing (F.known files.now)) (map (λ s. s.name.items) sources.items)) }
-    ensures reasons { IfOk result (λ sources. map (λ s. reason_of (input_of s.reader)) sources.items ≡ map listed_reason (map (λ s. s.name.items) sources.items)) }
-    ensures sighted { IfOk result (λ sources. map (sighted (sight_of S.remaining (λ f. F.known f.now) F.File.remaining)) sources.items ≡ sightings (listed_made (F.known files.now) except.now.labels) (map (λ s. s.name.items) sources.items)) }
-    ensures unlisted { IfErr result (IsListFault (MayFailListed F.can_fail path.now) (list_given (F.known files.now) path.now (S.remaining stdin))) }
+) -> Result<Gathered<S, &'a F>, Ungathered<S>>
+    ensures few { IfOk result (λ made. vec_len made.sources ≤ 2 ^ 16) }
+    ensures names { IfOk result (λ made. (list : List ℕ) × IsWhole (list_given (F.known files.now) path.now (S.remaining stdin)) list × (map (λ s. s.name.items) made.sources.items ≡ names_in list)) }
+    ensures readers { IfOk result (λ made. map (λ s. standing_of S.remaining (λ f. F.known f.now) F.File.remaining (input_of s.reader)) made.sources.items ≡ map (listed_standing (F.known files.now)) (map (λ s. s.name.items) made.sources.items)) }
+    ensures reasons { IfOk result (λ made. map (λ s. reason_of (input_of s.reader)) made.sources.items ≡ map listed_reason (map (λ s. s.name.items) made.sources.items)) }
+    ensures sighted { IfOk result (λ made. map (sighted (sight_of S.remaining (λ f. F.known f.now) F.File.remaining)) made.sources.items ≡ sightings (listed_made (F.known files.now) except.now.labels) (map (λ s. s.name.items) made.sources.items)) }
+    ensures left { IfOk result (λ made. IsLeftByList path.now (S.remaining stdin) (option_map (seen_within S.remaining) made.stdin)) }
+    ensures unlisted { IfErr result (λ un. IsListFault (MayFailListed F.can_fail path.now) (list_given (F.known files.now) path.now (S.remaining stdin)) un.why) }
+    ensures unlisted_left { IfErr result (λ un. IsLeftByFault path.now (S.remaining stdin) un.why (option_map (seen_within S.remaining) un.stdin)) }
 {
-    let mut input = list_input(alloc, files, stdin, path)?;
-    let list = read_list(alloc, &mut input)?;
-    let sources = listed_in(alloc, files, &list, except)?;
-    if sources.len() > MOST_FILES {
-        return Err(Unlisted::TooMany);
+    if path == "-" {
+        listed_in_stream(alloc, files, stdin, except)
+    } else {
+        listed_in_file(alloc, files, stdin, path, except)
     }
-    Ok(sources)
 }
 
-// What the list at a path is read by.
-fn list_input<'a, S: Read + Drop, F: Opener + Drop>(
+// The file of each name in the list that standard input has.
+fn listed_in_stream<'a, S: Read + Drop, F: Opener + Drop>(
+    alloc: Global,
+    files: &'a F,
+    stdin: S,
+    except: &SharedExcept,
+) -> Result<Gathered<S, &'a F>, Ungathered<S>>
+    ensures few { IfOk result (λ made. vec_len made.sources ≤ 2 ^ 16) }
+    ensures names { IfOk result (λ made. (list : List ℕ) × IsWhole (S.remaining stdin) list × (map (λ s. s.name.items) made.sources.items ≡ names_in list)) }
+    ensures readers { IfOk result (λ made. map (λ s. standing_of S.remaining (λ f. F.known f.now) F.File.remaining (input_of s.reader)) made.sources.items ≡ map (listed_standing (F.known files.now)) (map (λ s. s.name.items) made.sources.items)) }
+    ensures reasons { IfOk result (λ made. map (λ s. reason_of (input_of s.reader)) made.sources.items ≡ map listed_reason (map (λ s. s.name.items) made.sources.items)) }
+    ensures sighted { IfOk result (λ made. map (sighted (sight_of S.remaining (λ f. F.known f.now) F.File.remaining)) made.sources.items ≡ sightings (listed_made (F.known files.now) except.now.labels) (map (λ s. s.name.items) made.sources.items)) }
+    ensures left { IfOk result (λ made. IsReadOut (option_map (seen_within S.remaining) made.stdin)) }
+    ensures unlisted { IfErr result (λ un. IsListFault ⊤ (S.remaining stdin) un.why) }
+    ensures unlisted_left { IfErr result (λ un. IsCutFor un.why (option_map (seen_within S.remaining) un.stdin)) }
+{
+    let mut input: Input<S, &'a F> = Input::standard(stdin);
+    let list = read_list(alloc, &mut input);
+    let stdin = input.into_standard();
+    match list {
+        Ok(list) => listed_by(alloc, files, &list, stdin, except),
+        Err(why) => Err(Ungathered { why, stdin }),
+    }
+}
+
+// The file of each name in the list that a file has.
+fn listed_in_file<'a, S: Read + Drop, F: Opener + Drop>(
     alloc: Global,
     files: &'a F,
     stdin: S,
     path: &str,
-) -> Result<Input<S, &'a F>, AllocError>
-    ensures bytes { IfOk result (λ input. bytes_left (standing_of S.remaining (λ f. F.known f.now) F.File.remaining input) ≡ list_given (F.known files.now) path.now (S.remaining stdin)) }
-    ensures reason { IfOk result (λ input. reason_of input ≡ None) }
-    ensures failing { IfOk result (λ input. MayFailFrom F.can_fail (standing_of S.remaining (λ f. F.known f.now) F.File.remaining input) → MayFailListed F.can_fail path.now) }
+    except: &SharedExcept,
+) -> Result<Gathered<S, &'a F>, Ungathered<S>>
+    ensures few { IfOk result (λ made. vec_len made.sources ≤ 2 ^ 16) }
+    ensures names { IfOk result (λ made. (list : List ℕ) × IsWhole (F.known files.now path.now) list × (map (λ s. s.name.items) made.sources.items ≡ names_in list)) }
+    ensures readers { IfOk result (λ made. map (λ s. standing_of S.remaining (λ f. F.known f.now) F.File.remaining (input_of s.reader)) made.sources.items ≡ map (listed_standing (F.known files.now)) (map (λ s. s.name.items) made.sources.items)) }
+    ensures reasons { IfOk result (λ made. map (λ s. reason_of (input_of s.reader)) made.sources.items ≡ map listed_reason (map (λ s. s.name.items) made.sources.items)) }
+    ensures sighted { IfOk result (λ made. map (sighted (sight_of S.remaining (λ f. F.known f.now) F.File.remaining)) made.sources.items ≡ sightings (listed_made (F.known files.now) except.now.labels) (map (λ s. s.name.items) made.sources.items)) }
+    ensures left { IfOk result (λ made. IsUntouched (S.remaining stdin) (option_map (seen_within S.remaining) made.stdin)) }
+    ensures unlisted { IfErr result (λ un. IsListFault (F.can_fail path.now) (F.known files.now path.now) un.why) }
+    ensures unlisted_left { IfErr result (λ un. IsUntouchedFor un.why (S.remaining stdin) (option_map (seen_within S.remaining) un.stdin)) }
 {
-    if path == "-" {
-        return Ok(Input::standard(stdin));
+    let mut input: Input<S, &'a F> = Input::path(alloc, files, path)?;
+    let list = read_list(alloc, &mut input);
+    let stdin = Some(untouched(stdin));
+    match list {
+        Ok(list) => listed_by(alloc, files, &list, stdin, except),
+        Err(why) => Err(Ungathered { why, stdin }),
     }
-    Input::path(alloc, files, path)
+}
+
+// The file of each name in a list, and standard input, which is left so.
+fn listed_by<'a, S: Read + Drop, F: Opener + Drop>(
+    alloc: Global,
+    files: &'a F,
+    list: &[u8],
+    stdin: Option<Retrying<S>>,
+    except: &SharedExcept,
+) -> Result<Gathered<S, &'a F>, Ungathered<S>>
+    ensures few { IfOk result (λ made. vec_len made.sources ≤ 2 ^ 16) }
+    ensures names { IfOk result (λ made. map (λ s. s.name.items) made.sources.items ≡ names_in list.now) }
+    ensures readers { IfOk result (λ made. map (λ s. standing_of S.remaining (λ f. F.known f.now) F.File.remaining (input_of s.reader)) made.sources.items ≡ map (listed_standing (F.known files.now)) (map (λ s. s.name.items) made.sources.items)) }
+    ensures reasons { IfOk result (λ made. map (λ s. reason_of (input_of s.reader)) made.sources.items ≡ map listed_reason (map (λ s. s.name.items) made.sources.items)) }
+    ensures sighted { IfOk result (λ made. map (sighted (sight_of S.remaining (λ f. F.known f.now) F.File.remaining)) made.sources.items ≡ sightings (listed_made (F.known files.now) except.now.labels) (map (λ s. s.name.items) made.sources.items)) }
+    ensures left { IfOk result (λ made. made.stdin ≡ stdin) }
+    ensures unlisted { IfErr result (λ un. (un.why ≡ Memory) ⊎ ((un.why ≡ TooMany) × (2 ^ 16 < length (names_in list.now)) × (un.stdin ≡ stdin))) }
+{
+    let sources = listed_in(alloc, files, list, except)?;
+    if sources.len() > MOST_FILES {
+        return Err(Ungathered {
+            why: Unlisted::TooMany,
+            stdin,
+        });
+    }
+    Ok(Gathered { sources, stdin })
 }
 
 // The file of each name in a list.

@@ -1,5 +1,6 @@
 mod again;
 mod arguments;
+mod closing;
 mod memory;
 mod named;
 mod pipes;
@@ -164,7 +165,7 @@ pub(crate) fn config_of(alloc: Global, file: Option<&str>, order: bool) -> Resul
     Ok(config_for(alloc, Sources::Files(files), order, false))
 }
 
-fn one_file(alloc: Global, file: &str) -> Result<Vec<String>, AllocError>
+pub(crate) fn one_file(alloc: Global, file: &str) -> Result<Vec<String>, AllocError>
     ensures { IfOk result (λ files. vec_len files ≡ 1) }
 {
     let mut files = Vec::new(alloc);
@@ -175,15 +176,32 @@ fn one_file(alloc: Global, file: &str) -> Result<Vec<String>, AllocError>
 fn config_for(alloc: Global, sources: Sources, order: bool, fail_open: bool) -> Config
     requires { count_named sources ≤ 2 ^ 16 }
 {
+    config_from(alloc, sources, order, fail_open, Vec::new(alloc))
+}
+
+// The same with files of labels.
+pub(crate) fn config_from(
+    alloc: Global,
+    sources: Sources,
+    order: bool,
+    fail_open: bool,
+    except_from: Vec<String>,
+) -> Config
+    requires few { count_named sources ≤ 2 ^ 16 }
+    requires few_files { vec_len except_from ≤ 64 }
+{
     Config {
         workers: 2,
         piece: 1,
         except: Vec::new(alloc),
         only: Vec::new(alloc),
+        except_from,
+        only_from: Vec::new(alloc),
         files: sources,
         order,
         explain: false,
         long: false,
+        stop: false,
         fail_open,
         form: Form::Text,
         terminals: Terminals {
@@ -197,11 +215,19 @@ fn config_for(alloc: Global, sources: Sources, order: bool, fail_open: bool) -> 
 const REPORT: &[u8] = b"-: serializable (1 events, 0 blocks)\n\
     traces 1: serializable 1, open 0, violations 0, faults 0\n";
 
-const SERIALIZABLE: Wanted = (REPORT, b"", 0);
+// What is told of a source without a block.
+const UNCHECKED: &[u8] =
+    b"aerodrome: -: nothing was checked: no block begins, or each one is left out by its label\n";
+
+const SERIALIZABLE: Wanted = (REPORT, UNCHECKED, 0);
+
+const MARK: &[u8] =
+    b"aerodrome: -: starts with a byte order mark, which counts as part of the first thread's name\n";
 
 const MARKED: Wanted = (
     REPORT,
-    b"aerodrome: -: starts with a byte order mark, which counts as part of the first thread's name\n",
+    b"aerodrome: -: starts with a byte order mark, which counts as part of the first thread's name\n\
+        aerodrome: -: nothing was checked: no block begins, or each one is left out by its label\n",
     0,
 );
 
@@ -219,7 +245,12 @@ const BROKEN: Wanted = (
     2,
 );
 
-const UNFLUSHED: Wanted = (REPORT, b"aerodrome: write failed\n", 4);
+const UNFLUSHED: Wanted = (
+    REPORT,
+    b"aerodrome: -: nothing was checked: no block begins, or each one is left out by its label\n\
+        aerodrome: write failed\n",
+    4,
+);
 
 const CUT: Wanted = (b"-: seriali", b"aerodrome: write failed\n", 4);
 
@@ -398,7 +429,7 @@ fn an_order_that_is_asked_for_is_told(rt: HostRuntime) -> Result<(), Fail> {
             (
                 b"-: serializable (0 events, 0 blocks)\n\
                     traces 1: serializable 1, open 0, violations 0, faults 0\n",
-                b"",
+                UNCHECKED,
                 0,
             ),
         ),
@@ -643,7 +674,7 @@ fn a_file_is_opened_and_read_as_standard_input_is(rt: HostRuntime) -> Result<(),
     let whole: Wanted = (
         b"f: serializable (1 events, 0 blocks)\n\
             traces 1: serializable 1, open 0, violations 0, faults 0\n",
-        b"",
+        b"aerodrome: f: nothing was checked: no block begins, or each one is left out by its label\n",
         0,
     );
     let unopened: Wanted = (

@@ -1,6 +1,7 @@
 // Which labels begin no block in a text, however it is cut.
 use aero_model::{Except, Name, SharedExcept};
 use aero_watch::Watch;
+use indexmap::IndexSet;
 use std::alloc::{AllocError, Global};
 
 // One is the front of another, and one has more bytes than a name that needs no memory.
@@ -166,4 +167,90 @@ fn is_long_text_so(alloc: Global) -> Option<bool> {
 #[test]
 fn a_label_is_found_far_down(rt: HostRuntime) {
     assert!(rt; is_long_text_so(rt.alloc()) == Some(true));
+}
+
+// A list with a label that is repeated.
+fn repeating_watch(alloc: Global) -> Option<Watch> {
+    let mut labels = Vec::new(alloc);
+    for label in [b"a", b"b", b"a"] {
+        labels.push(Name::read(alloc, label).ok()?).ok()?;
+    }
+    let shared = SharedExcept::new(alloc, Except::new(labels)?).ok()?;
+    Watch::new(alloc, &shared).ok()
+}
+
+// Whether the watch lacks the first label and the second so.
+fn lacks_both_so(watch: &Watch, first: bool, second: bool) -> bool {
+    is_answer(watch.lacks(b"a"), first) && is_answer(watch.lacks(b"b"), second)
+}
+
+// A label that is repeated has begun a block at each of its places.
+fn is_repeated_label_so(alloc: Global) -> Option<bool> {
+    let mut watch = repeating_watch(alloc)?;
+    watch.feed(b"T|begin(a)\nT|begin(a)\n");
+    let so = lacks_both_so(&watch, false, true);
+    watch.feed(b"T|begin(b)\n");
+    Some(so && lacks_both_so(&watch, false, false))
+}
+
+#[test]
+fn a_label_that_is_repeated(rt: HostRuntime) {
+    assert!(rt; is_repeated_label_so(rt.alloc()) == Some(true));
+}
+
+const MANY: u32 = 65_536;
+
+// The last digit of a number to the base 64.
+fn digit_of(number: u32) -> u8 {
+    u8::try_from(number % 64).unwrap_or(0)
+}
+
+// The label of this number below 65,536, of three bytes.
+fn label_of_number(number: u32) -> [u8; 3] {
+    [
+        b'a'.saturating_add(digit_of(number / 4096)),
+        128u8.saturating_add(digit_of(number / 64)),
+        128u8.saturating_add(digit_of(number)),
+    ]
+}
+
+fn many_labels(alloc: Global) -> Option<IndexSet<Name>> {
+    let mut labels = IndexSet::new(alloc);
+    let mut fits = true;
+    for number in 0..MANY {
+        let name = Name::read(alloc, &label_of_number(number)).ok()?;
+        fits &= labels.insert(name).is_ok();
+    }
+    fits.then_some(labels)
+}
+
+fn begins_of(alloc: Global, numbers: u32) -> Option<Vec<u8>> {
+    let mut text = Vec::new(alloc);
+    let mut fits = true;
+    for number in 0..numbers {
+        fits &= text.extend_from_slice(b"T|begin(").is_ok();
+        fits &= text.extend_from_slice(&label_of_number(number)).is_ok();
+        fits &= text.extend_from_slice(b")\n").is_ok();
+    }
+    fits.then_some(text)
+}
+
+// Of 65,536 labels all but the last begin a block, twice, and then the last does.
+fn are_many_labels_so(alloc: Global) -> Option<bool> {
+    let except = Except::of_set(many_labels(alloc)?, false)?;
+    let shared = SharedExcept::new(alloc, except).ok()?;
+    let mut watch = Watch::new(alloc, &shared).ok()?;
+    let text = begins_of(alloc, MANY - 1)?;
+    watch.feed(&text);
+    watch.feed(&text);
+    let last = label_of_number(MANY - 1);
+    let so = is_answer(watch.lacks(&last), true)
+        && is_answer(watch.lacks(&label_of_number(0)), false);
+    watch.feed(&begins_of(alloc, MANY)?);
+    Some(so && is_answer(watch.lacks(&last), false) && is_answer(watch.lacks(b"other"), false))
+}
+
+#[test]
+fn as_many_labels_as_a_set_may_have(rt: HostRuntime) {
+    assert!(rt; are_many_labels_so(rt.alloc()) == Some(true));
 }

@@ -165,6 +165,11 @@ abbrev pub notes_members : List Note → List Member
 notes_members [] = []
 notes_members (note ∷ more) = list (codes "notes") (map note_value (note ∷ more)) ∷ []
 
+-- whether a source was read no further once its verdict was certain, where that was asked for
+abbrev pub stop_members : Bool → List Member
+stop_members true = flag (codes "stop") true ∷ []
+stop_members false = []
+
 -- the program's version, how the sources were judged, and what is told of them beside their lines
 abbrev pub option_members : Options → List Member
 option_members options =
@@ -173,7 +178,7 @@ option_members options =
     ∷ flag (codes "explain") options.explain
     ∷ (codes "limits", limits_value options.limits)
     ∷ listed_member options.labels
-    ∷ (unused_members options.unused ++ notes_members options.notes)
+    ∷ (stop_members options.stop ++ (unused_members options.unused ++ notes_members options.notes))
 
 -- the data of the summary
 abbrev pub summary_value : Options → Counts → Json

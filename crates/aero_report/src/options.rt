@@ -2,7 +2,7 @@
 ghost use Rattle.std.specs.Prelude.{◌≡◌, [], ◌++◌, codes, map, flat_map, if◌then◌else◌, IfOk, OnOk};
 ghost use Rattle.json.specs.Tree.{json_tokens};
 ghost use Rattle.aero_report.specs.Asked.{options_of};
-ghost use Rattle.aero_report.specs.Json.{count_members, json_line, limits_value, list, listed_member, name_value, option_members, summary_value, unused_members, ReadsBack};
+ghost use Rattle.aero_report.specs.Json.{count_members, json_line, limits_value, list, listed_member, name_value, option_members, stop_members, summary_value, unused_members, ReadsBack};
 ghost use Rattle.aero_report.specs.Members.{member_tokens, all_members_tokens};
 
 use crate::line::Line;
@@ -15,14 +15,16 @@ use std::alloc::{AllocError, Global};
 pub const VERSION: &str = "0.1.0";
 
 /// How the sources of a report were judged, as far as its summary tells it: the limits of a source, which of its blocks
-/// are no transactions, whether the serial order was asked for, whether violations were to be explained, with which
-/// labels of the list no block begins, and what is told of the sources beside their lines.
+/// are no transactions, whether the serial order was asked for, whether violations were to be explained, whether a source
+/// was read no further once its verdict was certain, with which labels of the list no block begins, and what is told of
+/// the sources beside their lines.
 #[derive(Clone, Copy)]
 pub struct Options<'a> {
     pub limits: &'a Limits,
     pub except: &'a Except,
     pub order: bool,
     pub explain: bool,
+    pub stop: bool,
     pub unused: &'a [&'a Name],
     pub notes: &'a [Note],
 }
@@ -68,6 +70,7 @@ fn write_options(out: &mut Line, options: Options<'_>) -> Result<(), AllocError>
     out.flag("explain", options.explain)?;
     write_limits(out, options.limits)?;
     write_listed(out, options.except)?;
+    write_stop(out, options.stop)?;
     write_unused(out, options.unused)?;
     write_notes(out, options.notes)
 }
@@ -103,6 +106,16 @@ fn write_labels(out: &mut Line, labels: &[Name]) -> Result<(), AllocError>
 {
     for label in labels {
         out.name_alone(label.bytes())?;
+    }
+    Ok(())
+}
+
+// That a source was read no further once its verdict was certain, where that was asked for.
+fn write_stop(out: &mut Line, stop: bool) -> Result<(), AllocError>
+    ensures { OnOk result (out.new ≡ out.old ++ all_members_tokens (stop_members stop)) }
+{
+    if stop {
+        return out.flag("stop", true);
     }
     Ok(())
 }

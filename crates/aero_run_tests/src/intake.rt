@@ -87,6 +87,7 @@ fn name_of(taken: &Taken) -> &'static str {
         Taken::Ended(Ending::Whole) => "whole",
         Taken::Ended(Ending::Broken) => "broken",
         Taken::Ended(Ending::TooLarge) => "too large",
+        Taken::Ended(Ending::Stopped) => "stopped",
     }
 }
 

@@ -10,23 +10,26 @@ use std::alloc::Global;
 type Counted = ([u64; 4], &'static str);
 
 // How sources were judged: whether their order was asked for, and an explanation, labels, whether just these count, whether
-// none of them begins a block, and what the object of the summary ends with.
+// a source is read no further once its verdict is certain, whether no label begins a block, and how the object of the
+// summary ends.
 #[derive(Clone, Copy)]
 struct Asked {
     order: bool,
     explain: bool,
     labels: &'static [&'static [u8]],
     only: bool,
+    stop: bool,
     are_unused: bool,
     end: &'static str,
 }
 
-static ASKED: [Asked; 5] = [
+static ASKED: [Asked; 6] = [
     Asked {
         order: false,
         explain: false,
         labels: &[],
         only: false,
+        stop: false,
         are_unused: false,
         end: r#","version":"0.1.0","order":false,"explain":false,"limits":{"bytes":1073741824,"lines":268435456,"threads":65536,"names":67108864},"except":[]}"#,
     },
@@ -35,6 +38,7 @@ static ASKED: [Asked; 5] = [
         explain: false,
         labels: &[b"f", b"g\"h"],
         only: false,
+        stop: false,
         are_unused: false,
         end: r#","version":"0.1.0","order":true,"explain":false,"limits":{"bytes":1073741824,"lines":268435456,"threads":65536,"names":67108864},"except":["f","g\"h"]}"#,
     },
@@ -43,6 +47,7 @@ static ASKED: [Asked; 5] = [
         explain: true,
         labels: &[b"\xff", b"f"],
         only: true,
+        stop: false,
         are_unused: false,
         end: r#","version":"0.1.0","order":false,"explain":true,"limits":{"bytes":1073741824,"lines":268435456,"threads":65536,"names":67108864},"only":[{"bytes":"/w=="},"f"]}"#,
     },
@@ -51,14 +56,25 @@ static ASKED: [Asked; 5] = [
         explain: true,
         labels: &[],
         only: true,
+        stop: false,
         are_unused: false,
         end: r#","version":"0.1.0","order":true,"explain":true,"limits":{"bytes":1073741824,"lines":268435456,"threads":65536,"names":67108864},"only":[]}"#,
+    },
+    Asked {
+        order: false,
+        explain: true,
+        labels: &[b"f"],
+        only: false,
+        stop: true,
+        are_unused: true,
+        end: r#","version":"0.1.0","order":false,"explain":true,"limits":{"bytes":1073741824,"lines":268435456,"threads":65536,"names":67108864},"except":["f"],"stop":true,"unused":["f"]}"#,
     },
     Asked {
         order: false,
         explain: false,
         labels: &[b"g\"h", b"\xff"],
         only: false,
+        stop: false,
         are_unused: true,
         end: r#","version":"0.1.0","order":false,"explain":false,"limits":{"bytes":1073741824,"lines":268435456,"threads":65536,"names":67108864},"except":["g\"h",{"bytes":"/w=="}],"unused":["g\"h",{"bytes":"/w=="}]}"#,
     },
@@ -131,6 +147,7 @@ fn is_summed_so(alloc: Global, row: &Counted, asked: &Asked, notes: &[Note]) -> 
         except: &except,
         order: asked.order,
         explain: asked.explain,
+        stop: asked.stop,
         unused: &unused,
         notes,
     };
@@ -203,6 +220,7 @@ static NOTED: Asked = Asked {
     explain: false,
     labels: &[b"f"],
     only: false,
+    stop: false,
     are_unused: true,
     end: r#","version":"0.1.0","order":false,"explain":false,"limits":{"bytes":1073741824,"lines":268435456,"threads":65536,"names":67108864},"except":["f"],"unused":["f"],"notes":[{"source":"no.std","note":"No such file or directory"},{"source":"a\"b","line":4294967295,"note":"T2 acquires l, which T1 holds since line 1"},{"source":{"bytes":"/w=="},"line":1,"note":{"bytes":"bm8gc3VjaCBvcGVyYXRpb246IP4="}}]}"#,
 };
@@ -265,6 +283,7 @@ fn has_totals_text(alloc: Global) -> bool {
         except: &except,
         order: true,
         explain: true,
+        stop: true,
         unused: &[],
         notes: &[],
     };

@@ -1,4 +1,5 @@
 use aero_model::{Counting, Except, Limits, Name, NameFault, SharedExcept};
+use indexmap::IndexSet;
 use std::alloc::Global;
 use std::io;
 use std::io::{Read, Write};
@@ -151,6 +152,63 @@ fn left_out(alloc: Global, text: &str) -> Option<(bool, bool, bool)> {
 fn a_list_leaves_out_its_labels_or_all_but_these(rt: HostRuntime) {
     let alloc = rt.alloc();
     let found = [left_out(alloc, "f g"), left_out(alloc, "only: f g")];
+    assert!(rt; found == [Some((true, false, false)), Some((false, true, true))]);
+}
+
+fn insert_label(alloc: Global, labels: &mut IndexSet<Name>, label: &str) -> Option<()> {
+    let label = Name::read(alloc, label.as_bytes()).ok()?;
+    labels.insert(label).ok()?;
+    Some(())
+}
+
+// The set of a text's labels, which are those of the only transactions, or of none.
+fn set_of(alloc: Global, text: &str, only: bool) -> Option<Except> {
+    let mut labels = IndexSet::new(alloc);
+    for label in text.split(' ') {
+        insert_label(alloc, &mut labels, label)?;
+    }
+    Except::of_set(labels, only)
+}
+
+// The places of the labels `f`, `g`, `h` and `x`.
+fn places_in(except: &Except) -> [Option<usize>; 4] {
+    [
+        except.place_of(b"f"),
+        except.place_of(b"g"),
+        except.place_of(b"h"),
+        except.place_of(b"x"),
+    ]
+}
+
+// These places, and how many labels there are.
+fn placed(except: Option<Except>) -> Option<([Option<usize>; 4], usize)> {
+    let except = except?;
+    Some((places_in(&except), except.labels().len()))
+}
+
+#[test]
+fn a_label_has_the_place_where_it_is_first(rt: HostRuntime) {
+    let alloc = rt.alloc();
+    let listed = placed(except_of(alloc, "f g f h"));
+    assert!(rt; listed == Some(([Some(0), Some(1), Some(3), None], 4)));
+    let set = placed(set_of(alloc, "f g f h", false));
+    assert!(rt; set == Some(([Some(0), Some(1), Some(2), None], 3)));
+}
+
+// Whether the set of these labels leaves out `f` and `x`, and whether its labels are the only ones.
+fn left_out_by_set(alloc: Global, only: bool) -> Option<(bool, bool, bool)> {
+    let except = set_of(alloc, "f g", only)?;
+    Some((
+        except.leaves_out(b"f"),
+        except.leaves_out(b"x"),
+        except.is_only(),
+    ))
+}
+
+#[test]
+fn a_set_leaves_out_its_labels_or_all_but_these(rt: HostRuntime) {
+    let alloc = rt.alloc();
+    let found = [left_out_by_set(alloc, false), left_out_by_set(alloc, true)];
     assert!(rt; found == [Some((true, false, false)), Some((false, true, true))]);
 }
 

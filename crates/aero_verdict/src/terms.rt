@@ -7,14 +7,15 @@ use std::alloc::AllocError;
 use std::marker::Model;
 
 /// The limits of a source, the labels of its blocks that are no transactions, whether its serial order is asked for,
-/// where it is serializable, and whether what is found of it is to be explained, where it is a violation or has open
-/// blocks.
+/// where it is serializable, whether what is found of it is to be explained, where it is a violation or has open
+/// blocks, and whether it is read no further once its verdict is certain.
 #[derive(Drop)]
 pub struct Terms {
     limits: Limits,
     except: SharedExcept,
     order: bool,
     explain: bool,
+    stop: bool,
 }
 
 impl Model for Terms {
@@ -22,13 +23,13 @@ impl Model for Terms {
 
     ghost Value = { Asked };
 
-    ghost view = { λ t. asking t.limits t.except t.order t.explain };
+    ghost view = { λ t. record (asking t.limits t.except t.order t.explain) { stop = t.stop } };
 }
 
 impl Terms {
     ghost use Rattle.std.specs.Prelude.{◌≡◌, IfOk, true};
 
-    /// These limits, these labels, and what is asked for.
+    /// These limits, these labels, and what is asked for. The source is read to its end.
     pub fn new(limits: Limits, except: SharedExcept, order: bool, explain: bool) -> Terms
         ensures { result ≡ asking limits except order explain }
     {
@@ -37,6 +38,7 @@ impl Terms {
             except,
             order,
             explain,
+            stop: false,
         }
     }
 
@@ -47,12 +49,24 @@ impl Terms {
         self.explain = true;
     }
 
+    /// From now on the source is read no further once its verdict is certain.
+    pub fn ask_to_stop(&mut self)
+        ensures { self.new ≡ record self.old { stop = true } }
+    {
+        self.stop = true;
+    }
+
     /// The same terms for one more holder. An `AllocError` says that the labels have too many.
     pub fn share(&self) -> Result<Terms, AllocError>
         ensures { IfOk result (λ terms. terms ≡ self.now) }
     {
-        let except = self.except.share()?;
-        Ok(Terms::new(self.limits, except, self.order, self.explain))
+        Ok(Terms {
+            limits: self.limits,
+            except: self.except.share()?,
+            order: self.order,
+            explain: self.explain,
+            stop: self.stop,
+        })
     }
 
     /// The limits of a source.
@@ -89,5 +103,11 @@ impl Terms {
         ensures { result ≡ self.now.explain }
     {
         self.explain
+    }
+    /// Whether the source is read no further once its verdict is certain.
+    pub fn stop(&self) -> bool
+        ensures { result ≡ self.now.stop }
+    {
+        self.stop
     }
 }

@@ -1,19 +1,17 @@
 -- What a watch stands for, piece by piece.
-use Rattle.std.proofs.Common.{◌≡◌, ◌<◌, ◌≤◌, ◌+◌, ◌-◌, ◌==◌, ℕ, zero, suc, Bool, true, false, not, cond, List, [], ◌∷◌, ◌++◌, ◌||◌, ◌&&◌, length, take, drop, get_or, Option, Some, None, refl, sym, ◌∙◌, ap, ap₂, subst, arith, length-append}
-use Rattle.std.specs.Prelude.{if◌then◌else◌, slice_get, bytes_eq, nat_lt}
+use Rattle.std.proofs.Common.{◌≡◌, ◌<◌, ◌≤◌, ◌+◌, ◌-◌, ◌==◌, ℕ, zero, suc, Bool, true, false, not, cond, List, [], ◌∷◌, ◌++◌, ◌||◌, ◌&&◌, length, take, drop, get_or, refl, sym, ◌∙◌, ap, ap₂, subst, arith, length-append}
+use Rattle.std.specs.Prelude.{if◌then◌else◌, bytes_eq, nat_lt}
 use Rattle.std.specs.Bool.{Decides}
-use Rattle.std.proofs.lemmas.Option.{slice_get-get_or}
-use Rattle.std.proofs.Math.Seq.{take-suc}
-use Rattle.std.specs.List.{list_any, filter, filter_map, slice_split, onto_first}
+use Rattle.std.specs.List.{list_any, filter, slice_split, onto_first}
 use Rattle.std.proofs.lemmas.List.{append_assoc, append-nil, length-take-le}
-use Rattle.std.proofs.lemmas.List.Elements.{filter_map-append}
 use Rattle.std.proofs.lemmas.List.Folds.{list_any-append}
 use Rattle.std.proofs.lemmas.List.Splits.{length-slice_split}
 use Rattle.std.proofs.lemmas.Bool.{lt-ltb, ltb-true, ne_eqb, eqb-true}
 use Rattle.std.proofs.lemmas.Slice.Eq.{bytes_eq-Decides}
+use Rattle.indexmap.specs.IndexSet.{insert_key}
 use Rattle.memchr.specs.Find.{Nowhere, NoneBefore, Passes, is_byte}
 use Rattle.aero_model.specs.Lines.{is_line_end, is_too_long, without_empty_last, lines_of}
-use Rattle.aero_watch.specs.Watches.{Watching, HasSeen, at_places, begins, is_label, is_live, settled, unbegun}
+use Rattle.aero_watch.specs.Watches.{Watching, HasSeen, begins, is_live, settled, unbegun, without}
 
 -- labels, tests and filters
 
@@ -47,47 +45,85 @@ pub filter_nothing : (f : List ℕ → Bool) → ((x : List ℕ) → f x ≡ fal
 filter_nothing f is [] = refl
 filter_nothing f is (x ∷ xs) = ap (λ c. cond (not c) (x ∷ filter (λ x. not (f x)) xs) (filter (λ x. not (f x)) xs)) (is x) ∙ ap (λ l. x ∷ l) (filter_nothing f is xs)
 
--- the places without those of a label, and the labels there
-dropped_step : (labels : List (List ℕ)) (label : List ℕ) (place : ℕ) (left more : List ℕ) (at : Option (List ℕ)) → slice_get labels place ≡ at
-    → at_places labels left ≡ filter (λ other. not (bytes_eq other label)) (at_places labels more)
-    → at_places labels (cond (not (is_label label (slice_get labels place))) (place ∷ left) left) ≡ filter (λ other. not (bytes_eq other label)) (at_places labels (place ∷ more))
-dropped_step labels label place left more None at later =
-    let nothing : at_places labels (place ∷ left) ≡ filter (λ other. not (bytes_eq other label)) (at_places labels (place ∷ more)) = rw at later in
-    ap (λ o. at_places labels (cond (not (is_label label o)) (place ∷ left) left)) at ∙ nothing
-dropped_step labels label place left more (Some other) at later = rw (at, bytes_eq_turned label other) (kept (bytes_eq other label))
+-- a list of labels that have begun a block, with one more
+
+or_first : (a b : Bool) → (a || b) ≡ false → a ≡ false
+or_first true b none = none
+or_first false b none = refl
+
+or_second : (a b : Bool) → (a || b) ≡ false → b ≡ false
+or_second true b none = cc
+or_second false b none = none
+
+or_again : (a b : Bool) → (b ≡ true → a ≡ true) → a ≡ (a || b)
+or_again true b same = refl
+or_again false true same = same refl
+or_again false false same = refl
+
+or_nothing : (b : Bool) → (b || false) ≡ b
+or_nothing true = refl
+or_nothing false = refl
+
+pub any_noted : (x label : List ℕ) (begun : List (List ℕ)) → list_any (bytes_eq x) (insert_key bytes_eq begun label) ≡ (list_any (bytes_eq x) begun || bytes_eq x label)
+any_noted x label begun = both (list_any (bytes_eq label) begun) refl
   where
-    kept : (b : Bool) → at_places labels (cond (not b) (place ∷ left) left)
-        ≡ cond (not b) (other ∷ filter (λ other. not (bytes_eq other label)) (at_places labels more)) (filter (λ other. not (bytes_eq other label)) (at_places labels more))
-    kept true = later
-    kept false = rw at (ap (λ l. other ∷ l) later)
+    both : (b : Bool) → list_any (bytes_eq label) begun ≡ b → list_any (bytes_eq x) (insert_key bytes_eq begun label) ≡ (list_any (bytes_eq x) begun || bytes_eq x label)
+    both true there =
+        ap (λ b. list_any (bytes_eq x) (if b then begun else begun ++ label ∷ [])) there
+        ∙ or_again (list_any (bytes_eq x) begun) (bytes_eq x label) (λ same. ap (λ l. list_any (bytes_eq l) begun) ((bytes_eq-Decides x label).0 same) ∙ there)
+    both false absent =
+        ap (λ b. list_any (bytes_eq x) (if b then begun else begun ++ label ∷ [])) absent
+        ∙ list_any-append (bytes_eq x) begun (label ∷ []) ∙ ap (λ b. list_any (bytes_eq x) begun || b) (or_nothing (bytes_eq x label))
 
-pub labels_dropped : (labels : List (List ℕ)) (label : List ℕ) (places : List ℕ) →
-    at_places labels (filter (λ place. not (is_label label (slice_get labels place))) places) ≡ filter (λ other. not (bytes_eq other label)) (at_places labels places)
-labels_dropped labels label [] = refl
-labels_dropped labels label (place ∷ places) =
-    dropped_step labels label place (filter (λ place. not (is_label label (slice_get labels place))) places) places (slice_get labels place) refl (labels_dropped labels label places)
+pub without_one_more : (begun new labels : List (List ℕ)) (label : List ℕ) → new ≡ insert_key bytes_eq begun label → without new labels ≡ filter (λ other. not (bytes_eq other label)) (without begun labels)
+without_one_more begun new labels label is =
+    ap (λ b. without b labels) is
+    ∙ sym (filter_again (λ x. list_any (bytes_eq x) begun) (λ x. bytes_eq x label) (λ x. list_any (bytes_eq x) (insert_key bytes_eq begun label)) (λ x. any_noted x label begun) labels)
 
-any_step : (labels : List (List ℕ)) (label : List ℕ) (place : ℕ) (more : List ℕ) (at : Option (List ℕ)) → slice_get labels place ≡ at
-    → list_any (λ place. is_label label (slice_get labels place)) more ≡ list_any (bytes_eq label) (at_places labels more)
-    → list_any (λ place. is_label label (slice_get labels place)) (place ∷ more) ≡ list_any (bytes_eq label) (at_places labels (place ∷ more))
-any_step labels label place more None at later = rw at later
-any_step labels label place more (Some other) at later = rw at (ap (λ b. bytes_eq label other || b) later)
+-- what was passed stays passed
+pub passed_noted : (begun new labels : List (List ℕ)) (label : List ℕ) (noted : Bool) → (noted ≡ true → new ≡ insert_key bytes_eq begun label) → (noted ≡ false → new ≡ begun)
+    → without begun labels ≡ [] → without new labels ≡ []
+passed_noted begun new labels label true more same none = without_one_more begun new labels label (more refl) ∙ ap (filter (λ other. not (bytes_eq other label))) none
+passed_noted begun new labels label false more same none = ap (λ b. without b labels) (same refl) ∙ none
 
-pub any_at_places : (labels : List (List ℕ)) (label : List ℕ) (places : List ℕ) →
-    list_any (λ place. is_label label (slice_get labels place)) places ≡ list_any (bytes_eq label) (at_places labels places)
-any_at_places labels label [] = refl
-any_at_places labels label (place ∷ places) = any_step labels label place places (slice_get labels place) refl (any_at_places labels label places)
+fine_parts : (refused noted : Bool) → (refused || not noted) ≡ false → noted ≡ true
+fine_parts true noted fine = absurd (cc)
+fine_parts false true fine = refl
+fine_parts false false fine = absurd (cc)
 
--- one place more
-pub places_more : (labels : List (List ℕ)) (places : List ℕ) (n : ℕ) → n < length labels → at_places labels places ≡ take n labels → at_places labels (places ++ n ∷ []) ≡ take (n + 1) labels
-places_more labels places n below so_far =
-    let next : suc n ≡ n + 1 = omega arith in
-    filter_map-append (slice_get labels) places (n ∷ [])
-    ∙ ap₂ (λ a b. a ++ b) so_far (alone (slice_get-get_or labels n [] below))
-    ∙ sym (take-suc labels n [] below) ∙ ap (λ k. take k labels) next
+pub noted_where_fine : (begun new labels missing : List (List ℕ)) (label : List ℕ) (refused noted : Bool) → (noted ≡ true → new ≡ insert_key bytes_eq begun label) → without begun labels ≡ missing
+    → (refused || not noted) ≡ false → without new labels ≡ filter (λ other. not (bytes_eq other label)) missing
+noted_where_fine begun new labels missing label refused noted more are fine =
+    without_one_more begun new labels label (more (fine_parts refused noted fine)) ∙ ap (filter (λ other. not (bytes_eq other label))) are
+
+-- a label that isn't listed leaves all where it was
+kept_step : (label x : List ℕ) (more left : List (List ℕ)) (keep : Bool) → bytes_eq x label ≡ false → filter (λ other. not (bytes_eq other label)) left ≡ left
+    → filter (λ other. not (bytes_eq other label)) (cond keep (x ∷ left) left) ≡ cond keep (x ∷ left) left
+kept_step label x more left true other later = ap (λ b. cond (not b) (x ∷ filter (λ other. not (bytes_eq other label)) left) (filter (λ other. not (bytes_eq other label)) left)) other ∙ ap (λ l. x ∷ l) later
+kept_step label x more left false other later = later
+
+pub unlisted_stays : (begun labels : List (List ℕ)) (label : List ℕ) → list_any (bytes_eq label) labels ≡ false → filter (λ other. not (bytes_eq other label)) (without begun labels) ≡ without begun labels
+unlisted_stays begun [] label none = refl
+unlisted_stays begun (x ∷ labels) label none =
+    kept_step label x labels (without begun labels) (not (list_any (bytes_eq x) begun)) (bytes_eq_turned x label ∙ or_first (bytes_eq label x) (list_any (bytes_eq label) labels) none)
+    (unlisted_stays begun labels label (or_second (bytes_eq label x) (list_any (bytes_eq label) labels) none))
+
+pub unlisted_missing : (begun labels missing : List (List ℕ)) (label : List ℕ) → without begun labels ≡ missing → list_any (bytes_eq label) labels ≡ false → missing ≡ filter (λ other. not (bytes_eq other label)) missing
+unlisted_missing begun labels missing label are none = sym (ap (filter (λ other. not (bytes_eq other label))) (sym are) ∙ unlisted_stays begun labels label none ∙ are)
+
+-- one label more is passed
+pub passes_one : (begun labels : List (List ℕ)) (n : ℕ) → n < length labels → list_any (bytes_eq (get_or labels n [])) begun ≡ true → without begun (take n labels) ≡ [] → without begun (take (n + 1) labels) ≡ []
+passes_one begun [] n below there none = absurd (omega (arith, below))
+passes_one begun (x ∷ labels) zero below there none = ap (λ b. cond (not b) (x ∷ []) []) there
+passes_one begun (x ∷ labels) (suc n) below there none =
+    let next : suc n + 1 ≡ suc (n + 1) = omega arith in
+    ap (λ k. without begun (take k (x ∷ labels))) next ∙ both (list_any (bytes_eq x) begun) none (λ later. passes_one begun labels n (omega (arith, below)) there later)
   where
-    alone : slice_get labels n ≡ Some (get_or labels n []) → filter_map (slice_get labels) (n ∷ []) ≡ get_or labels n [] ∷ []
-    alone is = rw is refl
+    both : (b : Bool) → cond (not b) (x ∷ without begun (take n labels)) (without begun (take n labels)) ≡ []
+        → (without begun (take n labels) ≡ [] → without begun (take (n + 1) labels) ≡ [])
+        → cond (not b) (x ∷ without begun (take (n + 1) labels)) (without begun (take (n + 1) labels)) ≡ []
+    both true later more = more later
+    both false later more = absurd (cc)
 
 -- a label that is missing, and isn't said by the last line
 any_cond : (label x : List ℕ) (more : List (List ℕ)) (b : Bool) → list_any (bytes_eq label) (cond b (x ∷ more) more) ≡ ((b && bytes_eq label x) || list_any (bytes_eq label) more)
@@ -119,14 +155,6 @@ any_left label f (x ∷ xs) =
 -- no byte of these ends a line
 abbrev pub HasNoEnd : List ℕ → Type 0
 HasNoEnd bytes = list_any is_line_end bytes ≡ false
-
-or_first : (a b : Bool) → (a || b) ≡ false → a ≡ false
-or_first true b none = none
-or_first false b none = refl
-
-or_second : (a b : Bool) → (a || b) ≡ false → b ≡ false
-or_second true b none = cc
-or_second false b none = none
 
 pub no_end_both : (a b : List ℕ) → HasNoEnd a → HasNoEnd b → HasNoEnd (a ++ b)
 no_end_both a b first second = list_any-append is_line_end a b ∙ ap (λ x. x || list_any is_line_end b) first ∙ second
@@ -472,16 +500,3 @@ all_seen_idly entry now piece rest so idle came seen =
 pub all_seen : (entry now : Watching) (piece rest : List ℕ) → SoFar entry now piece rest → (length rest == 0) ≡ true → (came : List ℕ) → HasSeen entry came → HasSeen now (came ++ piece)
 all_seen entry now piece [] so end came seen = subst (λ p. HasSeen now (came ++ p)) (sym (append-nil so.before) ∙ sym so.is) (so.seen came seen)
 all_seen entry now piece (x ∷ rest) so end came seen = absurd (omega (arith, eqb-true (length (x ∷ rest)) 0 end))
-
--- a watch by its parts
-abbrev pub watching : List (List ℕ) → List (List ℕ) → List ℕ → Bool → Watching
-watching labels missing line refused = record { labels = labels; missing = missing; line = line; refused = refused }
-
--- the view of a watch without a label
-pub view_dropped : (w : Watching) (labels : List (List ℕ)) (places left : List ℕ) (label line : List ℕ) (refused : Bool)
-    → watching labels (at_places labels places) line refused ≡ w
-    → left ≡ filter (λ place. not (is_label label (slice_get labels place))) places
-    → watching labels (at_places labels left) line refused ≡ watching w.labels (filter (λ other. not (bytes_eq other label)) w.missing) w.line w.refused
-view_dropped w labels places left label line refused view is =
-    let without : Watching → Watching = λ v. watching v.labels (filter (λ other. not (bytes_eq other label)) v.missing) v.line v.refused in
-    ap (λ m. watching labels m line refused) (ap (at_places labels) is ∙ labels_dropped labels label places) ∙ ap without view

@@ -1,6 +1,6 @@
 -- Which labels of a list begin a block in a text that comes in pieces.
-use Rattle.std.specs.Prelude.{◌≡◌, ℕ, Bool, true, false, not, if◌then◌else◌, nat_lt, List, ◌++◌, length, take, bytes_eq, slice_get, Option, None, Some}
-use Rattle.std.specs.List.{list_any, filter, filter_map}
+use Rattle.std.specs.Prelude.{◌≡◌, ℕ, Bool, true, false, not, if◌then◌else◌, nat_lt, List, ◌++◌, length, take, bytes_eq, Option, None, Some}
+use Rattle.std.specs.List.{list_any, filter}
 use Rattle.aero_model.specs.Exempt.{label_of}
 use Rattle.aero_model.specs.Lines.{is_line_end, lines_of}
 use Rattle.aero_grammar.specs.Meaning.{Meaning, Blank, Means, Faulty, meaning}
@@ -30,9 +30,9 @@ pub record Watching : Type 0 where
   pub line : List ℕ
   pub refused : Bool
 
--- the labels at these places
-abbrev pub at_places : List (List ℕ) → List ℕ → List (List ℕ)
-at_places labels places = filter_map (slice_get labels) places
+-- the labels without those that have begun a block
+abbrev pub without : (begun : List (List ℕ)) → List (List ℕ) → List (List ℕ)
+without begun labels = filter (λ label. not (list_any (bytes_eq label) begun)) labels
 
 -- it has a label to look for
 abbrev pub is_live : Watching → Bool

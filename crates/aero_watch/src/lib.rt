@@ -1,8 +1,9 @@
 //! Which labels of a list begin a block in a text that comes in pieces.
 //!
 //! A `Watch` is told each piece of a source as it is read, wherever the pieces are cut, and is asked
-//! in the end which of its labels no line begins a block with. It keeps those that it still looks for and the
-//! front of the line that isn't whole, 4,097 bytes at most.
+//! in the end which of its labels no line begins a block with. It keeps those of its labels that begin a block, each once,
+//! and the front of the line that isn't whole, 4,097 bytes at most. So many watches over one large list take memory for the
+//! labels that their texts have, and not for all of the list.
 //!
 //! ```text
 //! let mut watch = Watch::new(alloc, &except)?;    // labels f and g

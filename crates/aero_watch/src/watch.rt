@@ -1,33 +1,41 @@
 //! The watch, which is told each piece of a text.
-ghost use Rattle.std.specs.Prelude.{◌≡◌, IfOk, not, slice_get};
+ghost use Rattle.std.specs.Prelude.{◌≡◌, [], IfOk, bytes_eq, false, not, take, true};
 ghost use Rattle.std.specs.List.{filter, list_any};
-ghost use Rattle.aero_watch.specs.Watches.{at_places, is_label};
+ghost use Rattle.indexmap.specs.IndexSet.{insert_key};
+ghost use Rattle.aero_watch.specs.Watches.{is_label, without};
 
 use crate::line::label_of;
 use aero_model::bytes::MOST_LINE_BYTES;
 use aero_model::{Name, SharedExcept};
+use indexmap::IndexSet;
 use memchr::memchr;
 use std::alloc::{AllocError, Global};
 use std::marker::Model;
 use std::mem;
 
-/// Which labels of a list, of at most 64, begin no block in a text so far. It keeps the places of these, and
-/// the front of the line that isn't whole, 4,097 bytes at most. Once it was refused memory it knows nothing.
+/// Which labels of a list begin no block in a text so far. It keeps those of the list that did begin one, each once, and
+/// the front of the line that isn't whole, 4,097 bytes at most. For each begin of the text it looks the label up in
+/// expected constant time, if the list is a set. Once it was refused memory it knows nothing.
 #[derive(Drop)]
 pub struct Watch {
     alloc: Global,
     except: SharedExcept,
-    places: Vec<usize>,
+    begun: IndexSet<Name>,
+    // So many labels, the first of the list, have begun a block.
+    passed: usize,
     line: Vec<u8>,
     refused: bool,
 }
 
 impl Model for Watch {
-    ghost use Rattle.aero_watch.specs.Watches.{Watching, at_places};
+    ghost use Rattle.std.specs.Prelude.{◌≡◌, [], take};
+    ghost use Rattle.aero_watch.specs.Watches.{Watching, without};
 
     ghost Value = { Watching };
 
-    ghost view = { λ w. record { labels = w.except.labels; missing = at_places w.except.labels w.places.items; line = w.line.items; refused = w.refused } };
+    ghost view = { λ w. record { labels = w.except.labels; missing = without w.begun.keys w.except.labels; line = w.line.items; refused = w.refused } };
+
+    ghost invariant = { λ w. without w.begun.keys (take w.passed w.except.labels) ≡ [] };
 }
 
 impl Watch {
@@ -43,12 +51,13 @@ impl Watch {
     pub fn new(alloc: Global, except: &SharedExcept) -> Result<Watch, AllocError>
         ensures labels { IfOk result (λ watch. watch.labels ≡ except.now.labels) }
         ensures seen { IfOk result (λ watch. HasSeen watch []) }
+        ensures unrefused { IfOk result (λ watch. watch.refused ≡ false) }
     {
-        let places = all_places(alloc, except.get().labels())?;
         Ok(Watch {
             alloc,
             except: except.share()?,
-            places,
+            begun: IndexSet::new(alloc),
+            passed: 0,
             line: Vec::new(alloc),
             refused: false,
         })
@@ -94,14 +103,21 @@ impl Watch {
     fn is_live(&self) -> bool
         ensures { result ≡ false → is_live self.now ≡ false }
     {
-        !self.refused && !self.places.is_empty()
+        !self.refused && self.has_more()
+    }
+
+    // Whether a label behind those that were passed may be missing.
+    fn has_more(&self) -> bool
+        ensures { result ≡ false → self.now.missing ≡ [] }
+    {
+        self.passed < self.except.get().labels().len()
     }
 
     // Whether it looks for the label.
     fn is_missing(&self, label: &[u8]) -> bool
         ensures { result ≡ list_any (bytes_eq label.now) self.now.missing }
     {
-        has_label(&self.places, self.except.get().labels(), label)
+        self.except.get().has_bytes(label) && !self.begun.contains(label)
     }
 
     // These bytes go on with the line that isn't whole.
@@ -142,53 +158,47 @@ impl Watch {
         ensures line { self.new.line ≡ self.old.line }
     {
         match label_of(self.alloc, line) {
-            Ok(Some(label)) => self.pass(label.bytes()),
+            Ok(Some(label)) => self.pass(label),
             Ok(None) => {}
             Err(_) => self.refused = true,
         }
     }
 
     // Looks no more for the label.
-    fn pass(&mut self, label: &[u8])
-        ensures { self.new ≡ record self.old { missing = filter (λ other. not (bytes_eq other label.now)) self.old.missing } }
+    fn pass(&mut self, label: Name)
+        ensures labels { self.new.labels ≡ self.old.labels }
+        ensures refused { self.new.refused ≡ false → self.old.refused ≡ false }
+        ensures missing { self.new.refused ≡ false → self.new.missing ≡ filter (λ other. not (bytes_eq other label)) self.old.missing }
+        ensures line { self.new.line ≡ self.old.line }
     {
-        drop_label(&mut self.places, self.except.get().labels(), label);
+        if !self.except.get().has_bytes(label.bytes()) {
+            return;
+        }
+        let noted = note(&mut self.begun, label);
+        let passed = passed_on(self.except.get().labels(), &self.begun, self.passed);
+        self.passed = passed;
+        self.refused |= !noted;
     }
 }
 
-// The place of each label.
-fn all_places(alloc: Global, labels: &[Name]) -> Result<Vec<usize>, AllocError>
-    ensures { IfOk result (λ places. at_places labels.now places.items ≡ labels.now) }
+// Notes that the label has begun a block, unless memory is refused.
+fn note(begun: &mut IndexSet<Name>, label: Name) -> bool
+    ensures noted { result ≡ true → begun.new.keys ≡ insert_key bytes_eq begun.old.keys label }
+    ensures kept { result ≡ false → begun.new.keys ≡ begun.old.keys }
 {
-    let mut places = Vec::new(alloc);
-    for place in 0..labels.len() {
-        places.push(place)?;
+    begun.insert(label).is_ok()
+}
+
+// So many labels, from the first, have begun a block, where so many have.
+fn passed_on(labels: &[Name], begun: &IndexSet<Name>, passed: usize) -> usize
+    requires { without begun.now.keys (take passed labels.now) ≡ [] }
+    ensures { without begun.now.keys (take result labels.now) ≡ [] }
+{
+    let mut passed = passed;
+    while passed < labels.len() && begun.contains(labels[passed].bytes()) {
+        passed += 1;
     }
-    Ok(places)
-}
-
-// Whether the label stands at one of the places.
-fn has_label(places: &[usize], labels: &[Name], label: &[u8]) -> bool
-    ensures { result ≡ list_any (λ place. is_label label.now (slice_get labels.now place)) places.now }
-{
-    places.iter().any(|place| is_at(labels, *place, label))
-}
-
-// Without the places at which the label stands.
-fn drop_label(places: &mut Vec<usize>, labels: &[Name], label: &[u8])
-    ensures { places.new.items ≡ filter (λ place. not (is_label label.now (slice_get labels.now place))) places.old.items }
-{
-    places.retain(|place| !is_at(labels, *place, label));
-}
-
-// Whether the label stands at the place.
-fn is_at(labels: &[Name], place: usize, label: &[u8]) -> bool
-    ensures { result ≡ is_label label.now (slice_get labels.now place) }
-{
-    match labels.get(place) {
-        Some(other) => label == other.bytes(),
-        None => false,
-    }
+    passed
 }
 
 // Whether it is the label.

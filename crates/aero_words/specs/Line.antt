@@ -1,5 +1,6 @@
 -- The program's command line, and what its words ask for.
 use Rattle.std.specs.Prelude.{◌≡◌, ◌<◌, ◌∷◌, ℕ, Bool, false, true, List, [], Option, Some, None, codes, if◌then◌else◌, length, map, option_and_then, option_map, pos, slice_get, string_bytes, unwrap_or, ◌^◌}
+use Rattle.std.specs.List.{list_any}
 use Rattle.std.specs.Str.{bytes_eq}
 use Rattle.std.specs.Str.Parse.{digits_value, without_leading_plus}
 use Rattle.clap.specs.Lexer.{usize_max}
@@ -25,7 +26,7 @@ number_rule name most default = record (new_rule name) {
   parser = Some (vp.Signed (pos 1) (pos most));
 }
 
--- labels, each by an option of its own
+-- labels, or files of labels, each by an option of its own
 abbrev pub label_rule : Text → Rule
 label_rule name = record (new_rule name) { long = Some name; action = Some Append; value_names = 1 }
 
@@ -56,10 +57,10 @@ no_rules = record (new_app (codes "aerodrome")) {
 }
 
 abbrev pub program : App
-program = with_rule (with_rule (with_rule (with_rule (with_rule (with_rule (with_rule (with_rule (with_rule (with_rule (with_rule (with_rule (with_rule (with_rule no_rules
+program = with_rule (with_rule (with_rule (with_rule (with_rule (with_rule (with_rule (with_rule (with_rule (with_rule (with_rule (with_rule (with_rule (with_rule (with_rule (with_rule (with_rule no_rules
     (number_rule (codes "workers") 16 (codes "4")))
     (number_rule (codes "piece") (2 ^ 20) (codes "65536")))
-    (label_rule (codes "except"))) (label_rule (codes "only"))) (flag_rule (codes "order"))) (flag_rule (codes "explain"))) (flag_rule (codes "long"))) format_rule) (flag_rule (codes "progress"))) (flag_rule (codes "quiet")))
+    (label_rule (codes "except"))) (label_rule (codes "only"))) (label_rule (codes "except-from"))) (label_rule (codes "only-from"))) (flag_rule (codes "order"))) (flag_rule (codes "explain"))) (flag_rule (codes "long"))) (flag_rule (codes "stop"))) format_rule) (flag_rule (codes "progress"))) (flag_rule (codes "quiet")))
     (text_rule (codes "files0-from"))) (text_rule (codes "label"))) (flag_rule (codes "fail-open"))) files_rule
 
 -- what each option has of these words, its default included
@@ -99,15 +100,24 @@ AreAskedFor (sources.Standard own) files list name = (option_map string_bytes ow
 AreAskedFor (sources.Files words) files list name = (map string_bytes words.items ≡ files) × (0 < length files) × (list ≡ None) × (name ≡ None)
 AreAskedFor (sources.Listed path) files list name = (Some (string_bytes path) ≡ list) × (files ≡ []) × (name ≡ None)
 
--- the configuration is what the options have
+-- whether this file is standard input
+abbrev pub is_dash : Text → Bool
+is_dash path = bytes_eq path (codes "-")
+
+-- the configuration is what the options have, and labels aren't read from standard input
 pub record AsksFor (config : Config) (rows : List Row) : Type 0 where
   pub workers : config.workers ≡ number_told 4 (one_of (codes "workers") rows)
   pub piece : config.piece ≡ number_told 65536 (one_of (codes "piece") rows)
   pub except : config.except.items ≡ texts_told (all_of (codes "except") rows)
   pub only : config.only.items ≡ texts_told (all_of (codes "only") rows)
+  pub except_from : map string_bytes config.except_from.items ≡ texts_told (all_of (codes "except-from") rows)
+  pub only_from : map string_bytes config.only_from.items ≡ texts_told (all_of (codes "only-from") rows)
+  pub except_files : list_any is_dash (texts_told (all_of (codes "except-from") rows)) ≡ false
+  pub only_files : list_any is_dash (texts_told (all_of (codes "only-from") rows)) ≡ false
   pub order : config.order ≡ is_told (one_of (codes "order") rows)
   pub explain : config.explain ≡ is_told (one_of (codes "explain") rows)
   pub long : config.long ≡ is_told (one_of (codes "long") rows)
+  pub stop : config.stop ≡ is_told (one_of (codes "stop") rows)
   pub form : form_told (texts_told (all_of (codes "format") rows)) ≡ Some config.form
   pub progress : config.progress ≡ progress_told (is_told (one_of (codes "quiet") rows)) (is_told (one_of (codes "progress") rows))
   pub fail_open : config.fail_open ≡ is_told (one_of (codes "fail-open") rows)

@@ -70,6 +70,37 @@ labels. Not with --except";
 pub const ONLY_WITH_EXCEPT: &str =
     "the argument '--only <LABEL>' cannot be used with '--except <LABEL>'";
 
+pub const EXCEPT_FROM: &str = "Read more labels for --except from FILE";
+
+pub const LONG_EXCEPT_FROM: &str =
+    "Read more labels for --except from FILE: one on each line. Empty lines
+and lines that begin with # are skipped. Spaces and tabs around a
+label, and one byte 13 at the end of a line, don't count. You may give
+up to 64 files, and so up to 65536 labels in all; a label that is
+repeated counts once. If a file can't be read, or a line is no label,
+nothing is judged. Not with --only or --only-from. FILE can't be `-`";
+
+pub const ONLY_FROM: &str = "Read more labels for --only from FILE";
+
+pub const LONG_ONLY_FROM: &str = "Read more labels for --only from FILE, as --except-from does for
+--except. If the files have no label, and you give no --only, no block
+need be atomic. Not with --except or --except-from";
+
+pub const ONLY_WITH_EXCEPT_FROM: &str =
+    "the argument '--only <LABEL>' cannot be used with '--except-from <FILE>'";
+
+pub const ONLY_FROM_WITH_EXCEPT: &str =
+    "the argument '--only-from <FILE>' cannot be used with '--except <LABEL>'";
+
+pub const ONLY_FROM_WITH_EXCEPT_FROM: &str =
+    "the argument '--only-from <FILE>' cannot be used with '--except-from <FILE>'";
+
+pub const TOO_MANY_LABEL_FILES: &str =
+    "the arguments '--except-from <FILE>' and '--only-from <FILE>' take at most 64 files";
+
+pub const NO_STANDARD_LABELS: &str =
+    "invalid value '-' for a file of labels: labels are not read from standard input";
+
 pub const ORDER: &str = "Print a serial order under each serializable trace";
 
 pub const LONG_ORDER: &str = "Under the line of a serializable trace, print its transactions (blocks
@@ -99,6 +130,12 @@ pub const LONG_LONG: &str = "Accept inputs of up to 4000000000 lines and any num
 limit is then 70368744177664 bytes, which so many lines can't reach.)
 Without this option an input of more than 1073741824 bytes is too
 large. Not with --order, which keeps every transaction in memory";
+
+pub const STOP: &str = "Stop reading an input once its verdict is certain";
+
+pub const LONG_STOP: &str = "Read no more of an input once its verdict is certain: after the first
+violation or ill-formed event, whose line is reported. What follows
+isn't looked at, not even if it is malformed";
 
 pub const LONG_WITH_ORDER: &str =
     "the argument '--long' cannot be used with '--order', which keeps each transaction";
@@ -209,15 +246,17 @@ After the report, standard error has notes, in the order of the traces:
   aerodrome: NAME:L: WORDS
       An explanation of the fault on line L, which is malformed or ill-formed.
   aerodrome: no block begins with begin(LABEL)
-      This label of --except or --only may be mistyped. If a trace couldn't be
-      read to its end, there are no notes on labels.
+      This label of --except, --only or a file of labels may be mistyped. If a
+      trace couldn't be read to its end, there are no notes on labels.
+  aerodrome: no block begins with N more of the labels
+      After ten such labels the others are only counted.
 
 The exit status is the highest that applies, so a 2 hides a 1:
   0  no trace has a violation or a fault; also after --help and --version
   1  a trace has a violation, or open blocks with --fail-open
   2  a trace is malformed, ill-formed, broken or too large
-  3  the command line was refused, a word isn't UTF-8, or a list of names can't
-     be read: standard error has the reason
+  3  the command line was refused, a word isn't UTF-8, or a list of names or a
+     file of labels can't be used: standard error has the reason
   4  memory ran out, or the report couldn't be written: the last line on
      standard error names the cause, unless the reader of a pipe has ended
 

@@ -1,11 +1,11 @@
 //! The words of the command line, and what they ask for.
-ghost use Rattle.std.specs.Prelude.{◌≡◌, ◌<◌, ◌≤◌, ◌++◌, ◌∷◌, ◌&&◌, ◌^◌, [], IfErr, IfOk, None, OnOk, Some, codes, false, length, map, nat_lt, option_map, pos, string_bytes, true, vec_len};
+ghost use Rattle.std.specs.Prelude.{◌≡◌, ◌<◌, ◌≤◌, ◌++◌, ◌∷◌, ◌&&◌, ◌||◌, ◌^◌, [], IfErr, IfOk, None, OnOk, Some, codes, false, length, map, nat_lt, option_map, pos, string_bytes, true, vec_len};
 ghost use Rattle.clap.specs.Words.{all_of, app_of, first_of, found_of, one_of, rows_of, rule_of};
 ghost use Rattle.clap.specs.declared.builder.value_parser.ValueParser.TheVariants as vp;
 ghost use Rattle.std.specs.List.{list_any};
 ghost use Rattle.aero_program.specs.Command.{count_named};
 ghost use Rattle.aero_words.specs.Labels.{AreRefused, IsTold, is_no_label};
-ghost use Rattle.aero_words.specs.Line.{AreAskedFor, AsksFor, files_rule, flag_rule, form_of, form_told, format_rule, is_told, label_rule, no_rules, number_rule, number_told, program, progress_told, rows_given, text_rule, texts_told};
+ghost use Rattle.aero_words.specs.Line.{AreAskedFor, AsksFor, files_rule, flag_rule, form_of, form_told, format_rule, is_dash, is_told, label_rule, no_rules, number_rule, number_told, program, progress_told, rows_given, text_rule, texts_told};
 ghost use Rattle.aero_words.specs.Words.{IsRead, ReadsFlag, ReadsWithin};
 
 use crate::help;
@@ -64,9 +64,17 @@ fn command_line<'a>(alloc: Global) -> Result<Command<'a>, AllocError>
         .arg(number_option(alloc, "piece", MOST_PIECE, "65536", PIECE))?
         .arg(label_option(alloc, "except", help::EXCEPT, help::LONG_EXCEPT))?
         .arg(label_option(alloc, "only", help::ONLY, help::LONG_ONLY))?
+        .arg(label_file_option(
+            alloc,
+            "except-from",
+            help::EXCEPT_FROM,
+            help::LONG_EXCEPT_FROM,
+        ))?
+        .arg(label_file_option(alloc, "only-from", help::ONLY_FROM, help::LONG_ONLY_FROM))?
         .arg(flag(alloc, "order", help::ORDER, help::LONG_ORDER))?
         .arg(flag(alloc, "explain", help::EXPLAIN, help::LONG_EXPLAIN))?
         .arg(flag(alloc, "long", help::LONG, help::LONG_LONG))?
+        .arg(flag(alloc, "stop", help::STOP, help::LONG_STOP))?
         .arg(format_option(alloc))?
         .arg(flag(alloc, "progress", help::PROGRESS, help::LONG_PROGRESS))?
         .arg(flag(alloc, "quiet", help::QUIET, help::LONG_QUIET))?
@@ -124,6 +132,19 @@ fn label_option<'a>(alloc: Global, name: &'a str, text: &'a str, long_text: &'a 
     Arg::new(alloc, name)
         .long(name)
         .value_name("LABEL")
+        .action(ArgAction::Append)
+        .help(text)
+        .long_help(long_text)
+}
+
+// An option with a file of labels, which may be used more than once.
+fn label_file_option<'a>(alloc: Global, name: &'a str, text: &'a str, long_text: &'a str) -> Arg<'a>
+    ensures rule { rule_of result ≡ label_rule name.entry.now }
+    ensures local { result.global ≡ false }
+{
+    Arg::new(alloc, name)
+        .long(name)
+        .value_name("FILE")
         .action(ArgAction::Append)
         .help(text)
         .long_help(long_text)
@@ -222,15 +243,19 @@ fn settle(alloc: Global, matches: &ArgMatches<'_>) -> Result<Config, Refused>
     let piece = number_in(matches, "piece", MOST_PIECE, DEFAULT_PIECE);
     let sources = sources_in(alloc, matches)?;
     let (except, only) = labels_in(alloc, matches)?;
+    let (except_from, only_from) = label_files_in(alloc, matches, &except, &only)?;
     Ok(Config {
         workers,
         piece,
         files: sources,
         except,
         only,
+        except_from,
+        only_from,
         order,
         explain: flag_in(matches, "explain"),
         long,
+        stop: flag_in(matches, "stop"),
         fail_open: flag_in(matches, "fail-open"),
         form,
         terminals: Terminals {
@@ -254,6 +279,80 @@ fn labels_in(alloc: Global, matches: &ArgMatches<'_>) -> Result<(Vec<Name>, Vec<
         return Err(conflict(alloc, help::ONLY_WITH_EXCEPT));
     }
     Ok((labels_of(alloc, except)?, labels_of(alloc, only)?))
+}
+
+// The files with more labels of each kind: not of both kinds, and not beside labels of the other kind.
+fn label_files_in(
+    alloc: Global,
+    matches: &ArgMatches<'_>,
+    except: &[Name],
+    only: &[Name],
+) -> Result<(Vec<String>, Vec<String>), Refused>
+    requires { (nat_lt 0 (length except.now) && nat_lt 0 (length only.now)) ≡ false }
+    ensures except { IfOk result (λ both. map string_bytes both.0.items ≡ texts_told (all_of (codes "except-from") (rows_of (found_of matches.now)))) }
+    ensures only { IfOk result (λ both. map string_bytes both.1.items ≡ texts_told (all_of (codes "only-from") (rows_of (found_of matches.now)))) }
+    ensures except_files { IfOk result (λ both. list_any is_dash (texts_told (all_of (codes "except-from") (rows_of (found_of matches.now)))) ≡ false) }
+    ensures only_files { IfOk result (λ both. list_any is_dash (texts_told (all_of (codes "only-from") (rows_of (found_of matches.now)))) ≡ false) }
+    ensures few { IfOk result (λ both. (vec_len both.0 ≤ 64) × (vec_len both.1 ≤ 64)) }
+    ensures apart { IfOk result (λ both. ((nat_lt 0 (length except.now) || nat_lt 0 (vec_len both.0)) && (nat_lt 0 (length only.now) || nat_lt 0 (vec_len both.1))) ≡ false) }
+{
+    let except_from = matches.get_strs("except-from").unwrap_or(&[]);
+    let only_from = matches.get_strs("only-from").unwrap_or(&[]);
+    if let Some(text) = mixed_text(except, except_from, only, only_from) {
+        return Err(conflict(alloc, text));
+    }
+    Ok((paths_of(alloc, except_from)?, paths_of(alloc, only_from)?))
+}
+
+// Why these aren't taken together, where labels or files of both kinds are given, but not labels of both.
+fn mixed_text(
+    except: &[Name],
+    except_from: &[&str],
+    only: &[Name],
+    only_from: &[&str],
+) -> Option<&'static str>
+    requires { (nat_lt 0 (length except.now) && nat_lt 0 (length only.now)) ≡ false }
+    ensures { result ≡ None → ((nat_lt 0 (length except.now) || nat_lt 0 (length except_from.now)) && (nat_lt 0 (length only.now) || nat_lt 0 (length only_from.now))) ≡ false }
+{
+    if !only.is_empty() && !except_from.is_empty() {
+        return Some(help::ONLY_WITH_EXCEPT_FROM);
+    }
+    if !only_from.is_empty() && !except.is_empty() {
+        return Some(help::ONLY_FROM_WITH_EXCEPT);
+    }
+    if !only_from.is_empty() && !except_from.is_empty() {
+        return Some(help::ONLY_FROM_WITH_EXCEPT_FROM);
+    }
+    None
+}
+
+// The paths that the texts are: at most 64, and not standard input.
+fn paths_of(alloc: Global, texts: &[&str]) -> Result<Vec<String>, Refused>
+    ensures same { IfOk result (λ all. map string_bytes all.items ≡ map (λ text. text.now) texts.now) }
+    ensures files { IfOk result (λ all. list_any is_dash (map (λ text. text.now) texts.now) ≡ false) }
+    ensures few { IfOk result (λ all. vec_len all ≤ 64) }
+    ensures len { IfOk result (λ all. vec_len all ≡ length texts.now) }
+{
+    if are_too_many(texts) {
+        return Err(conflict(alloc, help::TOO_MANY_LABEL_FILES));
+    }
+    if has_dash(texts) {
+        let error = no_standard_labels(alloc)?;
+        return Err(refusal_of(alloc, &error));
+    }
+    Ok(owned(alloc, texts)?)
+}
+
+fn has_dash(texts: &[&str]) -> bool
+    ensures { result ≡ list_any (λ text. is_dash text.now) texts.now }
+{
+    texts.iter().any(|text| *text == "-")
+}
+
+// That labels aren't read from standard input.
+fn no_standard_labels(alloc: Global) -> Result<Error, AllocError> {
+    let mut line = command_line(alloc)?;
+    line.error(ErrorKind::InvalidValue, help::NO_STANDARD_LABELS)
 }
 
 fn are_both_given(except: &[&str], only: &[&str]) -> bool

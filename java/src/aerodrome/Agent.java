@@ -47,7 +47,7 @@ public final class Agent {
                 Log.say("threads=" + Options.threads + ": " + wrongNames + ": nothing is logged");
                 return;
             }
-            Log.start(Sink.open(Options.log), Options.limit);
+            if (!Options.isOfTests) Log.start(Sink.open(Options.log), Options.limit);
         } catch (IOException cannot) {
             Log.say(Options.log + ": " + Sink.why(cannot) + ": nothing is logged");
             return;

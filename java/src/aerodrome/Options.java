@@ -21,6 +21,8 @@ public final class Options {
     public enum Grain { EACH, WHOLE, OFF }
 
     public static String log;
+    /** Whether each test has a log of its own: the path has `%t`, which stands for the test. */
+    public static boolean isOfTests;
     /** The file for the names of threads, or null. */
     public static String threads;
     /** By what number threads wait at places by chance; below 0 they don't. */
@@ -64,14 +66,14 @@ public final class Options {
         List<String> pieces = new ArrayList<>();
         for (String piece : string.split(",")) {
             int last = pieces.size() - 1;
-            if (last < 0 || begins(piece, pieces.get(last))) pieces.add(piece);
+            if (last < 0 || isOption(piece, pieces.get(last))) pieces.add(piece);
             else pieces.set(last, pieces.get(last) + "," + piece);
         }
         pieces.removeIf(String::isEmpty);
         return pieces;
     }
     /** What looks like an option is one, though it isn't known; but a command may have such words. */
-    private static boolean begins(String piece, String before) {
+    private static boolean isOption(String piece, String before) {
         int at = piece.indexOf('=');
         return at > 0 && (KNOWN.contains(piece.substring(0, at)) || piece.matches("[a-z]+=.*") && !before.startsWith("log=|"));
     }
@@ -81,6 +83,7 @@ public final class Options {
         switch (option) {
             case "log":
                 log = withProcess(value);
+                isOfTests = !value.startsWith("|") && value.contains("%t");
                 return value.isEmpty() ? "a path or |COMMAND is wanted" : null;
             case "blocks": return setBlocks(value);
             case "threads":
@@ -146,15 +149,18 @@ public final class Options {
 
     /** What isn't the program's. A loader that asks nobody but for java.* makes copies of the agent's own classes, too. */
     private static final String[] OTHERS = {
-        "java/", "javax/", "jdk/", "sun/", "aerodrome/Agent", "aerodrome/Options", "aerodrome/hooks/", "aerodrome/log/",
-        "aerodrome/names/", "aerodrome/weave/", "aerodrome/asm/"};
+        "java/", "javax/", "jdk/", "sun/", "aerodrome/Agent", "aerodrome/Options", "aerodrome/hooks/", "aerodrome/junit/",
+        "aerodrome/log/", "aerodrome/names/", "aerodrome/weave/", "aerodrome/asm/"};
+    /** What runs tests, some of it between a test's begin and its method. */
+    private static final String[] RUNNERS = {"org/junit/", "org/opentest4j/", "org/apache/maven/surefire/", "org/gradle/"};
 
     /** Whether the class, as a/b/C, is one of the program's that are logged. */
     public static boolean covers(String name) {
         for (String one : OTHERS) if (name.startsWith(one)) return false;
-        return (only.isEmpty() || begin(only, name)) && !begin(skip, name);
+        for (String one : RUNNERS) if (isOfTests && name.startsWith(one)) return false;
+        return (only.isEmpty() || hasPrefix(only, name)) && !hasPrefix(skip, name);
     }
-    private static boolean begin(String prefixes, String name) {
+    private static boolean hasPrefix(String prefixes, String name) {
         for (String one : prefixes.split(",")) if (!one.isEmpty() && name.startsWith(one.replace('.', '/'))) return true;
         return false;
     }

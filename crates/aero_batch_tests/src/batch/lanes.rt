@@ -203,7 +203,7 @@ fn plan_with(alloc: Global, workers: u32) -> Result<Plan, Fail> {
 // Whether a run in lanes told the same as a run in turn.
 fn is_told_so(report: &Report, outcome: &Outcome) -> bool {
     report.endings == outcome.endings
-        && report.faults == outcome.faults
+        && report.notables == outcome.notables
         && report.counts == outcome.counts
         && report.cause == outcome.cause
 }

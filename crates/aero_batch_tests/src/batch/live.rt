@@ -324,13 +324,14 @@ fn a_long_source_has_its_line_where_some_blocks_are_kept(rt: HostRuntime) -> Res
     Ok(())
 }
 
-// How many questions are asked about a long text with a violation at line 4, of which no event is kept.
+// How many questions are asked about a long text with a violation at line 4, of which so many events are kept.
 fn asked_of_violation<T: AllocGlobal + Threads + Wait + Copy + Send + 'static>(
     rt: &T,
     who: Who,
     text: &[u8],
+    kept: u64,
 ) -> Result<u64, Fail> {
-    let plan = plan_of(rt.alloc(), (who, 65_536), (20_000_000, 5_000), 0)?;
+    let plan = plan_of(rt.alloc(), (who, 65_536), (20_000_000, 5_000), kept)?;
     let mut sources: Vec<Source<&[u8]>> = Vec::new(rt.alloc());
     add_source(&mut sources, rt.alloc(), "n", text)?;
     let (report, outcome) = report_by(rt, who, &mut sources, &plan)?;
@@ -343,9 +344,10 @@ fn asked_of_violation<T: AllocGlobal + Threads + Wait + Copy + Send + 'static>(
     Ok(outcome.tally.asked)
 }
 
-// A text of 70 blocks. A block is judged once the next one has come, so that the violation in the first is certain when
-// the second is settled. Where each is settled before the next is read, two are asked about; and else at most as many as
-// may be open, since only the first one was settled before and made room.
+// A text of 70 blocks. Where an event is kept, a block is judged once the next one has come, so that the violation in the
+// first is certain when the second is settled. Where each is settled before the next is read, two are asked about; and else
+// at most as many as may be open, since only the first one was settled before and made room. Where nothing is kept, the
+// first block is judged at once, so that one block less is asked about.
 #[test]
 fn no_block_is_asked_about_once_a_violation_is_certain(rt: HostRuntime) -> Result<(), Fail> {
     let text = long_text(rt.alloc(), 4_480, 3)?;
@@ -357,8 +359,10 @@ fn no_block_is_asked_about_once_a_violation_is_certain(rt: HostRuntime) -> Resul
         (Who::Crew(16), 65),
     ];
     for (who, most) in rows {
-        let asked = asked_of_violation(&rt, who, &text)?;
+        let asked = asked_of_violation(&rt, who, &text, 1)?;
         assert!(rt; 2 <= asked && asked <= most);
+        let asked = asked_of_violation(&rt, who, &text, 0)?;
+        assert!(rt; 1 <= asked && asked < most);
     }
     Ok(())
 }

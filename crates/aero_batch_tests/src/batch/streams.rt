@@ -58,6 +58,25 @@ impl Read for Endless {
     }
 }
 
+// A reader of a text behind which line after line comes, without an end: each is an event of a thread of its own.
+#[derive(Drop)]
+pub(crate) struct GoesOn<'a> {
+    pub(crate) text: &'a [u8],
+}
+
+impl Read for GoesOn<'_> {
+    fn read(&mut self, buf: &mut [u8]) -> io::Result<usize> {
+        if self.text.is_empty() {
+            self.text = b"T3|w(z)\n";
+        }
+        let count = self.text.len().min(buf.len());
+        let (now, later) = self.text.split_at(count);
+        buf[..count].copy_from_slice(now);
+        self.text = later;
+        Ok(count)
+    }
+}
+
 // A writer that fails at one call, once it has taken so many bytes, and works again afterwards.
 #[derive(Drop)]
 pub(crate) struct CutsOnce {

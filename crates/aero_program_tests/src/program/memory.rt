@@ -3,9 +3,9 @@ ghost use Rattle.std.specs.Prelude.{◌≡◌, ⊤, Some};
 ghost use Rattle.aero_program.specs.Laws.{KnownFilesAreJudged};
 
 use crate::program::streams::Text;
-use crate::program::{SOUND, Wanted, config_of, is_answered};
+use crate::program::{SOUND, Wanted, config_from, config_of, is_answered, one_file};
 use aero_model::Counting;
-use aero_program::command::{Config, Stop};
+use aero_program::command::{Config, Refused, Sources, Stop};
 use aero_program::execute::{Host, Streams, execute};
 use aero_program::files::{Opened, Opener};
 use aero_program::laws::known_files_are_judged;
@@ -107,18 +107,28 @@ const PENDING: Wanted = (
     0,
 );
 
-// Standard input as a run leaves it: what is left of its text, and how many of its reads will fail. A run that stops reading leaves
-// the rest.
+// Standard input as a run leaves it: read to its end, or not at all where a file is named.
 #[test]
 fn standard_input_is_given_back(rt: HostRuntime) -> Result<(), Fail> {
     for (file, text, wanted) in [
         (None, VIOLATION, Some(0)),
         (None, OPEN, Some(0)),
-        (Some("a"), VIOLATION, None),
+        (Some("a"), VIOLATION, Some(VIOLATION.len())),
     ] {
         let asked = config_of(rt.alloc(), file, false)?;
         assert!(rt; left_of(rt, Ok(asked), text) == wanted);
     }
+    Ok(())
+}
+
+// Nothing is read of it where nothing is judged: the command line is refused, or a file of labels has a line that is none.
+#[test]
+fn standard_input_is_left_where_nothing_is_judged(rt: HostRuntime) -> Result<(), Fail> {
+    let refused = Err(Stop::Refused(Refused::BadLabel));
+    assert!(rt; left_of(rt, refused, OPEN) == Some(OPEN.len()));
+    let labels = one_file(rt.alloc(), "a")?;
+    let asked = config_from(rt.alloc(), Sources::Standard(None), false, false, labels);
+    assert!(rt; left_of(rt, Ok(asked), OPEN) == Some(OPEN.len()));
     Ok(())
 }
 

@@ -37,7 +37,7 @@ fn standard_input_has_the_name_that_is_given(rt: HostRuntime) -> Result<(), Fail
             (
                 b"big.std: serializable (1 events, 0 blocks)\n\
                     traces 1: serializable 1, open 0, violations 0, faults 0\n",
-                b"",
+                b"aerodrome: big.std: nothing was checked: no block begins, or each one is left out by its label\n",
                 0,
             ),
         ),
@@ -137,7 +137,8 @@ fn the_files_of_a_list_are_judged(rt: HostRuntime) -> Result<(), Fail> {
     let both: Wanted = (
         b"f: serializable (1 events, 0 blocks)\ng: serializable (1 events, 0 blocks)\n\
             traces 2: serializable 2, open 0, violations 0, faults 0\n",
-        b"",
+        b"aerodrome: f: nothing was checked: no block begins, or each one is left out by its label\n\
+            aerodrome: g: nothing was checked: no block begins, or each one is left out by its label\n",
         0,
     );
     let interrupted = Damage { times: 3, ..SOUND };
@@ -163,7 +164,8 @@ fn the_files_of_a_list_are_judged(rt: HostRuntime) -> Result<(), Fail> {
             (
                 b"\xff: broken after 0 bytes\nf: serializable (1 events, 0 blocks)\n\
                     traces 2: serializable 1, open 0, violations 0, faults 1\n",
-                b"aerodrome: \xff: the name isn't UTF-8\n",
+                b"aerodrome: \xff: the name isn't UTF-8\n\
+                    aerodrome: f: nothing was checked: no block begins, or each one is left out by its label\n",
                 2,
             ),
         ),
@@ -182,7 +184,7 @@ fn the_files_of_a_list_are_judged(rt: HostRuntime) -> Result<(), Fail> {
             (
                 b"T1|w(x)\n: serializable (1 events, 0 blocks)\n\
                     traces 1: serializable 1, open 0, violations 0, faults 0\n",
-                b"",
+                b"aerodrome: T1|w(x)\n: nothing was checked: no block begins, or each one is left out by its label\n",
                 0,
             ),
         ),
@@ -223,7 +225,9 @@ static LARGE_ROWS: [Large; 3] = [
             b"f: serializable (1 events, 0 blocks)\ng: serializable (1 events, 0 blocks)\n\
                 h: serializable (1 events, 0 blocks)\n\
                 traces 3: serializable 3, open 0, violations 0, faults 0\n",
-            b"",
+            b"aerodrome: f: nothing was checked: no block begins, or each one is left out by its label\n\
+                aerodrome: g: nothing was checked: no block begins, or each one is left out by its label\n\
+                aerodrome: h: nothing was checked: no block begins, or each one is left out by its label\n",
             0,
         ),
     ),

@@ -1,8 +1,8 @@
 // Pipes whose reader has gone.
 use crate::program::streams::EVER;
 use crate::program::{
-    CUT, Damage, LEFT, MARKED, MARKED_WRITE, REPORT, SOUND, UNFLUSHED, WRITE, Wanted, config_of,
-    is_answered, refused,
+    CUT, Damage, LEFT, MARK, MARKED_WRITE, REPORT, SOUND, UNCHECKED, UNFLUSHED, WRITE, Wanted,
+    config_of, is_answered, refused,
 };
 use aero_program::files::FilesOf;
 use std::io::ErrorKind;
@@ -22,7 +22,7 @@ fn a_reader_that_has_gone_is_told_by_the_status_alone(rt: HostRuntime) -> Result
             },
             (b"-: seriali", b"", 4),
         ),
-        (WRITE, Damage { flushes: 1, ..LEFT }, (REPORT, b"", 4)),
+        (WRITE, Damage { flushes: 1, ..LEFT }, (REPORT, UNCHECKED, 4)),
         (
             MARKED_WRITE,
             Damage {
@@ -32,7 +32,7 @@ fn a_reader_that_has_gone_is_told_by_the_status_alone(rt: HostRuntime) -> Result
                 times: 3,
                 ..LEFT
             },
-            (b"-: seriali", MARKED.1, 4),
+            (b"-: seriali", MARK, 4),
         ),
         (
             WRITE,

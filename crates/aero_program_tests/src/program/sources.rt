@@ -1,13 +1,13 @@
 // The sources that are asked for: their names, which may wait, and how many bytes they have.
 use crate::program::streams::{Drawer, Text};
-use aero_batch::source::SourceOf;
 use aero_model::{Except, SharedExcept};
 use aero_program::command::Sources;
 use aero_program::files::FilesOf;
 use aero_program::listing::Unlisted;
+use aero_program::reason::Reason;
+use aero_program::retrying::Retrying;
 use aero_program::sizes::{Sizes, whole_size};
-use aero_program::sources::sources_of;
-use aero_program::traced::Traced;
+use aero_program::sources::{Gathered, Ungathered, sources_of};
 use std::alloc::{AllocError, Global};
 use std::test::Fail;
 
@@ -16,14 +16,12 @@ const EMPTY: Text = Text {
     failures: 0,
 };
 
-type Made<'a> = Vec<SourceOf<Traced<Text, &'a Drawer>>>;
+type Made<'a> = Gathered<Text, &'a Drawer>;
+
+type Missed = Ungathered<Text>;
 
 // The files of the words, or standard input where there are none.
-fn sources_named<'a>(
-    alloc: Global,
-    files: &'a Drawer,
-    words: &[&str],
-) -> Result<Made<'a>, Unlisted> {
+fn sources_named<'a>(alloc: Global, files: &'a Drawer, words: &[&str]) -> Result<Made<'a>, Missed> {
     let except = no_labels(alloc)?;
     if words.is_empty() {
         return sources_of(alloc, files, EMPTY, &Sources::Standard(None), &except);
@@ -49,9 +47,9 @@ fn owned(alloc: Global, words: &[&str]) -> Result<Vec<String>, AllocError> {
 }
 
 // Whether those of the sources may wait that should.
-fn may_wait_so(sources: &Made<'_>, wanted: &[bool]) -> bool {
-    let mut are_same = sources.len() == wanted.len();
-    for (source, may_wait) in sources.iter().zip(wanted) {
+fn may_wait_so(made: &Made<'_>, wanted: &[bool]) -> bool {
+    let mut are_same = made.sources.len() == wanted.len();
+    for (source, may_wait) in made.sources.iter().zip(wanted) {
         are_same &= source.may_wait == *may_wait;
     }
     are_same
@@ -66,9 +64,9 @@ fn what_is_no_plain_file_may_wait(rt: HostRuntime) {
     assert!(rt; do_wait_so(&files, &[false, true, false]) && do_wait_so(&alone, &[true]));
 }
 
-fn do_wait_so(sources: &Result<Made<'_>, Unlisted>, wanted: &[bool]) -> bool {
-    match sources {
-        Ok(sources) => may_wait_so(sources, wanted),
+fn do_wait_so(made: &Result<Made<'_>, Missed>, wanted: &[bool]) -> bool {
+    match made {
+        Ok(made) => may_wait_so(made, wanted),
         Err(_) => false,
     }
 }
@@ -106,15 +104,15 @@ fn is_listed(alloc: Global, path: &str, row: &Listed) -> bool {
         return false;
     };
     match sources_of(alloc, &drawer, stdin, &Sources::Listed(path), &except) {
-        Ok(sources) => are_named(&sources, row.1) && may_wait_so(&sources, row.2),
+        Ok(made) => are_named(&made, row.1) && may_wait_so(&made, row.2),
         Err(_) => false,
     }
 }
 
 // Whether the sources have these names.
-fn are_named(sources: &Made<'_>, names: &[&[u8]]) -> bool {
-    let mut are_same = sources.len() == names.len();
-    for (source, name) in sources.iter().zip(names) {
+fn are_named(made: &Made<'_>, names: &[&[u8]]) -> bool {
+    let mut are_same = made.sources.len() == names.len();
+    for (source, name) in made.sources.iter().zip(names) {
         are_same &= source.name.as_slice() == *name;
     }
     are_same
@@ -137,6 +135,78 @@ fn the_names_in_a_list(rt: HostRuntime) {
         first_mislisted(rt.alloc(), "list"),
     );
     assert!(rt; wrong == (None, None));
+}
+
+// How many bytes standard input has left, where it isn't the source.
+fn left_in(stdin: Option<Retrying<Text>>) -> Option<usize> {
+    stdin.map(|stdin| stdin.into_inner().left.len())
+}
+
+// Nothing is read of standard input but a list that it has.
+#[test]
+fn standard_input_is_left_as_it_is(rt: HostRuntime) -> Result<(), Fail> {
+    let alloc = rt.alloc();
+    let drawer = Drawer { text: b"f\0" };
+    let rows: [(Sources, u32, Option<Option<Reason>>, Option<usize>); 6] = [
+        (Sources::Standard(None), 0, None, None),
+        (Sources::Files(owned(alloc, &["p1"])?), 0, None, Some(4)),
+        (listed(alloc, "list")?, 0, None, Some(4)),
+        (listed(alloc, "-")?, 0, None, Some(0)),
+        (
+            listed(alloc, "-")?,
+            1,
+            Some(Some(Reason::System(5))),
+            Some(0),
+        ),
+        (listed(alloc, "list")?, 1, None, Some(4)),
+    ];
+    for (asked, failures, wanted, left) in rows {
+        let stdin = Text {
+            left: b"f\0g\0",
+            failures,
+        };
+        let except = no_labels(alloc)?;
+        let found = match sources_of(alloc, &drawer, stdin, &asked, &except) {
+            Ok(made) => (None, left_in(made.stdin)),
+            Err(missed) => (Some(reason_in(missed.why)), left_in(missed.stdin)),
+        };
+        assert!(rt; found == (wanted, left));
+    }
+    Ok(())
+}
+
+// A list of more names than there may be, each of which is empty.
+static TOO_MANY: [u8; 200_000] = [0; 200_000];
+
+// Of a list with too many names no more is read than shows it, and no read of it has failed.
+#[test]
+fn a_list_with_too_many_names_is_left_in_the_middle(rt: HostRuntime) -> Result<(), Fail> {
+    let alloc = rt.alloc();
+    let stdin = Text {
+        left: &TOO_MANY,
+        failures: 1,
+    };
+    let except = no_labels(alloc)?;
+    let drawer = Drawer { text: b"" };
+    let asked = listed(alloc, "-")?;
+    let Err(missed) = sources_of(alloc, &drawer, stdin, &asked, &except) else {
+        return Err(Fail::from("a list with too many names was taken"));
+    };
+    assert!(rt; missed.why == Unlisted::TooMany);
+    assert!(rt; left_in(missed.stdin).is_some_and(|left| 0 < left && left <= 134_463));
+    Ok(())
+}
+
+fn listed(alloc: Global, path: &str) -> Result<Sources, AllocError> {
+    Ok(Sources::Listed(String::from_str(alloc, path)?))
+}
+
+// Why a list couldn't be read, where that is it.
+fn reason_in(why: Unlisted) -> Option<Reason> {
+    match why {
+        Unlisted::Unread(reason) => Some(reason),
+        _ => None,
+    }
 }
 
 // How many bytes the files of these words have together.

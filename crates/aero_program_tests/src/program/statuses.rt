@@ -12,7 +12,7 @@ fn outcome_of(alloc: Global, counts: [u64; 4], cause: Option<Cause>) -> Outcome 
     let [serializable, pending, violations, faults] = counts;
     Outcome {
         endings: Vec::new(alloc),
-        faults: Vec::new(alloc),
+        notables: Vec::new(alloc),
         counts: Counts {
             serializable,
             pending,

@@ -57,19 +57,23 @@ public final class Blocks {
     public static void leave(int depth, int site) {
         LoggedThread me = depth < 0 ? null : LoggedThread.logging();
         if (me == null) return;
-        while (me.depth > depth && Log.on) close(me, site);
+        boolean isClosed = true;
+        while (isClosed && me.depth > depth && Log.on) isClosed = close(me, site);
     }
-    private static void close(LoggedThread me, int site) {
+    /** Says whether it is closed: its line may not be in the log, which may have ended. */
+    private static boolean close(LoggedThread me, int site) {
         Object what = me.open[me.depth - 1];
-        boolean isClosed = what == LoggedThread.INITIALIZER;
-        if (isClosed) me.initializing--;
+        boolean isClosed = what == LoggedThread.INITIALIZER || what == LoggedThread.LEFT_OUT;
+        if (what == LoggedThread.INITIALIZER) me.initializing--;
         me.line.isWritten = false;
         try {
             if (what == LoggedThread.BLOCK) Log.write(me.line.begin().put(END).put(Site.get(site).place));
             else if (!isClosed) isClosed = Events.release(me, what, 1, site) == 0;
         } finally {
-            if (isClosed || me.line.isWritten) me.open[--me.depth] = null;
+            isClosed |= me.line.isWritten;
+            if (isClosed) me.open[--me.depth] = null;
         }
+        return isClosed;
     }
     /** In a method that has opened so much itself. */
     public static void caught(int depth, int opened, int site) {

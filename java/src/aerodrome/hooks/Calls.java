@@ -59,7 +59,6 @@ public final class Calls {
     private static Kind kind(int code, Object receiver, Object argument) {
         Kind kind = Kind.kind(code);
         if (kind.ofState()) return receiver instanceof AbstractQueuedSynchronizer ? kind : Kind.NOTHING;
-        if (kind == Kind.OPEN_TRY) return receiver.getClass().getClassLoader() == null ? kind : Kind.READ_IF_TRUE;
         if (kind.isOpen()) return receiver.getClass().getClassLoader() == null ? kind.closed() : kind.apart();
         if (argument == null && isUnsafe(receiver)) return Kind.NOTHING;
         if (!kind.isContents()) return kind;

@@ -2,81 +2,100 @@ package aerodrome.hooks;
 
 /** How a call is logged. The file `table` says of which kind each method is. */
 public enum Kind {
-    NOTHING,
+    NOTHING(Group.NONE),
 
-    // ---- one variable, read or written under the log's lock
-
-    READ, WRITE,
+    READ(Group.VARIABLE), WRITE(Group.VARIABLE),
     /** A write where the call gives true, else a read. */
-    SWAP,
-    /** The same of methods that a class of the program may override: there the call isn't made under the lock. */
-    OPEN_READ, OPEN_WRITE, OPEN_SWAP,
+    SWAP(Group.VARIABLE),
+
+    OPEN_READ(Group.OPEN), OPEN_WRITE(Group.OPEN), OPEN_SWAP(Group.OPEN),
     /** Additions, whose order doesn't matter, looks at all of them, and what does both; Parts.java. */
-    OPEN_ADD, OPEN_LOOK, OPEN_RESET,
+    OPEN_ADD(Group.OPEN), OPEN_LOOK(Group.OPEN), OPEN_RESET(Group.OPEN),
     /** A read if the call gives true, or a number that isn't 0. */
-    OPEN_TRY,
-    /** The same of a synchronizer that the program extends. */
-    STATE_READ, STATE_WRITE, STATE_SWAP,
+    OPEN_TRY(Group.OPEN),
 
-    // ---- what gives order to threads: a release is logged before the call, an acquire behind it
+    STATE_READ(Group.STATE), STATE_WRITE(Group.STATE), STATE_SWAP(Group.STATE),
 
-    READ_BEFORE, WRITE_BEFORE, READ_AFTER, WRITE_AFTER,
+    READ_BEFORE(Group.ORDER), WRITE_BEFORE(Group.ORDER), READ_AFTER(Group.ORDER), WRITE_AFTER(Group.ORDER),
     /** Behind the call if it gives true, or a number that isn't 0. */
-    READ_IF_TRUE, WRITE_IF_TRUE,
+    READ_IF_TRUE(Group.ORDER), WRITE_IF_TRUE(Group.ORDER),
     /** A read or a write before the call, by what its stamp says of the lock; a read behind it where the stamp stands for none. */
-    STAMPED,
+    STAMPED(Group.ORDER),
     /** The threads that signal don't depend on each other: an addition before the call. Behind the call all of these are read. */
-    SIGNAL, SIGNALLED,
+    SIGNAL(Group.ORDER), SIGNALLED(Group.ORDER),
     /** Both. */
-    MEET,
+    MEET(Group.ORDER),
     /** A look at all additions, behind the call, and what adds and looks, before it: of what calls a function of the program. */
-    LOOKED, RESETTING,
-    LOCK, TRY_LOCK, UNLOCK,
+    LOOKED(Group.ORDER), RESETTING(Group.ORDER),
+    LOCK(Group.ORDER), TRY_LOCK(Group.ORDER), UNLOCK(Group.ORDER),
     /** A monitor or a condition's lock is given back, and is had again behind the call. */
-    WAIT, AWAIT,
+    WAIT(Group.ORDER), AWAIT(Group.ORDER),
     /** Permits of a semaphore. */
-    ACQUIRE, ACQUIRE_IF_TRUE, ACQUIRE_ALL, RELEASE,
+    ACQUIRE(Group.ORDER), ACQUIRE_IF_TRUE(Group.ORDER), ACQUIRE_ALL(Group.ORDER), RELEASE(Group.ORDER),
     /** The argument is put into a queue; the result is taken out of it, or goes to a list; or it stays there. */
-    SEND, RECEIVE, DRAIN, PEEK,
+    SEND(Group.ORDER), RECEIVE(Group.ORDER), DRAIN(Group.ORDER), PEEK(Group.ORDER),
     /** What is put is in a collection. */
-    SEND_MANY,
+    SEND_MANY(Group.ORDER),
     /** A thread, the argument, may go on. One that was parked reads itself. */
-    UNPARK,
+    UNPARK(Group.ORDER),
 
-    // ---- maps for several threads, by key
-
-    KEY_READ, KEY_WRITE,
+    KEY_READ(Group.KEYS), KEY_WRITE(Group.KEYS),
     /** A write of the key if it isn't there, else a read. */
-    KEY_IF_ABSENT,
+    KEY_IF_ABSENT(Group.KEYS),
     /** A write by a function that is given to the map. */
-    KEY_WITHIN,
-    WHOLE_READ, WHOLE_WRITE,
-
-    // ---- queues for several threads, as a whole
+    KEY_WITHIN(Group.KEYS),
+    WHOLE_READ(Group.KEYS), WHOLE_WRITE(Group.KEYS),
 
     /** Says whether the queue is empty, or what or how much is in it. */
-    LOOK, COUNT,
+    LOOK(Group.QUEUE), COUNT(Group.QUEUE),
     /** Takes the argument out, wherever it stands, or many. */
-    PULL, PURGE,
+    PULL(Group.QUEUE), PURGE(Group.QUEUE),
 
-    // ---- collections for one thread, as a whole
-
-    COLLECTION_READ, COLLECTION_WRITE,
+    COLLECTION_READ(Group.COLLECTION), COLLECTION_WRITE(Group.COLLECTION),
     /** By an iterator. */
-    ITERATOR_WRITE;
+    ITERATOR_WRITE(Group.COLLECTION);
+
+    private enum Group {
+        NONE,
+        /** One variable, read or written under the log's lock. */
+        VARIABLE,
+        /** One variable, by methods that a class of the program may override: then the call isn't made under the lock. */
+        OPEN,
+        /** The state of a synchronizer that the program extends, as one variable. */
+        STATE,
+        /** Gives order to threads: a release is logged before the call, an acquire behind it. */
+        ORDER,
+        /** A map for several threads, by key. */
+        KEYS,
+        /** A queue for several threads, as a whole. */
+        QUEUE,
+        /** A collection for one thread, as a whole. */
+        COLLECTION;
+
+        boolean isContents() { return this == KEYS || this == QUEUE || this == COLLECTION; }
+    }
 
     private static final Kind[] ALL = values();
+    private final Group group;
 
-    /** What instrumented code has of a method: its kind, and behind it those of queues and of maps for several threads, if any. */
+    Kind(Group group) { this.group = group; }
+
+    /**
+     * What instrumented code has of a method: its kind, and behind it those of queues and of maps for several threads, if any. Each has
+     * eight bits, which are 0 of NOTHING.
+     */
     public static int code(Kind... kinds) {
-        int code = kinds[0].ordinal();
-        for (int one = 1; one < kinds.length; one++) code |= kinds[one].ordinal() << (kinds[one].ofKeys() ? 16 : 8);
+        int code = kinds[0].number();
+        for (int one = 1; one < kinds.length; one++) code |= kinds[one].number() << (kinds[one].ofKeys() ? 16 : 8);
         return code;
     }
+    private int number() { return this == NOTHING ? 0 : ordinal() + 1; }
+    private static Kind numbered(int number) { return number == 0 ? NOTHING : ALL[number - 1]; }
+
     public static boolean isOfCollection(int code) { return kind(code).isCollection(); }
-    static Kind kind(int code) { return ALL[code & 255]; }
-    static Kind ofQueue(int code) { return ALL[code >>> 8 & 255]; }
-    static Kind ofMap(int code) { return ALL[code >>> 16]; }
+    static Kind kind(int code) { return numbered(code & 255); }
+    static Kind ofQueue(int code) { return numbered(code >>> 8 & 255); }
+    static Kind ofMap(int code) { return numbered(code >>> 16); }
     /** Whether what stands for the call is given the call, too: so Within is. */
     public static boolean isWithin(int code) {
         for (Kind one : new Kind[] {kind(code), ofMap(code)}) if (one == KEY_IF_ABSENT || one == KEY_WITHIN) return true;
@@ -84,23 +103,25 @@ public enum Kind {
     }
 
     /** Whether it is an access, which isn't logged within an initializer of a class. */
-    boolean isAccess() {
-        return compareTo(READ) >= 0 && compareTo(STATE_SWAP) <= 0 || compareTo(KEY_READ) >= 0;
-    }
+    boolean isAccess() { return group != Group.NONE && group != Group.ORDER; }
     public boolean isCollection() { return this == COLLECTION_READ || this == COLLECTION_WRITE; }
     /** Whether the options may leave it out. */
-    public boolean isContents() { return compareTo(KEY_READ) >= 0; }
+    public boolean isContents() { return group.isContents(); }
 
-    boolean isOpen() { return compareTo(OPEN_READ) >= 0 && compareTo(OPEN_RESET) <= 0; }
+    boolean isOpen() { return group == Group.OPEN; }
     /** How a call is logged that isn't made under the lock. */
     Kind apart() {
-        if (this == OPEN_ADD) return SIGNAL;
-        if (this == OPEN_LOOK) return LOOKED;
-        if (this == OPEN_RESET) return RESETTING;
-        return this == READ || this == OPEN_READ ? READ_AFTER : WRITE_BEFORE;
+        switch (this) {
+            case OPEN_ADD: return SIGNAL;
+            case OPEN_LOOK: return LOOKED;
+            case OPEN_RESET: return RESETTING;
+            case OPEN_TRY: return READ_IF_TRUE;
+            case READ: case OPEN_READ: return READ_AFTER;
+            default: return WRITE_BEFORE;
+        }
     }
     Kind closed() { return this == OPEN_READ ? READ : this == OPEN_WRITE ? WRITE : this == OPEN_SWAP ? SWAP : this; }
 
-    boolean ofState() { return this == STATE_READ || this == STATE_WRITE || this == STATE_SWAP; }
-    boolean ofKeys() { return compareTo(KEY_READ) >= 0 && compareTo(WHOLE_WRITE) <= 0; }
+    boolean ofState() { return group == Group.STATE; }
+    boolean ofKeys() { return group == Group.KEYS; }
 }

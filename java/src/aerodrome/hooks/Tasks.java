@@ -14,8 +14,16 @@ public final class Tasks {
         LoggedThread me = task == null ? null : LoggedThread.logging();
         if (me != null) Events.write(me, operation, kind, task, Site.NOWHERE);
     }
-    public static void gives(Object task) { write(Events.WRITE, TASK, task); }
-    public static void takes(Object task) { write(Events.READ, TASK, task); }
+    public static void gives(Object task) {
+        LoggedThread me = task == null ? null : LoggedThread.logging();
+        if (me != null) me.gives(task);
+        write(Events.WRITE, TASK, task);
+    }
+    public static void takes(Object task) {
+        LoggedThread me = task == null ? null : LoggedThread.logging();
+        if (me != null) me.takes(task);
+        write(Events.READ, TASK, task);
+    }
     public static void completes(Object task) { write(Events.WRITE, DONE, task); }
     public static void sees(Object task) { write(Events.READ, DONE, task); }
 }

@@ -21,7 +21,9 @@ public final class Threads {
     public static void starts(Thread thread) {
         LoggedThread me = LoggedThread.logging();
         if (me == null || thread.getState() != Thread.State.NEW || Numbers.tied(thread) != null) return;
-        write(me, FORK, LoggedThread.of(thread));
+        LoggedThread other = LoggedThread.of(thread);
+        other.startedBy(me, thread);
+        write(me, FORK, other);
     }
 
     public static void ends() {

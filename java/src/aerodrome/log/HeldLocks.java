@@ -9,6 +9,12 @@ public final class HeldLocks {
     public int[] counts = new int[8];
     private int size;
 
+    /** None is held any more. */
+    void clear() {
+        Arrays.fill(counts, 0);
+        size = 0;
+    }
+
     /** How often the lock is held. */
     public int count(long lock) {
         for (int one = size - 1; one >= 0; one--) if (locks[one] == lock) return counts[one];

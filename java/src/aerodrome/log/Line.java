@@ -11,6 +11,8 @@ public final class Line {
     int length;
     /** Whether it stands in the log since it was begun. */
     public boolean isWritten;
+    /** The test, by its number, in whose log it is written; see Log.test. */
+    int test;
     private final int prefix;
 
     Line(int thread) {

@@ -16,6 +16,8 @@ import java.nio.charset.StandardCharsets;
 public final class Log {
     /** Whether events are logged: from the end of the agent's start to the program's end, or to the first error. */
     public static volatile boolean on;
+    /** The number of the test whose log is written; 0 where that is the program's, and between tests, when no log is. */
+    static volatile int test;
 
     private static volatile Thread holder;
     private static final VarHandle HOLDER;
@@ -32,8 +34,12 @@ public final class Log {
     private static final byte[] BUFFER = new byte[1 << 20];
     private static int used;
     private static long written, limit;
+    /** Null between tests. */
     private static Sink sink;
     private static boolean finished;
+    /** How many tests have had logs, and whether no more is written to the log of this one. */
+    private static int tests;
+    private static boolean isCut;
     /** Whether the sink is being written to, which may take as long as its reader likes. */
     private static volatile boolean isFlushing;
     /** Whether a thread has kept the lock for ever: so nothing more is logged, and, once what was is written out, it is no lock. */
@@ -43,8 +49,25 @@ public final class Log {
 
     /** @param most how many bytes are written; 0 is any number, and below 0 what fits the sink */
     public static void start(Sink to, long most) {
+        long fitting = most < 0 ? to.limit() : most;
+        lock();
         sink = to;
-        limit = most < 0 ? to.limit() : most;
+        limit = fitting;
+        written = used = 0;
+        isCut = false;
+        if (Options.isOfTests) test = ++tests;
+        unlock();
+    }
+
+    /** Writes the log of a test out and closes it, if the program hasn't ended meanwhile. */
+    static void endTest() throws IOException {
+        lock();
+        Sink ended = finished ? null : sink;
+        if (on) flush();
+        test = 0;
+        sink = finished ? sink : null;
+        unlock();
+        if (ended != null) ended.close();
     }
 
     // ---- the lock
@@ -125,19 +148,23 @@ public final class Log {
 
     /** Writes the line; the lock is held. */
     public static void append(Line line) {
-        if (!on || isGivenUp) return;
+        if (!takes(line)) return;
         if (limit > 0 && written + used + line.length > limit) {
             flush();
-            if (on) stop("limit is reached");
+            if (takes(line)) stop("limit is reached");
             return;
         }
         if (used + line.length > BUFFER.length) flush();
+        if (!takes(line)) return;
         System.arraycopy(line.bytes, 0, BUFFER, used, line.length);
         used += line.length;
         line.isWritten = true;
     }
 
+    private static boolean takes(Line line) { return on && !isGivenUp && !isCut && sink != null && line.test == test; }
+
     private static void flush() {
+        if (sink == null || isCut) return;
         isFlushing = true;
         try {
             sink.write(BUFFER, used);
@@ -155,7 +182,7 @@ public final class Log {
     /** Writes the log out, and waits for the command that reads it. */
     public static void finish() {
         lock();
-        boolean isFirst = !finished && sink != null;
+        boolean isFirst = !finished && (sink != null || Options.isOfTests);
         finished = true;
         if (isFirst && on) {
             flush();
@@ -169,6 +196,7 @@ public final class Log {
         } catch (IOException wrong) {
             say("threads=" + Options.threads + ": " + Sink.why(wrong));
         }
+        if (sink == null) return;
         try {
             sink.close();
         } catch (IOException wrong) {
@@ -176,9 +204,11 @@ public final class Log {
         }
     }
 
+    /** The log of a test ends, or all logging. */
     private static void stop(String why) {
-        on = false;
-        say(sink.target + ": " + why + ": the rest isn't logged");
+        if (Options.isOfTests && !isGivenUp) isCut = true;
+        else on = false;
+        say((sink == null ? Options.log : sink.target) + ": " + why + ": the rest isn't logged");
     }
 
     /** Past System.err, which may be the program's own. */

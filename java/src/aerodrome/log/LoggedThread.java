@@ -29,6 +29,12 @@ public final class LoggedThread {
     /** What hooks/Parts.java has of it. */
     public final AtomicReference<Object> parts = new AtomicReference<>();
     private volatile boolean ended;
+    /** The test whose log it looked for last. */
+    private int seen;
+    /** The test in which it was started, or in which it has run a task; 0 if it was started outside of tests. */
+    private volatile int home;
+    /** In the place of a test's number: the thread belongs to another test. */
+    private static final int APART = -1;
 
     private LoggedThread(Thread thread) { name = ThreadName.of(number, thread); }
 
@@ -38,7 +44,45 @@ public final class LoggedThread {
     public static LoggedThread logging() {
         if (!Log.on) return null;
         LoggedThread me = MINE.get();
+        int test = Log.test;
+        if (me.seen != test) me.turnTo(test);
         return me.ended || me.isQuiet ? null : me;
+    }
+
+    // ---- the logs of tests. Each is a part of what a log of the whole program would have.
+
+    /** The log has changed. By the new one no block is open that began before, and no lock is held that was acquired before. */
+    private void turnTo(int test) {
+        held.clear();
+        for (int one = 0; one < depth; one++) if (open[one] != INITIALIZER) open[one] = LEFT_OUT;
+        places = 0;
+        line.test = home == 0 || home == test ? test : APART;
+        seen = test;
+    }
+
+    /** Before it runs: another thread starts it. */
+    public void startedBy(LoggedThread other, Thread thread) {
+        home = other.line.test == APART ? other.home : other.line.test;
+        if (home != 0 && home == other.line.test) TestLog.runs(thread);
+    }
+
+    /** It gives a task to another thread. */
+    public void gives(Object task) {
+        if (line.test > 0) TestLog.given(task);
+    }
+
+    /** It takes a task. If a thread of the running test has given that, the thread belongs to this test from now on. */
+    public void takes(Object task) {
+        if (seen == 0 || !TestLog.isTaken(task) || home == 0 || home == seen) return;
+        home = seen;
+        line.test = seen;
+        TestLog.runs(Thread.currentThread());
+    }
+
+    /** It runs a test, so it belongs to no other. */
+    void runsTest() {
+        home = 0;
+        seen = APART;
     }
 
     /** The same for an access. What a class's initializer does isn't logged: the system runs it once, before others see it. */
@@ -72,6 +116,8 @@ public final class LoggedThread {
     // ---- what is open. It is kept without a call, for which a stack might be too full, once an event is written.
 
     public static final Object BLOCK = new Object(), INITIALIZER = new Object();
+    /** What began before the log did. */
+    public static final Object LEFT_OUT = new Object();
     /** Synchronized methods stand here by their objects. */
     public Object[] open = new Object[16];
     public int depth;

@@ -51,47 +51,50 @@ public final class Table {
         }
     }
 
-    private final Map<String, List<Row>> rows = new HashMap<>();
+    /** By the name of a class, as a/b/C. */
+    private final Map<String, List<Row>> rows;
     /** The methods of the JDK that call a hook. */
-    final List<JdkHook> hooks = new ArrayList<>();
+    final List<JdkHook> hooks;
 
-    // ---- the file
-
-    private Table() { }
+    private Table(Map<String, List<Row>> rows, List<JdkHook> hooks) {
+        this.rows = rows;
+        this.hooks = hooks;
+    }
 
     public static Table read() throws IOException {
-        Table table = new Table();
+        Reader reader = new Reader();
         InputStream file = Table.class.getResourceAsStream("/aerodrome/table");
         try (BufferedReader lines = new BufferedReader(new InputStreamReader(file, StandardCharsets.UTF_8))) {
             for (String line; (line = lines.readLine()) != null; )
-                if (!line.isEmpty() && !line.startsWith("#")) table.read(line.trim().split(" +"));
+                if (!line.isEmpty() && !line.startsWith("#")) reader.take(line.trim().split(" +"));
         }
-        return table;
+        return new Table(reader.rows, reader.hooks);
     }
 
-    /** What the lines so far say of the next row. */
-    private String prefix = "";
-    private List<String> classes = new ArrayList<>();
-    private boolean hasRow;
+    /** Reads the file, and keeps what the lines so far say of the next row. */
+    private static final class Reader {
+        final Map<String, List<Row>> rows = new HashMap<>();
+        final List<JdkHook> hooks = new ArrayList<>();
+        private String prefix = "";
+        private List<String> classes = new ArrayList<>();
+        private boolean hasRow;
 
-    private void read(String[] words) {
-        switch (words[0]) {
-            case "hook": case "else": hooks.add(new JdkHook(words)); return;
-            case "in": prefix = words[1].equals(ANY) ? "" : words[1].replace('.', '/') + "/"; return;
-            case "of":
-                if (hasRow) classes = new ArrayList<>();
-                hasRow = false;
-                for (int one = 1; one < words.length; one++) classes.add(prefix + words[one].replace('.', '/'));
-                return;
-            default:
-                hasRow = true;
-                add(classes, new Row(words[0], Arrays.copyOfRange(words, 1, words.length)));
+        void take(String[] words) {
+            switch (words[0]) {
+                case "hook": case "else": hooks.add(new JdkHook(words)); return;
+                case "in": prefix = words[1].equals(ANY) ? "" : words[1].replace('.', '/') + "/"; return;
+                case "of":
+                    if (hasRow) classes = new ArrayList<>();
+                    hasRow = false;
+                    for (int one = 1; one < words.length; one++) classes.add(prefix + words[one].replace('.', '/'));
+                    return;
+                default:
+                    hasRow = true;
+                    add(new Row(words[0], Arrays.copyOfRange(words, 1, words.length)));
+            }
         }
-    }
-    private void add(List<String> classes, Row row) {
-        for (String one : classes) {
-            if (!rows.containsKey(one)) rows.put(one, new ArrayList<>());
-            rows.get(one).add(row);
+        private void add(Row row) {
+            for (String one : classes) rows.computeIfAbsent(one, unused -> new ArrayList<>()).add(row);
         }
     }
 

@@ -14,9 +14,11 @@ var (
 	mu    sync.Mutex
 	count int
 	done  = make(chan int)
+	later func()
 )
 
-func init() { count = 1 }
+// What an init declares is none either, whoever calls it.
+func init() { count = 1; later = func() { count++ } }
 
 func plain()             { count++ }
 func (o *one) add(k int) { mu.Lock(); o.n += k; mu.Unlock() }
@@ -35,9 +37,28 @@ func repeats() (err error) {
 	count++
 	panic("first")
 }
+func guarded()                     { mu.Lock(); defer mu.Unlock(); count++ }
+func onlyTells(wg *sync.WaitGroup) { wg.Done() }
+func tells(wg *sync.WaitGroup)     { count++; wg.Done() }
+
+// Each goroutine runs alone. What only calls Done or Unlock is no block, as what Go makes for defer.
+func waits() {
+	var wg sync.WaitGroup
+	for _, f := range []func(){
+		func() { defer wg.Done(); guarded() },
+		func() { guarded(); onlyTells(&wg) },
+		func() { guarded(); tells(&wg) },
+	} {
+		wg.Add(1)
+		go f()
+		wg.Wait()
+	}
+}
 
 func main() {
 	plain()
+	later()
+	waits()
 	var a adder = &one{}
 	a.add(2)
 	generic([]string{"x"})

@@ -197,6 +197,10 @@ func changeSlot(n int64) {
 	<-slot
 }
 
+// Each receive may wait for its send.
+func sendSlots()    { slot <- 1; slot <- 2 }
+func receiveSlots() { <-slot; <-slot }
+
 // The second one gives back first: what it takes isn't what the first one has put there.
 func holdTwice()     { several <- struct{}{}; mark(0); after(1); <-several }
 func holdMeanwhile() { after(0); several <- struct{}{}; <-several; mark(1) }
@@ -427,17 +431,21 @@ var words = map[string]func(){
 	"writer-follows": follows(func() { rw.RLock(); rw.RUnlock() }, func() { rw.Lock(); rw.Unlock() }),
 	"done-cross":     func() { group.Add(4); crosses(func() { group.Done() })() },
 	"wait-follows":   func() { group.Add(1); follows(func() { group.Done() }, func() { group.Wait() })() },
-	"wait-cross":     crosses(func() { group.Wait() }),
-	"once":           func() { both(onceUser, func() { after(0); onceUser() }) },
-	"once-follows":   follows(func() { once.Do(func() {}) }, func() { once.Do(func() {}) }),
-	"cond":           func() { both(waiter, signaller) },
-	"keys":           crosses(func() { keys.Load(1) }),
-	"key-follows":    func() { keys.Store(1, 0); follows(func() { keys.Store(1, 1) }, func() { keys.Load(1) })() },
-	"add-cross":      crosses(func() { flag.Add(1) }),
-	"load-cross":     crosses(func() { flag.Load() }),
-	"failed-cross":   crosses(func() { flag.CompareAndSwap(5, 6) }),
-	"atomic-splits":  splits(flag.Load, flag.Store),
-	"value-cross":    func() { value.Store(0); crosses(func() { value.Load() })() },
+	"wait-two-follows": func() {
+		group.Add(2)
+		follows(func() { group.Done() }, func() { group.Done(); group.Wait() })()
+	},
+	"wait-cross":    crosses(func() { group.Wait() }),
+	"once":          func() { both(onceUser, func() { after(0); onceUser() }) },
+	"once-follows":  follows(func() { once.Do(func() {}) }, func() { once.Do(func() {}) }),
+	"cond":          func() { both(waiter, signaller) },
+	"keys":          crosses(func() { keys.Load(1) }),
+	"key-follows":   func() { keys.Store(1, 0); follows(func() { keys.Store(1, 1) }, func() { keys.Load(1) })() },
+	"add-cross":     crosses(func() { flag.Add(1) }),
+	"load-cross":    crosses(func() { flag.Load() }),
+	"failed-cross":  crosses(func() { flag.CompareAndSwap(5, 6) }),
+	"atomic-splits": splits(flag.Load, flag.Store),
+	"value-cross":   func() { value.Store(0); crosses(func() { value.Load() })() },
 	"value-splits": func() {
 		value.Store(int64(0))
 		splits(func() int64 { n, _ := value.Load().(int64); return n }, func(n int64) { value.Store(n) })()
@@ -450,6 +458,7 @@ var words = map[string]func(){
 	"slot-splits":      splits(lookSlot, changeSlot),
 	"semaphore-kept":   func() { both(keepsOne, addsMeanwhile) },
 	"several-kept":     func() { both(keepsSeveral, addsMeanwhile) },
+	"slot-received":    func() { go sendSlots(); receiveSlots() },
 	"slot-kept":        func() { both(keepsSlot, addsMeanwhile) },
 	"semaphore-cross":  func() { both(holdTwice, holdMeanwhile) },
 	"select-one":       follows(func() { selectSend(one) }, func() { selectReceive(one) }),

@@ -37,6 +37,6 @@ returns-in-Err-clause-stopped g c = λ old before st.
     (record { went = Appends-nil mid.bytes; faults = refl }) in
     let told = c.tell_ready.new.told in
     subst (λ (x : Cause). WasTold terms form old after before
-    (seen_by g.W.Write.contents c.tell_ready.new.writer) told.endings.items told.faults.items told.counts (Some x)) (sym c.cause_of.ensures)
-    (subst (λ (s : Seen). WasTold terms form old after before s told.endings.items told.faults.items told.counts (Some Memory)) (sym same.0)
-    (subst (λ (t : Told). WasTold terms form old after before mid t.endings.items t.faults.items t.counts (Some Memory)) (sym same.1) stops))
+    (seen_by g.W.Write.contents c.tell_ready.new.writer) told.endings.items told.notables.items told.counts (Some x)) (sym c.cause_of.ensures)
+    (subst (λ (s : Seen). WasTold terms form old after before s told.endings.items told.notables.items told.counts (Some Memory)) (sym same.0)
+    (subst (λ (t : Told). WasTold terms form old after before mid t.endings.items t.notables.items t.counts (Some Memory)) (sym same.1) stops))

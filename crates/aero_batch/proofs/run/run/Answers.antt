@@ -16,6 +16,6 @@ returns-clause-ran g c =
     summed_so terms form (summary_line_in form (options_in terms)) (map (sighted (counted g.R.Read.remaining)) c.args.sources.now)
     (map (sighted (counted g.R.Read.remaining)) c.run_lines-outcome.new.sources) (seen_by g.W.Write.contents c.args.writer.now)
     (seen_by g.W.Write.contents c.run_lines-outcome.new.writer) (seen_by g.W.Write.contents c.with_summary.new.writer)
-    lines.endings.items all.endings.items lines.faults.items all.faults.items lines.counts all.counts lines.cause all.cause
-    (ap (λ es. es.items) c.with_summary.ensures.endings) (ap (λ fs. fs.items) c.with_summary.ensures.faults) c.with_summary.ensures.counts
+    lines.endings.items all.endings.items lines.notables.items all.notables.items lines.counts all.counts lines.cause all.cause
+    (ap (λ es. es.items) c.with_summary.ensures.endings) (ap (λ fs. fs.items) c.with_summary.ensures.notables) c.with_summary.ensures.counts
     c.run_lines-outcome.ensures.told c.with_summary.ensures.summed

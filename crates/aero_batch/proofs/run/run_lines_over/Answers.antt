@@ -7,6 +7,6 @@ use Rattle.aero_intake.specs.PlanTerms.{terms_of}
 
 pub returns-in_default-clause-told : goal.returns-in_default-clause-told
 returns-in_default-clause-told g c =
-    rw (c.refused.ensures.endings, c.refused.ensures.faults, c.refused.ensures.counts, c.refused.ensures.cause)
+    rw (c.refused.ensures.endings, c.refused.ensures.notables, c.refused.ensures.counts, c.refused.ensures.cause)
     (refused_at_once (terms_of c.args.setting.now.plan.now) c.args.setting.now.plan.now.form (map (sighted g.R.Followed.sight) c.args.sources.now)
     (seen_by g.W.Write.contents c.args.writer.now))

@@ -22,7 +22,7 @@ returns g c = record {
       let st = begun_so known terms form origin before c.args.room.seats.items c.args.room.told seated c.args.room.seats.len c.requires.begun in
       let stop = c.tell_all-end.ensures.stopped origin st in
       let are_back = c.all_back-sources.ensures terms origin stop.seated in
-      subst (λ (o : Option Cause). WasTold terms form (map (sighted known) origin) (map (sighted known) back) before after told.endings.items told.faults.items told.counts o)
+      subst (λ (o : Option Cause). WasTold terms form (map (sighted known) origin) (map (sighted known) back) before after told.endings.items told.notables.items told.counts o)
       (sym c.cause_in-cause.ensures)
       (was_told known terms form origin all back stop.seated are_back before after told _ stop);
 }

@@ -10,7 +10,7 @@ use Rattle.aero_model.specs.CallCounts.{seen_by}
 
 pub returns-in_default : goal.returns-in_default
 returns-in_default g c = record {
-  told = rw (c.refused.ensures.endings, c.refused.ensures.faults, c.refused.ensures.counts, c.refused.ensures.cause)
+  told = rw (c.refused.ensures.endings, c.refused.ensures.notables, c.refused.ensures.counts, c.refused.ensures.cause)
       (refused_at_once (terms_of c.args.plan.now) c.args.plan.now.form (map (sighted g.R.Followed.sight) c.args.sources.items) (seen_by g.W.Write.contents c.args.writer.now));
 }
 

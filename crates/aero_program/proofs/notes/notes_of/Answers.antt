@@ -2,9 +2,9 @@ use Rattle.std.proofs.Common.{◌≡◌, ◌∙◌, [], ap, sym, subst, arith, B
 use Rattle.std.specs.Prelude.{slice_get}
 use Rattle.std.proofs.lemmas.List.{length-take-le, take_all}
 use Rattle.std.proofs.lemmas.Option.{slice_get_read}
-use Rattle.aero_batch.specs.declared.outcome.FaultyLine.{FaultyLine}
+use Rattle.aero_batch.specs.declared.outcome.Notable.{Notable}
 use Rattle.aero_report.specs.Asked.{note_of}
-use Rattle.aero_program.specs.Notes.{AreNotes, GrowsBy, Noted, noted_of, noted_of_all, was_too_large, fault_told}
+use Rattle.aero_program.specs.Notes.{AreNotes, GrowsBy, Noted, noted_of, noted_of_all, was_too_large, notable_told}
 use Rattle.aero_program.specs.Traces.{input_of, unused_in}
 use Rattle.aero_program.proofs.Labelling.{take_with}
 use Rattle.aero_program.proofs.Noting.{looked_up, no_notes, notes_grown, one_more}
@@ -22,24 +22,24 @@ loop-place-preserved g c =
     let at = slice_get_read sources (length sources) i source refl c.loop-place-test.true c.index-sources-place.is in
     let count : length yielded ≡ i = length-take-le i sources (let less = c.loop-place-test.true in omega (arith, less)) in
     let endings = c.args.endings.now in
-    let faults = c.args.faults.now in
+    let notables = c.args.notables.now in
     let words = c.args.are_words in
     let told : c.is_too_large.result ≡ was_too_large (slice_get endings (length yielded)) =
     c.is_too_large.ensures ∙ ap was_too_large (looked_up c.get-in-loop-place.result endings i c.get-in-loop-place.ensures.lookup.0 c.get-in-loop-place.ensures.lookup.1 ∙ ap (slice_get endings) (sym count)) in
-    let fault : c.fault_of-fault.result ≡ fault_told (slice_get faults (length yielded)) =
-    c.fault_of-fault.ensures ∙ ap fault_told (looked_up c.get.result faults i c.get.ensures.lookup.0 c.get.ensures.lookup.1 ∙ ap (slice_get faults) (sym count)) in
-    let before : List Noted = noted_of_all input_of unused_in words yielded endings faults in
-    let n : Noted = noted_of input_of unused_in words source (was_too_large (slice_get endings (length yielded))) (fault_told (slice_get faults (length yielded))) in
+    let notable : c.notable_of-notable.result ≡ notable_told (slice_get notables (length yielded)) =
+    c.notable_of-notable.ensures ∙ ap notable_told (looked_up c.get.result notables i c.get.ensures.lookup.0 c.get.ensures.lookup.1 ∙ ap (slice_get notables) (sym count)) in
+    let before : List Noted = noted_of_all input_of unused_in words yielded endings notables in
+    let n : Noted = noted_of input_of unused_in words source (was_too_large (slice_get endings (length yielded))) (notable_told (slice_get notables (length yielded))) in
     let old = map note_of c.loop-place.notes.items in
     let new = map note_of c.add_notes.new.notes.items in
     let grows : GrowsBy g.G.Opener.holds old new n =
-    subst (λ (f : Option FaultyLine). GrowsBy g.G.Opener.holds old new (noted_of input_of unused_in words source (was_too_large (slice_get endings (length yielded))) f)) fault
-    (subst (λ (b : Bool). GrowsBy g.G.Opener.holds old new (noted_of input_of unused_in words source b c.fault_of-fault.result)) told c.in_ok-add_notes.ensures) in
+    subst (λ (f : Option Notable). GrowsBy g.G.Opener.holds old new (noted_of input_of unused_in words source (was_too_large (slice_get endings (length yielded))) f)) notable
+    (subst (λ (b : Bool). GrowsBy g.G.Opener.holds old new (noted_of input_of unused_in words source b c.notable_of-notable.result)) told c.in_ok-add_notes.ensures) in
     subst (λ (l : List Noted). AreNotes g.G.Opener.holds l new)
-    (sym (one_more input_of unused_in words yielded source endings faults) ∙ ap (λ l. noted_of_all input_of unused_in words l endings faults) (sym (take_with sources i source at)))
+    (sym (one_more input_of unused_in words yielded source endings notables) ∙ ap (λ l. noted_of_all input_of unused_in words l endings notables) (sym (take_with sources i source at)))
     (notes_grown g.G.Opener.holds before n old new c.loop-place.invariant grows)
 
 pub returns : goal.returns
 returns g c =
-    subst (λ l. AreNotes g.G.Opener.holds (noted_of_all input_of unused_in c.args.are_words l c.args.endings.now c.args.faults.now) (map note_of c.loop-place.notes.items))
+    subst (λ l. AreNotes g.G.Opener.holds (noted_of_all input_of unused_in c.args.are_words l c.args.endings.now c.args.notables.now) (map note_of c.loop-place.notes.items))
     (take_all c.loop-place.place c.args.sources.now c.loop-place-test.false) c.loop-place.invariant

@@ -6,4 +6,4 @@ use Rattle.aero_program.proofs.notes.notes_of.Given as goal
 
 -- the notes on the sources so far
 abbrev pub invariant-loop-place : goal.invariant-loop-place
-invariant-loop-place g l = AreNotes g.G.Opener.holds (noted_of_all input_of unused_in l.are_words (take l.place l.sources) l.endings l.faults) (map note_of l.notes.items)
+invariant-loop-place g l = AreNotes g.G.Opener.holds (noted_of_all input_of unused_in l.are_words (take l.place l.sources) l.endings l.notables) (map note_of l.notes.items)

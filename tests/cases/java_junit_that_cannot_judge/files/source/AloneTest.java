@@ -1,0 +1,4 @@
+import org.junit.jupiter.api.parallel.Isolated;
+
+@Isolated
+class AloneTest extends OneTest { }
