@@ -46,6 +46,7 @@
 #![tactic(auto)]
 
 mod back;
+mod beside;
 mod engine;
 mod gaining;
 mod highs;

@@ -96,6 +96,7 @@ fn is_new(theirs: &[bool], mine: &[bool], at: usize) -> bool
 const FEW: usize = 8;
 
 /// Whether no more than a few openers are in one table and not in the other, so that each is looked up, and no row gone through.
+/// It has no clause, as only the time depends on its answer: its callers keep their clauses for either.
 pub(crate) fn differ_little(theirs: &[bool], mine: &[bool]) -> bool {
     let mut at = 0;
     for _ in 0..FEW {

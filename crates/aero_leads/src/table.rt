@@ -9,19 +9,16 @@ ghost use Rattle.aero_leads.specs.Seen.{is_whole, AreKnown};
 ghost use Rattle.aero_leads.specs.Single.{AreSingle};
 
 use crate::back::least_known;
+use crate::beside::{Beside, forget_beside, nothing_beside};
 use crate::gaining::gain_row;
-use crate::highs::{Highs, forget_highs, high_place, no_high, raise_high, settle_high};
+use crate::highs::{high_place, raise_high, settle_high};
 use crate::last::Last;
 use crate::led::{Led, forget, no_block};
-use crate::lows::{Lows, forget_lows, is_low, lower, no_low, raise_all};
+use crate::lows::{is_low, lower, raise_all};
 use crate::news::{differ_little, has_news, has_others};
-use crate::passed::{
-    Passed, forget_places, lower_place, no_place, note_begin, note_gain, passed_before, since,
-};
+use crate::passed::{lower_place, note_begin, note_gain, passed_before, since};
 use crate::row::{Brought, Lead, SHORT, Taking, brought_by, led_below, settle};
-use crate::seen::{
-    Seen, forget_all, has_seen, is_in, is_whole, nothing_seen, openers_of, see_own, unsee_all,
-};
+use crate::seen::{has_seen, is_in, is_whole, openers_of, see_own, unsee_all};
 use crate::thread;
 use crate::thread::{Thread, leave, put_row, row_of, spread, take_row};
 use std::alloc::{AllocError, Global};
@@ -32,15 +29,12 @@ use std::alloc::{AllocError, Global};
 pub struct Table {
     pub threads: Vec<Thread>,
     pub led: Led,
-    pub seen: Seen,
-    pub lows: Lows,
-    pub highs: Highs,
-    pub passed: Passed,
+    pub beside: Beside,
     ghost listed: { AreListed threads.items led },
-    ghost known: { AreKnown threads.items seen },
-    ghost low: { AreLow threads.items lows },
-    ghost high: { AreHigh threads.items highs },
-    ghost passing: { ArePassed threads.items passed },
+    ghost known: { AreKnown threads.items beside.seen },
+    ghost low: { AreLow threads.items beside.lows },
+    ghost high: { AreHigh threads.items beside.highs },
+    ghost passing: { ArePassed threads.items beside.passed },
     ghost single: { AreSingle threads.items },
 }
 
@@ -51,10 +45,7 @@ pub(crate) fn no_thread(alloc: Global) -> Table
     Table {
         threads: Vec::new(alloc),
         led: no_block(alloc),
-        seen: nothing_seen(alloc),
-        lows: no_low(alloc),
-        highs: no_high(alloc),
-        passed: no_place(alloc),
+        beside: nothing_beside(alloc),
     }
 }
 
@@ -92,21 +83,18 @@ pub(crate) fn gain(
     };
     let Ok(()) = gain_row(
         &mut table.threads,
-        &mut table.seen,
+        &mut table.beside.seen,
         &mut table.led,
         t,
         taking,
     ) else {
-        forget_all(&mut table.seen);
-        forget_lows(&mut table.lows);
-        forget_highs(&mut table.highs);
-        forget_places(&mut table.passed);
+        forget_beside(&mut table.beside);
         return Err(AllocError);
     };
-    lower(&mut table.lows, t, place);
-    raise_high(&mut table.highs, t, place);
-    lower_place(&mut table.passed, o, below);
-    note_gain(&mut table.passed, &table.led, t, place);
+    lower(&mut table.beside.lows, t, place);
+    raise_high(&mut table.beside.highs, t, place);
+    lower_place(&mut table.beside.passed, o, below);
+    note_gain(&mut table.beside.passed, &table.led, t, place);
     Ok(())
 }
 
@@ -115,12 +103,12 @@ fn brings_nothing(table: &Table, t: u32, o: u32, below: u32) -> bool
     ensures { result ≡ true → (w : ℕ) → is_below (rows_in table.now.threads.items o w) below ≡ true → is_some (rows_in table.now.threads.items t w) ≡ true }
 {
     let other = row_of(&table.threads, o);
-    let theirs = openers_of(&table.seen, o);
-    let mine = openers_of(&table.seen, t);
-    if is_whole(&table.seen, o) && differ_little(theirs, mine) {
+    let theirs = openers_of(&table.beside.seen, o);
+    let mine = openers_of(&table.beside.seen, t);
+    if is_whole(&table.beside.seen, o) && differ_little(theirs, mine) {
         return !has_news(theirs, mine, other, below);
     }
-    has_seen(&table.seen, t, other, below)
+    has_seen(&table.beside.seen, t, other, below)
 }
 
 // What an event of thread `o` below a place brings thread `t`.
@@ -131,7 +119,7 @@ fn brings(table: &Table, t: u32, o: u32, below: u32) -> Brought
 {
     let row = row_of(&table.threads, t);
     let other = row_of(&table.threads, o);
-    if other.len() > SHORT && is_whole(&table.seen, o) {
+    if other.len() > SHORT && is_whole(&table.beside.seen, o) {
         return brings_of_whole(table, t, o, below);
     }
     brought_by(row, other, t, below)
@@ -139,7 +127,7 @@ fn brings(table: &Table, t: u32, o: u32, below: u32) -> Brought
 
 // The same where all that leads to thread `o` is known: what both threads have is passed over.
 fn brings_of_whole(table: &Table, t: u32, o: u32, below: u32) -> Brought
-    requires { is_whole table.now.seen o ≡ true }
+    requires { is_whole table.now.beside.seen o ≡ true }
     ensures closes { result.closes ≡ is_below (rows_in table.now.threads.items o t) below }
     ensures known { result.news ≡ false → (w : ℕ) → is_below (rows_in table.now.threads.items o w) below ≡ true → is_some (rows_in table.now.threads.items t w) ≡ true }
 {
@@ -150,10 +138,10 @@ fn brings_of_whole(table: &Table, t: u32, o: u32, below: u32) -> Brought
 
 // Whether the open block of thread `w` leads to an event of thread `o` below a place.
 fn is_led(table: &Table, o: u32, w: u32, below: u32) -> bool
-    requires { is_whole table.now.seen o ≡ true }
+    requires { is_whole table.now.beside.seen o ≡ true }
     ensures { result ≡ is_below (rows_in table.now.threads.items o w) below }
 {
-    if !is_in(openers_of(&table.seen, o), w) {
+    if !is_in(openers_of(&table.beside.seen, o), w) {
         return false;
     }
     led_below(row_of(&table.threads, o), w as usize, below)
@@ -162,11 +150,11 @@ fn is_led(table: &Table, o: u32, w: u32, below: u32) -> bool
 // Whether an event of thread `o` below a place may bring thread `t` news. The block of `o` itself is looked at apart: mostly
 // that is what differs, and mostly it began later.
 fn may_bring(table: &Table, t: u32, o: u32, below: u32) -> bool
-    requires { is_whole table.now.seen o ≡ true }
+    requires { is_whole table.now.beside.seen o ≡ true }
     ensures { result ≡ false → (w : ℕ) → is_below (rows_in table.now.threads.items o w) below ≡ true → is_some (rows_in table.now.threads.items t w) ≡ true }
 {
-    let mine = openers_of(&table.seen, t);
-    if has_others(openers_of(&table.seen, o), mine, o) {
+    let mine = openers_of(&table.beside.seen, t);
+    if has_others(openers_of(&table.beside.seen, o), mine, o) {
         return true;
     }
     !is_in(mine, o) && is_led(table, o, o, below)
@@ -212,7 +200,7 @@ pub(crate) fn may_be_led(table: &Table, last: Last, t: u32) -> bool
     ensures there { result ≡ true → 0 < last.count }
     ensures unled { result ≡ false → last.thread ≢ t → (w : ℕ) → is_below (rows_in table.now.threads.items last.thread w) last.count ≡ false }
 {
-    !is_low(&table.lows, last.thread, place_for(last, t))
+    !is_low(&table.beside.lows, last.thread, place_for(last, t))
 }
 
 /// Thread `t` takes what leads to the event, from this place on, unless the event is its own, or
@@ -283,16 +271,13 @@ pub(crate) fn begin(table: &mut Table, t: u32, place: u32) -> Result<(), AllocEr
 {
     let is_new = has_no_own(table, t);
     let Ok(()) = thread::begin(&mut table.threads, t, place, is_new) else {
-        forget_all(&mut table.seen);
-        forget_lows(&mut table.lows);
-        forget_highs(&mut table.highs);
-        forget_places(&mut table.passed);
+        forget_beside(&mut table.beside);
         return Err(AllocError);
     };
-    see_own(&mut table.seen, t);
-    lower(&mut table.lows, t, place);
-    raise_high(&mut table.highs, t, place);
-    note_begin(&mut table.passed, &table.led, t, place);
+    see_own(&mut table.beside.seen, t);
+    lower(&mut table.beside.lows, t, place);
+    raise_high(&mut table.beside.highs, t, place);
+    note_begin(&mut table.beside.passed, &table.led, t, place);
     Ok(())
 }
 
@@ -300,7 +285,7 @@ pub(crate) fn begin(table: &mut Table, t: u32, place: u32) -> Result<(), AllocEr
 fn has_no_own(table: &Table, t: u32) -> bool
     ensures { result ≡ true → is_some (rows_in table.now.threads.items t t) ≡ false }
 {
-    is_whole(&table.seen, t) && !is_in(openers_of(&table.seen, t), t)
+    is_whole(&table.beside.seen, t) && !is_in(openers_of(&table.beside.seen, t), t)
 }
 
 /// The least thread whose open block closes a cycle through that of thread `t`.
@@ -308,8 +293,8 @@ pub(crate) fn least_back(table: &mut Table, t: u32) -> Result<Option<u32>, Alloc
     ensures least { IfOk result (IsLeastBack (rows_in table.new.threads.items) t) }
     ensures same { table.new.threads ≡ table.old.threads }
 {
-    if is_whole(&table.seen, t) {
-        let into = openers_of(&table.seen, t);
+    if is_whole(&table.beside.seen, t) {
+        let into = openers_of(&table.beside.seen, t);
         return Ok(least_known(&table.threads, t, into, &table.led));
     }
     thread::least_back(&table.threads, t, &mut table.led)
@@ -324,30 +309,27 @@ pub(crate) fn end(table: &mut Table, t: u32) -> Result<(), AllocError>
 {
     let later = not_passed(table, t)?;
     let mut row = take_row(&mut table.threads, t);
-    let own = settle(&mut row, t, high_place(&table.highs, t));
+    let own = settle(&mut row, t, high_place(&table.beside.highs, t));
     let Ok(()) = spread(&mut table.threads, &later, t, &mut table.led) else {
-        forget_all(&mut table.seen);
-        forget_lows(&mut table.lows);
-        forget_highs(&mut table.highs);
-        forget_places(&mut table.passed);
+        forget_beside(&mut table.beside);
         return Err(AllocError);
     };
     put_row(&mut table.threads, t, row);
     leave(&mut table.threads, t);
-    unsee_all(&mut table.seen, &table.led, t, &later);
-    raise_all(&mut table.lows, &table.threads, &table.led, t);
-    settle_high(&mut table.highs, t, own);
+    unsee_all(&mut table.beside.seen, &table.led, t, &later);
+    raise_all(&mut table.beside.lows, &table.threads, &table.led, t);
+    settle_high(&mut table.beside.highs, t, own);
     forget(&mut table.led, t);
     Ok(())
 }
 
 // What leads to thread t, and hasn't been passed on yet to the threads to which its open block leads.
 fn not_passed(table: &Table, t: u32) -> Result<Vec<Lead>, AllocError>
-    ensures { IfOk result (λ ls. ls.items ≡ leads_since t (passed_of table.now.passed t) (thread_row (slice_get table.now.threads.items t))) }
+    ensures { IfOk result (λ ls. ls.items ≡ leads_since t (passed_of table.now.beside.passed t) (thread_row (slice_get table.now.threads.items t))) }
 {
     let alloc = *table.threads.allocator();
-    let place = passed_before(&table.passed, t);
-    let high = high_place(&table.highs, t);
+    let place = passed_before(&table.beside.passed, t);
+    let high = high_place(&table.beside.highs, t);
     let later = since(row_of(&table.threads, t), high, t, place, alloc)?;
     Ok(later)
 }
