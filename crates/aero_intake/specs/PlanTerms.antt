@@ -11,7 +11,7 @@ terms_of plan = plan.terms
 
 -- the same, as the summary of a report tells it, with the labels with which no block begins, and the notes on sources
 abbrev pub options_with : Terms → (unused : List (List ℕ)) → (notes : List Note) → Options
-options_with terms unused notes = record { limits = terms.rules.limits; labels = terms.rules.labels; order = terms.order; explain = terms.explain; stop = terms.stop; unused = unused; notes = notes }
+options_with terms unused notes = record { limits = terms.rules.limits; labels = terms.rules.labels; order = terms.order; explain = terms.explain; stop = terms.stop; end = false; unused = unused; notes = notes }
 
 -- the same, where no such label and no note is told
 abbrev pub options_in : Terms → Options

@@ -168,6 +168,7 @@ impl Plan {
             order: self.terms.order(),
             explain: self.terms.explain(),
             stop: self.terms.stop(),
+            end: false,
             unused,
             notes,
         }

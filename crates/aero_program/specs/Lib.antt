@@ -14,6 +14,7 @@ pub mod LabelFiles
 pub mod Labels
 pub mod Laws
 pub mod Led
+pub mod Lefts
 pub mod Listing
 pub mod Looks
 pub mod Notes

@@ -67,6 +67,14 @@ impl<R: Read + Drop> Closing<R> {
         }
     }
 
+    /// The reader within.
+    pub fn into_inner(self) -> R
+        ensures { result ≡ self.inner }
+    {
+        let Closing { inner, .. } = self;
+        inner
+    }
+
     // What a read gives of the lines, where the end was found.
     fn give(&mut self, buf: &mut [u8]) -> Option<io::Result<usize>>
         ensures bound { IfSome result (λ r. ReadsAtMost r buf.new) }

@@ -94,6 +94,7 @@ pub mod label_files;
 pub mod labels;
 mod lasting;
 pub mod laws;
+pub mod left;
 pub mod listing;
 pub mod looker;
 pub mod notes;

@@ -202,6 +202,7 @@ pub(crate) fn config_from(
         explain: false,
         long: false,
         stop: false,
+        end: false,
         fail_open,
         form: Form::Text,
         terminals: Terminals {

@@ -20,7 +20,7 @@ use Rattle.aero_model.specs.declared.verdict.Finding.{Finding}
 use Rattle.aero_model.specs.declared.verdict.Finding.TheVariants.{Judged, Ordered, Explained, Opened, Broken, TooLarge}
 use Rattle.aero_model.specs.Named.{Named}
 use Rattle.aero_report.specs.Options.{Note, Options}
-use Rattle.aero_report.specs.Json.{Member, members_of, items_of, bytes_value, name, name_value, verdict_members, step_value, target_members, event_members, cycle_step_value, label_members, end_members, extent_members, transaction_value, open_block_value, finding_members, source_value, count_members, option_members, summary_value, stop_members, unused_members, line_members, note_value, notes_members, ReadsBack}
+use Rattle.aero_report.specs.Json.{Member, members_of, items_of, bytes_value, name, name_value, verdict_members, step_value, target_members, event_members, cycle_step_value, label_members, end_members, extent_members, transaction_value, open_block_value, finding_members, source_value, count_members, option_members, summary_value, stop_members, ending_members, unused_members, line_members, note_value, notes_members, ReadsBack}
 
 pub reads_back : {T E : Type 0} (r : Result T E) (ts : List Token) (j : Json) → depth j ≤ max_depth → ts ≡ json_tokens j → OnOk r (tokens (print ts) ≡ ts) → OnOk r (ReadsBack j)
 reads_back (Ok x) ts j shallow is h =
@@ -114,12 +114,17 @@ stop_depth : (stop : Bool) → members_depth (members_of (stop_members stop)) �
 stop_depth true = omega arith
 stop_depth false = omega arith
 
+ending_depth : (end : Bool) → members_depth (members_of (ending_members end)) ≤ 3
+ending_depth true = omega arith
+ending_depth false = omega arith
+
 option_depth : (o : Options) → members_depth (members_of (option_members o)) ≤ 3
 option_depth o = omega (
   arith,
   labels_depth o.labels.labels,
-  both_depth 3 (stop_members o.stop) (unused_members o.unused ++ notes_members o.notes) (stop_depth o.stop)
-      (both_depth 3 (unused_members o.unused) (notes_members o.notes) (unused_depth o.unused) (notes_depth o.notes)),
+  both_depth 3 (stop_members o.stop) (ending_members o.end ++ (unused_members o.unused ++ notes_members o.notes)) (stop_depth o.stop)
+      (both_depth 3 (ending_members o.end) (unused_members o.unused ++ notes_members o.notes) (ending_depth o.end)
+      (both_depth 3 (unused_members o.unused) (notes_members o.notes) (unused_depth o.unused) (notes_depth o.notes))),
 )
 
 pub summary_depth : (o : Options) (counts : Counts) → depth (summary_value o counts) ≤ max_depth

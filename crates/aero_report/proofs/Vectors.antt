@@ -115,7 +115,7 @@ few = record {
 }
 
 abbrev options : Options
-options = record { limits = few; labels = all_but (codes "f" ∷ codes "g" ∷ []); order = false; explain = true; stop = false; unused = []; notes = [] }
+options = record { limits = few; labels = all_but (codes "f" ∷ codes "g" ∷ []); order = false; explain = true; stop = false; end = false; unused = []; notes = [] }
 
 summary_object : summary_line_in Json options (counts_of (Broken 20 ∷ [])) ≡ codes "{\"traces\":1,\"serializable\":0,\"open\":0,\"violations\":0,\"faults\":1,\"version\":\"0.1.0\",\"order\":false,\"explain\":true,\"limits\":{\"bytes\":20,\"lines\":4,\"threads\":3,\"names\":2},\"only\":[\"f\",\"g\"]}" ++ 10 ∷ []
 unfolding digits json_on_literals chars is_utf8

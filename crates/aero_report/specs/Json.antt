@@ -170,6 +170,11 @@ abbrev pub stop_members : Bool → List Member
 stop_members true = flag (codes "stop") true ∷ []
 stop_members false = []
 
+-- whether the blocks that were open at the end of a source ended there, where that was asked for
+abbrev pub ending_members : Bool → List Member
+ending_members true = flag (codes "end") true ∷ []
+ending_members false = []
+
 -- the program's version, how the sources were judged, and what is told of them beside their lines
 abbrev pub option_members : Options → List Member
 option_members options =
@@ -178,7 +183,7 @@ option_members options =
     ∷ flag (codes "explain") options.explain
     ∷ (codes "limits", limits_value options.limits)
     ∷ listed_member options.labels
-    ∷ (stop_members options.stop ++ (unused_members options.unused ++ notes_members options.notes))
+    ∷ (stop_members options.stop ++ (ending_members options.end ++ (unused_members options.unused ++ notes_members options.notes)))
 
 -- the data of the summary
 abbrev pub summary_value : Options → Counts → Json

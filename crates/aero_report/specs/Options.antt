@@ -9,12 +9,13 @@ pub record Note : Type 0 where
   pub line : Option ℕ
   pub text : List ℕ
 
--- the limits of a source, which blocks are no transactions, whether the serial order was asked for, whether violations were to be explained, whether a source was read no further once its verdict was certain, with which labels no block begins, and what is told of the sources beside their lines
+-- the limits of a source, which blocks are no transactions, whether the serial order was asked for, whether violations were to be explained, whether a source was read no further once its verdict was certain, whether the blocks that were open at its end ended there, with which labels no block begins, and what is told of the sources beside their lines
 pub record Options : Type 0 where
   pub limits : Limits
   pub labels : Listed
   pub order : Bool
   pub explain : Bool
   pub stop : Bool
+  pub end : Bool
   pub unused : List (List ℕ)
   pub notes : List Note

@@ -2,7 +2,7 @@
 ghost use Rattle.std.specs.Prelude.{◌≡◌, [], ◌++◌, codes, map, flat_map, if◌then◌else◌, IfOk, OnOk};
 ghost use Rattle.json.specs.Tree.{json_tokens};
 ghost use Rattle.aero_report.specs.Asked.{options_of};
-ghost use Rattle.aero_report.specs.Json.{count_members, json_line, limits_value, list, listed_member, name_value, option_members, stop_members, summary_value, unused_members, ReadsBack};
+ghost use Rattle.aero_report.specs.Json.{count_members, ending_members, json_line, limits_value, list, listed_member, name_value, option_members, stop_members, summary_value, unused_members, ReadsBack};
 ghost use Rattle.aero_report.specs.Members.{member_tokens, all_members_tokens};
 
 use crate::line::Line;
@@ -16,8 +16,8 @@ pub const VERSION: &str = "0.1.0";
 
 /// How the sources of a report were judged, as far as its summary tells it: the limits of a source, which of its blocks
 /// are no transactions, whether the serial order was asked for, whether violations were to be explained, whether a source
-/// was read no further once its verdict was certain, with which labels of the list no block begins, and what is told of
-/// the sources beside their lines.
+/// was read no further once its verdict was certain, whether the blocks that were open at its end ended there, with which
+/// labels of the list no block begins, and what is told of the sources beside their lines.
 #[derive(Clone, Copy)]
 pub struct Options<'a> {
     pub limits: &'a Limits,
@@ -25,8 +25,18 @@ pub struct Options<'a> {
     pub order: bool,
     pub explain: bool,
     pub stop: bool,
+    pub end: bool,
     pub unused: &'a [&'a Name],
     pub notes: &'a [Note],
+}
+
+impl<'a> Options<'a> {
+    /// The same where the blocks that were open at the end of a source ended there, or didn't.
+    pub fn ending(self, end: bool) -> Options<'a>
+        ensures { options_of result ≡ record (options_of self.entry) { end = end } }
+    {
+        Options { end, ..self }
+    }
 }
 
 /// The line of the summary as JSON, with a newline.
@@ -71,6 +81,7 @@ fn write_options(out: &mut Line, options: Options<'_>) -> Result<(), AllocError>
     write_limits(out, options.limits)?;
     write_listed(out, options.except)?;
     write_stop(out, options.stop)?;
+    write_ending(out, options.end)?;
     write_unused(out, options.unused)?;
     write_notes(out, options.notes)
 }
@@ -116,6 +127,16 @@ fn write_stop(out: &mut Line, stop: bool) -> Result<(), AllocError>
 {
     if stop {
         return out.flag("stop", true);
+    }
+    Ok(())
+}
+
+// That the blocks which were open at the end of a source ended there, where that was asked for.
+fn write_ending(out: &mut Line, end: bool) -> Result<(), AllocError>
+    ensures { OnOk result (out.new ≡ out.old ++ all_members_tokens (ending_members end)) }
+{
+    if end {
+        return out.flag("end", true);
     }
     Ok(())
 }

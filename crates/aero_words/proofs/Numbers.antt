@@ -59,22 +59,22 @@ initial rule = slice_index rule.id 0
 abbrev place_by : (first second third fifth sixth seventh : ℕ) → ℕ
 place_by first second third fifth sixth seventh =
     if first == 119 then 0
-    else if first == 112 then (if second == 105 then 1 else 11)
-    else if first == 101 then (if third == 99 then (if seventh == 45 then 4 else 2) else 7)
+    else if first == 112 then (if second == 105 then 1 else 12)
+    else if first == 101 then (if third == 99 then (if seventh == 45 then 4 else 2) else if third == 100 then 10 else 7)
     else if first == 111 then (if second == 110 then (if fifth == 45 then 5 else 3) else 6)
-    else if first == 108 then (if second == 111 then 8 else 14)
+    else if first == 108 then (if second == 111 then 8 else 15)
     else if first == 115 then 9
-    else if first == 113 then 12
-    else if second == 111 then 10
-    else if second == 97 then 15
-    else if sixth == 48 then 13
-    else 16
+    else if first == 113 then 13
+    else if second == 111 then 11
+    else if second == 97 then 16
+    else if sixth == 48 then 14
+    else 17
 
 -- the place of the option of this name
 abbrev place_named : Text → ℕ
 place_named name = place_by (slice_index name 0) (slice_index name 1) (slice_index name 2) (slice_index name 4) (slice_index name 5) (slice_index name 6)
 
-place_of : (j : ℕ) → j < 17 → place_named (rule_at j).id ≡ j
+place_of : (j : ℕ) → j < 18 → place_named (rule_at j).id ≡ j
 place_of zero lt = refl
 place_of (suc zero) lt = refl
 place_of (suc (suc zero)) lt = refl
@@ -92,28 +92,29 @@ place_of (suc (suc (suc (suc (suc (suc (suc (suc (suc (suc (suc (suc (suc zero))
 place_of (suc (suc (suc (suc (suc (suc (suc (suc (suc (suc (suc (suc (suc (suc zero)))))))))))))) lt = refl
 place_of (suc (suc (suc (suc (suc (suc (suc (suc (suc (suc (suc (suc (suc (suc (suc zero))))))))))))))) lt = refl
 place_of (suc (suc (suc (suc (suc (suc (suc (suc (suc (suc (suc (suc (suc (suc (suc (suc zero)))))))))))))))) lt = refl
-place_of (suc (suc (suc (suc (suc (suc (suc (suc (suc (suc (suc (suc (suc (suc (suc (suc (suc j))))))))))))))))) lt = absurd (omega arith)
+place_of (suc (suc (suc (suc (suc (suc (suc (suc (suc (suc (suc (suc (suc (suc (suc (suc (suc zero))))))))))))))))) lt = refl
+place_of (suc (suc (suc (suc (suc (suc (suc (suc (suc (suc (suc (suc (suc (suc (suc (suc (suc (suc j)))))))))))))))))) lt = absurd (omega arith)
 
 mapped_at : (xs : List Arg) (k : ℕ) (d : Arg) (e : Rule) → k < length xs → rule_of (slice_index_or xs k d) ≡ slice_index_or (map rule_of xs) k e
 mapped_at [] k d e lt = absurd (omega arith)
 mapped_at (x ∷ xs) zero d e lt = refl
 mapped_at (x ∷ xs) (suc k) d e lt = mapped_at xs k d e (omega arith)
 
-first_of : (xs : List Arg) → length xs ≡ 17 → Arg
+first_of : (xs : List Arg) → length xs ≡ 18 → Arg
 first_of [] size = absurd (omega arith)
 first_of (x ∷ xs) size = x
 
 -- what is read of an option of the command line passed the parser of its rule
 option_passed : (line : Command) (m : ArgMatches) → IsParsedFrom line m → app_of line ≡ program
-    → (k : ℕ) (q : ValueParser) → k < 17 → (rule_at k).parser ≡ Some q → (rule_at k).ignore_case ≡ false
+    → (k : ℕ) (q : ValueParser) → k < 18 → (rule_at k).parser ≡ Some q → (rule_at k).ignore_case ≡ false
     → (initial (rule_at k) ≡ 0 → ⊥) → (initial (rule_at k) ≡ 104 → ⊥) → (initial (rule_at k) ≡ 118 → ⊥)
     → (text : Text) → one_text (found_of m) (rule_at k).id ≡ Some text
     → (word : Text) × (text ≡ read_as (reading_of q) word) × Accepts false q word
 option_passed line m p is k q ltk parser ignores not0 not104 not118 text read =
     let listed : map rule_of (args_of line) ≡ rules = ap (λ (a : App). a.top.rules) is in
-    let size : length (args_of line) ≡ 17 = sym (length-map (args_of line) rule_of) ∙ ap length listed in
+    let size : length (args_of line) ≡ 18 = sym (length-map (args_of line) rule_of) ∙ ap length listed in
     let d = first_of (args_of line) size in
-    let rule : (j : ℕ) (e : Arg) → j < 17 → rule_of (slice_index_or (args_of line) j e) ≡ rule_at j =
+    let rule : (j : ℕ) (e : Arg) → j < 18 → rule_of (slice_index_or (args_of line) j e) ≡ rule_at j =
     λ j e lt. mapped_at (args_of line) j e (new_rule []) (omega arith) ∙ ap (λ (l : List Rule). slice_index_or l j (new_rule [])) listed
     in
     let named : (slice_index_or (args_of line) k d).id.now ≡ (rule_at k).id = ap (λ (r : Rule). r.id) (rule k d ltk) in
@@ -151,13 +152,16 @@ line_read line m p is = record {
   stop = λ text read.
       let got = option_passed line m p is 9 vp.Bool (omega arith) refl refl (λ h. omega arith) (λ h. omega arith) (λ h. omega arith) text read in
       subst (λ (t : Text). Accepts false vp.Bool t) (sym got.1) got.2;
-  progress = λ text read.
-      let got = option_passed line m p is 11 vp.Bool (omega arith) refl refl (λ h. omega arith) (λ h. omega arith) (λ h. omega arith) text read in
+  end = λ text read.
+      let got = option_passed line m p is 10 vp.Bool (omega arith) refl refl (λ h. omega arith) (λ h. omega arith) (λ h. omega arith) text read in
       subst (λ (t : Text). Accepts false vp.Bool t) (sym got.1) got.2;
-  quiet = λ text read.
+  progress = λ text read.
       let got = option_passed line m p is 12 vp.Bool (omega arith) refl refl (λ h. omega arith) (λ h. omega arith) (λ h. omega arith) text read in
       subst (λ (t : Text). Accepts false vp.Bool t) (sym got.1) got.2;
+  quiet = λ text read.
+      let got = option_passed line m p is 13 vp.Bool (omega arith) refl refl (λ h. omega arith) (λ h. omega arith) (λ h. omega arith) text read in
+      subst (λ (t : Text). Accepts false vp.Bool t) (sym got.1) got.2;
   fail_open = λ text read.
-      let got = option_passed line m p is 15 vp.Bool (omega arith) refl refl (λ h. omega arith) (λ h. omega arith) (λ h. omega arith) text read in
+      let got = option_passed line m p is 16 vp.Bool (omega arith) refl refl (λ h. omega arith) (λ h. omega arith) (λ h. omega arith) text read in
       subst (λ (t : Text). Accepts false vp.Bool t) (sym got.1) got.2;
 }

@@ -57,10 +57,10 @@ no_rules = record (new_app (codes "aerodrome")) {
 }
 
 abbrev pub program : App
-program = with_rule (with_rule (with_rule (with_rule (with_rule (with_rule (with_rule (with_rule (with_rule (with_rule (with_rule (with_rule (with_rule (with_rule (with_rule (with_rule (with_rule no_rules
+program = with_rule (with_rule (with_rule (with_rule (with_rule (with_rule (with_rule (with_rule (with_rule (with_rule (with_rule (with_rule (with_rule (with_rule (with_rule (with_rule (with_rule (with_rule no_rules
     (number_rule (codes "workers") 16 (codes "4")))
     (number_rule (codes "piece") (2 ^ 20) (codes "65536")))
-    (label_rule (codes "except"))) (label_rule (codes "only"))) (label_rule (codes "except-from"))) (label_rule (codes "only-from"))) (flag_rule (codes "order"))) (flag_rule (codes "explain"))) (flag_rule (codes "long"))) (flag_rule (codes "stop"))) format_rule) (flag_rule (codes "progress"))) (flag_rule (codes "quiet")))
+    (label_rule (codes "except"))) (label_rule (codes "only"))) (label_rule (codes "except-from"))) (label_rule (codes "only-from"))) (flag_rule (codes "order"))) (flag_rule (codes "explain"))) (flag_rule (codes "long"))) (flag_rule (codes "stop"))) (flag_rule (codes "end"))) format_rule) (flag_rule (codes "progress"))) (flag_rule (codes "quiet")))
     (text_rule (codes "files0-from"))) (text_rule (codes "label"))) (flag_rule (codes "fail-open"))) files_rule
 
 -- what each option has of these words, its default included
@@ -118,6 +118,7 @@ pub record AsksFor (config : Config) (rows : List Row) : Type 0 where
   pub explain : config.explain ≡ is_told (one_of (codes "explain") rows)
   pub long : config.long ≡ is_told (one_of (codes "long") rows)
   pub stop : config.stop ≡ is_told (one_of (codes "stop") rows)
+  pub end : config.end ≡ is_told (one_of (codes "end") rows)
   pub form : form_told (texts_told (all_of (codes "format") rows)) ≡ Some config.form
   pub progress : config.progress ≡ progress_told (is_told (one_of (codes "quiet") rows)) (is_told (one_of (codes "progress") rows))
   pub fail_open : config.fail_open ≡ is_told (one_of (codes "fail-open") rows)

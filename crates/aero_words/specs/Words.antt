@@ -22,6 +22,7 @@ pub record IsRead (found : Found) : Type 0 where
   pub explain : ReadsFlag found (codes "explain")
   pub long : ReadsFlag found (codes "long")
   pub stop : ReadsFlag found (codes "stop")
+  pub end : ReadsFlag found (codes "end")
   pub progress : ReadsFlag found (codes "progress")
   pub quiet : ReadsFlag found (codes "quiet")
   pub fail_open : ReadsFlag found (codes "fail-open")

@@ -1,7 +1,7 @@
 use Rattle.std.proofs.Common.{◌++◌, ap, codes}
 use Rattle.std.proofs.lemmas.Result.{IfOk-equal}
 use Rattle.aero_report.specs.Asked.{options_of}
-use Rattle.aero_report.specs.Json.{flag, word, limits_value, listed_member, notes_members, stop_members, unused_members}
+use Rattle.aero_report.specs.Json.{flag, word, limits_value, listed_member, ending_members, notes_members, stop_members, unused_members}
 use Rattle.aero_report.specs.Members.{member_tokens, all_members_tokens}
 use Rattle.aero_report.proofs.Appended.{joined, OnOk-joined}
 use Rattle.aero_report.proofs.Tokens.{both_tokens}
@@ -16,6 +16,7 @@ returns c =
     let limits = member_tokens (codes "limits", limits_value options.limits) in
     let listed = member_tokens (listed_member options.labels) in
     let stop = stop_members options.stop in
+    let ending = ending_members options.end in
     let unused = unused_members options.unused in
     let notes = notes_members options.notes in
     let two = joined _ _ _ version order c.in_ok-word.ensures c.in_ok-flag.ensures in
@@ -23,7 +24,9 @@ returns c =
     let four = joined _ _ _ ((version ++ order) ++ explain) limits three c.in_ok-write_limits.ensures in
     let five = joined _ _ _ (((version ++ order) ++ explain) ++ limits) listed four c.in_ok-write_listed.ensures in
     let behind = IfOk-equal _ _ _ _ (OnOk-joined _ _ _ _ (all_members_tokens unused) (all_members_tokens notes) c.in_ok-write_unused.ensures c.write_notes.ensures)
-    (ap (λ ts. c.write_stop.new.out ++ ts) (both_tokens unused notes)) in
-    let all = IfOk-equal _ _ _ _ (OnOk-joined _ _ _ _ (all_members_tokens stop) (all_members_tokens (unused ++ notes)) c.in_ok-write_stop.ensures behind)
-    (ap (λ ts. c.write_listed.new.out ++ ts) (both_tokens stop (unused ++ notes))) in
-    OnOk-joined _ _ _ _ ((((version ++ order) ++ explain) ++ limits) ++ listed) (all_members_tokens (stop ++ (unused ++ notes))) five all
+    (ap (λ ts. c.write_ending.new.out ++ ts) (both_tokens unused notes)) in
+    let ended = IfOk-equal _ _ _ _ (OnOk-joined _ _ _ _ (all_members_tokens ending) (all_members_tokens (unused ++ notes)) c.in_ok-write_ending.ensures behind)
+    (ap (λ ts. c.write_stop.new.out ++ ts) (both_tokens ending (unused ++ notes))) in
+    let all = IfOk-equal _ _ _ _ (OnOk-joined _ _ _ _ (all_members_tokens stop) (all_members_tokens (ending ++ (unused ++ notes))) c.in_ok-write_stop.ensures ended)
+    (ap (λ ts. c.write_listed.new.out ++ ts) (both_tokens stop (ending ++ (unused ++ notes)))) in
+    OnOk-joined _ _ _ _ ((((version ++ order) ++ explain) ++ limits) ++ listed) (all_members_tokens (stop ++ (ending ++ (unused ++ notes)))) five all

@@ -14,6 +14,7 @@ returns c = record {
   explain = c.flag_in.ensures;
   long = c.in_ok-order.ensures.long;
   stop = c.flag_in-2.ensures;
+  end = c.in_ok-end.ensures.told;
   fail_open = c.flag_in-3.ensures;
   form = c.in_ok-form.ensures;
   progress = c.progress_in.ensures;

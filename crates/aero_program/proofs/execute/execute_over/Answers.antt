@@ -3,8 +3,8 @@ use Rattle.aero_model.specs.CallCounts.{seen_by}
 use Rattle.aero_program.specs.Retries.{seen_within, tried_by}
 use Rattle.aero_program.specs.Streams.{shown_by}
 use Rattle.aero_program.proofs.Executing.{executed}
-use Rattle.aero_program.proofs.execute.execute.Goals as goal
-use Rattle.aero_program.proofs.execute.execute.Goals.{in-Ok, in-Err}
+use Rattle.aero_program.proofs.execute.execute_over.Goals as goal
+use Rattle.aero_program.proofs.execute.execute_over.Goals.{in-Ok, in-Err}
 
 pub returns : goal.returns
 returns g c = elim c.match-asked.branch [
