@@ -23,7 +23,7 @@ _aerodrome() {
             --progress --quiet --long --fail-open --help' ;;
         aerodrome-page) options='--output --folder --root --no-traces --context --pictures --rows --help' ;;
         aerodrome-sarif) options='--output --folder --root --no-traces --help' ;;
-        *) options='--workers --piece --except --only --except-from --only-from --order --explain --long --stop --format --progress --quiet
+        *) options='--workers --piece --except --only --except-from --only-from --order --explain --long --stop --end --format --progress --quiet
             --files0-from --label --fail-open --help --version' ;;
     esac
     case $before in

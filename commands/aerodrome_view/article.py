@@ -109,7 +109,7 @@ def advice(finding: Finding, arrows: list[Arrow], options: Options) -> str:
 
 def without(label: bytes, options: Options, file: str) -> str:
     """How the file is judged again, as it was, but without the blocks of this label."""
-    words_of = ["aerodrome"] + ["--long"] * options.is_long
+    words_of = ["aerodrome"] + ["--long"] * options.is_long + ["--end"] * options.ends
     if options.only:
         kept = [option_of("--only", other) for other in options.only if other != label]
         if not kept:

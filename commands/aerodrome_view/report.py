@@ -58,6 +58,7 @@ class Finding:
     """What the report says of one source. Of a cycle the transactions stand by their first lines, in the order of these.
 
     The blocks that aerodrome-refine left out are its `frames`: the blamed one, and those around it from the inside outwards.
+    If it `is_of_ended`, the blocks that were open at the end of the source ended there (--end): these ends are on no line of it.
     """
 
     source: bytes
@@ -72,12 +73,13 @@ class Finding:
     closing: Optional[Closing] = None
     opened: tuple[OpenBlock, ...] = ()
     frames: tuple[Frame, ...] = ()
+    is_of_ended: bool = False
 
 
 @dataclass(frozen=True)
 class Options:
     """The options of a run, from its summary: which blocks are left out (those of `excepted`, or all except those of `only`),
-    with which of these labels no block begins, and how many bytes an input may have. Also the notes of the summary, by the name
+    with which of these labels no block begins, how many bytes an input may have, and whether open blocks ended. Also the notes of the summary, by the name
     of the input and the number of the line, or 0 for the last note that isn't about a line (if an input couldn't be read, this
     is the reason); and the program's version."""
 
@@ -87,6 +89,7 @@ class Options:
     most_bytes: int = MOST_BYTES
     notes: dict[tuple[bytes, int], bytes] = field(default_factory=dict)
     version: str = ""
+    ends: bool = False
 
     @property
     def is_long(self) -> bool:
@@ -152,7 +155,8 @@ class Report:
         for at, text in enumerate(self.kept, 1):
             told = _told(text, at)
             if isinstance(told, Finding):
-                yield self.options[report].noted(told), self.options[report]
+                options = self.options[report]
+                yield replace(options.noted(told), is_of_ended=options.ends), options
             else:
                 report += 1
 
@@ -201,7 +205,7 @@ def _summary(of: Json) -> Summary:
     if excepted and only or len(excepted + only) > MOST_LABELS:
         raise ValueError("labels of except and only that no run accepts")
     version = word(of, "version") if "version" in of else ""
-    options = Options(excepted, only, names(of, "unused"), number(limits, "bytes", 1), _notes(of), version)
+    options = Options(excepted, only, names(of, "unused"), number(limits, "bytes", 1), _notes(of), version, of.get("end") is True)
     findings = number(of, FINDINGS) if FINDINGS in of else 0
     return Summary({FINDINGS: findings, **{key: number(of, key) for key in SUMMARY}}, options)
 

@@ -62,6 +62,9 @@ def look(finding: Finding, folder: str, context: int = 0) -> Seen:
     except (OSError, ValueError) as why:
         return Seen(why_not=f"it couldn't be read: {getattr(why, 'strerror', None) or why}")
     for line, parts in sorted(told.items()):
+        if finding.is_of_ended and line not in seen.lines and parts[1] == b"end":
+            # (it was judged as if it had this line)
+            seen.lines[line] = parts[0] + b"|end"
         if parts_of(seen.lines.get(line, b"")) != parts:
             return Seen(why_not=f"line {line} of the file isn't the event that was judged")
     return seen
