@@ -189,6 +189,7 @@ pub(crate) fn config_from(
 ) -> Config
     requires few { count_named sources ≤ 2 ^ 16 }
     requires few_files { vec_len except_from ≤ 64 }
+    ensures { result.files ≡ sources }
 {
     Config {
         workers: 2,

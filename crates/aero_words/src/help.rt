@@ -140,10 +140,10 @@ isn't looked at, not even if it is malformed";
 pub const END: &str = "End the blocks that are open at the end of an input";
 
 pub const LONG_END: &str = "End each block that is open at the end of an input. The report is that
-of the input with a line `THREAD|end` after its last line for each open
-block, in the order in which the threads appear first. So no cycle
-stays hidden, and a violation may be on one of these lines. Not with
---files0-from";
+of the input with a line `THREAD|end` after its last line for each
+open block, in the order in which the threads appear first. So no
+cycle stays hidden, and a violation may be on one of these lines. Not
+with --files0-from";
 
 pub const END_WITH_LIST: &str = "the argument '--end' cannot be used with '--files0-from <LIST>'";
 

@@ -1,9 +1,10 @@
 //! Files in memory, which tell their bytes and never fail.
-ghost use Rattle.std.specs.Prelude.{◌≡◌, ⊤, Some};
+ghost use Rattle.std.specs.Prelude.{◌≡◌, ◌≤◌, ◌^◌, ⊤, Some, true};
+ghost use Rattle.aero_program.specs.Command.{are_counted, count_named};
 ghost use Rattle.aero_program.specs.Laws.{KnownFilesAreJudged};
 
-use crate::program::streams::Text;
-use crate::program::{SOUND, Wanted, config_from, config_of, is_answered, one_file};
+use crate::program::streams::{EVER, Text};
+use crate::program::{Damage, SOUND, Wanted, config_from, config_of, is_answered, one_file};
 use aero_model::Counting;
 use aero_program::command::{Config, Refused, Sources, Stop};
 use aero_program::execute::{Host, Streams, execute};
@@ -13,6 +14,7 @@ use aero_program::output::Output;
 use aero_program::retrying::Retrying;
 use aero_program::sizes::Sizes;
 use aero_program::stamp::Stamp;
+use std::alloc::Global;
 use std::io;
 use std::io::Read;
 use std::sync::Wait;
@@ -100,11 +102,64 @@ const VIOLATED: Wanted = (
 
 const OPEN: &[u8] = b"T1|begin\nT1|w(x)";
 
+const ENDED: Wanted = (
+    b"a: serializable (3 events, 1 blocks)\n\
+        traces 1: serializable 1, open 0, violations 0, faults 0\n",
+    b"",
+    0,
+);
+
 const PENDING: Wanted = (
     b"a: no violation, 1 blocks open (2 events, 1 blocks)\n\
         traces 1: serializable 0, open 1, violations 0, faults 0\n",
     b"",
     0,
+);
+
+// Where open blocks are to end, a file with one is judged with its end, also where a read of standard input fails.
+#[test]
+fn open_blocks_end(rt: HostRuntime) -> Result<(), Fail> {
+    for (text, wanted) in [(VIOLATION, VIOLATED), (OPEN, ENDED)] {
+        let files = Sources::Files(one_file(rt.alloc(), "a")?);
+        let asked = ending(rt.alloc(), files);
+        assert!(rt; is_answered(rt, &Memory { text }, Ok(asked), b"T1|odd\n", &SOUND, wanted));
+    }
+    for (damage, wanted) in [(SOUND, ENDED_STREAM), (FAILING, BROKEN_STREAM)] {
+        let asked = ending(rt.alloc(), Sources::Standard(None));
+        assert!(rt; is_answered(rt, &Memory { text: OPEN }, Ok(asked), OPEN, &damage, wanted));
+    }
+    let asked = ending(rt.alloc(), Sources::Standard(None));
+    assert!(rt; left_of(rt, Ok(asked), OPEN) == Some(0));
+    Ok(())
+}
+
+// Asks for open blocks to end.
+fn ending(alloc: Global, sources: Sources) -> Config
+    requires few { count_named sources ≤ 2 ^ 16 }
+    requires no_list { are_counted sources ≡ true }
+{
+    let mut config = config_from(alloc, sources, false, false, Vec::new(alloc));
+    config.end = true;
+    config
+}
+
+const FAILING: Damage = Damage {
+    reads: EVER,
+    ..SOUND
+};
+
+const ENDED_STREAM: Wanted = (
+    b"-: serializable (3 events, 1 blocks)\n\
+        traces 1: serializable 1, open 0, violations 0, faults 0\n",
+    b"",
+    0,
+);
+
+const BROKEN_STREAM: Wanted = (
+    b"-: broken after 16 bytes\n\
+        traces 1: serializable 0, open 0, violations 0, faults 1\n",
+    b"aerodrome: -: Input/output error\n",
+    2,
 );
 
 // Standard input as a run leaves it: read to its end, or not at all where a file is named.

@@ -3,7 +3,7 @@ use crate::words::settled;
 use aero_program::command::Refused;
 use std::alloc::Global;
 
-static PHRASES: [&str; 42] = [
+static PHRASES: [&str; 43] = [
     "atomic block",
     "RAPID",
     "STD",
@@ -21,6 +21,7 @@ static PHRASES: [&str; 42] = [
     "--only-from <FILE>",
     "65536 labels in all",
     "--stop",
+    "--end",
     "64 labels",
     "--order",
     "--long",

@@ -46,6 +46,31 @@ fn the_files_of_labels(rt: HostRuntime) {
     assert_eq!(rt; first_without_files(rt.alloc(), &FROM_FILES), None);
 }
 
+// Words, whether an input is read no further once its verdict is certain, and whether open blocks end.
+type Ends = (Words, bool, bool);
+
+static ENDS: [Ends; 5] = [
+    (&[], false, false),
+    (&["--stop"], true, false),
+    (&["--end"], false, true),
+    (&["--end", "a", "--stop"], true, true),
+    (&["--", "--end"], false, false),
+];
+
+fn ends_so(alloc: Global, (words, stop, end): Ends) -> bool {
+    match settled(alloc, words) {
+        Ok(config) => config.stop == stop && config.end == end,
+        Err(_) => false,
+    }
+}
+
+#[test]
+fn where_inputs_and_blocks_end(rt: HostRuntime) {
+    for row in ENDS {
+        assert!(rt; ends_so(rt.alloc(), row));
+    }
+}
+
 // How often the option with a file of labels may be given: 64 times.
 fn files_taken(alloc: Global, option: &str, times: usize) -> Option<bool> {
     let mut words = Vec::new(alloc);

@@ -31,7 +31,7 @@ fn first_not_refused(alloc: Global, rows: &[Wrong]) -> Option<usize> {
     None
 }
 
-static REFUSED: [Wrong; 49] = [
+static REFUSED: [Wrong; 52] = [
     (
         &["--except-from", "a", "--only", "b"],
         "the argument '--only <LABEL>' cannot be used with '--except-from <FILE>'\n",
@@ -59,6 +59,18 @@ static REFUSED: [Wrong; 49] = [
     (
         &["--stop=no"],
         "unexpected value 'no' for '--stop' found; no more were expected\n",
+    ),
+    (
+        &["--end", "--end"],
+        "the argument '--end' cannot be used multiple times\n",
+    ),
+    (
+        &["--end=no"],
+        "unexpected value 'no' for '--end' found; no more were expected\n",
+    ),
+    (
+        &["--files0-from", "a", "--end"],
+        "the argument '--end' cannot be used with '--files0-from <LIST>'\n",
     ),
     (
         &["--workers", "0"],
