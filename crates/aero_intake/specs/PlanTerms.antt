@@ -1,5 +1,5 @@
 -- The terms of a plan, and how much is kept by it.
-use Rattle.std.specs.Prelude.{ℕ, ◌+◌, ◌==◌, if◌then◌else◌, List, []}
+use Rattle.std.specs.Prelude.{ℕ, ◌+◌, ◌==◌, false, if◌then◌else◌, List, []}
 use Rattle.aero_intake.specs.declared.plan.Keeping.{Keeping}
 use Rattle.aero_intake.specs.declared.plan.Plan.{Plan}
 use Rattle.aero_report.specs.Options.{Note, Options}
