@@ -1,5 +1,5 @@
 -- What a read does to the bytes that a closing reader has left.
-use Rattle.std.proofs.Common.{◌≡◌, ◌∙◌, ◌++◌, ℕ, List, [], Option, None, Some, Ok, Err, Result, append_assoc, ap, sym, refl, subst, true, true≢false}
+use Rattle.std.proofs.Common.{◌≡◌, ◌∙◌, ◌++◌, ℕ, List, [], Option, None, Some, Ok, Err, Result, append_assoc, ap, sym, subst, true, true≢false}
 use Rattle.std.specs.Prelude.{IfOk}
 use Rattle.std.specs.Coded.{Coded, Coded-set, codes}
 use Rattle.std.specs.Io.KnownBytes.{Consumes, IsAtEnd, Keeps, ReadConsumes}

@@ -1,5 +1,5 @@
 -- As many sources as words, and how a list that is read stands.
-use Rattle.std.proofs.Common.{◌≡◌, ◌∙◌, ◌≤◌, ◌<◌, ◌+◌, ℕ, ℤ, List, length, map, Option, None, Some, Ok, Err, Result, ap, sym, subst, refl, true≢false, arith, if◌then◌else◌, nat_lt}
+use Rattle.std.proofs.Common.{◌≡◌, ◌∙◌, ◌≤◌, ◌<◌, ◌+◌, ℕ, ℤ, List, length, map, Option, None, Some, Ok, Err, Result, ap, sym, subst, refl, true≢false, arith, if◌then◌else◌}
 use Rattle.std.specs.Prelude.{⊤, IsErrAnd}
 use Rattle.std.proofs.lemmas.Bool.{lt-ltb}
 use Rattle.std.proofs.lemmas.List.{length-map}
@@ -7,7 +7,7 @@ use Rattle.aero_program.specs.declared.reason.Reason.{Reason}
 use Rattle.aero_program.specs.declared.listing.Unlisted.{Unlisted}
 use Rattle.aero_program.specs.declared.listing.Unlisted.TheVariants as unlisted
 use Rattle.aero_program.specs.Inputs.{Standing, Standard, Unopened, Reading, Ended, Failed, AnswersAs, MayFailFrom, StepsTo}
-use Rattle.aero_model.specs.CallCounts.{Seen, moves_nothing}
+use Rattle.aero_model.specs.CallCounts.{Seen}
 use Rattle.aero_program.specs.Listing.{HasTooMany, IsFaultOf, IsListFault, IsReadFor, StandsAfter}
 use Rattle.aero_program.specs.Reasons.{reason_after}
 

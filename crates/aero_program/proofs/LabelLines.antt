@@ -1,7 +1,7 @@
 -- Labels on the lines of texts, and what is added to those that were there.
-use Rattle.std.proofs.Common.{◌≡◌, ◌<◌, ◌≤◌, ◌+◌, ◌-◌, ◌^◌, ◌==◌, ◌||◌, ◌∙◌, ℕ, suc, Bool, true, false, if◌then◌else◌, List, [], ◌∷◌, ◌++◌, length, map, take, drop, Option, None, Some, ap, ap₂, sym, subst, refl, arith, cond, inl, inr, length-append}
-use Rattle.std.specs.Prelude.{slice_get, string_bytes, flat_map, get_or}
-use Rattle.std.specs.List.{filter_map, list_any, onto_first, slice_split}
+use Rattle.std.proofs.Common.{◌≡◌, ◌<◌, ◌≤◌, ◌+◌, ◌-◌, ◌^◌, ◌==◌, ◌||◌, ◌∙◌, ℕ, suc, Bool, true, false, if◌then◌else◌, List, [], ◌∷◌, ◌++◌, length, map, take, drop, Option, Some, ap, sym, subst, refl, arith, cond, length-append}
+use Rattle.std.specs.Prelude.{slice_get}
+use Rattle.std.specs.List.{list_any, onto_first, slice_split}
 use Rattle.std.proofs.lemmas.Bool.{ne_eqb}
 use Rattle.std.proofs.lemmas.List.{append_assoc, append-nil, drop_all, map-append, take-append-drop, take_rest}
 use Rattle.std.proofs.lemmas.List.Concat.{flat_map-append}
@@ -18,7 +18,7 @@ use Rattle.aero_model.specs.Exempt.{Listed}
 use Rattle.aero_program.specs.declared.command.Config.{Config}
 use Rattle.aero_program.specs.declared.label_files.Unlabelled.{Unlabelled}
 use Rattle.aero_program.specs.declared.label_files.Unlabelled.TheVariants as unlabelled
-use Rattle.aero_program.specs.LabelFiles.{AreListed, AreListedBy, AreOfFiles, AreTexts, FailsAt, FailsFirst, HasNoLabel, HasOneTooMany, IsFaultIn, IsFileFault, IsLineFault, IsUnreadFault, MayBeAdded, is_no_label, label_on, label_paths, labels_in, labels_in_all, labels_on, with_labels}
+use Rattle.aero_program.specs.LabelFiles.{AreListed, AreListedBy, AreOfFiles, AreTexts, FailsAt, IsFaultIn, IsFileFault, IsLineFault, IsUnreadFault, is_no_label, label_on, label_paths, labels_in, labels_in_all, labels_on, with_labels}
 use Rattle.aero_program.specs.Command.{listed_by}
 use Rattle.aero_program.specs.Listing.{IsWhole}
 

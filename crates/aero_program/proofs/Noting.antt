@@ -15,7 +15,7 @@ use Rattle.aero_intake.specs.declared.source.SourceOf.{SourceOf}
 use Rattle.aero_report.specs.Options.{Note}
 use Rattle.aero_program.specs.declared.input.Input.{Input}
 use Rattle.aero_program.specs.declared.stamp.Stamp.{Stamp}
-use Rattle.aero_program.specs.Notes.{AreNotable, AreNoted, AreNotes, AreShown, GrowsBy, Noted, Remark, faulty_in, is_unchecked, notable_told, missing_in_each, note_items, noted_of, noted_of_all, notes_on, was_too_large}
+use Rattle.aero_program.specs.Notes.{AreNotable, AreNoted, AreNotes, AreShown, GrowsBy, Noted, Remark, notable_told, missing_in_each, note_items, noted_of, noted_of_all, notes_on, was_too_large}
 use Rattle.aero_program.specs.Looks.{ShowsAs}
 use Rattle.aero_faults.specs.declared.look.Look.TheVariants.{Nothing}
 

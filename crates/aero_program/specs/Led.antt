@@ -1,6 +1,6 @@
 -- What an input has noted since it was made.
 use Rattle.std.specs.Prelude.{◌≡◌, ◌<◌, ℕ, true, List, take, is_some, IfSome, Option, Some, None, ⊤}
-use Rattle.aero_intake.specs.Source.{Origin, Place, Stream, File, Nowhere, Sight, Trail}
+use Rattle.aero_intake.specs.Source.{Origin, Place, Stream, File, Nowhere, Sight}
 use Rattle.aero_program.specs.declared.input.Input.{Input}
 use Rattle.aero_program.specs.declared.reason.Reason.{Reason}
 use Rattle.aero_program.specs.declared.reason.Reason.TheVariants.{NotUtf8}

@@ -1,4 +1,4 @@
-use Rattle.std.proofs.Common.{◌≡◌, ap₂, subst, sym, Some, drop, List, ℕ, IfOk}
+use Rattle.std.proofs.Common.{◌≡◌, ap₂, subst, sym, Some, drop, IfOk}
 use Rattle.std.proofs.lemmas.Grind.{merely}
 use Rattle.aero_closing.specs.Ends.{closing_lines}
 use Rattle.aero_program.specs.Closings.{KnowsAll, left_at}
