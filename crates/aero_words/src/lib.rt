@@ -14,11 +14,11 @@
 //!
 //! - A command line that is taken asks for 1 to 16 workers, reads of 1 to 1,048,576 bytes, at most 64 labels of options, at
 //!   most 64 files of labels, all of one kind, and at most 65,536 files: `settle_words`, `Config`.
-//! - `--long` and `--order` are never both taken: `Config`, `no_long_order`. Neither are two of files, a list of files and
-//!   a name of standard input: `settle_words`, `AreAskedFor`.
+//! - `--long` and `--order` are never both taken, nor `--end` and a list of files: `Config`, `no_long_order`, `no_list_to_end`.
+//!   Neither are two of files, a list of files and a name of standard input: `settle_words`, `AreAskedFor`.
 //! - What it asks for is what the options have on these words, defaults included, by `clap`'s definitions of how words
 //!   are read. So it is with each number, the labels and their files, the files, their list, the name of standard input,
-//!   `--order`, `--explain`, `--long`, `--stop`, `--fail-open`, and when the line on progress is shown: `settle_words`.
+//!   `--order`, `--explain`, `--long`, `--stop`, `--end`, `--fail-open`, and when the line on progress is shown: `settle_words`.
 //! - A label is the text that is given for it, or is refused where that is none. Want of memory is answered only for
 //!   one of more than 16 bytes: `label_of`. Of several, that one is none is told first, then that they are too many, and
 //!   want of memory last: `labels_of` (private), `refused`.
