@@ -100,6 +100,10 @@ static const struct known {
     {"runtime.chanrecv", CHANNEL_OTHER, 0},
     {"runtime.selectgo", CHANNEL_SELECT, 0},
     {"runtime.closechan", CHANNEL_CLOSE, 0},
+    {"runtime.deferreturn", NOBODY, RETURNS_BY_DEFERRED},
+    {"runtime.deferCallSave", NOBODY, PANICS},
+    {"runtime.gopanic", NOBODY, PANICS},
+    {"runtime.Goexit", NOBODY, PANICS},
     /* The order by files, and round calls of C: each one address for the whole process. */
     {"runtime.", NOBODY, 0},
     {"syscall.", NOBODY, 0},
@@ -224,10 +228,6 @@ void aero_code_start(void (*callback)(word, void *), const word *g) {
 
 /* ---- the frames of a goroutine */
 
-static bool is_frame(const struct here *here, const word *frame, word low) {
-    return (word)frame >= low && (word)frame + 16 <= here->g[1] && !((word)frame & 7);
-}
-
 struct code *aero_asked(const struct here *here, word at, struct code **place) {
     struct code *who = NULL, *code = aero_code(at);
     const word *frame = here->frame;
@@ -235,7 +235,7 @@ struct code *aero_asked(const struct here *here, word at, struct code **place) {
     for (int level = 0; level < LEVELS; level++) {
         if (!who && code->asker != HELPER) who = code;
         else if (who && (code->is & IS_MAP) && (who->asker == MUTEX || who->asker == VALUE)) who = code;
-        if (!(code->is & IS_LOW) || !is_frame(here, frame, low)) break;
+        if (!(code->is & IS_LOW) || !aero_is_frame(here, frame, low)) break;
         code = aero_code(frame[1]);
         low = (word)frame;
         frame = (const word *)frame[0];
@@ -247,7 +247,7 @@ struct code *aero_asked(const struct here *here, word at, struct code **place) {
 bool aero_is_within_wait(const struct here *here) {
     const word *frame = here->frame;
     word low = here->stack;
-    for (int level = 0; level < 6 && is_frame(here, frame, low); level++) {
+    for (int level = 0; level < 6 && aero_is_frame(here, frame, low); level++) {
         if (aero_code(frame[1])->is & IS_COND_WAIT) return true;
         low = (word)frame;
         frame = (const word *)frame[0];
@@ -260,7 +260,7 @@ struct label *aero_allocator(const struct here *here) {
     struct code *by = NULL;
     const word *frame = here->frame;
     word low = here->stack;
-    for (int level = 0; level < 8 && is_frame(here, frame, low); level++) {
+    for (int level = 0; level < 8 && aero_is_frame(here, frame, low); level++) {
         by = aero_code(frame[1]);
         if (!(by->is & IS_LOW)) break;
         low = (word)frame;

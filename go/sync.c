@@ -156,4 +156,5 @@ void aero_order(const struct here *here, struct goroutine *t, word at, enum orde
     else if (asker->asker == TIMER_FIRES) timer_fires(t, &it);
     else if (asker->asker >= CHANNEL_SEND) aero_channel(t, &it);
     else other(t, &it);
+    if (how != ACQUIRE && !aero_settings.both_ways) aero_end_early(t, here);
 }
