@@ -59,6 +59,14 @@ bool aero_is_of_library(const char *label) {
     return strstr(aero_packages, wanted) != NULL;
 }
 
+/* A literal is called main.main.func1, or .func1.2 within another one. Only by a value a function of another package calls it. */
+bool aero_is_given_to(const char *label, const char *value) {
+    size_t length = package_length(value);
+    const char *literal = strstr(value + length, ".func");
+    bool is_value = (literal && literal[5] >= '0' && literal[5] <= '9') || aero_ends_with(value, "-fm");
+    return is_value && (length != package_length(label) || strncmp(label, value, length) != 0);
+}
+
 /* ---- who asks */
 
 /* The longest head of a name comes first where one begins with another. Of sync's own functions those that aren't named are of Pool,

@@ -47,15 +47,15 @@ static bool has_deferred(const struct here *here, word stack) {
 }
 
 /* Whether all that is left to do, up to the end of the function with that stack pointer, is to end. What sync and the runtime do
- * behind a release has no events. */
+ * behind a release has no events, but for Cond.Wait. */
 bool aero_only_ends_follow(const struct here *here, word stack) {
     const word *frame = here->frame;
     word low = here->stack;
     for (int level = 0; level < 16 && aero_is_frame(here, frame, low); level++) {
         const struct code *code = aero_code(frame[1]);
         word caller = (word)(frame + 2);
-        bool goes_on = code->is & IS_LOW ? (code->is & RETURNS_BY_DEFERRED) && has_deferred(here, caller) : !aero_only_ends(code->at);
-        if (goes_on || (code->is & PANICS)) return false;
+        bool goes_on = code->is & IS_LOW ? (code->is & (PANICS | IS_COND_WAIT)) != 0 : !aero_only_ends(code->at);
+        if (goes_on || ((code->is & RETURNS_BY_DEFERRED) && has_deferred(here, frame[0] + 16))) return false;
         if (caller >= stack) return caller == stack;
         low = (word)frame;
         frame = (const word *)frame[0];

@@ -112,15 +112,21 @@ static bool is_one_line(const struct code *one, const struct code *other) {
     return one->line == other->line && !strcmp(one->place, other->place);
 }
 
-/* What a goroutine starts with is no block. For `go f(x)` the compiler makes a function, in the line of the go statement, that calls f
- * and does nothing behind it; the call is in that line too, or f is a literal that begins there. (So does `go func() { f(x) }()` in
- * one line.) For a method value x.f it also makes one that calls f. */
+/* What a goroutine starts with is no block. Besides its first function that is
+ *   - f of `go f(x)`, for which the compiler makes a function, in the line of the go statement, that calls f and does nothing behind
+ *     it. The call is in that line too, or f is a literal that begins there. (So does `go func() { f(x) }()` in one line.)
+ *   - f of a method value x.f, for which the compiler makes a function x.f-fm that calls f
+ *   - a literal or a method value that a function of another package starts with, as that of errgroup's Go does. */
 static bool is_start(const struct goroutine *t, const struct code *function, const struct code *call) {
     if (!t->depth) return true;
-    if (t->depth > 1 || !aero_only_ends(call->at)) return false;
-    const struct code *made = t->frames[0].function;
-    if (aero_ends_with(made->label->text, "-fm")) return true;
-    return t->go && is_one_line(t->go, made) && (is_one_line(t->go, call) || is_one_line(t->go, function));
+    const struct frame *before = &t->frames[t->depth - 1];
+    const struct code *first = before->function;
+    if (!before->is_start) return false;
+    if (aero_ends_with(first->label->text, "-fm")) return aero_only_ends(call->at);
+    if (t->depth > 1) return false;
+    if (aero_is_given_to(first->label->text, function->label->text)) return true;
+    bool is_made = t->go && is_one_line(t->go, first) && (is_one_line(t->go, call) || is_one_line(t->go, function));
+    return is_made && aero_only_ends(call->at);
 }
 
 void aero_enter(const struct here *here, struct goroutine *t, word call_ends) {
@@ -130,8 +136,8 @@ void aero_enter(const struct here *here, struct goroutine *t, word call_ends) {
     struct code *function = aero_code(goes_on), *call = aero_code(call_ends);
     if (call->is & PANICS) aero_leave_by_panic(t, here);
     if (t->depth == t->room) t->frames = aero_more(t->frames, sizeof *t->frames, &t->room);
-    bool is_block = (function->is & IS_BLOCK) && (aero_starts_are_blocks() || !is_start(t, function, call));
-    t->frames[t->depth++] = (struct frame){here->g[1] - stack, function, call, is_block ? WAITING : NO_BLOCK};
+    bool starts = is_start(t, function, call), is_block = (function->is & IS_BLOCK) && (aero_starts_are_blocks() || !starts);
+    t->frames[t->depth++] = (struct frame){here->g[1] - stack, function, call, is_block ? WAITING : NO_BLOCK, starts};
 }
 
 void aero_exit(const struct here *here, struct goroutine *t) {

@@ -74,6 +74,7 @@ struct frame {
     word depth;              /* from the stack's upper end to the stack pointer: it stays the same if the stack moves */
     struct code *function, *call;
     enum block_state block;
+    bool is_start;           /* of what the goroutine starts with */
 };
 /* A goroutine, or the timers of a processor: a racectx of the runtime. */
 struct goroutine {
@@ -191,6 +192,7 @@ void aero_code_start(void (*callback)(word, void *), const word *g);
 struct code *aero_code(word at);
 struct label *aero_label(const char *text);
 bool aero_is_of_library(const char *label);
+bool aero_is_given_to(const char *label, const char *value);    /* a function value of another package */
 /* Who asked, from the address on along the frames; *place is the first code that isn't of the runtime or of sync. */
 struct code *aero_asked(const struct here *here, word at, struct code **place);
 bool aero_is_within_wait(const struct here *here);   /* Cond.Wait */

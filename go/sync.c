@@ -143,6 +143,12 @@ static void lock_or_unlock(const struct here *here, struct goroutine *t, const s
     if (it->how != ACQUIRE && aero_settings.splits_waits && aero_is_within_wait(here)) aero_waits(t);
 }
 
+/* Whether no other hook of the same operation follows. Who receives without a buffer releases first. */
+static bool is_last(const struct ordered *it) {
+    if (it->how == ACQUIRE || it->asker->asker == CHANNEL_RECEIVE) return false;
+    return it->asker->asker != CHANNEL_SEND || !aero_settings.both_ways;
+}
+
 void aero_order(const struct here *here, struct goroutine *t, word at, enum order how) {
     struct code *place;
     const struct code *asker = aero_asked(here, *(const word *)here->stack, &place);
@@ -156,5 +162,5 @@ void aero_order(const struct here *here, struct goroutine *t, word at, enum orde
     else if (asker->asker == TIMER_FIRES) timer_fires(t, &it);
     else if (asker->asker >= CHANNEL_SEND) aero_channel(t, &it);
     else other(t, &it);
-    if (how != ACQUIRE && !aero_settings.both_ways) aero_end_early(t, here);
+    if (is_last(&it)) aero_end_early(t, here);
 }

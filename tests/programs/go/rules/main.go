@@ -303,9 +303,11 @@ func timers() {
 		<-tick.C
 	}
 	tick.Stop()
+	// (stop locks what the timer's goroutine locks, so it waits for the end of that)
 	c, stop := context.WithTimeout(context.Background(), 5*time.Millisecond)
-	defer stop()
 	<-c.Done()
+	alone()
+	stop()
 }
 func many(rounds int) {
 	for k := 0; k < rounds; k++ {
@@ -372,6 +374,79 @@ func lookAndPanic() {
 func outside() { lookAndPanic(); mark(0); after(1); incr() }
 func between() { after(0); incr(); mark(1) }
 
+// What a panic or Goexit leaves has ended before the functions are called that its callers have deferred.
+func lockAndPanic() { mu.Lock(); defer mu.Unlock(); shared.a++; panic("x") }
+func lockAndQuit()  { mu.Lock(); defer mu.Unlock(); shared.a++; runtime.Goexit() }
+func incrLater()    { recover(); mark(0); after(1); incr() }
+func above(f func()) {
+	group.Add(1)
+	go func() {
+		defer group.Done()
+		defer incrLater()
+		f()
+	}()
+	between()
+	group.Wait()
+}
+
+// But what it has deferred itself is a part of it.
+func changeInPanic() {
+	n := flag.Load()
+	defer func() { recover(); mark(0); after(1); flag.Store(n + 1) }()
+	lockAndPanic()
+}
+
+// A block ends with a release if nothing else is to do, and not before.
+func endByDone()   { defer group.Done(); flag.Add(1) }
+func endByUnlock() { mu.Lock(); defer mu.Unlock(); shared.a++ }
+func endBySend()   { flag.Add(1); queue <- 1 }
+func endByClose(c chan int) (n int) {
+	defer close(c)
+	defer func() { n++ }()
+	return int(flag.Add(1))
+}
+func lastActs() {
+	for i := 0; i < 300; i++ {
+		c := make(chan int)
+		group.Add(1)
+		go func() {
+			for _, f := range []func(){endByUnlock, endByDone} {
+				f()
+			}
+		}()
+		group.Wait()
+		go func() {
+			for range queue {
+				endByClose(c)
+				break
+			}
+		}()
+		endBySend()
+		<-c
+	}
+}
+func doneThenChange() { n := flag.Load(); group.Done(); mark(0); after(1); flag.Store(n + 1) }
+func waitThenEnd()    { cond.Wait() }
+func waitsLast() {
+	mu.Lock()
+	mark(0)
+	for !ready {
+		waitThenEnd()
+	}
+	mu.Unlock()
+}
+func doneThenDeferred() {
+	n := flag.Load()
+	defer func() { mark(0); after(1); flag.Store(n + 1) }()
+	defer group.Done()
+}
+
+// What another package starts a goroutine with is no block.
+type counter struct{}
+
+func (counter) incrTwice() { incr(); mark(0); after(1); incr(); mark(2) }
+func given(f func())       { meet.Start(f); both(func() { between(); after(2) }, func() {}) }
+
 // --- memory
 func pools() {
 	p := sync.Pool{New: func() any { return new(box) }}
@@ -392,7 +467,14 @@ func pools() {
 
 var pooled = sync.Pool{New: func() any { return new(box) }}
 
-func usePooled() { b := pooled.Get().(*box); b.a++; pooled.Put(b) }
+// (the race detector's own Pool keeps only three of four)
+func usePooled() {
+	for i := 0; i < 20; i++ {
+		b := pooled.Get().(*box)
+		b.a++
+		pooled.Put(b)
+	}
+}
 
 type account struct {
 	mu sync.Mutex
@@ -474,6 +556,15 @@ var words = map[string]func(){
 	"panics":           panics,
 	"panic-leaves":     func() { both(outside, between) },
 	"quits":            quitting,
+	"panic-above":      func() { above(lockAndPanic) },
+	"quit-above":       func() { above(lockAndQuit) },
+	"panic-own":        func() { both(changeInPanic, func() { changeBetween(flag.Store) }) },
+	"last-acts":        lastActs,
+	"cond-last":        func() { both(waitsLast, signaller) },
+	"done-then":        func() { group.Add(1); both(doneThenChange, func() { changeBetween(flag.Store) }) },
+	"done-deferred":    func() { group.Add(1); both(doneThenDeferred, func() { changeBetween(flag.Store) }) },
+	"given":            func() { given(func() { counter{}.incrTwice() }) },
+	"given-method":     func() { given(counter{}.incrTwice) },
 	"grows":            func() { both(func() { grows(3000) }, func() {}) },
 	"grows-splits":     func() { both(growsBetween, func() { changeBetween(flag.Store) }) },
 	"pools":            pools,
