@@ -5,7 +5,7 @@
  * compare-and-swap of sync.Map's is tried again. */
 static bool is_nothing(const struct atomic *it) {
     const struct code *asker = it->asker;
-    if (asker->asker == NOBODY || asker->asker == MUTEX) return true;
+    if (asker->asker == NOBODY || asker->asker == MUTEX || aero_is_counter(it->at)) return true;
     if (asker->asker == ONCE) return !it->writes && !it->is_done;
     return (asker->is & IS_ENTRY) && !(asker->is & IS_ENTRY_LOAD) && !it->writes;
 }

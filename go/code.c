@@ -119,6 +119,9 @@ static const struct known {
     {"syscall.", NOBODY, 0},
     {"internal/poll.", NOBODY, 0},
     {"time.", GENERIC, 0},
+    /* What orders only lines of output, or numbers that are drawn. */
+    {"log.", PROGRAM, IS_QUIET},
+    {"math/rand.(*lockedSource).", PROGRAM, IS_QUIET},
     {"", PROGRAM, 0},
 };
 
@@ -199,6 +202,7 @@ static struct code *make(word at) {
         if (found.pc != pc && found.is_found && found.pc && level + 1 < LEVELS) continue;
         it->label = aero_label(found.name);
         it->is |= aero_is_block(found.name, found.file) ? IS_BLOCK : 0;
+        it->is |= aero_is_of_library(found.name) ? IS_LIBRARY : 0;
         it->is |= begins(found.name, "runtime.") ? IS_RUNTIME : 0;
         it->is |= begins(found.name, "runtime.racefunc") ? IS_HOOK : 0;
         it->is |= name->is & RUNS_TIMERS;

@@ -5,8 +5,11 @@ package main
 import (
 	"context"
 	"fmt"
+	"log"
+	"math/rand"
 	"os"
 	"runtime"
+	"strconv"
 	"strings"
 	"sync"
 	"sync/atomic"
@@ -125,6 +128,7 @@ func changeRW(n int64)  { rw.Lock(); shared.a = n; rw.Unlock() }
 func locksIt()          { mu.Lock(); shared.a++; mark(0) }
 func unlocksIt()        { after(0); shared.b++; mu.Unlock() }
 func incr()             { mu.Lock(); shared.a++; mu.Unlock() }
+func unlockLater()      { mu.Lock(); shared.a++; time.AfterFunc(0, mu.Unlock) }
 func tries() {
 	if mu.TryLock() {
 		mu.Unlock()
@@ -158,18 +162,32 @@ func waiter() {
 func signaller() { after(0); mu.Lock(); ready = true; mu.Unlock(); cond.Broadcast() }
 
 // The second one has found it undone, and waits, before the first one has done it.
-func onceUser() { once.Do(func() { mark(0); blocked(2); shared.a = 5 }); _ = shared.a }
+func onceUser() { once.Do(func() { mark(0); blocked(2, "semacquire"); shared.a = 5 }); _ = shared.a }
 
-// Waits until so many goroutines wait for a lock or a WaitGroup.
-func blocked(wanted int) {
+// Waits until so many goroutines wait: for a lock or a WaitGroup ("semacquire"), or to send ("chan send").
+func blocked(wanted int, how string) {
 	stacks := make([]byte, 1<<16)
 	for {
 		n := runtime.Stack(stacks, true)
-		if strings.Count(string(stacks[:n]), "[semacquire") >= wanted {
+		if strings.Count(string(stacks[:n]), "["+how) >= wanted {
 			return
 		}
 	}
 }
+
+// --- the standard library
+var (
+	lines   = log.New(nowhere{}, "", 0)
+	draws   = func() { rand.Intn(6) }
+	life, _ = context.WithCancel(context.Background())
+)
+
+type nowhere struct{}
+
+func (nowhere) Write(b []byte) (int, error) { return len(b), nil }
+
+func lookAtName() int64  { n, _ := strconv.ParseInt(os.Getenv("RULES"), 10, 64); return n }
+func changeName(n int64) { os.Setenv("RULES", strconv.FormatInt(n, 10)) }
 
 // --- channels
 var (
@@ -187,6 +205,7 @@ func sendTwo()          { plain <- 1; plain <- 2 }
 func receiveTwo()       { <-plain; <-plain }
 func ask() int          { plain <- 1; return <-back }
 func answer()           { n := <-plain; back <- n + 1 }
+func askLate() int      { plain <- 1; blocked(1, "chan send"); return <-back }
 func holdOne()          { one <- struct{}{}; shared.a++; shared.a++; <-one }
 func lookOne() int64    { one <- struct{}{}; n := shared.a; <-one; return n }
 func changeOne(n int64) { one <- struct{}{}; shared.a = n; <-one }
@@ -467,11 +486,14 @@ func pools() {
 
 var pooled = sync.Pool{New: func() any { return new(box) }}
 
-// (the race detector's own Pool keeps only three of four)
+// (the race detector's own Pool keeps three of four)
 func usePooled() {
-	for i := 0; i < 20; i++ {
-		b := pooled.Get().(*box)
-		b.a++
+	var taken [8]*box
+	for i := range taken {
+		taken[i] = pooled.Get().(*box)
+		taken[i].a++
+	}
+	for _, b := range taken {
 		pooled.Put(b)
 	}
 }
@@ -506,6 +528,7 @@ var words = map[string]func(){
 	"lock-follows":   follows(func() { locked(func() {}) }, func() { locked(func() {}) }),
 	"handed":         func() { both(locksIt, unlocksIt); both(incr, incr) },
 	"tries":          func() { both(tries, func() {}) },
+	"unlocked-later": func() { unlockLater(); both(incr, incr) },
 	"readers":        func() { both(readHeld, readMeanwhile) },
 	"readers-cross":  crosses(readLocked),
 	"writer-splits":  splits(lookRW, changeRW),
@@ -532,7 +555,12 @@ var words = map[string]func(){
 		value.Store(int64(0))
 		splits(func() int64 { n, _ := value.Load().(int64); return n }, func(n int64) { value.Store(n) })()
 	},
+	"library-lines":    crosses(func() { lines.Print("x") }),
+	"library-draws":    crosses(draws),
+	"library-life":     crosses(func() { life.Err() }),
+	"library-data":     splits(lookAtName, changeName),
 	"messages":         func() { both(sendTwo, receiveTwo) },
+	"asks-late":        func() { both(func() { askLate() }, answer) },
 	"asks":             func() { both(func() { ask() }, answer) },
 	"message-follows":  follows(func() { queue <- 1 }, func() { <-queue }),
 	"semaphore":        func() { both(holdOne, holdOne) },
