@@ -11,7 +11,7 @@ static bool is_nothing(const struct atomic *it) {
 }
 
 void aero_atomic(struct goroutine *t, const struct atomic *it) {
-    if (is_nothing(it)) return;
+    if (is_nothing(it) || aero_is_quiet(t)) return;
     /* Of atomic.Value the second word counts, which has the value. The first one has its type, and is looked at before it. */
     if (it->asker->asker == VALUE && it->at != t->boxed + 8) {
         t->boxed = it->at;

@@ -258,6 +258,7 @@ struct suffix {
     const struct code *place;
 };
 void aero_access(const struct here *here, struct goroutine *t, const struct access *it);
+bool aero_is_quiet(const struct goroutine *t);
 void aero_event(struct goroutine *t, const char *operation, word at, const struct code *place);
 void aero_suffixed(struct goroutine *t, const char *operation, word at, const struct suffix *suffix);
 
