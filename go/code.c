@@ -206,6 +206,7 @@ static struct code *make(word at) {
         it->is |= begins(found.name, "runtime.") ? IS_RUNTIME : 0;
         it->is |= begins(found.name, "runtime.racefunc") ? IS_HOOK : 0;
         it->is |= name->is & RUNS_TIMERS;
+        it->is |= *found.name == '?' ? IS_UNKNOWN : 0;
     }
     return it;
 }

@@ -28,10 +28,12 @@ static size_t idle_length(const unsigned char *at) {
     return (size_t)(code + (mode == 1 ? 1 : mode == 2 ? 4 : 0) - at);
 }
 
-/* Whether the code at the address does nothing but end its function: `call runtime.racefuncexit`. */
-bool aero_only_ends(word at) {
-    const unsigned char *code = (const unsigned char *)at;
+/* Whether the code at the address does nothing but end its function: `call runtime.racefuncexit`. What isn't in a function of Go isn't
+ * looked at: it may be no address, where a function in assembly has kept no frame. */
+bool aero_only_ends(const struct code *from) {
+    const unsigned char *code = (const unsigned char *)from->at;
     int32_t distance;
+    if (from->is & IS_UNKNOWN) return false;
     for (size_t length; (length = idle_length(code)) != 0;) code += length;
     if (*code != 0xe8) return false;
     memcpy(&distance, code + 1, sizeof distance);
@@ -54,7 +56,7 @@ bool aero_only_ends_follow(const struct here *here, word stack) {
     for (int level = 0; level < 16 && aero_is_frame(here, frame, low); level++) {
         const struct code *code = aero_code(frame[1]);
         word caller = (word)(frame + 2);
-        bool goes_on = code->is & IS_LOW ? (code->is & (PANICS | IS_COND_WAIT)) != 0 : !aero_only_ends(code->at);
+        bool goes_on = code->is & IS_LOW ? (code->is & (PANICS | IS_COND_WAIT)) != 0 : !aero_only_ends(code);
         if (goes_on || ((code->is & RETURNS_BY_DEFERRED) && has_deferred(here, frame[0] + 16))) return false;
         if (caller >= stack) return caller == stack;
         low = (word)frame;

@@ -51,7 +51,7 @@ static bool only_defers(const struct goroutine *t, size_t depth) {
     const struct frame *called = &t->frames[depth + 1];
     enum asker asker = called->function->asker;
     bool has_one_event = asker == WAIT_GROUP || asker == MUTEX || asker == READER || asker == WRITER;
-    return has_one_event && aero_only_ends(called->call->at);
+    return has_one_event && aero_only_ends(called->call);
 }
 
 /* Before an event: so a block without events has no line. */
@@ -122,11 +122,11 @@ static bool is_start(const struct goroutine *t, const struct code *function, con
     const struct frame *before = &t->frames[t->depth - 1];
     const struct code *first = before->function;
     if (!before->is_start) return false;
-    if (aero_ends_with(first->label->text, "-fm")) return aero_only_ends(call->at);
+    if (aero_ends_with(first->label->text, "-fm")) return aero_only_ends(call);
     if (t->depth > 1) return false;
     if (aero_is_given_to(first->label->text, function->label->text)) return true;
     bool is_made = t->go && is_one_line(t->go, first) && (is_one_line(t->go, call) || is_one_line(t->go, function));
-    return is_made && aero_only_ends(call->at);
+    return is_made && aero_only_ends(call);
 }
 
 void aero_enter(const struct here *here, struct goroutine *t, word call_ends) {

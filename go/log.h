@@ -57,7 +57,7 @@ enum asker {
 enum {
     IS_BLOCK = 1, IS_RUNTIME = 2, IS_LOW = 4, IS_HOOK = 8, IS_SYNC = 16, IS_RACE = 32, IS_MAP = 64, IS_ENTRY = 128,
     IS_ENTRY_LOAD = 256, IS_COND_WAIT = 512, SENDS = 1024, RUNS_TIMERS = 2048, RETURNS_BY_DEFERRED = 4096, PANICS = 8192,
-    IS_LIBRARY = 16384, IS_QUIET = 32768
+    IS_LIBRARY = 16384, IS_QUIET = 32768, IS_UNKNOWN = 65536
 };
 /* A return address: the function that it is in, and the function whose source it is of, which may be inlined there. */
 struct code {
@@ -205,7 +205,7 @@ static inline bool aero_is_frame(const struct here *here, const word *frame, wor
 }
 
 /* defers.c */
-bool aero_only_ends(word at);
+bool aero_only_ends(const struct code *from);
 bool aero_only_ends_follow(const struct here *here, word stack);
 void aero_leave_by_panic(struct goroutine *t, const struct here *here);
 
