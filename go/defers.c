@@ -28,9 +28,7 @@ static size_t idle_length(const unsigned char *at) {
     return (size_t)(code + (mode == 1 ? 1 : mode == 2 ? 4 : 0) - at);
 }
 
-/* Whether the code at the address does nothing but end its function: `call runtime.racefuncexit`. What isn't in a function of Go isn't
- * looked at: it may be no address, where a function in assembly has kept no frame. */
-bool aero_only_ends(const struct code *from) {
+static bool looks_only_ends(const struct code *from) {
     const unsigned char *code = (const unsigned char *)from->at;
     int32_t distance;
     if (from->is & IS_UNKNOWN) return false;
@@ -38,6 +36,13 @@ bool aero_only_ends(const struct code *from) {
     if (*code != 0xe8) return false;
     memcpy(&distance, code + 1, sizeof distance);
     return (aero_code((word)code + 6 + (word)(intptr_t)distance)->is & IS_HOOK) != 0;
+}
+
+/* Whether the code at the address does nothing but end its function: `call runtime.racefuncexit`. What isn't in a function of Go isn't
+ * looked at: it may be no address, where a function in assembly has kept no frame. */
+bool aero_only_ends(struct code *from) {
+    if (from->ends == UNSEEN) from->ends = looks_only_ends(from) ? ONLY_ENDS : GOES_ON;
+    return from->ends == ONLY_ENDS;
 }
 
 /* ---- deferred functions */
@@ -54,7 +59,7 @@ bool aero_only_ends_follow(const struct here *here, word stack) {
     const word *frame = here->frame;
     word low = here->stack;
     for (int level = 0; level < 16 && aero_is_frame(here, frame, low); level++) {
-        const struct code *code = aero_code(frame[1]);
+        struct code *code = aero_code(frame[1]);
         word caller = (word)(frame + 2);
         bool goes_on = code->is & IS_LOW ? (code->is & (PANICS | IS_COND_WAIT)) != 0 : !aero_only_ends(code);
         if (goes_on || ((code->is & RETURNS_BY_DEFERRED) && has_deferred(here, frame[0] + 16))) return false;

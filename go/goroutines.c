@@ -117,7 +117,7 @@ static bool is_one_line(const struct code *one, const struct code *other) {
  *     it. The call is in that line too, or f is a literal that begins there. (So does `go func() { f(x) }()` in one line.)
  *   - f of a method value x.f, for which the compiler makes a function x.f-fm that calls f
  *   - a literal or a method value that a function of another package starts with, as that of errgroup's Go does. */
-static bool is_start(const struct goroutine *t, const struct code *function, const struct code *call) {
+static bool is_start(const struct goroutine *t, const struct code *function, struct code *call) {
     if (!t->depth) return true;
     const struct frame *before = &t->frames[t->depth - 1];
     const struct code *first = before->function;

@@ -68,6 +68,7 @@ struct code {
     int line;
     unsigned is;             /* IS_BLOCK and so on */
     enum asker asker;
+    enum { UNSEEN, ONLY_ENDS, GOES_ON } ends;    /* what defers.c has found there */
 };
 
 enum block_state { NO_BLOCK, WAITING, OPEN };    /* WAITING: its begin is written with the first event in it */
@@ -205,7 +206,7 @@ static inline bool aero_is_frame(const struct here *here, const word *frame, wor
 }
 
 /* defers.c */
-bool aero_only_ends(const struct code *from);
+bool aero_only_ends(struct code *from);
 bool aero_only_ends_follow(const struct here *here, word stack);
 void aero_leave_by_panic(struct goroutine *t, const struct here *here);
 
