@@ -5,13 +5,13 @@
  * compare-and-swap of sync.Map's is tried again. */
 static bool is_nothing(const struct atomic *it) {
     const struct code *asker = it->asker;
-    if (asker->asker == NOBODY || asker->asker == MUTEX) return true;
+    if (asker->asker == NOBODY || asker->asker == MUTEX || aero_is_counter(it->at)) return true;
     if (asker->asker == ONCE) return !it->writes && !it->is_done;
     return (asker->is & IS_ENTRY) && !(asker->is & IS_ENTRY_LOAD) && !it->writes;
 }
 
 void aero_atomic(struct goroutine *t, const struct atomic *it) {
-    if (is_nothing(it)) return;
+    if (is_nothing(it) || aero_is_quiet(t)) return;
     /* Of atomic.Value the second word counts, which has the value. The first one has its type, and is looked at before it. */
     if (it->asker->asker == VALUE && it->at != t->boxed + 8) {
         t->boxed = it->at;

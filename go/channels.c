@@ -13,10 +13,8 @@ struct channel {
     void *buffer;
     uint16_t element_bytes;
     uint32_t is_closed;
-    void *element_type;
-    word send_at, receive_at;
 };
-_Static_assert(offsetof(struct channel, is_closed) == 28 && offsetof(struct channel, send_at) == 40, "as runtime.hchan");
+_Static_assert(offsetof(struct channel, is_closed) == 28, "as runtime.hchan");
 
 /* Whether the goroutine sends. runtime.send and runtime.recv meet one that waits, and call the hook for both: first for who runs. In
  * select the line tells; where that isn't known, a full buffer is received from. */
@@ -60,14 +58,13 @@ static void token(struct goroutine *t, const struct ordered *it, bool is_sent) {
 }
 
 /* A slot is as a lock: send k, receive k and send k + slots come in this order. Who takes back what it has sent itself, as who gives
- * back a semaphore, waits for nobody. */
+ * back a semaphore, waits for nobody. Where only the channel is known it has one slot. */
 static void slot(struct goroutine *t, const struct ordered *it, const struct channel *channel) {
     bool is_sent = sends(it, channel);
-    int64_t number = !channel ? -1 : (int64_t)(is_sent ? channel->send_at : channel->receive_at);
     struct sync *s = aero_sync(it->at);
     if (!is_sent && s->sender != t->id) aero_waits(t);
     s->sender = is_sent ? t->id : 0;
-    aero_suffixed(t, "w", it->at, &(struct suffix){"~", number, it->place});
+    aero_suffixed(t, "w", it->at, &(struct suffix){"~", channel ? 0 : -1, it->place});
 }
 
 /* A close has written the channel. */

@@ -31,15 +31,10 @@ bool aero_wants_blocks(void) { return base != ONLY_LISTED || name_count; }
 
 /* ---- names that match */
 
-static bool ends_with(const char *text, const char *end) {
-    size_t length = strlen(text), most = strlen(end);
-    return length >= most && !strcmp(text + length - most, end);
-}
-
 /* An init function is pkg.init or pkg.init.0, and what it declares pkg.init.func1. */
 static bool is_usual(const char *label, const char *file) {
-    if (!strcmp(label, "main.main") || strstr(label, ".init.") || ends_with(label, ".init")) return false;
-    return !ends_with(file, "_test.go") && !strstr(file, "_testmain.go") && !aero_is_of_library(label);
+    if (!strcmp(label, "main.main") || strstr(label, ".init.") || aero_ends_with(label, ".init")) return false;
+    return !aero_ends_with(file, "_test.go") && !strstr(file, "_testmain.go") && !aero_is_of_library(label);
 }
 
 bool aero_is_block(const char *label, const char *file) {

@@ -59,6 +59,14 @@ bool aero_is_of_library(const char *label) {
     return strstr(aero_packages, wanted) != NULL;
 }
 
+/* A literal is called main.main.func1, or .func1.2 within another one. Only by a value a function of another package calls it. */
+bool aero_is_given_to(const char *label, const char *value) {
+    size_t length = package_length(value);
+    const char *literal = strstr(value + length, ".func");
+    bool is_value = (literal && literal[5] >= '0' && literal[5] <= '9') || aero_ends_with(value, "-fm");
+    return is_value && (length != package_length(label) || strncmp(label, value, length) != 0);
+}
+
 /* ---- who asks */
 
 /* The longest head of a name comes first where one begins with another. Of sync's own functions those that aren't named are of Pool,
@@ -90,7 +98,9 @@ static const struct known {
     {"runtime.runOneTimer", TIMER_FIRES, 0},
     {"runtime.(*timer).unlockAndRun", TIMER_FIRES, 0},
     {"runtime.runtimer", NOBODY, RUNS_TIMERS},
+    {"runtime.(*timers).run", NOBODY, RUNS_TIMERS},
     {"runtime.startTimer", GENERIC, 0},
+    {"runtime.newTimer", GENERIC, 0},
     {"runtime.resetTimer", GENERIC, 0},
     {"runtime.sendDirect", CHANNEL_OTHER, 0},
     {"runtime.send", CHANNEL_SEND, 0},
@@ -100,11 +110,18 @@ static const struct known {
     {"runtime.chanrecv", CHANNEL_OTHER, 0},
     {"runtime.selectgo", CHANNEL_SELECT, 0},
     {"runtime.closechan", CHANNEL_CLOSE, 0},
+    {"runtime.deferreturn", NOBODY, RETURNS_BY_DEFERRED},
+    {"runtime.deferCallSave", NOBODY, PANICS},
+    {"runtime.gopanic", NOBODY, PANICS},
+    {"runtime.Goexit", NOBODY, PANICS},
     /* The order by files, and round calls of C: each one address for the whole process. */
     {"runtime.", NOBODY, 0},
     {"syscall.", NOBODY, 0},
     {"internal/poll.", NOBODY, 0},
     {"time.", GENERIC, 0},
+    /* What orders only lines of output, or numbers that are drawn. */
+    {"log.", PROGRAM, IS_QUIET},
+    {"math/rand.(*lockedSource).", PROGRAM, IS_QUIET},
     {"", PROGRAM, 0},
 };
 
@@ -185,9 +202,11 @@ static struct code *make(word at) {
         if (found.pc != pc && found.is_found && found.pc && level + 1 < LEVELS) continue;
         it->label = aero_label(found.name);
         it->is |= aero_is_block(found.name, found.file) ? IS_BLOCK : 0;
+        it->is |= aero_is_of_library(found.name) ? IS_LIBRARY : 0;
         it->is |= begins(found.name, "runtime.") ? IS_RUNTIME : 0;
         it->is |= begins(found.name, "runtime.racefunc") ? IS_HOOK : 0;
         it->is |= name->is & RUNS_TIMERS;
+        it->is |= *found.name == '?' ? IS_UNKNOWN : 0;
     }
     return it;
 }
@@ -224,10 +243,6 @@ void aero_code_start(void (*callback)(word, void *), const word *g) {
 
 /* ---- the frames of a goroutine */
 
-static bool is_frame(const struct here *here, const word *frame, word low) {
-    return (word)frame >= low && (word)frame + 16 <= here->g[1] && !((word)frame & 7);
-}
-
 struct code *aero_asked(const struct here *here, word at, struct code **place) {
     struct code *who = NULL, *code = aero_code(at);
     const word *frame = here->frame;
@@ -235,7 +250,7 @@ struct code *aero_asked(const struct here *here, word at, struct code **place) {
     for (int level = 0; level < LEVELS; level++) {
         if (!who && code->asker != HELPER) who = code;
         else if (who && (code->is & IS_MAP) && (who->asker == MUTEX || who->asker == VALUE)) who = code;
-        if (!(code->is & IS_LOW) || !is_frame(here, frame, low)) break;
+        if (!(code->is & IS_LOW) || !aero_is_frame(here, frame, low)) break;
         code = aero_code(frame[1]);
         low = (word)frame;
         frame = (const word *)frame[0];
@@ -247,7 +262,7 @@ struct code *aero_asked(const struct here *here, word at, struct code **place) {
 bool aero_is_within_wait(const struct here *here) {
     const word *frame = here->frame;
     word low = here->stack;
-    for (int level = 0; level < 6 && is_frame(here, frame, low); level++) {
+    for (int level = 0; level < 6 && aero_is_frame(here, frame, low); level++) {
         if (aero_code(frame[1])->is & IS_COND_WAIT) return true;
         low = (word)frame;
         frame = (const word *)frame[0];
@@ -260,7 +275,7 @@ struct label *aero_allocator(const struct here *here) {
     struct code *by = NULL;
     const word *frame = here->frame;
     word low = here->stack;
-    for (int level = 0; level < 8 && is_frame(here, frame, low); level++) {
+    for (int level = 0; level < 8 && aero_is_frame(here, frame, low); level++) {
         by = aero_code(frame[1]);
         if (!(by->is & IS_LOW)) break;
         low = (word)frame;

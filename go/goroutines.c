@@ -44,16 +44,6 @@ static void close_block(struct goroutine *t) {
     if (!--t->open && !--aero_open_blocks) aero_last_calm = aero_now;
 }
 
-/* Whether the code at the address does nothing but end its function: `call runtime.racefuncexit`, perhaps behind a nop. */
-static bool only_ends(word at) {
-    const unsigned char *code = (const unsigned char *)at;
-    int32_t distance;
-    code += *code == 0x90;
-    if (*code != 0xe8) return false;
-    memcpy(&distance, code + 1, sizeof distance);
-    return (aero_code((word)code + 6 + (word)(intptr_t)distance)->is & IS_HOOK) != 0;
-}
-
 /* Whether the function does nothing but call Done, Lock or Unlock, as the one that the compiler makes for `defer both.Done()`. It is
  * no block, because it would have that one event only, and the program often ends before it does. */
 static bool only_defers(const struct goroutine *t, size_t depth) {
@@ -61,7 +51,7 @@ static bool only_defers(const struct goroutine *t, size_t depth) {
     const struct frame *called = &t->frames[depth + 1];
     enum asker asker = called->function->asker;
     bool has_one_event = asker == WAIT_GROUP || asker == MUTEX || asker == READER || asker == WRITER;
-    return has_one_event && only_ends(called->call->at);
+    return has_one_event && aero_only_ends(called->call);
 }
 
 /* Before an event: so a block without events has no line. */
@@ -96,6 +86,15 @@ void aero_drop_dead(struct goroutine *t, const struct here *here, word stack) {
     if (live < t->depth) aero_leave(t, live);
 }
 
+/* Blocks end with a release if they have nothing else to do: else they would be open if another goroutine, which has waited for the
+ * release, ends the program meanwhile. */
+void aero_end_early(struct goroutine *t, const struct here *here) {
+    size_t outer = 0;
+    if (!t->open || t->g != here->g) return;
+    while (t->frames[outer].block != OPEN) outer++;
+    if (aero_only_ends_follow(here, here->g[1] - t->frames[outer].depth)) aero_split(t, false);
+}
+
 /* ---- functions */
 
 /* The stack pointer of the function that a hook is of, and where the function goes on. runtime.racefuncenter is called by a wrapper
@@ -109,21 +108,36 @@ static word caller(const struct here *here, bool enters, word *goes_on) {
     return stack + 16;
 }
 
-/* What a goroutine starts with is no block. For `go f(x)` the compiler makes a function, in the line of the go statement, that calls f
- * and does nothing behind it. (So does `go func() { f(x) }()` in one line.) */
-static bool is_start(const struct goroutine *t, word call_ends) {
+static bool is_one_line(const struct code *one, const struct code *other) {
+    return one->line == other->line && !strcmp(one->place, other->place);
+}
+
+/* What a goroutine starts with is no block. Besides its first function that is
+ *   - f of `go f(x)`, for which the compiler makes a function, in the line of the go statement, that calls f and does nothing behind
+ *     it. The call is in that line too, or f is a literal that begins there. (So does `go func() { f(x) }()` in one line.)
+ *   - f of a method value x.f, for which the compiler makes a function x.f-fm that calls f
+ *   - a literal or a method value that a function of another package starts with, as that of errgroup's Go does. */
+static bool is_start(const struct goroutine *t, const struct code *function, struct code *call) {
     if (!t->depth) return true;
-    return t->depth == 1 && t->go && t->go->line == t->frames[0].function->line && only_ends(call_ends);
+    const struct frame *before = &t->frames[t->depth - 1];
+    const struct code *first = before->function;
+    if (!before->is_start) return false;
+    if (aero_ends_with(first->label->text, "-fm")) return aero_only_ends(call);
+    if (t->depth > 1) return false;
+    if (aero_is_given_to(first->label->text, function->label->text)) return true;
+    bool is_made = t->go && is_one_line(t->go, first) && (is_one_line(t->go, call) || is_one_line(t->go, function));
+    return is_made && aero_only_ends(call);
 }
 
 void aero_enter(const struct here *here, struct goroutine *t, word call_ends) {
     word goes_on, stack = caller(here, 1, &goes_on);
     t->g = here->g;
     aero_drop_dead(t, here, stack + 1);
-    if (t->depth == t->room) t->frames = aero_more(t->frames, sizeof *t->frames, &t->room);
     struct code *function = aero_code(goes_on), *call = aero_code(call_ends);
-    bool is_block = (function->is & IS_BLOCK) && (aero_starts_are_blocks() || !is_start(t, call_ends));
-    t->frames[t->depth++] = (struct frame){here->g[1] - stack, function, call, is_block ? WAITING : NO_BLOCK};
+    if (call->is & PANICS) aero_leave_by_panic(t, here);
+    if (t->depth == t->room) t->frames = aero_more(t->frames, sizeof *t->frames, &t->room);
+    bool starts = is_start(t, function, call), is_block = (function->is & IS_BLOCK) && (aero_starts_are_blocks() || !starts);
+    t->frames[t->depth++] = (struct frame){here->g[1] - stack, function, call, is_block ? WAITING : NO_BLOCK, starts};
 }
 
 void aero_exit(const struct here *here, struct goroutine *t) {

@@ -8,7 +8,8 @@
  *
  *   read, write; slices, maps, copies         r(X), w(X), of each variable in the range; nothing on the goroutine's own stack
  *   sync/atomic: load, failed compare-and-swap  r(X.a); anything else w(X.a)
- *   Mutex                                     acq(X), rel(X). Once another goroutine has unlocked it: w(X.handed)
+ *   Mutex                                     acq(X), rel(X). Once another goroutine has unlocked it: w(X.handed). Locks that the
+ *                                             standard library takes itself have no events
  *   Cond.Wait                                 rel(X), acq(X) of its mutex
  *   RWMutex: RLock, RUnlock; Lock, Unlock     r(X.rw); w(X.rw)       readers may overlap, which acq and rel can't say
  *   WaitGroup: Done; Wait                     w(X~K), each with a K of its own; r(X~K) of each Done since the last round

@@ -56,7 +56,8 @@ enum asker {
 /* What else a name says. */
 enum {
     IS_BLOCK = 1, IS_RUNTIME = 2, IS_LOW = 4, IS_HOOK = 8, IS_SYNC = 16, IS_RACE = 32, IS_MAP = 64, IS_ENTRY = 128,
-    IS_ENTRY_LOAD = 256, IS_COND_WAIT = 512, SENDS = 1024, RUNS_TIMERS = 2048
+    IS_ENTRY_LOAD = 256, IS_COND_WAIT = 512, SENDS = 1024, RUNS_TIMERS = 2048, RETURNS_BY_DEFERRED = 4096, PANICS = 8192,
+    IS_LIBRARY = 16384, IS_QUIET = 32768, IS_UNKNOWN = 65536
 };
 /* A return address: the function that it is in, and the function whose source it is of, which may be inlined there. */
 struct code {
@@ -67,6 +68,7 @@ struct code {
     int line;
     unsigned is;             /* IS_BLOCK and so on */
     enum asker asker;
+    enum { UNSEEN, ONLY_ENDS, GOES_ON } ends;    /* what defers.c has found there */
 };
 
 enum block_state { NO_BLOCK, WAITING, OPEN };    /* WAITING: its begin is written with the first event in it */
@@ -74,6 +76,7 @@ struct frame {
     word depth;              /* from the stack's upper end to the stack pointer: it stays the same if the stack moves */
     struct code *function, *call;
     enum block_state block;
+    bool is_start;           /* of what the goroutine starts with */
 };
 /* A goroutine, or the timers of a processor: a racectx of the runtime. */
 struct goroutine {
@@ -169,6 +172,11 @@ struct settings {
 extern struct settings aero_settings;
 bool aero_read_settings(const char *target);   /* whether they can be used, else it says why not */
 
+static inline bool aero_ends_with(const char *text, const char *end) {
+    size_t length = strlen(text), most = strlen(end);
+    return length >= most && !strcmp(text + length - most, end);
+}
+
 /* choice.c */
 bool aero_read_blocks(const char *blocks);     /* whether the list can be read */
 bool aero_knows_blocks(void);                  /* whether each name is that of a function; else it says which isn't */
@@ -179,21 +187,34 @@ bool aero_wants_blocks(void);                  /* there may be some */
 /* What aerodrome-go has compiled for the version of Go. */
 extern const char aero_packages[];             /* those of the standard library, each between two newlines */
 extern const int aero_select_send;             /* the line of select.go that sends into a buffer */
+extern const int aero_defers_of_g;             /* where a g has its latest _defer; 0: not known */
 
 /* code.c */
 void aero_code_start(void (*callback)(word, void *), const word *g);
 struct code *aero_code(word at);
 struct label *aero_label(const char *text);
 bool aero_is_of_library(const char *label);
+bool aero_is_given_to(const char *label, const char *value);    /* a function value of another package */
 /* Who asked, from the address on along the frames; *place is the first code that isn't of the runtime or of sync. */
 struct code *aero_asked(const struct here *here, word at, struct code **place);
 bool aero_is_within_wait(const struct here *here);   /* Cond.Wait */
 struct label *aero_allocator(const struct here *here);
 
+/* Whether a function's frame may lie there, above `low` on the goroutine's stack. */
+static inline bool aero_is_frame(const struct here *here, const word *frame, word low) {
+    return (word)frame >= low && (word)frame + 16 <= here->g[1] && !((word)frame & 7);
+}
+
+/* defers.c */
+bool aero_only_ends(struct code *from);
+bool aero_only_ends_follow(const struct here *here, word stack);
+void aero_leave_by_panic(struct goroutine *t, const struct here *here);
+
 /* symbols.c */
 void aero_symbols_start(void);
 bool aero_has_symbols(void);
 const char *aero_global(word at, word *start, word *end);    /* the global variable that has the byte, or NULL */
+bool aero_is_counter(word at);                 /* of go test -cover, and nothing that the program itself has */
 int aero_each_function(bool (*each)(const char *label));     /* until it returns 0 */
 
 /* objects.c */
@@ -215,6 +236,7 @@ void aero_exit(const struct here *here, struct goroutine *t);
 void aero_begin_blocks(struct goroutine *t);
 void aero_leave(struct goroutine *t, size_t depth);
 void aero_split(struct goroutine *t, bool begins_again);
+void aero_end_early(struct goroutine *t, const struct here *here);
 static inline void aero_waits(struct goroutine *t) {
     if (aero_settings.splits_waits) aero_split(t, true);
 }
@@ -237,6 +259,7 @@ struct suffix {
     const struct code *place;
 };
 void aero_access(const struct here *here, struct goroutine *t, const struct access *it);
+bool aero_is_quiet(const struct goroutine *t);
 void aero_event(struct goroutine *t, const char *operation, word at, const struct code *place);
 void aero_suffixed(struct goroutine *t, const char *operation, word at, const struct suffix *suffix);
 

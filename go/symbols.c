@@ -15,7 +15,7 @@ struct symbol {
     const char *name;
 };
 static struct symbol *variables;
-static size_t variable_count;
+static size_t variable_count, counter_count;
 static const Elf64_Sym *all;
 static size_t all_count;
 static const char *strings;
@@ -41,6 +41,12 @@ static bool is_variable(const Elf64_Sym *symbol, const char *name) {
     return ELF64_ST_TYPE(symbol->st_info) == STT_OBJECT && symbol->st_size && !begins(name, "go.") && !begins(name, "go:");
 }
 
+/* A counter of `go test -cover`, which each function counts on: pkg.GoCover_0_6261, and from Go 1.20 on pkg.goCover_. */
+static bool is_counter(const char *name) {
+    const char *slash = strrchr(name, '/'), *dot = strchr(slash ? slash : name, '.');
+    return dot && (begins(dot, ".GoCover_") || begins(dot, ".goCover_"));
+}
+
 void aero_symbols_start(void) {
     extern EXPORT void __tsan_fini(word status, word is_exit);
     const char *bytes = image();
@@ -61,7 +67,9 @@ void aero_symbols_start(void) {
     for (size_t one = 0; one < all_count; one++) {
         const char *name = strings + all[one].st_name;
         if (!strcmp(name, "__tsan_fini")) bias = (word)__tsan_fini - all[one].st_value;
-        if (is_variable(&all[one], name)) variables[variable_count++] = (struct symbol){all[one].st_value, all[one].st_size, name};
+        if (!is_variable(&all[one], name)) continue;
+        variables[variable_count++] = (struct symbol){all[one].st_value, all[one].st_size, name};
+        counter_count += is_counter(name);
     }
     for (size_t one = 0; one < variable_count; one++) variables[one].at += bias;
     qsort(variables, variable_count, sizeof *variables, by_address);
@@ -79,6 +87,12 @@ const char *aero_global(word at, word *start, word *end) {
     *start = it->at;
     *end = it->at + it->size;
     return it->name;
+}
+
+bool aero_is_counter(word at) {
+    word start, end;
+    const char *name = counter_count ? aero_global(at, &start, &end) : NULL;
+    return name && is_counter(name);
 }
 
 /* What Go's tables of functions have: main.Map[...] for main.Map[go.shape.int_0]. */

@@ -137,10 +137,23 @@ static void timer_fires(struct goroutine *t, const struct ordered *it) {
     aero_acquire(t, aero_sync(it->at), it->place);
 }
 
-/* Where Cond.Wait unlocks its mutex, it waits. */
+/* The standard library's own locks have no events. What they guard has, so two calls that only read the same don't conflict. */
+static bool is_own_lock(const struct ordered *it) {
+    enum asker asker = it->asker->asker;
+    return (asker == MUTEX || asker == READER || asker == WRITER) && (it->place->is & IS_LIBRARY);
+}
+
+/* Where Cond.Wait unlocks its mutex, it waits. What the program has locked the library may unlock, as by t.Cleanup(mutex.Unlock). */
 static void lock_or_unlock(const struct here *here, struct goroutine *t, const struct ordered *it) {
-    mutex(t, it->at, it->how == ACQUIRE, it->place);
+    bool locks = it->how == ACQUIRE;
+    if (!is_own_lock(it) || (!locks && aero_sync(it->at)->owner)) mutex(t, it->at, locks, it->place);
     if (it->how != ACQUIRE && aero_settings.splits_waits && aero_is_within_wait(here)) aero_waits(t);
+}
+
+/* Whether no other hook of the same operation follows. Who receives without a buffer releases first. */
+static bool is_last(const struct ordered *it) {
+    if (it->how == ACQUIRE || it->asker->asker == CHANNEL_RECEIVE) return false;
+    return it->asker->asker != CHANNEL_SEND || !aero_settings.both_ways;
 }
 
 void aero_order(const struct here *here, struct goroutine *t, word at, enum order how) {
@@ -150,10 +163,12 @@ void aero_order(const struct here *here, struct goroutine *t, word at, enum orde
     aero_drop_dead(t, here, here->stack);
     if (asker->asker == HELPER || asker->asker == NOBODY) return;
     if (asker->asker == MUTEX) lock_or_unlock(here, t, &it);
+    else if (is_own_lock(&it)) return;
     else if (asker->asker == READER) reader(t, &it);
     else if (asker->asker == WRITER) writer(t, &it);
     else if (asker->asker == WAIT_GROUP) wait_group(t, &it);
     else if (asker->asker == TIMER_FIRES) timer_fires(t, &it);
     else if (asker->asker >= CHANNEL_SEND) aero_channel(t, &it);
     else other(t, &it);
+    if (is_last(&it)) aero_end_early(t, here);
 }

@@ -5,6 +5,8 @@ import (
 	"fmt"
 	"sort"
 	"sync"
+
+	"programs/meet"
 )
 
 type adder interface{ add(int) }
@@ -55,10 +57,41 @@ func waits() {
 	}
 }
 
+func first(a, b, c, d int) { count += a; inner(); done <- b + c + d }
+func (o *one) tell()       { o.n++; inner(); done <- 1 }
+func within()              { count++; done <- 1 }
+
+// What a goroutine starts with is no block, however it is started; what the literal calls that it starts with is one.
+func starts() {
+	o, list := &one{}, []int{1, 2, 3}
+	f := o.run
+	go first(1, 2, 3, 4)
+	<-done
+	go first(list[0], 2, 3, 4)
+	<-done
+	go first(list[0], list[1], 3, 4)
+	<-done
+	go first(list[0], list[1], list[2], 4)
+	<-done
+	go o.run(list[0])
+	<-done
+	go f(list[0])
+	<-done
+	meet.Start(func() { count++; inner(); done <- 1 })
+	<-done
+	meet.Start(o.tell)
+	<-done
+	go func() {
+		within()
+	}()
+	<-done
+}
+
 func main() {
 	plain()
 	later()
 	waits()
+	starts()
 	var a adder = &one{}
 	a.add(2)
 	generic([]string{"x"})

@@ -4,6 +4,8 @@ package main
 import (
 	"context"
 	"fmt"
+	"log"
+	"math/rand"
 	"runtime"
 	"sync"
 	"sync/atomic"
@@ -31,7 +33,14 @@ var (
 	halves    struct{ low, high int32 }
 	low, high sync.Mutex
 	pool      = sync.Pool{New: func() any { return &item{} }}
+
+	ctx, cancel = context.WithCancel(context.Background())
+	lines       = log.New(nowhere{}, "", log.LstdFlags)
 )
+
+type nowhere struct{}
+
+func (nowhere) Write(b []byte) (int, error) { return len(b), nil }
 
 func okMutex(i int)   { mu.Lock(); defer mu.Unlock(); x.a += i; x.b = x.a; table[i%7]++ }
 func okRead() int     { rw.RLock(); defer rw.RUnlock(); return y.a + y.b }
@@ -80,6 +89,24 @@ func okPanic(i int) (err error) {
 // Two numbers of four bytes side by side, each with a lock of its own.
 func okLow(i int)  { low.Lock(); halves.low += int32(i); halves.low++; low.Unlock() }
 func okHigh(i int) { high.Lock(); halves.high += int32(i); halves.high++; high.Unlock() }
+
+// What the library locks for itself, before and after a lock of the program.
+func okLines(i int) { lines.Print(i); okMutex(i); lines.Print(i, " added") }
+func okDraw()       { n := rand.Intn(6); okMutex(n); rand.Intn(6) }
+func okLife() {
+	if ctx.Err() == nil {
+		okMutex(1)
+		ctx.Err()
+	}
+}
+
+// The panic is recovered by a function that the caller has deferred.
+func okFails(i int) {
+	mu.Lock()
+	defer mu.Unlock()
+	x.a++
+	panic(i)
+}
 func okSelect(i int) {
 	select {
 	case t := <-token:
@@ -100,7 +127,6 @@ func main() {
 		}
 		close(stop)
 	}()
-	ctx, cancel := context.WithCancel(context.Background())
 	go func() {
 		tick := time.NewTicker(time.Millisecond)
 		for {
@@ -117,8 +143,10 @@ func main() {
 		wg.Add(1)
 		go func() {
 			defer wg.Done()
+			defer func() { recover(); okMutex(g); lines.Print("left") }()
+			defer okFails(g)
 			for i := 0; i < 200; i++ {
-				switch (i*7 + g*3) % 22 {
+				switch (i*7 + g*3) % 25 {
 				case 0, 1:
 					okMutex(i)
 				case 2, 3:
@@ -159,6 +187,12 @@ func main() {
 					okLow(i)
 				case 21:
 					okHigh(i)
+				case 22:
+					okLines(i)
+				case 23:
+					okDraw()
+				case 24:
+					okLife()
 				}
 				if i%20 == 0 {
 					runtime.Gosched()

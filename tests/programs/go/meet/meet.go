@@ -1,4 +1,5 @@
-// Package meet lets goroutines wait for one another by pipes: a log has no order by these, and no sleep is needed.
+// Package meet lets goroutines wait for one another by pipes: a log has no order by these, and no sleep is needed. And it starts
+// goroutines with functions of other packages.
 package meet
 
 import "syscall"
@@ -34,4 +35,12 @@ func (p Point) Await() {
 			panic(err)
 		}
 	}
+}
+
+// Start runs the function in a goroutine of its own.
+func Start(f func()) {
+	go func() {
+		defer recover()
+		f()
+	}()
 }

@@ -5,8 +5,11 @@ package main
 import (
 	"context"
 	"fmt"
+	"log"
+	"math/rand"
 	"os"
 	"runtime"
+	"strconv"
 	"strings"
 	"sync"
 	"sync/atomic"
@@ -125,6 +128,7 @@ func changeRW(n int64)  { rw.Lock(); shared.a = n; rw.Unlock() }
 func locksIt()          { mu.Lock(); shared.a++; mark(0) }
 func unlocksIt()        { after(0); shared.b++; mu.Unlock() }
 func incr()             { mu.Lock(); shared.a++; mu.Unlock() }
+func unlockLater()      { mu.Lock(); shared.a++; time.AfterFunc(0, mu.Unlock) }
 func tries() {
 	if mu.TryLock() {
 		mu.Unlock()
@@ -158,18 +162,32 @@ func waiter() {
 func signaller() { after(0); mu.Lock(); ready = true; mu.Unlock(); cond.Broadcast() }
 
 // The second one has found it undone, and waits, before the first one has done it.
-func onceUser() { once.Do(func() { mark(0); blocked(2); shared.a = 5 }); _ = shared.a }
+func onceUser() { once.Do(func() { mark(0); blocked(2, "semacquire"); shared.a = 5 }); _ = shared.a }
 
-// Waits until so many goroutines wait for a lock or a WaitGroup.
-func blocked(wanted int) {
+// Waits until so many goroutines wait: for a lock or a WaitGroup ("semacquire"), or to send ("chan send").
+func blocked(wanted int, how string) {
 	stacks := make([]byte, 1<<16)
 	for {
 		n := runtime.Stack(stacks, true)
-		if strings.Count(string(stacks[:n]), "[semacquire") >= wanted {
+		if strings.Count(string(stacks[:n]), "["+how) >= wanted {
 			return
 		}
 	}
 }
+
+// --- the standard library
+var (
+	lines   = log.New(nowhere{}, "", 0)
+	draws   = func() { rand.Intn(6) }
+	life, _ = context.WithCancel(context.Background())
+)
+
+type nowhere struct{}
+
+func (nowhere) Write(b []byte) (int, error) { return len(b), nil }
+
+func lookAtName() int64  { n, _ := strconv.ParseInt(os.Getenv("RULES"), 10, 64); return n }
+func changeName(n int64) { os.Setenv("RULES", strconv.FormatInt(n, 10)) }
 
 // --- channels
 var (
@@ -187,6 +205,7 @@ func sendTwo()          { plain <- 1; plain <- 2 }
 func receiveTwo()       { <-plain; <-plain }
 func ask() int          { plain <- 1; return <-back }
 func answer()           { n := <-plain; back <- n + 1 }
+func askLate() int      { plain <- 1; blocked(1, "chan send"); return <-back }
 func holdOne()          { one <- struct{}{}; shared.a++; shared.a++; <-one }
 func lookOne() int64    { one <- struct{}{}; n := shared.a; <-one; return n }
 func changeOne(n int64) { one <- struct{}{}; shared.a = n; <-one }
@@ -303,9 +322,11 @@ func timers() {
 		<-tick.C
 	}
 	tick.Stop()
+	// (stop locks what the timer's goroutine locks, so it waits for the end of that)
 	c, stop := context.WithTimeout(context.Background(), 5*time.Millisecond)
-	defer stop()
 	<-c.Done()
+	alone()
+	stop()
 }
 func many(rounds int) {
 	for k := 0; k < rounds; k++ {
@@ -372,6 +393,79 @@ func lookAndPanic() {
 func outside() { lookAndPanic(); mark(0); after(1); incr() }
 func between() { after(0); incr(); mark(1) }
 
+// What a panic or Goexit leaves has ended before the functions are called that its callers have deferred.
+func lockAndPanic() { mu.Lock(); defer mu.Unlock(); shared.a++; panic("x") }
+func lockAndQuit()  { mu.Lock(); defer mu.Unlock(); shared.a++; runtime.Goexit() }
+func incrLater()    { recover(); mark(0); after(1); incr() }
+func above(f func()) {
+	group.Add(1)
+	go func() {
+		defer group.Done()
+		defer incrLater()
+		f()
+	}()
+	between()
+	group.Wait()
+}
+
+// But what it has deferred itself is a part of it.
+func changeInPanic() {
+	n := flag.Load()
+	defer func() { recover(); mark(0); after(1); flag.Store(n + 1) }()
+	lockAndPanic()
+}
+
+// A block ends with a release if nothing else is to do, and not before.
+func endByDone()   { defer group.Done(); flag.Add(1) }
+func endByUnlock() { mu.Lock(); defer mu.Unlock(); shared.a++ }
+func endBySend()   { flag.Add(1); queue <- 1 }
+func endByClose(c chan int) (n int) {
+	defer close(c)
+	defer func() { n++ }()
+	return int(flag.Add(1))
+}
+func lastActs() {
+	for i := 0; i < 300; i++ {
+		c := make(chan int)
+		group.Add(1)
+		go func() {
+			for _, f := range []func(){endByUnlock, endByDone} {
+				f()
+			}
+		}()
+		group.Wait()
+		go func() {
+			for range queue {
+				endByClose(c)
+				break
+			}
+		}()
+		endBySend()
+		<-c
+	}
+}
+func doneThenChange() { n := flag.Load(); group.Done(); mark(0); after(1); flag.Store(n + 1) }
+func waitThenEnd()    { cond.Wait() }
+func waitsLast() {
+	mu.Lock()
+	mark(0)
+	for !ready {
+		waitThenEnd()
+	}
+	mu.Unlock()
+}
+func doneThenDeferred() {
+	n := flag.Load()
+	defer func() { mark(0); after(1); flag.Store(n + 1) }()
+	defer group.Done()
+}
+
+// What another package starts a goroutine with is no block.
+type counter struct{}
+
+func (counter) incrTwice() { incr(); mark(0); after(1); incr(); mark(2) }
+func given(f func())       { meet.Start(f); both(func() { between(); after(2) }, func() {}) }
+
 // --- memory
 func pools() {
 	p := sync.Pool{New: func() any { return new(box) }}
@@ -392,7 +486,17 @@ func pools() {
 
 var pooled = sync.Pool{New: func() any { return new(box) }}
 
-func usePooled() { b := pooled.Get().(*box); b.a++; pooled.Put(b) }
+// (the race detector's own Pool keeps three of four)
+func usePooled() {
+	var taken [8]*box
+	for i := range taken {
+		taken[i] = pooled.Get().(*box)
+		taken[i].a++
+	}
+	for _, b := range taken {
+		pooled.Put(b)
+	}
+}
 
 type account struct {
 	mu sync.Mutex
@@ -424,6 +528,7 @@ var words = map[string]func(){
 	"lock-follows":   follows(func() { locked(func() {}) }, func() { locked(func() {}) }),
 	"handed":         func() { both(locksIt, unlocksIt); both(incr, incr) },
 	"tries":          func() { both(tries, func() {}) },
+	"unlocked-later": func() { unlockLater(); both(incr, incr) },
 	"readers":        func() { both(readHeld, readMeanwhile) },
 	"readers-cross":  crosses(readLocked),
 	"writer-splits":  splits(lookRW, changeRW),
@@ -450,7 +555,12 @@ var words = map[string]func(){
 		value.Store(int64(0))
 		splits(func() int64 { n, _ := value.Load().(int64); return n }, func(n int64) { value.Store(n) })()
 	},
+	"library-lines":    crosses(func() { lines.Print("x") }),
+	"library-draws":    crosses(draws),
+	"library-life":     crosses(func() { life.Err() }),
+	"library-data":     splits(lookAtName, changeName),
 	"messages":         func() { both(sendTwo, receiveTwo) },
+	"asks-late":        func() { both(func() { askLate() }, answer) },
 	"asks":             func() { both(func() { ask() }, answer) },
 	"message-follows":  follows(func() { queue <- 1 }, func() { <-queue }),
 	"semaphore":        func() { both(holdOne, holdOne) },
@@ -474,6 +584,15 @@ var words = map[string]func(){
 	"panics":           panics,
 	"panic-leaves":     func() { both(outside, between) },
 	"quits":            quitting,
+	"panic-above":      func() { above(lockAndPanic) },
+	"quit-above":       func() { above(lockAndQuit) },
+	"panic-own":        func() { both(changeInPanic, func() { changeBetween(flag.Store) }) },
+	"last-acts":        lastActs,
+	"cond-last":        func() { both(waitsLast, signaller) },
+	"done-then":        func() { group.Add(1); both(doneThenChange, func() { changeBetween(flag.Store) }) },
+	"done-deferred":    func() { group.Add(1); both(doneThenDeferred, func() { changeBetween(flag.Store) }) },
+	"given":            func() { given(func() { counter{}.incrTwice() }) },
+	"given-method":     func() { given(counter{}.incrTwice) },
 	"grows":            func() { both(func() { grows(3000) }, func() {}) },
 	"grows-splits":     func() { both(growsBetween, func() { changeBetween(flag.Store) }) },
 	"pools":            pools,
